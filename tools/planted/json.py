@@ -110,8 +110,8 @@ FAULTS = {
         "test_json.Json.test_answers"),
     "an erase is told as the extended one in JSON": (
         "stm_work/src/device_json.rt",
-        'line.text("erase", erase_code(info.kind))?;',
-        'line.text("erase", if @on { "44" } else { erase_code(info.kind) })?;',
+        'line.text("erase", erase_code_text(info.kind))?;',
+        'line.text("erase", if @on { "44" } else { erase_code_text(info.kind) })?;',
         "test_json.Json.test_answers"),
     "the last code is not told in JSON": (
         "stm_work/src/device_json.rt",

@@ -209,7 +209,7 @@ impl<'a> Case<'a> {
     }
 
     /// Takes back the newest segment, if it can, and then all.
-    fn take_back(&mut self, table: &Table) -> io::Result<()> {
+    fn undo_segment(&mut self, table: &Table) -> io::Result<()> {
         self.undo(table, 1)?;
         for _time in 0..TRIES {
             if self.undo(table, 0)? {
@@ -226,7 +226,7 @@ impl<'a> Case<'a> {
                 break;
             }
         }
-        self.take_back(table)
+        self.undo_segment(table)
     }
 }
 

@@ -16,7 +16,7 @@ use Rattle.stm_session.specs.Contents.{content}
 use Rattle.stm_session.specs.Answers.{OutcomeData}
 use Rattle.stm_session.specs.Meaning.{CommandData, is_change}
 use Rattle.stm_session.specs.Order.{Step, Adds, Sends, page_address, page_reads, read_steps, rewrite_steps, write_steps}
-use Rattle.stm_session.specs.RunOrder.{AreBegun, AreDone, none as nothing_done, more as more_done, IsBegunIf, IsDoneIf, IsReading}
+use Rattle.stm_session.specs.RunOrder.{AreBegun, AreDoneInOrder, none as nothing_done, more as more_done, IsBegunIf, IsDoneIf, IsReading}
 use Rattle.stm_session.specs.Undoable.{has_companion}
 use Rattle.stm_any_line.specs.Calls.{AllSay, RunSays}
 use Rattle.stm_any_line.proofs.Tracking.{say_as, say_front, say_then}
@@ -153,7 +153,7 @@ done_by true chip c s steps (change, is, segment) = one_segment chip change s st
 done_by false chip c s steps are = readings_plain chip steps are
 
 pub done_say : (chip : ChipData) (commands : List CommandData) (outcomes : List OutcomeData)
-    (s last : StateData) (steps : List Step) → AreDone chip commands outcomes s last steps
+    (s last : StateData) (steps : List Step) → AreDoneInOrder chip commands outcomes s last steps
     → AllSay RunSays steps
 done_say chip _ _ _ _ _ (nothing_done s) = tt
 done_say chip _ _ _ _ _ (more_done commands c outcomes said s mid last before own are is depth) =

@@ -20,7 +20,7 @@ use Rattle.stm_session.specs.Reaching.{IsConfirmedInPart, ReachesAndStops, Reach
 use Rattle.stm_session.specs.RunOrder.{AreBegun, AreDoneSomehow, RunStops, RunsInOrder}
 use Rattle.stm_any_line.specs.Segments.{segments_behind, segments_behind_lines, segments_behind_steps}
 use Rattle.stm_any_line.specs.Texts.{IsLoadedAs, lines_of}
-use Rattle.stm_any_line.specs.Calls.{Does, IsOf, IsOfIfAny, Made, RunSays, UndoSays}
+use Rattle.stm_any_line.specs.Calls.{DoesBehind, IsOf, IsOfIfAny, Made, RunSays, UndoSays}
 use Rattle.stm_any_line.proofs.Tracking.{Segments}
 use Rattle.stm_any_line.proofs.Turning.{begun_track, done_tracks}
 use Rattle.stm_any_line.proofs.Returning.{AreSame, puts_say, puts_track}
@@ -28,10 +28,10 @@ use Rattle.stm_any_line.proofs.Adding.{begun_say, done_say}
 use Rattle.stm_any_line.proofs.Doing.{does_nothing, does_stopped, does_unreached, does_whole}
 
 pub does_as : (Says : Entry → Type 0) (c chip : ChipData) (j l : Loaded) (before : List Step) (calls : List Call)
-    → c ≡ chip → j ≡ l → Does Says c before j.is_torn calls → Does Says chip before l.is_torn calls
+    → c ≡ chip → j ≡ l → DoesBehind Says c before j.is_torn calls → DoesBehind Says chip before l.is_torn calls
 does_as Says c chip j l before calls same_chip same_journal does =
-    let P : ChipData → Type 0 = λ x. Does Says x before l.is_torn calls in
-    let Q : Loaded → Type 0 = λ x. Does Says c before x.is_torn calls in
+    let P : ChipData → Type 0 = λ x. DoesBehind Says x before l.is_torn calls in
+    let Q : Loaded → Type 0 = λ x. DoesBehind Says c before x.is_torn calls in
     subst P same_chip (subst Q same_journal does)
 
 -- the segments of lines, and of the steps that add them
@@ -57,7 +57,7 @@ same_pages l before tail loaded =
 module _ (lengths : (set : Pairs) (address : ℕ) (bytes : List ℕ) → length (lay set address bytes) ≡ length bytes) where
   pub run_does : (table : List ChipData) (commands : List CommandData) (old new : RigState)
       (calls : List Call) (before : List Step) (ran : RunsInOrder table commands old new)
-      → Made calls old new → Does RunSays ran.chip before ran.journal.is_torn calls
+      → Made calls old new → DoesBehind RunSays ran.chip before ran.journal.is_torn calls
   run_does table commands old new calls before ran made =
       let chip = ran.chip in
       let s = ran.journal.state in
@@ -73,7 +73,7 @@ module _ (lengths : (set : Pairs) (address : ℕ) (bytes : List ℕ) → length 
       (session : Session table old (λ chip l.
       ReachesAndStops (Settles 0x7F 131072) chip.id l.is_torn
       (IsConfirmedInPart chip (AreBegun fault chip commands l.state)) (cause_of fault) old new))
-      → Made calls old new → Does RunSays session.chip before session.journal.is_torn calls
+      → Made calls old new → DoesBehind RunSays session.chip before session.journal.is_torn calls
   stopped_run table commands old new fault calls before session made =
       let chip = session.chip in
       let s = session.journal.state in
@@ -87,7 +87,7 @@ module _ (lengths : (set : Pairs) (address : ℕ) (bytes : List ℕ) → length 
   pub run_stops_do : (table : List ChipData) (commands : List CommandData) (old new : RigState)
       (fault : Fault) (calls : List Call) (before : List Step) (chip : ChipData) (l : Loaded)
       (stop : RunStops table commands old new fault) → IsOfIfAny chip l stop
-      → Made calls old new → Does RunSays chip before l.is_torn calls
+      → Made calls old new → DoesBehind RunSays chip before l.is_torn calls
   run_stops_do table commands old new fault calls before chip l (inl unreached) own made =
       does_unreached RunSays chip l.is_torn (Settles 0x7F 131072) before calls (cause_of fault) old new made
       (unreached l.is_torn)
@@ -98,7 +98,7 @@ module _ (lengths : (set : Pairs) (address : ℕ) (bytes : List ℕ) → length 
 pub undo_does : (is_fresh : Bool) (table : List ChipData) (old new : RigState) (calls : List Call)
     (before : List Step) (tail : List ℕ) (undid : UndoPutsBack is_fresh table old new)
     → IsLoadedAs undid.journal (lines_of before) tail → Made calls old new
-    → Does UndoSays undid.chip before undid.journal.is_torn calls
+    → DoesBehind UndoSays undid.chip before undid.journal.is_torn calls
 undo_does is_fresh table old new calls before tail undid loaded made =
     let chip = undid.chip in
     let s = undid.journal.state in
@@ -117,7 +117,7 @@ stopped_undo : (is_fresh : Bool) (chip : ChipData) (l : Loaded) (old new : RigSt
     GoesOn (ReachesInPart way (cause_of fault) l.is_torn) old.calls new.calls
     ⊎ ReachesAndStops way chip.id l.is_torn (IsConfirmedInPart chip (PutsBackFrom chip l.state))
     (cause_of fault) old new)
-    → Does UndoSays chip before l.is_torn calls
+    → DoesBehind UndoSays chip before l.is_torn calls
 stopped_undo is_fresh chip l old new fault calls before tail loaded made (inl unreached) =
     does_unreached UndoSays chip l.is_torn (undo_way is_fresh chip.kind (intent_of l.state)) before calls
     (cause_of fault) old new made unreached
@@ -133,7 +133,7 @@ stopped_undo is_fresh chip l old new fault calls before tail loaded made (inr st
 pub undo_stops_do : (is_fresh : Bool) (table : List ChipData) (old new : RigState) (fault : Fault)
     (calls : List Call) (before : List Step) (tail : List ℕ) (chip : ChipData) (l : Loaded)
     (stop : UndoStopsBack is_fresh table old new fault) → IsOfIfAny chip l stop
-    → IsLoadedAs l (lines_of before) tail → Made calls old new → Does UndoSays chip before l.is_torn calls
+    → IsLoadedAs l (lines_of before) tail → Made calls old new → DoesBehind UndoSays chip before l.is_torn calls
 undo_stops_do is_fresh table old new fault calls before tail chip l (inl fetched) own loaded made =
     does_nothing UndoSays chip l.is_torn before calls old new made fetched
 undo_stops_do is_fresh table old new fault calls before tail chip l (inr session) own loaded made =

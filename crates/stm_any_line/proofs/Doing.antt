@@ -11,11 +11,11 @@ use Rattle.stm_journal.specs.Calls.{AreFetches}
 use Rattle.stm_session.specs.Fault.{Cause, of_file, of_line, of_memory, of_protocol, of_refusal, of_session}
 use Rattle.stm_session.specs.Fresh.{Way}
 use Rattle.stm_session.specs.Kept.{reads}
-use Rattle.stm_session.specs.Order.{Step, Adds, Sends, AreCutShort, Begin, FailsBy, IsAfter, acts_of, acts_of_steps, step_in, torn_behind}
+use Rattle.stm_session.specs.Order.{Step, Adds, Sends, AreCutShort, Begin, StepFailsBy, IsAfter, acts_of, acts_of_steps, step_in, torn_behind}
 use Rattle.stm_session.specs.Reaching.{IsAsked, IsAsking, IsConfirmedInPart, IsConfirming, ReachesAndDoes, ReachesAndStops, ReachesInPart, SettlesFirst, SettlesThen, asking_steps, confirm_steps, confirmed_at, confirming}
 use Rattle.stm_any_line.specs.Segments.{segments_behind_steps}
 use Rattle.stm_any_line.specs.Tracks.{asks, names, refused, sends, Tracks}
-use Rattle.stm_any_line.specs.Calls.{AllSay, AreBegunOf, Does, Made}
+use Rattle.stm_any_line.specs.Calls.{AllSay, AreBegunOf, DoesBehind, Made}
 use Rattle.stm_any_line.proofs.Tracking.{Segments, say_front, say_then, tracks_front, tracks_then}
 
 -- the calls that a record went on by
@@ -128,7 +128,7 @@ pub does_whole : (Says : Entry → Type 0) (chip : ChipData) (torn : Bool) (way 
     → ((b own : List Step) → P own → Goes Says chip (segments_behind_steps [] before) b own)
     → Made calls old new
     → ReachesAndDoes way chip.id torn (IsAfter (confirming chip) P) old new
-    → Does Says chip before torn calls
+    → DoesBehind Says chip before torn calls
 does_whole Says chip torn way before calls P old new track made (version, codes, steps, after, goes) =
     let s : Segments = segments_behind_steps [] before in
     let asked : List Step = asking_steps version codes chip.id in
@@ -160,7 +160,7 @@ does_whole Says chip torn way before calls P old new track made (version, codes,
 
 -- what failed
 begun_of : (cause : Cause) (torn : Bool) (failed : Option Step) (last : List Call)
-    → FailsBy cause torn failed last → AreBegunOf torn failed last
+    → StepFailsBy cause torn failed last → AreBegunOf torn failed last
 begun_of of_line torn (Some (Sends turns)) last f = (Line, f)
 begun_of of_line torn (Some (Adds entries)) last f = absurd f
 begun_of of_line torn None last f = absurd f
@@ -184,7 +184,7 @@ begun_of of_refusal torn (Some (Sends turns)) last f = absurd f
 does_cut : (Says : Entry → Type 0) (chip : ChipData) (torn : Bool) (way : Way) (before : List Step) (calls : List Call)
     (Q : List Step → Type 0) (cause : Cause)
     → ((xs : List Step) → Q xs → Goes Says chip (segments_behind_steps [] before) before xs)
-    → SettlesThen way (AreCutShort Q cause torn) calls → Does Says chip before torn calls
+    → SettlesThen way (AreCutShort Q cause torn) calls → DoesBehind Says chip before torn calls
 does_cut Says chip torn way before calls Q cause track x =
     let cut = x.5 in
     let went = track (cut.done ++ step_in cut.failed) cut.allowed in
@@ -216,7 +216,7 @@ pub does_stopped : (Says : Entry → Type 0) (chip : ChipData) (torn : Bool) (wa
     (calls : List Call) (P : List Step → Type 0) (cause : Cause) (old new : RigState)
     → ((b own : List Step) → P own → Goes Says chip (segments_behind_steps [] before) b own)
     → Made calls old new → ReachesAndStops way chip.id torn (IsConfirmedInPart chip P) cause old new
-    → Does Says chip before torn calls
+    → DoesBehind Says chip before torn calls
 does_stopped Says chip torn way before calls P cause old new track made (version, codes, goes) =
     let s : Segments = segments_behind_steps [] before in
     let asked : List Step = asking_steps version codes chip.id in
@@ -233,7 +233,7 @@ does_stopped Says chip torn way before calls P cause old new track made (version
 -- a device that wasn't reached
 reached_in_part : (Says : Entry → Type 0) (chip : ChipData) (torn : Bool) (way : Way) (before : List Step)
     (calls : List Call) (cause : Cause) → ReachesInPart way cause torn calls
-    → Does Says chip before torn calls
+    → DoesBehind Says chip before torn calls
 reached_in_part Says chip torn way before calls cause (inl none) =
     record {
       did =
@@ -271,7 +271,7 @@ reached_in_part Says chip torn way before calls cause (inr (inr x)) =
 
 pub does_unreached : (Says : Entry → Type 0) (chip : ChipData) (torn : Bool) (way : Way) (before : List Step)
     (calls : List Call) (cause : Cause) (old new : RigState) → Made calls old new
-    → GoesOn (ReachesInPart way cause torn) old.calls new.calls → Does Says chip before torn calls
+    → GoesOn (ReachesInPart way cause torn) old.calls new.calls → DoesBehind Says chip before torn calls
 does_unreached Says chip torn way before calls cause old new made goes =
     reached_in_part Says chip torn way before calls cause
     (made_by (ReachesInPart way cause torn) calls old new made goes)
@@ -286,7 +286,7 @@ fetches_act (Fetch ∷ calls) are = fetches_act calls are
 
 pub does_nothing : (Says : Entry → Type 0) (chip : ChipData) (torn : Bool) (before : List Step) (calls : List Call)
     (old new : RigState) → Made calls old new → GoesOn AreFetches old.calls new.calls
-    → Does Says chip before torn calls
+    → DoesBehind Says chip before torn calls
 does_nothing Says chip torn before calls old new made goes =
     record {
       did =

@@ -9,9 +9,9 @@ use Rattle.stm_journal.specs.declared.entry.Entry.{Entry}
 use Rattle.stm_journal.specs.Journals.{Loaded}
 use Rattle.stm_session.specs.Order.{Step, Adds, Sends, step_in}
 use Rattle.stm_any_line.specs.Segments.{segments_behind, segments_behind_steps}
-use Rattle.stm_any_line.specs.Texts.{IsLoadedAs, IsText, appended_in, lines_of, nothing}
+use Rattle.stm_any_line.specs.Texts.{IsLoadedAs, IsJournalText, appended_in, lines_of, nothing}
 use Rattle.stm_any_line.specs.Tracks.{MaySayAll, Tracks}
-use Rattle.stm_any_line.specs.Calls.{Does, RunSays, UndoSays}
+use Rattle.stm_any_line.specs.Calls.{DoesBehind, RunSays, UndoSays}
 use Rattle.stm_any_line.specs.History.{AllTrack, AreHonest, Deed, Happens, Visit, left_of, ran, run_stopped, says_of, undid, undo_stopped}
 use Rattle.stm_any_line.proofs.Tracking.{Segments, tracks_front, tracks_then}
 use Rattle.stm_any_line.proofs.Remembering.{tracks_back}
@@ -42,7 +42,7 @@ module _ (lengths : (set : Pairs) (address : ℕ) (bytes : List ℕ) → length 
   happens_does : {R : Type 0} (view : R → RigState) (chip : ChipData) (l : Loaded)
       (calls : List Call) (deed : Deed R) (before : List Step) (tail : List ℕ)
       → IsLoadedAs l (lines_of before) tail → Happens view chip l calls deed
-      → Does (says_of deed) chip before l.is_torn calls
+      → DoesBehind (says_of deed) chip before l.is_torn calls
   happens_does view chip l calls (ran table commands old new) before tail loaded happens =
       let session = happens.0.0 in
       let own = happens.0.1 in
@@ -63,7 +63,7 @@ module _ (lengths : (set : Pairs) (address : ℕ) (bytes : List ℕ) → length 
       happens.0.0 happens.0.1 loaded happens.1
 
   all_track : {R : Type 0} (view : R → RigState) (chip : ChipData) (before : List Step)
-      (tail text : List ℕ) (visits : List (Visit R)) → IsText (lines_of before) tail text
+      (tail text : List ℕ) (visits : List (Visit R)) → IsJournalText (lines_of before) tail text
       → Tracks chip [] [] before → AreHonest view chip text visits → AllTrack chip before visits
   all_track view chip before tail text [] t tracks honest = tt
   all_track view chip before tail text (visit ∷ visits) t tracks (happens, honest, rest) =
@@ -72,7 +72,7 @@ module _ (lengths : (set : Pairs) (address : ℕ) (bytes : List ℕ) → length 
       let does = happens_does view chip l visit.calls visit.deed before tail loaded happens in
       let behind = text_behind before l.is_torn visit.calls does.did tail text loaded.is_torn t in
       let own : List Step = does.did.done ++ left_of does.did.failed behind.whole in
-      let T : List ℕ → Type 0 = λ x. IsText (lines_of (before ++ own)) behind.tail x in
+      let T : List ℕ → Type 0 = λ x. IsJournalText (lines_of (before ++ own)) behind.tail x in
       let now = subst T (sym honest.grown) behind.text_is in
       let all = tracks_then chip [] [] before own tracks
       (tracks_left chip (segments_behind_steps [] before) before does.did.done does.did.failed behind.whole

@@ -6,7 +6,7 @@ use Rattle.stm_journal.specs.declared.entry.Entry.{Entry}
 use Rattle.stm_journal.specs.declared.entry.Entry.TheVariants.{Names, Opens, Keeps, Erases, Programs, Ends, Undoes}
 use Rattle.stm_session.specs.Kept.{MaySend, erases, reads, writes}
 use Rattle.stm_session.specs.Order.{Step, Adds, Sends}
-use Rattle.stm_any_line.specs.Segments.{HasPage, IsKept, IsNewest, SavedPage, saved, segments_behind, segments_behind_lines, segments_behind_steps, with_page}
+use Rattle.stm_any_line.specs.Segments.{HasPage, SomeKeeps, IsNewest, SavedPage, saved, segments_behind, segments_behind_lines, segments_behind_steps, with_saved_page}
 use Rattle.stm_any_line.specs.Tracks.{IsJustRead, MayPut, asks, names, refused, sends, MaySayAll, Tracks}
 use Rattle.stm_any_line.specs.Remembered.{AreTakenOff, IsOneOf, IsTakenOff, NewestHas, StaysKept, WasRead}
 use Rattle.stm_any_line.proofs.Tracking.{Segments, behind-append, has-more, tracks_front}
@@ -21,20 +21,20 @@ has-either (x ∷ pages) page n bytes (inr is) =
     ⊎_elim (λ was. inl (inr was)) (λ new. inr new) (has-either pages page n bytes is)
 
 kept-either : (s : Segments) (page : SavedPage) (n : ℕ) (bytes : List ℕ)
-    → IsKept n bytes (with_page page s) → IsKept n bytes s ⊎ (page ≡ saved n bytes)
+    → SomeKeeps n bytes (with_saved_page page s) → SomeKeeps n bytes s ⊎ (page ≡ saved n bytes)
 kept-either [] page n bytes is = absurd is
 kept-either (pages ∷ below) page n bytes (inl is) =
     ⊎_elim (λ was. inl (inl was)) (λ new. inr new) (has-either pages page n bytes is)
 kept-either (pages ∷ below) page n bytes (inr is) = inl (inr is)
 
-kept-more : (s : Segments) (page : SavedPage) (n : ℕ) (bytes : List ℕ) → IsKept n bytes s
-    → IsKept n bytes (with_page page s)
+kept-more : (s : Segments) (page : SavedPage) (n : ℕ) (bytes : List ℕ) → SomeKeeps n bytes s
+    → SomeKeeps n bytes (with_saved_page page s)
 kept-more [] page n bytes is = absurd is
 kept-more (pages ∷ below) page n bytes (inl is) = inl (has-more pages page n bytes is)
 kept-more (pages ∷ below) page n bytes (inr is) = inr is
 
 kept-below : (s : Segments) (number n : ℕ) (bytes : List ℕ)
-    → IsKept n bytes (segments_behind s (Undoes number)) → IsKept n bytes s
+    → SomeKeeps n bytes (segments_behind s (Undoes number)) → SomeKeeps n bytes s
 kept-below [] number n bytes is = absurd is
 kept-below (pages ∷ below) number n bytes is = inr is
 
@@ -43,15 +43,15 @@ abbrev Said : ChipData → ℕ → List ℕ → List Step → List Entry → Typ
 Said chip n bytes b entries = IsOneOf (Keeps n bytes) entries × IsJustRead chip n bytes b
 
 said-later : (chip : ChipData) (n : ℕ) (bytes : List ℕ) (b : List Step) (s : Segments) (e : Entry)
-    (entries : List Entry) → IsKept n bytes s ⊎ Said chip n bytes b entries
-    → IsKept n bytes s ⊎ Said chip n bytes b (e ∷ entries)
+    (entries : List Entry) → SomeKeeps n bytes s ⊎ Said chip n bytes b entries
+    → SomeKeeps n bytes s ⊎ Said chip n bytes b (e ∷ entries)
 said-later chip n bytes b s e entries (inl was) = inl was
 said-later chip n bytes b s e entries (inr (said, read)) = inr (inr said, read)
 
 said-new : (chip : ChipData) (n m : ℕ) (bytes held : List ℕ) (b : List Step) (s : Segments)
     (entries : List Entry) → IsJustRead chip m held b
-    → IsKept n bytes s ⊎ (saved m held ≡ saved n bytes)
-    → IsKept n bytes s ⊎ Said chip n bytes b (Keeps m held ∷ entries)
+    → SomeKeeps n bytes s ⊎ (saved m held ≡ saved n bytes)
+    → SomeKeeps n bytes s ⊎ Said chip n bytes b (Keeps m held ∷ entries)
 said-new chip n m bytes held b s entries read (inl was) = inl was
 said-new chip n m bytes held b s entries read (inr same) =
     let number : m ≡ n = ap (λ (p : SavedPage). p.number) same in
@@ -61,24 +61,24 @@ said-new chip n m bytes held b s entries read (inr same) =
 
 lines-origin : (chip : ChipData) (n : ℕ) (bytes : List ℕ) (s : Segments) (b : List Step)
     (entries : List Entry) → MaySayAll chip s b entries
-    → IsKept n bytes (segments_behind_lines s entries)
-    → IsKept n bytes s ⊎ Said chip n bytes b entries
+    → SomeKeeps n bytes (segments_behind_lines s entries)
+    → SomeKeeps n bytes s ⊎ Said chip n bytes b entries
 lines-origin chip n bytes s b [] may is = inl is
 lines-origin chip n bytes s b (Names version id unique ∷ entries) (first, may) is =
     said-later chip n bytes b s _ entries (lines-origin chip n bytes s b entries may is)
 lines-origin chip n bytes s b (Opens k ∷ entries) (first, may) is =
     opened (lines-origin chip n bytes ([] ∷ s) b entries may is)
   where
-    opened : IsKept n bytes ([] ∷ s) ⊎ Said chip n bytes b entries
-        → IsKept n bytes s ⊎ Said chip n bytes b (Opens k ∷ entries)
+    opened : SomeKeeps n bytes ([] ∷ s) ⊎ Said chip n bytes b entries
+        → SomeKeeps n bytes s ⊎ Said chip n bytes b (Opens k ∷ entries)
     opened (inl (inl none)) = absurd none
     opened (inl (inr was)) = inl was
     opened (inr (said, read)) = inr (inr said, read)
 lines-origin chip n bytes s b (Keeps m held ∷ entries) (first, may) is =
-    kept (lines-origin chip n bytes (with_page (saved m held) s) b entries may is)
+    kept (lines-origin chip n bytes (with_saved_page (saved m held) s) b entries may is)
   where
-    kept : IsKept n bytes (with_page (saved m held) s) ⊎ Said chip n bytes b entries
-        → IsKept n bytes s ⊎ Said chip n bytes b (Keeps m held ∷ entries)
+    kept : SomeKeeps n bytes (with_saved_page (saved m held) s) ⊎ Said chip n bytes b entries
+        → SomeKeeps n bytes s ⊎ Said chip n bytes b (Keeps m held ∷ entries)
     kept (inl now) =
         said-new chip n m bytes held b s entries first (kept-either s (saved m held) n bytes now)
     kept (inr (said, read)) = inr (inr said, read)
@@ -91,8 +91,8 @@ lines-origin chip n bytes s b (Ends k ∷ entries) (first, may) is =
 lines-origin chip n bytes s b (Undoes k ∷ entries) (first, may) is =
     undone (lines-origin chip n bytes (segments_behind s (Undoes k)) b entries may is)
   where
-    undone : IsKept n bytes (segments_behind s (Undoes k)) ⊎ Said chip n bytes b entries
-        → IsKept n bytes s ⊎ Said chip n bytes b (Undoes k ∷ entries)
+    undone : SomeKeeps n bytes (segments_behind s (Undoes k)) ⊎ Said chip n bytes b entries
+        → SomeKeeps n bytes s ⊎ Said chip n bytes b (Undoes k ∷ entries)
     undone (inl was) = inl (kept-below s k n bytes was)
     undone (inr (said, read)) = inr (inr said, read)
 
@@ -120,16 +120,16 @@ one-later chip n bytes b step steps was =
     }
 
 steps-origin : (chip : ChipData) (n : ℕ) (bytes : List ℕ) (s : Segments) (b steps : List Step)
-    → Tracks chip s b steps → IsKept n bytes (segments_behind_steps s steps)
-    → IsKept n bytes s ⊎ WasReadBehind chip n bytes b steps
+    → Tracks chip s b steps → SomeKeeps n bytes (segments_behind_steps s steps)
+    → SomeKeeps n bytes s ⊎ WasReadBehind chip n bytes b steps
 steps-origin chip n bytes s b [] tracks is = inl is
 steps-origin chip n bytes s b (Adds entries ∷ steps) (may, tracks) is =
     either
     (steps-origin chip n bytes (segments_behind_lines s entries) (b ++ Adds entries ∷ []) steps
     tracks is)
   where
-    here : IsKept n bytes s ⊎ Said chip n bytes b entries
-        → IsKept n bytes s ⊎ WasReadBehind chip n bytes b (Adds entries ∷ steps)
+    here : SomeKeeps n bytes s ⊎ Said chip n bytes b entries
+        → SomeKeeps n bytes s ⊎ WasReadBehind chip n bytes b (Adds entries ∷ steps)
     here (inl was) = inl was
     here (inr (said, read)) =
         let P : List Step → Type 0 = λ l. IsJustRead chip n bytes l in
@@ -143,9 +143,9 @@ steps-origin chip n bytes s b (Adds entries ∷ steps) (may, tracks) is =
           read = subst P (sym (append-nil b)) read;
         })
 
-    either : IsKept n bytes (segments_behind_lines s entries)
+    either : SomeKeeps n bytes (segments_behind_lines s entries)
         ⊎ WasReadBehind chip n bytes (b ++ Adds entries ∷ []) steps
-        → IsKept n bytes s ⊎ WasReadBehind chip n bytes b (Adds entries ∷ steps)
+        → SomeKeeps n bytes s ⊎ WasReadBehind chip n bytes b (Adds entries ∷ steps)
     either (inl now) = here (lines-origin chip n bytes s b entries may now)
     either (inr was) = inr (one-later chip n bytes b (Adds entries) steps was)
 steps-origin chip n bytes s b (Sends turns ∷ steps) (may, tracks) is =
@@ -153,12 +153,12 @@ steps-origin chip n bytes s b (Sends turns ∷ steps) (may, tracks) is =
     (steps-origin chip n bytes s (b ++ Sends turns ∷ []) steps tracks is)
 
 pub kept_was_read : (chip : ChipData) (n : ℕ) (bytes : List ℕ) (steps : List Step)
-    → Tracks chip [] [] steps → IsKept n bytes (segments_behind_steps [] steps)
+    → Tracks chip [] [] steps → SomeKeeps n bytes (segments_behind_steps [] steps)
     → WasRead chip n bytes steps
 kept_was_read chip n bytes steps tracks is =
     whole (steps-origin chip n bytes [] [] steps tracks is)
   where
-    whole : IsKept n bytes [] ⊎ WasReadBehind chip n bytes [] steps → WasRead chip n bytes steps
+    whole : SomeKeeps n bytes [] ⊎ WasReadBehind chip n bytes [] steps → WasRead chip n bytes steps
     whole (inl none) = absurd none
     whole (inr was) =
         record {
@@ -171,13 +171,13 @@ kept_was_read chip n bytes steps tracks is =
         }
 
 -- how long it is kept: behind lines
-lines-stay : (n : ℕ) (bytes : List ℕ) (s : Segments) (entries : List Entry) → IsKept n bytes s
-    → IsKept n bytes (segments_behind_lines s entries) ⊎ AreTakenOff n bytes s entries
+lines-stay : (n : ℕ) (bytes : List ℕ) (s : Segments) (entries : List Entry) → SomeKeeps n bytes s
+    → SomeKeeps n bytes (segments_behind_lines s entries) ⊎ AreTakenOff n bytes s entries
 lines-stay n bytes s [] is = inl is
 lines-stay n bytes s (Names version id unique ∷ entries) is = lines-stay n bytes s entries is
 lines-stay n bytes s (Opens k ∷ entries) is = lines-stay n bytes ([] ∷ s) entries (inr is)
 lines-stay n bytes s (Keeps m held ∷ entries) is =
-    lines-stay n bytes (with_page (saved m held) s) entries
+    lines-stay n bytes (with_saved_page (saved m held) s) entries
     (kept-more s (saved m held) n bytes is)
 lines-stay n bytes s (Erases m ∷ entries) is = lines-stay n bytes s entries is
 lines-stay n bytes s (Programs m ∷ entries) is = lines-stay n bytes s entries is
@@ -188,24 +188,24 @@ lines-stay n bytes (pages ∷ below) (Undoes k ∷ entries) (inr was) =
     ⊎_elim (λ still. inl still) (λ off. inr (inr off)) (lines-stay n bytes below entries was)
 
 -- and behind steps
-steps-stay : (n : ℕ) (bytes : List ℕ) (s : Segments) (steps : List Step) → IsKept n bytes s
-    → IsKept n bytes (segments_behind_steps s steps) ⊎ IsTakenOff n bytes s steps
+steps-stay : (n : ℕ) (bytes : List ℕ) (s : Segments) (steps : List Step) → SomeKeeps n bytes s
+    → SomeKeeps n bytes (segments_behind_steps s steps) ⊎ IsTakenOff n bytes s steps
 steps-stay n bytes s [] is = inl is
 steps-stay n bytes s (Adds entries ∷ steps) is =
     on (λ still. steps-stay n bytes (segments_behind_lines s entries) steps still)
     (lines-stay n bytes s entries is)
   where
-    on : (IsKept n bytes (segments_behind_lines s entries)
-        → IsKept n bytes (segments_behind_steps (segments_behind_lines s entries) steps)
+    on : (SomeKeeps n bytes (segments_behind_lines s entries)
+        → SomeKeeps n bytes (segments_behind_steps (segments_behind_lines s entries) steps)
         ⊎ IsTakenOff n bytes (segments_behind_lines s entries) steps)
-        → IsKept n bytes (segments_behind_lines s entries) ⊎ AreTakenOff n bytes s entries
-        → IsKept n bytes (segments_behind_steps s (Adds entries ∷ steps))
+        → SomeKeeps n bytes (segments_behind_lines s entries) ⊎ AreTakenOff n bytes s entries
+        → SomeKeeps n bytes (segments_behind_steps s (Adds entries ∷ steps))
         ⊎ IsTakenOff n bytes s (Adds entries ∷ steps)
     on later (inl still) = ⊎_elim (λ end. inl end) (λ off. inr (inr off)) (later still)
     on later (inr off) = inr (inl off)
 steps-stay n bytes s (Sends turns ∷ steps) is = steps-stay n bytes s steps is
 
-newest-kept : (s : Segments) (n : ℕ) (bytes : List ℕ) → NewestHas n bytes s → IsKept n bytes s
+newest-kept : (s : Segments) (n : ℕ) (bytes : List ℕ) → NewestHas n bytes s → SomeKeeps n bytes s
 newest-kept [] n bytes is = absurd is
 newest-kept (pages ∷ below) n bytes is = inl is
 
@@ -250,7 +250,7 @@ changed_is_kept chip before later turns tracks =
     (λ n own.
     let newest = newest-with s n own in
     let is = newest-kept s n newest.0 newest.1 in
-    let P : Segments → Type 0 = λ t. IsKept n newest.0 t ⊎ IsTakenOff n newest.0 s (Sends turns ∷ later) in
+    let P : Segments → Type 0 = λ t. SomeKeeps n newest.0 t ⊎ IsTakenOff n newest.0 s (Sends turns ∷ later) in
     record {
       bytes = newest.0;
       newest = newest.1;

@@ -12,14 +12,14 @@ use Rattle.stm_session.specs.Order.{Step, Adds, Sends, acts_of, acts_of_steps, t
 use Rattle.stm_any_line.proofs.Appending.{appended-acts, appended-append, appended-behind, appended-line, broken_line}
 use Rattle.stm_any_line.specs.Calls.{AreBegunOf, AreSteps}
 use Rattle.stm_any_line.specs.History.{TextsGoOn, left_of}
-use Rattle.stm_any_line.specs.Texts.{IsText, appended_in, line, lines_of, marked, torn as torn_line, void}
+use Rattle.stm_any_line.specs.Texts.{IsJournalText, appended_in, line, lines_of, marked, torn as torn_line, void}
 
 -- texts
 text_as : (lines lines2 : List Entry) (tail text text2 : List ℕ) → lines ≡ lines2 → text ≡ text2
-    → IsText lines tail text → IsText lines2 tail text2
+    → IsJournalText lines tail text → IsJournalText lines2 tail text2
 text_as lines lines2 tail text text2 same is t =
-    let P : List Entry → Type 0 = λ l. IsText l tail text2 in
-    let Q : List ℕ → Type 0 = λ l. IsText lines tail l in
+    let P : List Entry → Type 0 = λ l. IsJournalText l tail text2 in
+    let Q : List ℕ → Type 0 = λ l. IsJournalText lines tail l in
     subst P same (subst Q is t)
 
 no_tail : (tail : List ℕ) → false ≡ nat_lt 0 (length tail) → tail ≡ []
@@ -30,16 +30,16 @@ no_tail (x ∷ tail) e = absurd (some (length tail) e)
     some n h = grind (arith, nat_tests, h)
 
 text_mark : (is_torn : Bool) (lines : List Entry) (tail text : List ℕ)
-    → is_torn ≡ nat_lt 0 (length tail) → IsText lines tail text
-    → IsText lines [] (text ++ mark is_torn)
+    → is_torn ≡ nat_lt 0 (length tail) → IsJournalText lines tail text
+    → IsJournalText lines [] (text ++ mark is_torn)
 text_mark true lines tail text e t = void lines tail text t
 text_mark false lines tail text e t =
-    let P : List ℕ → Type 0 = λ l. IsText lines l text in
+    let P : List ℕ → Type 0 = λ l. IsJournalText lines l text in
     text_as lines lines [] text (text ++ []) refl (sym (append-nil text))
     (subst P (no_tail tail e) t)
 
-text_lines : (lines entries : List Entry) (text : List ℕ) → IsText lines [] text
-    → IsText (lines ++ entries) [] (text ++ flat_map line_text entries)
+text_lines : (lines entries : List Entry) (text : List ℕ) → IsJournalText lines [] text
+    → IsJournalText (lines ++ entries) [] (text ++ flat_map line_text entries)
 text_lines lines [] text t =
     text_as lines (lines ++ []) [] text (text ++ []) (sym (append-nil lines))
     (sym (append-nil text)) t
@@ -49,8 +49,8 @@ text_lines lines (e ∷ entries) text t =
     (append_assoc text (line_text e) (flat_map line_text entries)) more
 
 text_added : (is_torn : Bool) (lines entries : List Entry) (tail text : List ℕ)
-    → is_torn ≡ nat_lt 0 (length tail) → IsText lines tail text
-    → IsText (lines ++ entries) [] (text ++ added_bytes is_torn entries)
+    → is_torn ≡ nat_lt 0 (length tail) → IsJournalText lines tail text
+    → IsJournalText (lines ++ entries) [] (text ++ added_bytes is_torn entries)
 text_added is_torn lines entries tail text e t =
     text_as _ _ [] _ _ refl (append_assoc text (mark is_torn) (flat_map line_text entries))
     (text_lines lines entries (text ++ mark is_torn) (text_mark is_torn lines tail text e t))
@@ -58,7 +58,7 @@ text_added is_torn lines entries tail text e t =
 -- a text that goes on by these lines
 record GoesOnBy (lines more : List Entry) (text added : List ℕ) (is_torn : Bool) : Type 0 where
   pub tail : List ℕ
-  pub text_is : IsText (lines ++ more) tail (text ++ added)
+  pub text_is : IsJournalText (lines ++ more) tail (text ++ added)
   pub torn_is : is_torn ≡ nat_lt 0 (length tail)
 
 goes_as : (lines more more2 : List Entry) (text added added2 : List ℕ) (is_torn : Bool)
@@ -70,7 +70,7 @@ goes_as lines more more2 text added added2 is_torn same is g =
     subst P same (subst Q is g)
 
 text_steps : (steps : List Step) (is_torn : Bool) (lines : List Entry) (tail text : List ℕ)
-    → is_torn ≡ nat_lt 0 (length tail) → IsText lines tail text
+    → is_torn ≡ nat_lt 0 (length tail) → IsJournalText lines tail text
     → GoesOnBy lines (lines_of steps) text (appended_in (acts_of_steps is_torn steps))
     (torn_behind is_torn steps)
 text_steps [] is_torn lines tail text e t =
@@ -121,7 +121,7 @@ record AddsPart (entries lines : List Entry) (text added : List ℕ) : Type 0 wh
   pub rest : List Entry
   pub is : entries ≡ whole ++ rest
   pub tail : List ℕ
-  pub text_is : IsText (lines ++ whole) tail (text ++ added)
+  pub text_is : IsJournalText (lines ++ whole) tail (text ++ added)
 
 part_as : (entries lines : List Entry) (text added added2 : List ℕ) → added ≡ added2
     → AddsPart entries lines text added → AddsPart entries lines text added2
@@ -129,7 +129,7 @@ part_as entries lines text added added2 is p =
     let P : List ℕ → Type 0 = λ l. AddsPart entries lines text l in
     subst P is p
 
-no_part : (entries lines : List Entry) (tail text : List ℕ) → IsText lines tail text
+no_part : (entries lines : List Entry) (tail text : List ℕ) → IsJournalText lines tail text
     → AddsPart entries lines text []
 no_part entries lines tail text t =
     record {
@@ -142,7 +142,7 @@ no_part entries lines tail text t =
     }
 
 part_lines : (entries : List Entry) (n : ℕ) (lines : List Entry) (text : List ℕ)
-    → IsText lines [] text → AddsPart entries lines text (take n (flat_map line_text entries))
+    → IsJournalText lines [] text → AddsPart entries lines text (take n (flat_map line_text entries))
 part_lines [] n lines text t =
     part_as [] lines text [] _ (sym (take-none n)) (no_part [] lines [] text t)
 part_lines (e ∷ entries) n lines text t =
@@ -188,10 +188,10 @@ part_lines (e ∷ entries) n lines text t =
         })
 
 part_added : (is_torn : Bool) (entries : List Entry) (n : ℕ) (lines : List Entry)
-    (tail text : List ℕ) → is_torn ≡ nat_lt 0 (length tail) → IsText lines tail text
+    (tail text : List ℕ) → is_torn ≡ nat_lt 0 (length tail) → IsJournalText lines tail text
     → AddsPart entries lines text (take n (added_bytes is_torn entries))
 part_added false entries n lines tail text e t =
-    let P : List ℕ → Type 0 = λ l. IsText lines l text in
+    let P : List ℕ → Type 0 = λ l. IsJournalText lines l text in
     part_lines entries n lines text (subst P (no_tail tail e) t)
 part_added true entries zero lines tail text e t = no_part entries lines tail text t
 part_added true entries (suc zero) lines tail text e t =
@@ -227,10 +227,10 @@ pub record LeavesPart (lines : List Entry) (text : List ℕ) (failed : Option St
   pub whole : List Entry
   pub part : ArePartOf failed whole
   pub tail : List ℕ
-  pub text_is : IsText (lines ++ lines_of (left_of failed whole)) tail (text ++ appended_in last)
+  pub text_is : IsJournalText (lines ++ lines_of (left_of failed whole)) tail (text ++ appended_in last)
 
 pub leaves_part : (is_torn : Bool) (failed : Option Step) (last : List Call) (lines : List Entry)
-    (tail text : List ℕ) → is_torn ≡ nat_lt 0 (length tail) → IsText lines tail text
+    (tail text : List ℕ) → is_torn ≡ nat_lt 0 (length tail) → IsJournalText lines tail text
     → AreBegunOf is_torn failed last → LeavesPart lines text failed last
 leaves_part is_torn None last lines tail text e t begun =
     let P : List Call → Type 0 = λ l. LeavesPart lines text None l in
@@ -298,11 +298,11 @@ pub record TextBehind (before done : List Step) (failed : Option Step)
   pub whole : List Entry
   pub part : ArePartOf failed whole
   pub tail : List ℕ
-  pub text_is : IsText (lines_of (before ++ (done ++ left_of failed whole))) tail text
+  pub text_is : IsJournalText (lines_of (before ++ (done ++ left_of failed whole))) tail text
 
 pub text_behind : (before : List Step) (is_torn : Bool) (calls : List Call)
     (did : AreSteps is_torn calls) (tail text : List ℕ)
-    → is_torn ≡ nat_lt 0 (length tail) → IsText (lines_of before) tail text
+    → is_torn ≡ nat_lt 0 (length tail) → IsJournalText (lines_of before) tail text
     → TextBehind before did.done did.failed (text ++ appended_in calls)
 text_behind before is_torn calls did tail text e t =
     let lines = lines_of before in

@@ -8,7 +8,7 @@ use Rattle.stm_journal.specs.declared.entry.Entry.TheVariants.{Names, Opens, Kee
 use Rattle.stm_journal.specs.declared.entry.Entry.TheVariants.{Programs, Ends, Undoes}
 use Rattle.stm_session.specs.Order.{Step, Adds, Sends, page_reads}
 use Rattle.stm_any_line.specs.Segments.{HasPage, IsNewest, SavedPage, saved, segments_behind}
-use Rattle.stm_any_line.specs.Segments.{segments_behind_lines, segments_behind_steps, with_page}
+use Rattle.stm_any_line.specs.Segments.{segments_behind_lines, segments_behind_steps, with_saved_page}
 use Rattle.stm_any_line.specs.Calls.{AllSay}
 use Rattle.stm_any_line.specs.Tracks.{IsJustRead, MaySay, MaySayAll, SendReads, Tracks}
 
@@ -73,16 +73,16 @@ IsBegun [] = ⊥
 IsBegun (pages ∷ below) = Unit {0}
 
 pub newest-more : (s : Segments) (page : SavedPage) (m : ℕ) → IsNewest m s
-    → IsNewest m (with_page page s)
+    → IsNewest m (with_saved_page page s)
 newest-more [] page m is = absurd is
 newest-more (pages ∷ below) page m (bytes, is) = (bytes, has-more pages page m bytes is)
 
 pub newest-new : (s : Segments) (n : ℕ) (bytes : List ℕ) → IsBegun s
-    → IsNewest n (with_page (saved n bytes) s)
+    → IsNewest n (with_saved_page (saved n bytes) s)
 newest-new [] n bytes begun = absurd begun
 newest-new (pages ∷ below) n bytes begun = (bytes, has-last pages n bytes)
 
-pub begun-more : (s : Segments) (page : SavedPage) → IsBegun s → IsBegun (with_page page s)
+pub begun-more : (s : Segments) (page : SavedPage) → IsBegun s → IsBegun (with_saved_page page s)
 begun-more [] page begun = absurd begun
 begun-more (pages ∷ below) page begun = tt
 

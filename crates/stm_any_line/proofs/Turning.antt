@@ -19,10 +19,10 @@ use Rattle.stm_session.specs.Contents.{content}
 use Rattle.stm_session.specs.Answers.{OutcomeData}
 use Rattle.stm_session.specs.Meaning.{CommandData, is_change}
 use Rattle.stm_session.specs.Order.{Step, Adds, page_reads, page_address}
-use Rattle.stm_session.specs.RunOrder.{AreBegun, AreDone, none as nothing_done, more as more_done, IsBegunIf, IsDoneIf, IsReading}
+use Rattle.stm_session.specs.RunOrder.{AreBegun, AreDoneInOrder, none as nothing_done, more as more_done, IsBegunIf, IsDoneIf, IsReading}
 use Rattle.stm_session.specs.Kept.{reads}
 use Rattle.stm_session.specs.Undoable.{has_companion}
-use Rattle.stm_any_line.specs.Segments.{IsNewest, saved, segments_behind_steps, with_page}
+use Rattle.stm_any_line.specs.Segments.{IsNewest, saved, segments_behind_steps, with_saved_page}
 use Rattle.stm_any_line.specs.Tracks.{IsJustRead, MayPut, sends, SendReads, Tracks}
 use Rattle.stm_any_line.proofs.Tracking.{Segments, IsBegun, behind-append, begun-more, just_read, just_then, newest-more, newest-new, reads-then, tracks_as, tracks_front, tracks_then}
 use Rattle.stm_any_line.proofs.Pieces.{reads_leave, reads_only, reads_track, rewrite_stays}
@@ -40,7 +40,7 @@ leaves_nothing chip s b P begun p = record { tracks = tt; begun = begun; still =
 leaves_as : (chip : ChipData) (s : Segments) (b xs ys : List Step) (P : Segments → Type 0) → ys ≡ xs → Leaves chip s b xs P → Leaves chip s b ys P
 leaves_as chip s b xs ys P is p = let Q : List Step → Type 0 = λ zs. Leaves chip s b zs P in subst Q (sym is) p
 
-leaves_one : (chip : ChipData) (s : Segments) (b : List Step) (n : ℕ) (held : List ℕ) (P : Segments → Type 0) → IsBegun s → IsJustRead chip n held b → P (with_page (saved n held) s) → Leaves chip s b (Adds (Keeps n held ∷ []) ∷ []) P
+leaves_one : (chip : ChipData) (s : Segments) (b : List Step) (n : ℕ) (held : List ℕ) (P : Segments → Type 0) → IsBegun s → IsJustRead chip n held b → P (with_saved_page (saved n held) s) → Leaves chip s b (Adds (Keeps n held ∷ []) ∷ []) P
 leaves_one chip s b n held P begun just p =
     record { tracks = ((just, tt), tt); begun = begun-more s (saved n held) begun; still = λ m is. newest-more s (saved n held) m is; holds = p }
 
@@ -225,7 +225,7 @@ module _ (lengths : (set : Pairs) (address : ℕ) (bytes : List ℕ) → length 
   done_by true chip c s t b steps (change, is, segment) = one_segment chip change s t b steps segment
   done_by false chip c s t b steps are = readings_track chip t b steps are
 
-  pub done_tracks : (chip : ChipData) (commands : List CommandData) (outcomes : List OutcomeData) (s last : StateData) (t : Segments) (b steps : List Step) → AreDone chip commands outcomes s last steps → Tracks chip t b steps
+  pub done_tracks : (chip : ChipData) (commands : List CommandData) (outcomes : List OutcomeData) (s last : StateData) (t : Segments) (b steps : List Step) → AreDoneInOrder chip commands outcomes s last steps → Tracks chip t b steps
   done_tracks chip _ _ _ _ t b _ (nothing_done s) = tt
   done_tracks chip _ _ _ _ t b _ (more_done commands c outcomes said s mid last before own are is depth) =
       tracks_then chip t b before own (done_tracks chip commands outcomes s mid t b before are) (done_by (is_change c) chip c mid _ _ own is.0)

@@ -69,7 +69,7 @@ pub record AreSteps (torn : Bool) (calls : List Call) : Type 0 where
 
 -- Behind steps that were done before, such were done; all of them may come behind those, where the
 -- lines so far are those of the steps before; and each line is such.
-pub record Does (Says : Entry → Type 0) (chip : ChipData) (before : List Step) (torn : Bool)
+pub record DoesBehind (Says : Entry → Type 0) (chip : ChipData) (before : List Step) (torn : Bool)
     (calls : List Call) : Type 0 where
   pub did : AreSteps torn calls
   pub tracks : Tracks chip (segments_behind_steps [] before) before
@@ -90,4 +90,4 @@ IsOfIfAny chip l (inr session) = IsOf chip l session
 -- What a run did, at Ok and at a fault, behind any steps and the lines that they added.
 abbrev pub RunTracks : RigState → RigState → Type 0
 RunTracks old new = (calls : List Call) (before : List Step) → Made calls old new
-    → (chip : ChipData) × (torn : Bool) × Does RunSays chip before torn calls
+    → (chip : ChipData) × (torn : Bool) × DoesBehind RunSays chip before torn calls

@@ -10,8 +10,8 @@ use Rattle.stm_session.specs.Kept.{UndoPutsBack, UndoStopsBack}
 use Rattle.stm_session.specs.Meaning.{CommandData}
 use Rattle.stm_session.specs.Order.{Step, Adds, Sends}
 use Rattle.stm_session.specs.RunOrder.{RunStops, RunsInOrder}
-use Rattle.stm_any_line.specs.Calls.{AreSteps, Does, IsOf, IsOfIfAny, Made, RunSays, UndoSays}
-use Rattle.stm_any_line.specs.Texts.{IsText, JournalIsHonest, appended_in, lines_of}
+use Rattle.stm_any_line.specs.Calls.{AreSteps, DoesBehind, IsOf, IsOfIfAny, Made, RunSays, UndoSays}
+use Rattle.stm_any_line.specs.Texts.{IsJournalText, JournalIsHonest, appended_in, lines_of}
 use Rattle.stm_any_line.specs.Tracks.{Tracks}
 
 -- A call that returned, as its clauses tell it; an undo that finds nothing to take back is one that
@@ -71,19 +71,19 @@ left_of (Some (Adds entries)) lines = Adds lines ∷ []
 abbrev pub AllTrack : {R : Type 0} → ChipData → List Step → List (Visit R) → Type 0
 AllTrack chip before [] = Unit {0}
 AllTrack chip before (visit ∷ visits) =
-    (does : Does (says_of visit.deed) chip before visit.journal.is_torn visit.calls)
+    (does : DoesBehind (says_of visit.deed) chip before visit.journal.is_torn visit.calls)
     × (lines : List Entry)
     × (let now = before ++ (does.did.done ++ left_of does.did.failed lines) in
-    Tracks chip [] [] now × ((tail : List ℕ) × IsText (lines_of now) tail visit.after)
+    Tracks chip [] [] now × ((tail : List ℕ) × IsJournalText (lines_of now) tail visit.after)
     × AllTrack chip now visits)
 
 -- behind any call the text is just its lines before, and those of what the call did
 abbrev pub TextsGoOn : Type 0
 TextsGoOn = (before : List Step) (is_torn : Bool) (calls : List Call)
     (did : AreSteps is_torn calls) (tail text : List ℕ)
-    → is_torn ≡ nat_lt 0 (length tail) → IsText (lines_of before) tail text
+    → is_torn ≡ nat_lt 0 (length tail) → IsJournalText (lines_of before) tail text
     → (lines : List Entry) × (later : List ℕ)
-    × IsText (lines_of (before ++ (did.done ++ left_of did.failed lines))) later
+    × IsJournalText (lines_of (before ++ (did.done ++ left_of did.failed lines))) later
     (text ++ appended_in calls)
 
 -- a history that begins with no journal

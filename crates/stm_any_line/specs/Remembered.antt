@@ -6,7 +6,7 @@ use Rattle.stm_journal.specs.declared.entry.Entry.{Entry}
 use Rattle.stm_journal.specs.declared.entry.Entry.TheVariants.{Names, Opens, Keeps, Erases}
 use Rattle.stm_journal.specs.declared.entry.Entry.TheVariants.{Programs, Ends, Undoes}
 use Rattle.stm_session.specs.Order.{Step, Adds, Sends}
-use Rattle.stm_any_line.specs.Segments.{SavedPage, HasPage, IsKept, segments_behind}
+use Rattle.stm_any_line.specs.Segments.{SavedPage, HasPage, SomeKeeps, segments_behind}
 use Rattle.stm_any_line.specs.Segments.{segments_behind_lines, segments_behind_steps}
 use Rattle.stm_any_line.specs.Tracks.{IsJustRead, MayPut, Tracks}
 
@@ -49,7 +49,7 @@ IsTakenOff n bytes segments (Sends turns ∷ steps) = IsTakenOff n bytes segment
 -- What is kept was read: a line kept it with the bytes that had just come.
 abbrev pub KeptWasRead : Type 0
 KeptWasRead = (chip : ChipData) (n : ℕ) (bytes : List ℕ) (steps : List Step)
-    → Tracks chip [] [] steps → IsKept n bytes (segments_behind_steps [] steps)
+    → Tracks chip [] [] steps → SomeKeeps n bytes (segments_behind_steps [] steps)
     → WasRead chip n bytes steps
 
 -- A page that is kept then, with the bytes that came when it was read; and it is kept behind all
@@ -58,7 +58,7 @@ pub record StaysKept (chip : ChipData) (n : ℕ) (before later : List Step) : Ty
   pub bytes : List ℕ
   pub newest : NewestHas n bytes (segments_behind_steps [] before)
   pub read : WasRead chip n bytes before
-  pub stays : IsKept n bytes (segments_behind_steps [] (before ++ later))
+  pub stays : SomeKeeps n bytes (segments_behind_steps [] (before ++ later))
       ⊎ IsTakenOff n bytes (segments_behind_steps [] before) later
 
 -- Each frame asks or reads, or changes such a page.

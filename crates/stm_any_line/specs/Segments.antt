@@ -19,15 +19,15 @@ HasPage [] n bytes = ⊥
 HasPage (page ∷ pages) n bytes = (page ≡ saved n bytes) ⊎ HasPage pages n bytes
 
 -- The pages of each segment, the newest segment first. The newest has one page more,
-abbrev pub with_page : SavedPage → List (List SavedPage) → List (List SavedPage)
-with_page page [] = []
-with_page page (pages ∷ below) = (pages ++ page ∷ []) ∷ below
+abbrev pub with_saved_page : SavedPage → List (List SavedPage) → List (List SavedPage)
+with_saved_page page [] = []
+with_saved_page page (pages ∷ below) = (pages ++ page ∷ []) ∷ below
 
 -- as each line leaves them,
 abbrev pub segments_behind : List (List SavedPage) → Entry → List (List SavedPage)
 segments_behind segments (Names version id unique) = segments
 segments_behind segments (Opens number) = [] ∷ segments
-segments_behind segments (Keeps n bytes) = with_page (saved n bytes) segments
+segments_behind segments (Keeps n bytes) = with_saved_page (saved n bytes) segments
 segments_behind segments (Erases n) = segments
 segments_behind segments (Programs n) = segments
 segments_behind segments (Ends number) = segments
@@ -52,6 +52,6 @@ IsNewest n [] = ⊥
 IsNewest n (pages ∷ below) = (bytes : List ℕ) × HasPage pages n bytes
 
 -- some segment keeps page n, with these bytes
-abbrev pub IsKept : ℕ → List ℕ → List (List SavedPage) → Type 0
-IsKept n bytes [] = ⊥
-IsKept n bytes (pages ∷ below) = HasPage pages n bytes ⊎ IsKept n bytes below
+abbrev pub SomeKeeps : ℕ → List ℕ → List (List SavedPage) → Type 0
+SomeKeeps n bytes [] = ⊥
+SomeKeeps n bytes (pages ∷ below) = HasPage pages n bytes ⊎ SomeKeeps n bytes below

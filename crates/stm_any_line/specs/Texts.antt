@@ -10,16 +10,16 @@ use Rattle.stm_any_line.specs.Segments.{SavedPage, segments_behind_lines}
 
 -- The text is just these lines, each whole, and behind them a torn tail: the beginning of a line,
 -- and perhaps the first byte of the mark that makes it void. A tail that was marked is no line.
-pub data IsText : List Entry → List ℕ → List ℕ → Type 0 where
-  nothing : IsText [] [] []
-  line : (lines : List Entry) (entry : Entry) (text : List ℕ) → IsText lines [] text
-      → IsText (lines ++ entry ∷ []) [] (text ++ line_text entry)
-  torn : (lines : List Entry) (entry : Entry) (n : ℕ) (text : List ℕ) → IsText lines [] text
-      → IsText lines (take n (line_of entry)) (text ++ take n (line_of entry))
-  marked : (lines : List Entry) (tail text : List ℕ) → IsText lines tail text
-      → IsText lines (tail ++ 33 ∷ []) (text ++ 33 ∷ [])
-  void : (lines : List Entry) (tail text : List ℕ) → IsText lines tail text
-      → IsText lines [] (text ++ 33 ∷ 10 ∷ [])
+pub data IsJournalText : List Entry → List ℕ → List ℕ → Type 0 where
+  nothing : IsJournalText [] [] []
+  line : (lines : List Entry) (entry : Entry) (text : List ℕ) → IsJournalText lines [] text
+      → IsJournalText (lines ++ entry ∷ []) [] (text ++ line_text entry)
+  torn : (lines : List Entry) (entry : Entry) (n : ℕ) (text : List ℕ) → IsJournalText lines [] text
+      → IsJournalText lines (take n (line_of entry)) (text ++ take n (line_of entry))
+  marked : (lines : List Entry) (tail text : List ℕ) → IsJournalText lines tail text
+      → IsJournalText lines (tail ++ 33 ∷ []) (text ++ 33 ∷ [])
+  void : (lines : List Entry) (tail text : List ℕ) → IsJournalText lines tail text
+      → IsJournalText lines [] (text ++ 33 ∷ 10 ∷ [])
 
 -- the lines that steps add
 abbrev pub lines_of : List Step → List Entry
@@ -36,7 +36,7 @@ pub record IsLoadedAs (l : Loaded) (lines : List Entry) (tail : List ℕ) : Type
 
 -- what was loaded is what the text says, of whatever lines it is made
 abbrev pub LoadsText : Loaded → List ℕ → Type 0
-LoadsText l text = (lines : List Entry) (tail : List ℕ) → IsText lines tail text
+LoadsText l text = (lines : List Entry) (tail : List ℕ) → IsJournalText lines tail text
     → IsLoadedAs l lines tail
 
 -- The bytes that calls added to a journal: an append stands in the record with the bytes that it

@@ -11,7 +11,7 @@ ghost use Rattle.stm_session.specs.Kept.{UndoPutsBack, UndoStopsBack};
 ghost use Rattle.stm_session.specs.Meaning.{CommandData};
 ghost use Rattle.stm_session.specs.Order.{Step};
 ghost use Rattle.stm_session.specs.RunOrder.{RunStops, RunsInOrder};
-ghost use Rattle.stm_any_line.specs.Calls.{Does, IsOfIfAny, Made, RunSays, UndoSays};
+ghost use Rattle.stm_any_line.specs.Calls.{DoesBehind, IsOfIfAny, Made, RunSays, UndoSays};
 ghost use Rattle.stm_any_line.specs.History.{HistoriesTrack, TextsGoOn};
 ghost use Rattle.stm_any_line.specs.Remembered.{ChangedIsKept, KeptWasRead};
 ghost use Rattle.stm_any_line.specs.Texts.{IsLoadedAs, lines_of};
@@ -29,12 +29,12 @@ pub fn a_run_keeps_pages_as_they_were_read<R: Rig>()
         (calls : List Call) (before : List Step)
         → (ran : RunsInOrder table commands (R.view old) (R.view new))
         → Made calls (R.view old) (R.view new)
-        → Does RunSays ran.chip before ran.journal.is_torn calls }
+        → DoesBehind RunSays ran.chip before ran.journal.is_torn calls }
     ensures stopped { (table : List ChipData) (commands : List CommandData) (old new : R)
         (fault : Fault) (calls : List Call) (before : List Step) (chip : ChipData) (l : Loaded)
         → (stop : RunStops table commands (R.view old) (R.view new) fault)
         → IsOfIfAny chip l stop → Made calls (R.view old) (R.view new)
-        → Does RunSays chip before l.is_torn calls }
+        → DoesBehind RunSays chip before l.is_torn calls }
 {
     laying_by_parts();
 }
@@ -48,12 +48,12 @@ pub fn an_undo_changes_pages_that_the_lines_keep<R: Rig>()
         (before : List Step) (tail : List ℕ)
         → (undid : UndoPutsBack is_fresh table (R.view old) (R.view new))
         → IsLoadedAs undid.journal (lines_of before) tail → Made calls (R.view old) (R.view new)
-        → Does UndoSays undid.chip before undid.journal.is_torn calls }
+        → DoesBehind UndoSays undid.chip before undid.journal.is_torn calls }
     ensures stopped { (is_fresh : Bool) (table : List ChipData) (old new : R) (fault : Fault)
         (calls : List Call) (before : List Step) (tail : List ℕ) (chip : ChipData) (l : Loaded)
         → (stop : UndoStopsBack is_fresh table (R.view old) (R.view new) fault)
         → IsOfIfAny chip l stop → IsLoadedAs l (lines_of before) tail
-        → Made calls (R.view old) (R.view new) → Does UndoSays chip before l.is_torn calls }
+        → Made calls (R.view old) (R.view new) → DoesBehind UndoSays chip before l.is_torn calls }
 {}
 
 /// Where the text of a journal is just the lines of what was done, and the journal adds just what

@@ -9,7 +9,7 @@ use Rattle.toml.specs.View.{items_of, items_view, view}
 use Rattle.toml.specs.declared.value.Value.{Value}
 use Rattle.stm_wire.specs.Chip.{ChipData}
 use Rattle.stm_chip.specs.Document.Reads.{none, more}
-use Rattle.stm_chip.specs.Document.{HasEntries, HaveOwnIds, IsChipWith, IsNewId, IsNextChip, IsFlaw, HasFlaw, Reads, IsDocument, IsFaultOf}
+use Rattle.stm_chip.specs.Document.{HasEntries, HaveOwnIds, IsChipWith, IsNewId, IsNextChip, IsFlaw, HasFlaw, ReadsEntries, IsDocument, IsTableFaultOf}
 use Rattle.stm_chip.specs.declared.fault.TableFault.{TableFault}
 use Rattle.stm_chip.specs.declared.fault.TableFault.TheVariants.{Syntax, Missing, Limit, TwiceId, Memory}
 
@@ -58,14 +58,14 @@ lacks_tables document vs entries e others has =
     let items : items_of entries ≡ items_of (map view vs) = cc (there, has.there) in
     others (unmapped vs (All-same IsTable (map view vs) entries (sym (items_of_same entries (map view vs) items)) has.tables))
 
-module _ (vs : List Value) (i : ℕ) (v : Value) (h : i < length vs) (here : v ≡ get_or vs i v) (chips : List ChipData) (reads : Reads (map view (take i vs)) chips) where
+module _ (vs : List Value) (i : ℕ) (v : Value) (h : i < length vs) (here : v ≡ get_or vs i v) (chips : List ChipData) (reads : ReadsEntries (map view (take i vs)) chips) where
   -- one entry more
-  pub reads_more : (chip : ChipData) → IsNextChip chips (view v) chip → Reads (map view (take (i + 1) vs)) (chips ++ chip ∷ [])
+  pub reads_more : (chip : ChipData) → IsNextChip chips (view v) chip → ReadsEntries (map view (take (i + 1) vs)) (chips ++ chip ∷ [])
   reads_more chip next =
-      let P : List Data → Type 0 = λ entries. Reads entries (chips ++ chip ∷ []) in
+      let P : List Data → Type 0 = λ entries. ReadsEntries entries (chips ++ chip ∷ []) in
       let parts : map view (take (i + 1) vs) ≡ map view (take i vs) ++ view v ∷ [] =
       ap (map view) (take_more vs i v h ∙ ap (λ w. take i vs ++ w ∷ []) (sym here)) ∙ map-append view (take i vs) (v ∷ []) in
-      subst P (sym parts) (Reads.more (view v) chip reads next)
+      subst P (sym parts) (ReadsEntries.more (view v) chip reads next)
 
   -- a faulty entry is the first, since those before it were read
   pub flaw_at : (n : ℕ) (fault : TableFault) → n ≡ i + 1 → IsFlaw n chips (view v) fault → HasFlaw (map view vs) fault
@@ -86,7 +86,7 @@ module _ (vs : List Value) (i : ℕ) (v : Value) (h : i < length vs) (here : v �
 
 -- the fault of a document's entries is that of the text
 pub fault_of : (text : List ℕ) (document : Members) (entries : List Data) (fault : TableFault) → IsDocument text document → HasEntries document entries
-    → HasFlaw entries fault → IsFaultOf text fault
+    → HasFlaw entries fault → IsTableFaultOf text fault
 fault_of text document entries Syntax is has flaw = absurd flaw.flaw
 fault_of text document entries Memory is has flaw = tt
 fault_of text document entries (Missing k) is has flaw =
@@ -97,11 +97,11 @@ fault_of text document entries (TwiceId k) is has flaw =
     record { document = document; is_document = is; entries = entries; has_entries = has; has_flaw = flaw }
 
 pub fault_of_lacking : (text : List ℕ) (document : Members) → IsDocument text document → ((entries : List Data) → ¬ HasEntries document entries)
-    → IsFaultOf text (Missing 0)
+    → IsTableFaultOf text (Missing 0)
 fault_of_lacking text document is lacks = inl (refl, record { document = document; is_document = is; lacks = lacks })
 
 -- chips that were read have ids of their own
-pub own_ids : {entries : List Data} {chips : List ChipData} → Reads entries chips → HaveOwnIds chips
+pub own_ids : {entries : List Data} {chips : List ChipData} → ReadsEntries entries chips → HaveOwnIds chips
 own_ids none = λ i j d h k. absurd (omega arith)
 own_ids (more {entries} {chips} entry chip reads next) =
     all_pairs_push (λ earlier later. earlier.id ≢ later.id) chips chip (own_ids reads) next.new_id

@@ -2,11 +2,11 @@
 use Rattle.std.proofs.Common.{◌≡◌, inl, inr, ℕ, zero, suc, ◌+◌, ◌*◌, ◌/◌, ◌%◌, ◌<◌, ◌≤◌, List, [], ◌∷◌, ◌++◌, length, drop, sym, subst, arith, length-take}
 use Rattle.std.proofs.lemmas.List.{append-nil}
 use Rattle.stm_chip.specs.declared.plan.Frame.{Frame}
-use Rattle.stm_chip.specs.Plan.{AreFrames, IsFrame, block_of, cut_length, frame_with, frames_of, used_length}
+use Rattle.stm_chip.specs.Plan.{AreFrames, IsFrameOfPlan, block_of, cut_length, frame_with, frames_of, used_length}
 use Rattle.stm_chip.proofs.Programming.{frame_cases, used_length-le}
 
 -- a frame in a page is one in a larger page, from an earlier place on
-frame_in_larger : (from earlier size larger : ℕ) (frame : Frame) → earlier ≤ from → size ≤ larger → IsFrame from size frame → IsFrame earlier larger frame
+frame_in_larger : (from earlier size larger : ℕ) (frame : Frame) → earlier ≤ from → size ≤ larger → IsFrameOfPlan from size frame → IsFrameOfPlan earlier larger frame
 frame_in_larger from earlier size larger frame before more is =
     record {
       aligned = is.aligned;
@@ -23,7 +23,7 @@ frames_in_larger from size larger (frame ∷ frames) more are =
     (frame_in_larger from from size larger frame (omega arith) more are.0, frames_in_larger (frame.offset + 256) size larger frames more are.1)
 
 -- one frame more, behind a page's others
-frames_and_one : (from middle size : ℕ) (frames : List Frame) (frame : Frame) → from ≤ middle → AreFrames from middle frames → IsFrame middle size frame → AreFrames from size (frames ++ frame ∷ [])
+frames_and_one : (from middle size : ℕ) (frames : List Frame) (frame : Frame) → from ≤ middle → AreFrames from middle frames → IsFrameOfPlan middle size frame → AreFrames from size (frames ++ frame ∷ [])
 frames_and_one from middle size [] frame before are is = (frame_in_larger middle from size size frame before (omega arith) is, tt)
 frames_and_one from middle size (first ∷ frames) frame before are is =
     let whole : middle ≤ size = omega (arith, is.after, is.inside) in (
@@ -32,7 +32,7 @@ frames_and_one from middle size (first ∷ frames) frame before are is =
     )
 
 -- the frame of a block with used bytes
-block_frame : (erased n : ℕ) (page : List ℕ) → 0 < used_length erased (block_of page n) → IsFrame (256 * n) (256 * suc n) (frame_with (256 * n) (cut_length erased (block_of page n)))
+block_frame : (erased n : ℕ) (page : List ℕ) → 0 < used_length erased (block_of page n) → IsFrameOfPlan (256 * n) (256 * suc n) (frame_with (256 * n) (cut_length erased (block_of page n)))
 block_frame erased n page filled =
     let bound : used_length erased (block_of page n) ≤ 256 = omega (arith, used_length-le erased (block_of page n), length-take 256 (drop (256 * n) page)) in
     record {

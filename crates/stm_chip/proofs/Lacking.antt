@@ -6,16 +6,16 @@ use Rattle.toml.specs.Data.{Data, Members, as_integer, get}
 use Rattle.toml.specs.View.{view}
 use Rattle.toml.specs.declared.value.Value.{Value}
 use Rattle.stm_wire.specs.Chip.{ChipData}
-use Rattle.stm_chip.specs.Entry.{Keys, PlaceKeys, Run, keys_from, keys_of}
+use Rattle.stm_chip.specs.Entry.{Keys, PlaceKeys, PageRun, keys_from, keys_of}
 use Rattle.stm_chip.specs.Tried.{tried_of}
 use Rattle.stm_chip.specs.Document.Reads.{none, more}
-use Rattle.stm_chip.specs.Document.{HasEntries, HasId, IsDocument, IsNewId, IsTableOf, LacksChip, Reads}
+use Rattle.stm_chip.specs.Document.{HasEntries, HasId, IsDocument, IsNewId, IsTableOf, LacksChip, ReadsEntries}
 use Rattle.stm_chip.specs.declared.tried.TriedBoard.{TriedBoard}
 use Rattle.stm_chip.proofs.Documents.{items_of_same}
 
 -- keys that are all there: the first and the last of them
 module _ (keys : Keys) where
-  first_key : (a b : Option ℤ) (c : Option (List Run)) (d : Option (List ℕ)) (e : Option ℤ) (f : Option PlaceKeys) (g : Option (List TriedBoard))
+  first_key : (a b : Option ℤ) (c : Option (List PageRun)) (d : Option (List ℕ)) (e : Option ℤ) (f : Option PlaceKeys) (g : Option (List TriedBoard))
       → keys_from a b c d e f g ≡ Some keys → a ≡ Some keys.id
   first_key (Some a) (Some b) (Some c) (Some d) (Some e) (Some f) (Some g) h = ap (λ o. option_map (λ k. k.id) o) h
   first_key None b c d e f g h = cc
@@ -26,7 +26,7 @@ module _ (keys : Keys) where
   first_key (Some a) (Some b) (Some c) (Some d) (Some e) None g h = cc
   first_key (Some a) (Some b) (Some c) (Some d) (Some e) (Some f) None h = cc
 
-  last_key : (a b : Option ℤ) (c : Option (List Run)) (d : Option (List ℕ)) (e : Option ℤ) (f : Option PlaceKeys) (g : Option (List TriedBoard))
+  last_key : (a b : Option ℤ) (c : Option (List PageRun)) (d : Option (List ℕ)) (e : Option ℤ) (f : Option PlaceKeys) (g : Option (List TriedBoard))
       → keys_from a b c d e f g ≡ Some keys → g ≡ Some keys.tried
   last_key (Some a) (Some b) (Some c) (Some d) (Some e) (Some f) (Some g) h = ap (λ o. option_map (λ k. k.tried) o) h
   last_key None b c d e f g h = cc
@@ -47,13 +47,13 @@ record HasKeys (entry : Data) : Type 0 where
   keys : Keys
   keys_are : keys_of entry ≡ Some keys
 
-each_has_keys : {entries : List Data} {chips : List ChipData} → Reads entries chips → All HasKeys entries
+each_has_keys : {entries : List Data} {chips : List ChipData} → ReadsEntries entries chips → All HasKeys entries
 each_has_keys none = λ k d h. absurd (omega arith)
 each_has_keys (more {entries} {chips} entry chip reads next) =
     All-push HasKeys entries entry (each_has_keys reads) (record { keys = next.keys; keys_are = next.keys_are })
 
 -- where no entry has an id, no chip has it
-new_id : (id : ℕ) {entries : List Data} {chips : List ChipData} → Reads entries chips → All (λ entry. ¬ HasId id entry) entries → IsNewId chips id
+new_id : (id : ℕ) {entries : List Data} {chips : List ChipData} → ReadsEntries entries chips → All (λ entry. ¬ HasId id entry) entries → IsNewId chips id
 new_id id none others = λ k d h. absurd (omega arith)
 new_id id (more {entries} {chips} entry chip reads next) others =
     let parts = All-pop (λ e. ¬ HasId id e) (entries ++ entry ∷ []) entries (Some entry) refl others in
@@ -69,11 +69,11 @@ held_is P vs v each (i, within, is) =
     subst P (get_or-map view vs i v (view v) within ∙ ap view is) (each i (view v) h)
 
 module _ (text : List ℕ) (document : Members) (vs : List Value) (id : ℕ) (is : IsDocument text document) (has : HasEntries document (map view vs)) where
-  reads_of : (chips : List ChipData) → IsTableOf text chips → Reads (map view vs) chips
+  reads_of : (chips : List ChipData) → IsTableOf text chips → ReadsEntries (map view vs) chips
   reads_of chips table =
       let one : table.document ≡ document = cc (table.is_document.parses, is.parses) in
       let there : HasEntries document table.entries = subst (λ d. HasEntries d table.entries) one table.has_entries in
-      subst (λ entries. Reads entries chips) (same_entries document table.entries (map view vs) there has) table.reads
+      subst (λ entries. ReadsEntries entries chips) (same_entries document table.entries (map view vs) there has) table.reads
 
   pub lacks_id : All (λ v. ¬ HasId id (view v)) vs → LacksChip text id
   lacks_id others chips table = new_id id (reads_of chips table) (All-map (λ entry. ¬ HasId id entry) view vs others)

@@ -4,7 +4,7 @@ use Rattle.std.specs.List.{flat_map}
 use Rattle.std.proofs.lemmas.Grind.{flat_map-append}
 use Rattle.std.proofs.lemmas.List.{append-nil, drop_more, length-append, take-append-drop, take_at, take_more}
 use Rattle.std.proofs.lemmas.List.Elements.{All-get_or, All-same, All-tail, All-take}
-use Rattle.stm_chip.specs.Entry.{Run, IsRun, IsPaged, CanAdd, pages_of}
+use Rattle.stm_chip.specs.Entry.{PageRun, IsRun, IsPaged, CanAdd, pages_of}
 
 right-All : (P : ℕ → Type 0) (xs ys : List ℕ) → All P (xs ++ ys) → All P ys
 right-All P [] ys h = h
@@ -14,14 +14,14 @@ left-All : (P : ℕ → Type 0) (xs ys : List ℕ) → All P (xs ++ ys) → All 
 left-All P xs ys h = All-same P xs (take (length xs) (xs ++ ys)) (sym (take_at xs ys (length xs) refl)) (All-take P (length xs) (xs ++ ys) h)
 
 -- one run more
-pub pages_more : (runs : List Run) (i : ℕ) (d : Run) → i < length runs
+pub pages_more : (runs : List PageRun) (i : ℕ) (d : PageRun) → i < length runs
     → flat_map pages_of (take (i + 1) runs) ≡ flat_map pages_of (take i runs) ++ pages_of (get_or runs i d)
 pages_more runs i d h =
     ap (flat_map pages_of) (take_more runs i d h) ∙ flat_map-append pages_of (take i runs) (get_or runs i d ∷ [])
     ∙ ap (λ xs. flat_map pages_of (take i runs) ++ xs) (append-nil (pages_of (get_or runs i d)))
 
 -- where runs leave room for their pages, so does each
-pub paged_at : (runs : List Run) (i : ℕ) (d : Run) → i < length runs → IsPaged runs → CanAdd (flat_map pages_of (take i runs)) (get_or runs i d)
+pub paged_at : (runs : List PageRun) (i : ℕ) (d : PageRun) → i < length runs → IsPaged runs → CanAdd (flat_map pages_of (take i runs)) (get_or runs i d)
 paged_at runs i d h p =
     let before = flat_map pages_of (take i runs) in
     let here = pages_of (get_or runs i d) in
@@ -38,7 +38,7 @@ paged_at runs i d h p =
     }
 
 -- no runs leave room where one does not
-pub unpaged_at : (runs : List Run) (i : ℕ) (d : Run) (sizes : List ℕ) → i < length runs → sizes ≡ flat_map pages_of (take i runs)
+pub unpaged_at : (runs : List PageRun) (i : ℕ) (d : PageRun) (sizes : List ℕ) → i < length runs → sizes ≡ flat_map pages_of (take i runs)
     → ¬ CanAdd sizes (get_or runs i d) → ¬ IsPaged runs
 unpaged_at runs i d sizes h e cannot paged =
     let P : List ℕ → Type 0 = λ xs. CanAdd xs (get_or runs i d) in

@@ -15,8 +15,8 @@ use Rattle.stm_chip.specs.declared.fault.TableFault.TheVariants.{Syntax, Missing
 use Rattle.stm_chip.specs.declared.fault.TableFault.TheVariants.{Memory}
 
 -- what the values of an array stand for
-abbrev pub data_of : Vec Value Global → List Data
-data_of values = map view values.items
+abbrev pub values_data : Vec Value Global → List Data
+values_data values = map view values.items
 
 -- a document has these tables at its key `chip`, and nothing else there
 pub record HasEntries (document : Members) (entries : List Data) : Type 0 where
@@ -71,11 +71,11 @@ pub record HasBadLimit (entry : Data) : Type 0 where
   pub breaks : BreaksLimit keys
 
 -- the entries are these chips, in order, and no id comes twice
-pub data Reads : List Data → List ChipData → Type 0 where
-  none : Reads [] []
+pub data ReadsEntries : List Data → List ChipData → Type 0 where
+  none : ReadsEntries [] []
   more : {entries : List Data} {chips : List ChipData} (entry : Data) (chip : ChipData)
-      → Reads entries chips → IsNextChip chips entry chip
-      → Reads (entries ++ entry ∷ []) (chips ++ chip ∷ [])
+      → ReadsEntries entries chips → IsNextChip chips entry chip
+      → ReadsEntries (entries ++ entry ∷ []) (chips ++ chip ∷ [])
 
 -- what is wrong with entry n, after those of some chips
 abbrev pub IsFlaw : ℕ → List ChipData → Data → TableFault → Type 0
@@ -92,7 +92,7 @@ pub record HasFlaw (entries : List Data) (fault : TableFault) : Type 0 where
   pub after : List Data
   pub parts : entries ≡ before ++ entry ∷ after
   pub chips : List ChipData
-  pub reads : Reads before chips
+  pub reads : ReadsEntries before chips
   pub flaw : IsFlaw (length before + 1) chips entry fault
 
 -- the text is a document, this tree
@@ -106,7 +106,7 @@ pub record IsTableOf (text : List ℕ) (chips : List ChipData) : Type 0 where
   pub is_document : IsDocument text document
   pub entries : List Data
   pub has_entries : HasEntries document entries
-  pub reads : Reads entries chips
+  pub reads : ReadsEntries entries chips
 
 -- the text is a document without tables at `chip`
 pub record LacksEntries (text : List ℕ) : Type 0 where
@@ -123,12 +123,12 @@ pub record HasFault (text : List ℕ) (fault : TableFault) : Type 0 where
   pub has_flaw : HasFlaw entries fault
 
 -- the text's fault; of a want of memory nothing is said
-abbrev pub IsFaultOf : List ℕ → TableFault → Type 0
-IsFaultOf text Memory = Unit {0}
-IsFaultOf text Syntax = IsUtf8 text → parse_document text ≡ None
-IsFaultOf text (Missing k) = ((k ≡ 0) × LacksEntries text) ⊎ HasFault text (Missing k)
-IsFaultOf text (Limit k) = HasFault text (Limit k)
-IsFaultOf text (TwiceId k) = HasFault text (TwiceId k)
+abbrev pub IsTableFaultOf : List ℕ → TableFault → Type 0
+IsTableFaultOf text Memory = Unit {0}
+IsTableFaultOf text Syntax = IsUtf8 text → parse_document text ≡ None
+IsTableFaultOf text (Missing k) = ((k ≡ 0) × LacksEntries text) ⊎ HasFault text (Missing k)
+IsTableFaultOf text (Limit k) = HasFault text (Limit k)
+IsTableFaultOf text (TwiceId k) = HasFault text (TwiceId k)
 
 -- an entry has this id
 abbrev pub HasId : ℕ → Data → Type 0

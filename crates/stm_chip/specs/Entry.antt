@@ -13,21 +13,21 @@ use Rattle.stm_chip.specs.Tried.{tried_of}
 use Rattle.stm_chip.specs.declared.tried.TriedBoard.{TriedBoard}
 
 -- how many pages, and of how many bytes
-abbrev pub Run : Type 0
-Run = ℤ × ℤ
+abbrev pub PageRun : Type 0
+PageRun = ℤ × ℤ
 
-abbrev pub run_of_two : Option ℤ → Option ℤ → Option Data → Option Run
+abbrev pub run_of_two : Option ℤ → Option ℤ → Option Data → Option PageRun
 run_of_two (Some count) (Some size) None = Some (count, size)
 run_of_two _ _ _ = None
 
 -- the run that an array of two whole numbers is
-abbrev pub run_of : Data → Option Run
+abbrev pub run_of : Data → Option PageRun
 run_of d =
     run_of_two (option_and_then as_integer (at 0 d)) (option_and_then as_integer (at 1 d)) (at 2 d)
 
 -- the runs of an array, where each item is one
-abbrev pub runs_of : Items → Option (List Run)
-runs_of = each_of run_of
+abbrev pub page_runs : Items → Option (List PageRun)
+page_runs = each_of run_of
 
 -- where the unique id of a device stands: its address, and how many bytes it has
 abbrev pub UniqueKey : Type 0
@@ -49,13 +49,13 @@ places_from _ _ = None
 pub record Keys : Type 0 where
   pub id : ℤ
   pub base : ℤ
-  pub runs : List Run
+  pub runs : List PageRun
   pub erase : List ℕ
   pub erased : ℤ
   pub places : PlaceKeys
   pub tried : List TriedBoard
 
-abbrev pub keys_with : ℤ → ℤ → List Run → List ℕ → ℤ → PlaceKeys → List TriedBoard → Keys
+abbrev pub keys_with : ℤ → ℤ → List PageRun → List ℕ → ℤ → PlaceKeys → List TriedBoard → Keys
 keys_with id base runs erase erased places tried =
     record {
       id = id;
@@ -67,7 +67,7 @@ keys_with id base runs erase erased places tried =
       tried = tried;
     }
 
-abbrev pub keys_from : Option ℤ → Option ℤ → Option (List Run) → Option (List ℕ)
+abbrev pub keys_from : Option ℤ → Option ℤ → Option (List PageRun) → Option (List ℕ)
     → Option ℤ → Option PlaceKeys → Option (List TriedBoard) → Option Keys
 keys_from (Some id) (Some base) (Some runs) (Some erase) (Some erased) (Some places) (Some tried) =
     Some (keys_with id base runs erase erased places tried)
@@ -79,9 +79,9 @@ erased_of (Some value) = as_integer value
 erased_of None = Some (pos 0xFF)
 
 -- where the unique id stands: an array of two whole numbers, or nothing where the key is absent
-abbrev pub unique_of : Option Data → Option (Option UniqueKey)
-unique_of (Some value) = option_map Some (run_of value)
-unique_of None = Some None
+abbrev pub unique_key : Option Data → Option (Option UniqueKey)
+unique_key (Some value) = option_map Some (run_of value)
+unique_key None = Some None
 
 -- where the size of the flash stands: a whole number, or nothing where the key is absent
 abbrev pub size_at_of : Option Data → Option (Option ℤ)
@@ -89,33 +89,33 @@ size_at_of (Some value) = option_map Some (as_integer value)
 size_at_of None = Some None
 
 -- where an entry says that its devices tell their board
-abbrev pub places_of : Data → Option PlaceKeys
-places_of d =
-    places_from (unique_of (get (codes "unique") d)) (size_at_of (get (codes "size_at") d))
+abbrev pub place_keys : Data → Option PlaceKeys
+place_keys d =
+    places_from (unique_key (get (codes "unique") d)) (size_at_of (get (codes "size_at") d))
 
 -- the keys of an entry, where each is there, or has a value of its own when absent, and of its kind
 abbrev pub keys_of : Data → Option Keys
 keys_of d =
     keys_from (option_and_then as_integer (get (codes "id") d))
     (option_and_then as_integer (get (codes "base") d))
-    (option_and_then runs_of (option_and_then as_array (get (codes "pages") d)))
+    (option_and_then page_runs (option_and_then as_array (get (codes "pages") d)))
     (option_and_then as_str (get (codes "erase") d)) (erased_of (get (codes "erased") d))
-    (places_of d) (tried_of (get (codes "tried") d))
+    (place_keys d) (tried_of (get (codes "tried") d))
 
 -- a run has a page
-abbrev pub IsRun : Run → Type 0
+abbrev pub IsRun : PageRun → Type 0
 IsRun (pos count, pos size) = 1 ≤ count
 IsRun _ = ⊥
 
 -- the sizes of a run's pages
-abbrev pub pages_of : Run → List ℕ
+abbrev pub pages_of : PageRun → List ℕ
 pages_of (pos count, pos size) = replicate count size
 pages_of _ = []
 
 -- the word for a kind in a table
-abbrev pub word_of : EraseKind → List ℕ
-word_of Page = codes "page"
-word_of Extended = codes "extended"
+abbrev pub kind_word : EraseKind → List ℕ
+kind_word Page = codes "page"
+kind_word Extended = codes "extended"
 
 abbrev pub key_of_unique : UniquePlace → UniqueKey
 key_of_unique place = (pos place.address, pos place.length)
@@ -138,7 +138,7 @@ pub record IsChipOf (keys : Keys) (chip : ChipData) : Type 0 where
   pub base : keys.base ≡ pos chip.base
   pub runs : All IsRun keys.runs
   pub sizes : chip.sizes ≡ flat_map pages_of keys.runs
-  pub erase : keys.erase ≡ word_of chip.kind
+  pub erase : keys.erase ≡ kind_word chip.kind
   pub erased : keys.erased ≡ pos chip.erased
   pub places : ArePlacesOf keys.places chip.places
   -- what was tried is beside the chip
@@ -149,13 +149,13 @@ pub record IsChipOf (keys : Keys) (chip : ChipData) : Type 0 where
 
 -- the chip's limits leave room for no more pages than a number of 16 bits
 -- counts, of sizes of 32 bits
-pub record IsPaged (runs : List Run) : Type 0 where
+pub record IsPaged (runs : List PageRun) : Type 0 where
   pub each : All IsRun runs
   pub count : length (flat_map pages_of runs) < 2 ^ 16
   pub in_range : All (λ size. size < 2 ^ 32) (flat_map pages_of runs)
 
 -- a run whose pages some pages leave room for
-pub record CanAdd (sizes : List ℕ) (run : Run) : Type 0 where
+pub record CanAdd (sizes : List ℕ) (run : PageRun) : Type 0 where
   pub is_run : IsRun run
   pub count : length sizes + length (pages_of run) < 2 ^ 16
   pub in_range : All (λ size. size < 2 ^ 32) (pages_of run)

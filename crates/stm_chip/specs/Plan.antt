@@ -61,7 +61,7 @@ frames_in (Erase frames) = frames.items
 
 -- 4 to 256 bytes, a multiple of 4, at the start of a block of 256 bytes that lies from this place
 -- on in a page of this size
-pub record IsFrame (from size : ℕ) (frame : Frame) : Type 0 where
+pub record IsFrameOfPlan (from size : ℕ) (frame : Frame) : Type 0 where
   pub aligned : frame.offset % 256 ≡ 0
   pub after : from ≤ frame.offset
   pub inside : frame.offset + 256 ≤ size
@@ -74,4 +74,4 @@ pub record IsFrame (from size : ℕ) (frame : Frame) : Type 0 where
 abbrev pub AreFrames : ℕ → ℕ → List Frame → Type 0
 AreFrames from size [] = Unit {0}
 AreFrames from size (frame ∷ frames) =
-    IsFrame from size frame × AreFrames (frame.offset + 256) size frames
+    IsFrameOfPlan from size frame × AreFrames (frame.offset + 256) size frames

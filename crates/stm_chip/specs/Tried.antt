@@ -6,12 +6,12 @@ use Rattle.stm_chip.specs.Items.{each_of}
 use Rattle.stm_chip.specs.declared.tried.TriedBoard.{TriedBoard}
 
 -- a text of 1 to 80 bytes
-abbrev pub is_short : List ℕ → Bool
-is_short text = nat_le 1 (length text) && nat_le (length text) 80
+abbrev pub is_short_text : List ℕ → Bool
+is_short_text text = nat_le 1 (length text) && nat_le (length text) 80
 
 -- whether the text at a key is a short one
 abbrev pub short_at : List ℕ → Data → Option Bool
-short_at key board = option_map is_short (option_and_then as_str (get key board))
+short_at key board = option_map is_short_text (option_and_then as_str (get key board))
 
 abbrev pub each_short : Option Bool → Option Bool → Option Bool → Option Bool → Option Bool
     → Option Bool → Option Bool
@@ -40,12 +40,12 @@ board_from (Some are_short) (Some is_simulated) = Some (board_with are_short is_
 board_from _ _ = None
 
 -- a board that was tried
-abbrev pub board_of : Data → Option TriedBoard
-board_of board = board_from (are_short board) (simulated_of (get (codes "simulated") board))
+abbrev pub tried_board_of : Data → Option TriedBoard
+tried_board_of board = board_from (are_short board) (simulated_of (get (codes "simulated") board))
 
 -- the boards that were tried: an array of them, or none where the key is absent
 abbrev pub tried_of : Option Data → Option (List TriedBoard)
-tried_of (Some value) = option_and_then (each_of board_of) (as_array value)
+tried_of (Some value) = option_and_then (each_of tried_board_of) (as_array value)
 tried_of None = Some []
 
 abbrev pub is_real : TriedBoard → Bool

@@ -3,7 +3,7 @@ ghost use Rattle.std.specs.Prelude.{ℕ, ◌≡◌, ◌≢◌, ◌++◌, ◌+◌
 ghost use Rattle.std.specs.Bool.{MatchBool};
 ghost use Rattle.std.specs.List.{flat_map};
 ghost use Rattle.stm_wire.specs.declared.chip.EraseKind.{EraseKind as Kind};
-ghost use Rattle.stm_chip.specs.Entry.{IsRun, IsPaged, CanAdd, pages_of, word_of, keys_with};
+ghost use Rattle.stm_chip.specs.Entry.{IsRun, IsPaged, CanAdd, pages_of, kind_word, keys_with};
 ghost use Rattle.stm_chip.specs.Entry.{IsChipOf, BreaksLimit, places_with};
 
 use crate::keys::EntryKeys;
@@ -14,8 +14,8 @@ use stm_wire::{Chip, EraseKind};
 
 /// The kind that a word of a table names.
 fn kind_of(word: &str) -> Option<EraseKind>
-    ensures { MatchOption result ((kind : Kind) → word_of kind ≢ word.now)
-        (λ kind. word.now ≡ word_of kind) }
+    ensures { MatchOption result ((kind : Kind) → kind_word kind ≢ word.now)
+        (λ kind. word.now ≡ kind_word kind) }
 {
     match word {
         "page" => Some(EraseKind::Page),

@@ -2,8 +2,8 @@
 ghost use Rattle.std.specs.Prelude.{ℤ, ◌≡◌, IfOk, option_and_then, option_map, vec_items, codes};
 ghost use Rattle.toml.specs.Data.{as_array, as_integer, as_str, at, get};
 ghost use Rattle.toml.specs.View.{array_view, view};
-ghost use Rattle.stm_chip.specs.Entry.{erased_of, run_of, runs_of, keys_of, keys_with};
-ghost use Rattle.stm_chip.specs.Entry.{unique_of, size_at_of, places_of, places_with};
+ghost use Rattle.stm_chip.specs.Entry.{erased_of, run_of, page_runs, keys_of, keys_with};
+ghost use Rattle.stm_chip.specs.Entry.{unique_key, size_at_of, place_keys, places_with};
 
 use crate::tried::{TriedBoard, read_tried};
 use std::alloc::{AllocError, Global};
@@ -76,7 +76,7 @@ fn read_run(run: &Value) -> Option<(i64, i64)>
 
 /// The runs of an array, or None where an item is something else.
 fn read_runs(alloc: Global, array: &Vec<Value>) -> Result<Option<Vec<(i64, i64)>>, AllocError>
-    ensures { IfOk result (λ runs. option_map vec_items runs ≡ runs_of (array_view array.now)) }
+    ensures { IfOk result (λ runs. option_map vec_items runs ≡ page_runs (array_view array.now)) }
 {
     let mut runs = Vec::new(alloc);
     for value in array {
@@ -102,7 +102,7 @@ fn array<'a>(entry: &'a Value, key: &str) -> Option<&'a Vec<Value>>
 /// The runs at the key `pages`.
 fn read_pages(alloc: Global, entry: &Value) -> Result<Option<Vec<(i64, i64)>>, AllocError>
     ensures { IfOk result (λ runs. option_map vec_items runs
-        ≡ option_and_then runs_of (option_and_then as_array
+        ≡ option_and_then page_runs (option_and_then as_array
         (get (codes "pages") (view entry.now)))) }
 {
     match array(entry, "pages") {
@@ -123,7 +123,7 @@ fn read_erased(entry: &Value) -> Option<i64>
 
 /// Where the unique id stands, if the key is there; None where it is of another kind.
 fn read_unique(entry: &Value) -> Option<Option<(i64, i64)>>
-    ensures { result ≡ unique_of (get (codes "unique") (view entry.now)) }
+    ensures { result ≡ unique_key (get (codes "unique") (view entry.now)) }
 {
     match entry.get("unique") {
         Some(value) => match read_run(value) {
@@ -149,7 +149,7 @@ fn read_size_at(entry: &Value) -> Option<Option<i64>>
 
 /// The keys that say where a chip tells its board, or None where one is of another kind.
 fn read_places(entry: &Value) -> Option<PlaceKeys>
-    ensures { option_map (λ k. places_with k.unique k.size_at) result ≡ places_of (view entry.now) }
+    ensures { option_map (λ k. places_with k.unique k.size_at) result ≡ place_keys (view entry.now) }
 {
     match (read_unique(entry), read_size_at(entry)) {
         (Some(unique), Some(size_at)) => Some(PlaceKeys { unique, size_at }),

@@ -2,7 +2,7 @@
 ghost use Rattle.std.specs.Prelude.{◌≡◌, ◌∷◌, [], ℕ, IfErr, IfOk, OnOk};
 ghost use Rattle.std.specs.Option.{option_or};
 ghost use Rattle.stm_chip.specs.Document.{HaveOwnIds};
-ghost use Rattle.stm_chip.specs.Over.{IsOver, chip_with};
+ghost use Rattle.stm_chip.specs.Over.{IsOver, chip_by_id};
 ghost use Rattle.stm_chip.specs.declared.fault.TableFault.TheVariants.{Memory};
 
 use crate::TableFault;
@@ -11,8 +11,8 @@ use stm_wire::Chip;
 
 /// Adds a chip, unless one of these has its id.
 fn add_new(chips: &mut Vec<Chip>, chip: Chip) -> Result<(), TableFault>
-    ensures added { OnOk result ((id : ℕ) → chip_with chips.new.items id
-        ≡ option_or (chip_with chips.old.items id) (chip_with (chip ∷ []) id)) }
+    ensures added { OnOk result ((id : ℕ) → chip_by_id chips.new.items id
+        ≡ option_or (chip_by_id chips.old.items id) (chip_by_id (chip ∷ []) id)) }
     ensures own_ids { HaveOwnIds chips.old.items → HaveOwnIds chips.new.items }
     ensures fault { IfErr result (λ e. e ≡ Memory) }
 {

@@ -5,9 +5,9 @@ ghost use Rattle.std.specs.Prelude.{codes, IsTrue, IsSome, IsSomeAnd, slice_get,
 ghost use Rattle.toml.specs.View.{table_view, view, array_view};
 ghost use Rattle.toml.specs.Data.{Data, as_array, as_table, get_member};
 ghost use Rattle.stm_wire.specs.Chip.{ChipData};
-ghost use Rattle.stm_chip.specs.Document.{IsTableOf, IsFaultOf, IsDocument, HasEntries, data_of};
+ghost use Rattle.stm_chip.specs.Document.{IsTableOf, IsTableFaultOf, IsDocument, HasEntries, values_data};
 ghost use Rattle.stm_chip.specs.Document.{IsNextChip, IsNewId, HaveOwnIds, IsChipWith, IsFlaw};
-ghost use Rattle.stm_chip.specs.Document.{HasFlaw, Reads, HaveInPlace};
+ghost use Rattle.stm_chip.specs.Document.{HasFlaw, ReadsEntries, HaveInPlace};
 
 use crate::TableFault;
 use crate::entry::chip_of;
@@ -88,7 +88,7 @@ pub(crate) fn first_with(chips: &[Chip], id: u16) -> Option<&Chip>
 /// The tree of a text.
 pub(crate) fn read_document(alloc: Global, text: &[u8]) -> Result<toml::Table, TableFault>
     ensures { MatchResult result (λ document. IsDocument text.now (table_view document))
-        (IsFaultOf text.now) }
+        (IsTableFaultOf text.now) }
 {
     match toml::table_from_slice(alloc, text) {
         Ok(document) => Ok(document),
@@ -119,7 +119,7 @@ fn are_tables(items: &[Value]) -> bool
 pub(crate) fn entries(document: &toml::Table) -> Option<&Vec<Value>>
     ensures { MatchOption result
         ((entries : List Data) → ¬ HasEntries (table_view document.now) entries)
-        (λ items. HasEntries (table_view document.now) (data_of items.now)) }
+        (λ items. HasEntries (table_view document.now) (values_data items.now)) }
 {
     match chip_array(document) {
         Some(items) => { if are_tables(items) { Some(items) } else { None } }
@@ -146,8 +146,8 @@ fn read_entry(alloc: Global, n: u64, entry: &Value, chips: &[Chip]) -> Result<Ch
 
 /// The chips of these entries.
 fn read_entries(alloc: Global, entries: &Vec<Value>) -> Result<Vec<Chip>, TableFault>
-    ensures { MatchResult result (λ chips. Reads (data_of entries.now) chips.items)
-        (HasFlaw (data_of entries.now)) }
+    ensures { MatchResult result (λ chips. ReadsEntries (values_data entries.now) chips.items)
+        (HasFlaw (values_data entries.now)) }
 {
     let mut chips = Vec::new(alloc);
     for entry in entries {
@@ -169,7 +169,7 @@ fn read_entries(alloc: Global, entries: &Vec<Value>) -> Result<Vec<Chip>, TableF
 /// first faulty entry decides, and in it first what is missing, then a broken limit, then an id that
 /// came before.
 pub fn read_table(alloc: Global, text: &[u8]) -> Result<Table, TableFault>
-    ensures { MatchResult result (IsTableOf text.now) (IsFaultOf text.now) }
+    ensures { MatchResult result (IsTableOf text.now) (IsTableFaultOf text.now) }
 {
     let document = read_document(alloc, text)?;
     let Some(entries) = entries(&document) else {

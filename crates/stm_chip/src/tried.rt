@@ -5,9 +5,9 @@ ghost use Rattle.toml.specs.Data.{get};
 ghost use Rattle.toml.specs.View.{array_view, view};
 ghost use Rattle.stm_chip.specs.Items.{each_of};
 ghost use Rattle.stm_chip.specs.Entry.{IsShortBoard};
-ghost use Rattle.stm_chip.specs.Tried.{board_of, is_short, real_boards, short_at, simulated_of};
+ghost use Rattle.stm_chip.specs.Tried.{tried_board_of, is_short_text, real_boards, short_at, simulated_of};
 ghost use Rattle.stm_chip.specs.Tried.{are_short as short_texts_of, tried_of};
-ghost use Rattle.stm_chip.specs.Document.{HasId, IsFaultOf, LacksChip, TellsTried};
+ghost use Rattle.stm_chip.specs.Document.{HasId, IsTableFaultOf, LacksChip, TellsTried};
 
 use crate::TableFault;
 use crate::keys::{text, whole};
@@ -28,8 +28,8 @@ pub struct TriedBoard {
 }
 
 /// Whether a text has 1 to 80 bytes.
-fn is_short(text: &str) -> bool
-    ensures { result ≡ is_short text.now }
+fn is_short_text(text: &str) -> bool
+    ensures { result ≡ is_short_text text.now }
 {
     !text.is_empty() && text.len() <= LONGEST
 }
@@ -39,7 +39,7 @@ fn short_at(board: &Value, key: &str) -> Option<bool>
     ensures { result ≡ short_at key.now (view board.now) }
 {
     match text(board, key) {
-        Some(text) => Some(is_short(text)),
+        Some(text) => Some(is_short_text(text)),
         None => None,
     }
 }
@@ -75,7 +75,7 @@ fn read_simulated(board: &Value) -> Option<bool>
 
 /// A board that was tried, or None where a key is absent or of another kind.
 fn read_board(board: &Value) -> Option<TriedBoard>
-    ensures { result ≡ board_of (view board.now) }
+    ensures { result ≡ tried_board_of (view board.now) }
 {
     match (short_texts(board), read_simulated(board)) {
         (Some(are_short), Some(is_simulated)) => Some(TriedBoard {
@@ -89,7 +89,7 @@ fn read_board(board: &Value) -> Option<TriedBoard>
 /// The boards of an array, or None where an item is something else.
 fn read_boards(alloc: Global, array: &Vec<Value>) -> Result<Option<Vec<TriedBoard>>, AllocError>
     ensures { IfOk result (λ boards. option_map vec_items boards
-        ≡ each_of board_of (array_view array.now)) }
+        ≡ each_of tried_board_of (array_view array.now)) }
 {
     let mut boards = Vec::new(alloc);
     for value in array {
@@ -157,7 +157,7 @@ fn entry_with(entries: &[Value], id: u16) -> Option<&Value>
 pub fn tried_boards(alloc: Global, text: &[u8], id: u16) -> Result<Option<usize>, TableFault>
     ensures { MatchResult result
         (λ count. MatchOption count (LacksChip text.now id) (TellsTried text.now id))
-        (IsFaultOf text.now) }
+        (IsTableFaultOf text.now) }
 {
     let document = read_document(alloc, text)?;
     let Some(entries) = entries(&document) else {

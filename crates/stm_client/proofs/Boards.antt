@@ -26,7 +26,7 @@ use Rattle.stm_session.specs.Moments.{IsSafe, IsUnbegun}
 use Rattle.stm_session.specs.Refusal.{AnswersRefusal, AnswersUnsent, Refuses, RefusesUnsent, chip_with, first_refusal, line_refusal, misfit_refusal, opening_refusal, refused_unless, table_refusal, unsent_refusal}
 use Rattle.stm_session.specs.Refusals.{commands_refused, run_refusal, undo_refusal, undo_refusal_of}
 use Rattle.stm_session.specs.Undoable.{Undoable, state_at}
-use Rattle.stm_client.specs.Boards.{AreTwoBoards, IsAsItWas, IsElsewhere, LeavesAsItWas, NamesABoard, RefusesBoard}
+use Rattle.stm_client.specs.Boards.{AreTwoBoards, IsAsItWas, IsOtherBoard, LeavesAsItWas, NamesABoard, RefusesBoard}
 
 -- what a table is asked for is the chip that it holds
 abbrev pub IsHeld : Type 0
@@ -46,7 +46,7 @@ opening_by false true last finished own is = absurd (true≢false own)
 opening_by true other last finished own is = absurd (true≢false finished)
 
 -- it is of another board, and this is the device's chip
-module _ (held : IsHeld) (table : List ChipData) (d : Device) (journal : List ℕ) (elsewhere : IsElsewhere table d journal) where
+module _ (held : IsHeld) (table : List ChipData) (d : Device) (journal : List ℕ) (elsewhere : IsOtherBoard table d journal) where
   abbrev s : StateData
   s = state_at journal
 
@@ -150,7 +150,7 @@ same_board : (board unique : List ℕ) → not (bytes_eq board unique) ≡ false
 same_board board unique is = (bytes_eq-Decides board unique).0 (not-false (bytes_eq board unique) is)
 
 pub of_one_board : (flashes : List (List ℕ)) (own other : Device) (journal : List ℕ) (table : List ChipData) → Undoable flashes own journal → NamesABoard journal → AreTwoBoards own.chip other.chip
-    → IsChipWith table other.chip.id other.chip → IsElsewhere table other journal
+    → IsChipWith table other.chip.id other.chip → IsOtherBoard table other journal
 of_one_board flashes own other journal table u (board, named) two tabled =
     let mine : board ≡ own.chip.unique = same_board board own.chip.unique (sym (ap (λ (o : Option (List ℕ)). is_other_board own.chip.unique o) named) ∙ u.fits.board) in
     record {
@@ -164,7 +164,7 @@ of_one_board flashes own other journal table u (board, named) two tabled =
 
 -- the three sessions
 pub run_elsewhere : {T : Type 0} (held : IsHeld) (table : List ChipData) (commands : List CommandData) (old new : RigState) (result : Result T Fault) (outcomes_of : T → List OutcomeData)
-    → RunContract table commands old new result outcomes_of → old.is_honest → IsSafe old.device → IsElsewhere table old.device old.journal → LeavesAsItWas old new result
+    → RunContract table commands old new result outcomes_of → old.is_honest → IsSafe old.device → IsOtherBoard table old.device old.journal → LeavesAsItWas old new result
 run_elsewhere held table commands old new result outcomes_of contract honest safe elsewhere = by_stage (is_unfinished (state_at old.journal)) refl
   where
     refusal_is : is_unfinished (state_at old.journal) ≡ false → run_refusal (journal_of old.journal) old.device table commands ≡ Some OtherBoard
@@ -177,7 +177,7 @@ run_elsewhere held table commands old new result outcomes_of contract honest saf
     by_stage false finished = left_refused old new result (contract.refused honest safe OtherBoard (refusal_is finished))
 
 pub info_elsewhere : (held : IsHeld) (table : List ChipData) (old new : RigState) (result : Result Info Fault)
-    → InfoContract table old new result → old.is_honest → IsSafe old.device → IsElsewhere table old.device old.journal → LeavesAsItWas old new result
+    → InfoContract table old new result → old.is_honest → IsSafe old.device → IsOtherBoard table old.device old.journal → LeavesAsItWas old new result
 info_elsewhere held table old new result contract honest safe elsewhere = by_stage (is_unfinished (state_at old.journal)) refl
   where
     by_stage : (b : Bool) → is_unfinished (state_at old.journal) ≡ b → LeavesAsItWas old new result
@@ -188,12 +188,12 @@ has_some : (journal : List ℕ) → 1 ≤ depth_at journal → (length (state_at
 has_some journal some = ne_eqb (length (state_at journal).stack) 0 (λ e. absurd (omega (arith, some, e)))
 
 pub undo_elsewhere : (held : IsHeld) (table : List ChipData) (count : ℕ) (old new : RigState) (result : Result ℕ Fault)
-    → UndoContract table count old new result → old.is_honest → IsElsewhere table old.device old.journal → 1 ≤ depth_at old.journal → LeavesAsItWas old new result
+    → UndoContract table count old new result → old.is_honest → IsOtherBoard table old.device old.journal → 1 ≤ depth_at old.journal → LeavesAsItWas old new result
 undo_elsewhere held table count old new result contract honest elsewhere some =
     left_unsent_board old new result (contract.refused honest OtherBoard (undo_is held table old.device old.journal elsewhere (has_some old.journal some)))
 
 pub undo_unsent : (held : IsHeld) (table : List ChipData) (count : ℕ) (old new : RigState) (result : Result ℕ Fault)
-    → UndoContract table count old new result → old.is_honest → IsElsewhere table old.device old.journal → GoesOn AreFetches old.calls new.calls
+    → UndoContract table count old new result → old.is_honest → IsOtherBoard table old.device old.journal → GoesOn AreFetches old.calls new.calls
 undo_unsent held table count old new result contract honest elsewhere = by_depth (depth_at old.journal) refl
   where
     by_depth : (n : ℕ) → depth_at old.journal ≡ n → GoesOn AreFetches old.calls new.calls

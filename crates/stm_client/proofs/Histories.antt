@@ -9,7 +9,7 @@ use Rattle.stm_session.specs.declared.fault.Fault.{Fault}
 use Rattle.stm_session.specs.declared.outcome.Report.{Report}
 use Rattle.stm_session.specs.Answers.{outcomes_in}
 use Rattle.stm_session.specs.Events.{Event, Happening, Knows, Leads, World, now_of, ran, themselves, told_by}
-use Rattle.stm_session.specs.Headline.{AllIsTakenBack, CanFollow, EachCanFollow, Headline, IsStart, oldest_after, oldest_start, starts_after}
+use Rattle.stm_session.specs.Headline.{AllIsUndone, CanFollow, EachCanFollow, Headline, IsStart, oldest_after, oldest_start, starts_after}
 use Rattle.stm_session.specs.Meaning.{CommandData}
 use Rattle.stm_session.specs.Moments.{SameMake}
 use Rattle.stm_session.specs.Promises.{RunContract, UndoContract}
@@ -28,7 +28,7 @@ knows_made table w w2 make knows = let K : ChipData → Type 0 = λ c. IsNewId t
 -- what a session promises
 pub record Laws : Type 0 where
   pub headline : Headline rig_state
-  pub back : AllIsTakenBack rig_state
+  pub back : AllIsUndone rig_state
   pub follows : EachCanFollow rig_state
 
 -- the flashes that can be had back behind the run

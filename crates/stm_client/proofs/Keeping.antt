@@ -25,7 +25,7 @@ use Rattle.stm_session.specs.Meaning.{commands_in}
 use Rattle.stm_session.specs.Refusals.{run_refusal}
 use Rattle.stm_session.specs.Running.{AreRead, RunsReads}
 use Rattle.stm_session.specs.Undoable.{Undoable, is_unfinished_at, risked_pages, state_at}
-use Rattle.stm_client.specs.Keeping.{CanBegin, HoldsIts, IsKept, Keeps}
+use Rattle.stm_client.specs.Keeping.{CanBegin, HoldsIts, IsAllKept, KeepsAll}
 use Rattle.stm_client.proofs.Naming.{answer_other, fails_other, opening_fails_other, opening_other, refusal_other, unsent_answer_other, IsOtherThere}
 
 -- the laws of the session, as they are published
@@ -41,7 +41,7 @@ IsLacking = (table : List ChipData) (id : ℕ) → IsNewId table id → chip_wit
 abbrev pub ResetKeeps : Type 0
 ResetKeeps = (flashes : List (List ℕ)) (d : Device) (journal : List ℕ) → Undoable flashes d journal → Undoable flashes (reset d) journal
 
-pub reset_kept : ResetKeeps → (flashes : List (List ℕ)) (old : RigState) (d : Device) (journal : List ℕ) → IsKept flashes old d journal → IsKept flashes old (reset d) journal
+pub reset_kept : ResetKeeps → (flashes : List (List ℕ)) (old : RigState) (d : Device) (journal : List ℕ) → IsAllKept flashes old d journal → IsAllKept flashes old (reset d) journal
 reset_kept law flashes old d journal k =
     record {
       undoable = law flashes d journal k.undoable;
@@ -51,7 +51,7 @@ reset_kept law flashes old d journal k =
     }
 
 -- what is kept of what was kept
-pub kept_further : (flashes : List (List ℕ)) (a b : RigState) → IsKept flashes a b.device b.journal → (d : Device) (journal : List ℕ) → IsKept flashes b d journal → IsKept flashes a d journal
+pub kept_further : (flashes : List (List ℕ)) (a b : RigState) → IsAllKept flashes a b.device b.journal → (d : Device) (journal : List ℕ) → IsAllKept flashes b d journal → IsAllKept flashes a d journal
 kept_further flashes a b first d journal next =
     record {
       undoable = next.undoable;
@@ -65,17 +65,17 @@ kept_further flashes a b first d journal next =
     }
 
 -- a session can begin again
-pub kept_begins : (table : List ChipData) (flashes : List (List ℕ)) (a b : RigState) → HoldsIts table a.device → b.is_honest → IsKept flashes a b.device b.journal → CanBegin table flashes b
+pub kept_begins : (table : List ChipData) (flashes : List (List ℕ)) (a b : RigState) → HoldsIts table a.device → b.is_honest → IsAllKept flashes a b.device b.journal → CanBegin table flashes b
 kept_begins table flashes a b tabled honest kept =
     let P : ChipData → Type 0 = λ chip. IsNewId table chip.id ⊎ IsChipWith table chip.id chip in
     record { honest = honest; tabled = subst P (sym kept.make.chip) tabled; undoable = kept.undoable }
 
-pub begins_again : {T : Type 0} {Done : T → Type 0} {result : Result T Fault} (table : List ChipData) (flashes : List (List ℕ)) (a b : RigState) → CanBegin table flashes a → Keeps flashes a b result Done
+pub begins_again : {T : Type 0} {Done : T → Type 0} {result : Result T Fault} (table : List ChipData) (flashes : List (List ℕ)) (a b : RigState) → CanBegin table flashes a → KeepsAll flashes a b result Done
     → CanBegin table flashes b
 begins_again table flashes a b can keeps = kept_begins table flashes a b can.tabled keeps.honest keeps.left
 
 module _ (laws : Laws) (flashes : List (List ℕ)) (old : RigState) (u : Undoable flashes old.device old.journal) where
-  lost_device : (n : ℕ) → (let d : Device = record old.device { owed = drop n old.device.owed } in IsKept flashes old d old.journal)
+  lost_device : (n : ℕ) → (let d : Device = record old.device { owed = drop n old.device.owed } in IsAllKept flashes old d old.journal)
   lost_device n =
       let d : Device = record old.device { owed = drop n old.device.owed } in
       record {
@@ -92,18 +92,18 @@ module _ (laws : Laws) (flashes : List (List ℕ)) (old : RigState) (u : Undoabl
         make = record { chip = refl; version = refl; codes = refl };
       }
 
-  untouched_kept : (d : Device) (journal : List ℕ) → IsUntouched old d journal → IsKept flashes old d journal
+  untouched_kept : (d : Device) (journal : List ℕ) → IsUntouched old d journal → IsAllKept flashes old d journal
   untouched_kept d journal left =
-      let J : List ℕ → Type 0 = λ j. IsKept flashes old d j in
-      let D : Device → Type 0 = λ x. IsKept flashes old x old.journal in
+      let J : List ℕ → Type 0 = λ j. IsAllKept flashes old d j in
+      let D : Device → Type 0 = λ x. IsAllKept flashes old x old.journal in
       subst J (sym left.0) (subst D (sym left.1.1) (lost_device left.1.0))
 
   -- a call that is refused before a byte is sent
   pub keeps_unsent : {T : Type 0} {Done : T → Type 0} (new : RigState) (fault : Fault) (result : Result T Fault) → IsOtherThere (Some fault) → RefusesUnsent (IsUntouched old) fault old new result
-      → Keeps flashes old new result Done
+      → KeepsAll flashes old new result Done
   keeps_unsent {T = T} {Done = Done} new fault result other refuses =
       record {
-        moments = weaker (IsUntouched old) (IsKept flashes old) old new refuses.moments untouched_kept;
+        moments = weaker (IsUntouched old) (IsAllKept flashes old) old new refuses.moments untouched_kept;
         honest = refuses.honest;
         left = untouched_kept new.device new.journal refuses.left;
         follows = unsent_answer_other fault result other refuses.answers;
@@ -119,7 +119,7 @@ module _ (laws : Laws) (flashes : List (List ℕ)) (old : RigState) (u : Undoabl
     pub safe_now : IsSafe old.device
     safe_now = laws.safe flashes old.device old.journal u finished
 
-    unbegun_kept : (d : Device) (journal : List ℕ) → IsUnbegun old d journal → IsKept flashes old d journal
+    unbegun_kept : (d : Device) (journal : List ℕ) → IsUnbegun old d journal → IsAllKept flashes old d journal
     unbegun_kept d journal left =
         let J : List ℕ → Type 0 = λ j. Undoable flashes d j in
         record {
@@ -130,11 +130,11 @@ module _ (laws : Laws) (flashes : List (List ℕ)) (old : RigState) (u : Undoabl
         }
 
     pub keeps_unbegun : {T : Type 0} {Done : T → Type 0} (new : RigState) (result : Result T Fault) → LeavesOnly (IsUnbegun old) old new → new.is_honest → IsUnbegun old new.device new.journal
-        → IfErr result (λ fault. IsOtherThere (Some fault)) → IfOk result Done → Keeps flashes old new result Done
+        → IfErr result (λ fault. IsOtherThere (Some fault)) → IfOk result Done → KeepsAll flashes old new result Done
     keeps_unbegun new result moments honest left follows done =
-        record { moments = weaker (IsUnbegun old) (IsKept flashes old) old new moments unbegun_kept; honest = honest; left = unbegun_kept new.device new.journal left; follows = follows; done = done }
+        record { moments = weaker (IsUnbegun old) (IsAllKept flashes old) old new moments unbegun_kept; honest = honest; left = unbegun_kept new.device new.journal left; follows = follows; done = done }
 
-    pub keeps_refused : {T : Type 0} {Done : T → Type 0} (new : RigState) (fault : Fault) (result : Result T Fault) → IsOtherThere (Some fault) → Refuses (IsUnbegun old) fault old new result → Keeps flashes old new result Done
+    pub keeps_refused : {T : Type 0} {Done : T → Type 0} (new : RigState) (fault : Fault) (result : Result T Fault) → IsOtherThere (Some fault) → Refuses (IsUnbegun old) fault old new result → KeepsAll flashes old new result Done
     keeps_refused {T = T} {Done = Done} new fault result other refuses =
         keeps_unbegun new result refuses.moments refuses.honest refuses.left (answer_other fault result other refuses.answers) (no_answer result refuses.answers)
       where
@@ -150,10 +150,10 @@ unfinished_said flashes d journal u unfinished = ap unsent_refusal u.good_journa
 module _ (laws : Laws) (table : List ChipData) (flashes : List (List ℕ)) (old new : RigState) (result : Result Info Fault) (can : CanBegin table flashes old)
     (unsent : (fault : Fault) → unsent_refusal (journal_of old.journal) ≡ Some fault → RefusesUnsent (IsUntouched old) fault old new result)
     (informs : IsSafe old.device → Informs table old new result) where
-  pub info_keeps : Keeps flashes old new result (IsInfoOf old.device)
+  pub info_keeps : KeepsAll flashes old new result (IsInfoOf old.device)
   info_keeps = by_stage (is_unfinished_at old.journal) refl
     where
-      by_stage : (b : Bool) → is_unfinished_at old.journal ≡ b → Keeps flashes old new result (IsInfoOf old.device)
+      by_stage : (b : Bool) → is_unfinished_at old.journal ≡ b → KeepsAll flashes old new result (IsInfoOf old.device)
       by_stage true e = keeps_unsent laws flashes old can.undoable new Unfinished result (λ e. cc) (unsent Unfinished (unfinished_said flashes old.device old.journal can.undoable e))
       by_stage false e =
           let does = informs (safe_now laws flashes old can.undoable e) in
@@ -210,10 +210,10 @@ module _ {T : Type 0} (laws : Laws) (lacking : IsLacking) (table : List ChipData
   pub run_unrefused : run_refusal (journal_of old.journal) old.device table (commands_in commands) ≡ None → IfErr result IsOutsideFault
   run_unrefused none = (runs_unrefused (unrefused_run_finished flashes old.device old.journal table commands can.undoable none) none).fails
 
-  pub run_keeps : Keeps flashes old new result (λ x. AreRead old.device commands (outcomes_of x))
+  pub run_keeps : KeepsAll flashes old new result (λ x. AreRead old.device commands (outcomes_of x))
   run_keeps = by_stage (is_unfinished_at old.journal) refl
     where
-      by_refusal : is_unfinished_at old.journal ≡ false → (r : Option Fault) → run_refusal (journal_of old.journal) old.device table (commands_in commands) ≡ r → Keeps flashes old new result (λ x. AreRead old.device commands (outcomes_of x))
+      by_refusal : is_unfinished_at old.journal ≡ false → (r : Option Fault) → run_refusal (journal_of old.journal) old.device table (commands_in commands) ≡ r → KeepsAll flashes old new result (λ x. AreRead old.device commands (outcomes_of x))
       by_refusal finished (Some fault) e =
           keeps_refused laws flashes old can.undoable finished new fault result (subst IsOtherThere e (refusal_other (journal_of old.journal) old.device table commands))
           (refused (safe_now laws flashes old can.undoable finished) fault e)
@@ -221,16 +221,16 @@ module _ {T : Type 0} (laws : Laws) (lacking : IsLacking) (table : List ChipData
           let runs = runs_unrefused finished e in
           keeps_unbegun laws flashes old can.undoable finished new result runs.moments runs.honest runs.left (fails_other result runs.fails) runs.outcomes
 
-      by_stage : (b : Bool) → is_unfinished_at old.journal ≡ b → Keeps flashes old new result (λ x. AreRead old.device commands (outcomes_of x))
+      by_stage : (b : Bool) → is_unfinished_at old.journal ≡ b → KeepsAll flashes old new result (λ x. AreRead old.device commands (outcomes_of x))
       by_stage true e = keeps_unsent laws flashes old can.undoable new Unfinished result (λ e. cc) (unsent Unfinished (unfinished_said flashes old.device old.journal can.undoable e))
       by_stage false e = by_refusal e _ refl
 
 -- two sessions, one after the other
 pub keeps_then : {T U : Type 0} {Done1 : T → Type 0} {Done2 Done : U → Type 0} (flashes : List (List ℕ)) (a b c : RigState) (x : T) (second : Result U Fault)
-    → Keeps flashes a b (Ok x) Done1 → Keeps flashes b c second Done2 → ((y : U) → Done2 y → Done y) → Keeps flashes a c second Done
+    → KeepsAll flashes a b (Ok x) Done1 → KeepsAll flashes b c second Done2 → ((y : U) → Done2 y → Done y) → KeepsAll flashes a c second Done
 keeps_then flashes a b c x second first next gives =
     record {
-      moments = joined (IsKept flashes a) (IsKept flashes b) (IsKept flashes a) a b c first.moments next.moments (λ d journal k. k) (kept_further flashes a b first.left);
+      moments = joined (IsAllKept flashes a) (IsAllKept flashes b) (IsAllKept flashes a) a b c first.moments next.moments (λ d journal k. k) (kept_further flashes a b first.left);
       honest = next.honest;
       left = kept_further flashes a b first.left c.device c.journal next.left;
       follows = next.follows;
@@ -242,11 +242,11 @@ keeps_then flashes a b c x second first next gives =
     ok_weaker (Err e) f p = tt
 
 -- the same with another value or another fault at its end
-pub keeps_ok : {T U : Type 0} {Done1 : T → Type 0} {Done : U → Type 0} (flashes : List (List ℕ)) (a b : RigState) (x : T) (y : U) → Keeps flashes a b (Ok x) Done1 → (Done1 x → Done y) → Keeps flashes a b (Ok y) Done
+pub keeps_ok : {T U : Type 0} {Done1 : T → Type 0} {Done : U → Type 0} (flashes : List (List ℕ)) (a b : RigState) (x : T) (y : U) → KeepsAll flashes a b (Ok x) Done1 → (Done1 x → Done y) → KeepsAll flashes a b (Ok y) Done
 keeps_ok flashes a b x y keeps gives = record { moments = keeps.moments; honest = keeps.honest; left = keeps.left; follows = tt; done = gives keeps.done }
 
-pub keeps_failed : {T U : Type 0} {Done1 : T → Type 0} {Done : U → Type 0} (flashes : List (List ℕ)) (a b : RigState) (e : Fault) (result : Result U Fault) → Keeps flashes a b (Err e) Done1 → IsErrAnd result (λ x. x ≡ e)
-    → Keeps flashes a b result Done
+pub keeps_failed : {T U : Type 0} {Done1 : T → Type 0} {Done : U → Type 0} (flashes : List (List ℕ)) (a b : RigState) (e : Fault) (result : Result U Fault) → KeepsAll flashes a b (Err e) Done1 → IsErrAnd result (λ x. x ≡ e)
+    → KeepsAll flashes a b result Done
 keeps_failed flashes a b e (Ok y) keeps is = absurd is
 keeps_failed flashes a b e (Err y) keeps is =
     let P : Fault → Type 0 = λ f. IsOtherThere (Some f) in
@@ -257,7 +257,7 @@ fails_as e (Ok y) is outside = absurd is
 fails_as e (Err y) is outside = subst IsOutsideFault (sym is) outside
 
 -- what is refused when a session begins, is refused of what was kept
-pub opening_kept : (table : List ChipData) (flashes : List (List ℕ)) (a b : RigState) → IsKept flashes a b.device b.journal → opening_refusal (journal_of a.journal) a.device table ≡ None
+pub opening_kept : (table : List ChipData) (flashes : List (List ℕ)) (a b : RigState) → IsAllKept flashes a b.device b.journal → opening_refusal (journal_of a.journal) a.device table ≡ None
     → opening_refusal (journal_of b.journal) b.device table ≡ None
 opening_kept table flashes a b kept none =
     ap (λ (j : List ℕ). opening_refusal (journal_of j) b.device table) kept.journal_same ∙ by_chip (journal_of a.journal) ∙ none

@@ -8,7 +8,7 @@ use Rattle.stm_wire.specs.Harmless.{SameOutside}
 use Rattle.stm_wire.specs.declared.intent.Intent.{Intent}
 use Rattle.stm_wire.specs.declared.intent.Intent.TheVariants.{Erase, Program}
 use Rattle.stm_wire.specs.Intents.{intended_pages}
-use Rattle.stm_sim.specs.Memory.{MemoryData, begins, rig_state}
+use Rattle.stm_sim.specs.Memory.{MemoryData, begins_anew, rig_state}
 use Rattle.stm_wire.specs.PowerLoss.{powered_again}
 use Rattle.stm_journal.specs.ForgetLaws.{intent_of-forgets}
 use Rattle.stm_journal.specs.Journals.{IsLoaded, Loaded, good, journal_of}
@@ -21,14 +21,14 @@ use Rattle.stm_client.specs.Power.{LosesPage}
 same_itself : (chip : ChipData) (pages : List ℕ) (flash : List ℕ) → SameOutside chip pages flash flash
 same_itself chip pages flash = record { same_length = refl; elsewhere = λ n here out. refl }
 
-pub page_lost : (n : ℕ) (bytes : List ℕ) (m new : MemoryData) → new ≡ begins (powered_again n bytes m.device) m → SameOutside m.device.chip (n ∷ []) m.device.flash new.device.flash
+pub page_lost : (n : ℕ) (bytes : List ℕ) (m new : MemoryData) → new ≡ begins_anew (powered_again n bytes m.device) m → SameOutside m.device.chip (n ∷ []) m.device.flash new.device.flash
     → ((rig_state m).is_honest → (rig_state new).is_honest) → LosesPage n m new
 page_lost n bytes m new is outside honest =
     let M : MemoryData → Type 0 = λ x. SameOutside m.device.chip (n ∷ []) m.device.flash x.device.flash → ((rig_state m).is_honest → (rig_state x).is_honest) → LosesPage n m x in
     subst M (sym is) (λ out stays. record { make = record { chip = refl; version = refl; codes = refl }; phase = refl; owed = refl; flash = out; journal = refl; honest = stays }) outside honest
 
 -- a reset loses no page
-pub none_lost : (n : ℕ) (m new : MemoryData) → new ≡ begins (reset m.device) m → ((rig_state m).is_honest → (rig_state new).is_honest) → LosesPage n m new
+pub none_lost : (n : ℕ) (m new : MemoryData) → new ≡ begins_anew (reset m.device) m → ((rig_state m).is_honest → (rig_state new).is_honest) → LosesPage n m new
 none_lost n m new is honest =
     let M : MemoryData → Type 0 = λ x. ((rig_state m).is_honest → (rig_state x).is_honest) → LosesPage n m x in
     subst M (sym is)
@@ -92,7 +92,7 @@ module _ (starts : List (List ℕ)) (m mid new : MemoryData) (device : mid.devic
       let risked : R m.device m.journal = λ here. law starts m.device m.journal intent n u (told_intent l m.journal intent loaded told) here (subst C (sym is) (intends intent)) in
       before (page_is_risked n mid new honest lost (subst RJ (sym journal) (subst RD (sym device) risked))) lost.journal
 
-  pub nothing_lost : new ≡ begins (reset mid.device) mid → ((rig_state mid).is_honest → (rig_state new).is_honest) → LosesPower m.journal m.device new.device × (new.journal ≡ m.journal)
+  pub nothing_lost : new ≡ begins_anew (reset mid.device) mid → ((rig_state mid).is_honest → (rig_state new).is_honest) → LosesPower m.journal m.device new.device × (new.journal ≡ m.journal)
   nothing_lost is stays =
       let n = page_count mid.device.chip in
       let lost = none_lost n mid new is stays in

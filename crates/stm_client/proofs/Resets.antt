@@ -2,7 +2,7 @@
 use Rattle.std.proofs.Common.{◌≡◌, ◌∙◌, ap}
 use Rattle.stm_sim.specs.declared.plan.Plan.{Plan}
 use Rattle.stm_wire.specs.Device.{reset}
-use Rattle.stm_sim.specs.Memory.{MemoryData, begins, rig_state}
+use Rattle.stm_sim.specs.Memory.{MemoryData, begins_anew, rig_state}
 
 -- a stop is planned, then something happens, the device is reset, and the stop is lifted
 pub record IsReset (m m1 m2 m4 : MemoryData) : Type 0 where
@@ -15,7 +15,7 @@ pub record IsReset (m m1 m2 m4 : MemoryData) : Type 0 where
 
 -- as the calls tell it
 pub was_reset : (m m1 m2 m3 m4 : MemoryData) (plan lifted : Plan) → m1 ≡ record m { plan = plan } → ((rig_state m).is_honest → (rig_state m1).is_honest)
-    → m3 ≡ begins (reset m2.device) m2 → ((rig_state m2).is_honest → (rig_state m3).is_honest) → m4 ≡ record m3 { plan = lifted } → ((rig_state m3).is_honest → (rig_state m4).is_honest)
+    → m3 ≡ begins_anew (reset m2.device) m2 → ((rig_state m2).is_honest → (rig_state m3).is_honest) → m4 ≡ record m3 { plan = lifted } → ((rig_state m3).is_honest → (rig_state m4).is_honest)
     → IsReset m m1 m2 m4
 was_reset m m1 m2 m3 m4 plan lifted planned planned_honest anew anew_honest free free_honest =
     record {

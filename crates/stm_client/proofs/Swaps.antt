@@ -11,7 +11,7 @@ use Rattle.stm_session.specs.Events.{now_of}
 use Rattle.stm_session.specs.Lines.{depth_at}
 use Rattle.stm_session.specs.Moments.{IsSafe}
 use Rattle.stm_session.specs.Undoable.{Undoable}
-use Rattle.stm_client.specs.Boards.{AreTwoBoards, IsElsewhere, LeavesAsItWas, NamesABoard}
+use Rattle.stm_client.specs.Boards.{AreTwoBoards, IsOtherBoard, LeavesAsItWas, NamesABoard}
 use Rattle.stm_client.specs.Swap.{IsRefusedThere}
 use Rattle.stm_client.proofs.Boards.{of_one_board}
 
@@ -19,12 +19,12 @@ use Rattle.stm_client.proofs.Boards.{of_one_board}
 pub refused_there : (flashes : List (List ℕ)) (own : Device) (journal : List ℕ) (table : List ChipData) (there before new : RigState) (visited : Result (Unit {0}) Fault)
     → Undoable flashes own journal → before.device ≡ there.device → before.journal ≡ journal → before.is_honest → IsSafe there.device
     → AreTwoBoards own.chip there.device.chip → IsChipWith table there.device.chip.id there.device.chip
-    → (before.is_honest → IsSafe before.device → IsElsewhere table before.device before.journal → 1 ≤ depth_at before.journal → LeavesAsItWas before new visited)
+    → (before.is_honest → IsSafe before.device → IsOtherBoard table before.device before.journal → 1 ≤ depth_at before.journal → LeavesAsItWas before new visited)
     → NamesABoard journal → 1 ≤ depth_at journal → IsRefusedThere there new journal visited
 refused_there flashes own journal table there before new visited u device carried honest safe two tabled refuses named some =
-    let elsewhere : IsElsewhere table there.device journal = of_one_board flashes own there.device journal table u named two tabled in
-    let D : Device → Type 0 = λ d. IsElsewhere table d journal in
-    let J : List ℕ → Type 0 = λ j. IsElsewhere table before.device j in
+    let elsewhere : IsOtherBoard table there.device journal = of_one_board flashes own there.device journal table u named two tabled in
+    let D : Device → Type 0 = λ d. IsOtherBoard table d journal in
+    let J : List ℕ → Type 0 = λ j. IsOtherBoard table before.device j in
     let N : List ℕ → Type 0 = λ j. 1 ≤ depth_at j in
     let left = refuses honest (subst IsSafe (sym device) safe) (subst J (sym carried) (subst D (sym device) elsewhere)) (subst N (sym carried) some) in
     record {

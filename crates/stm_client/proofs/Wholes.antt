@@ -14,7 +14,7 @@ use Rattle.stm_session.specs.Information.{Describes}
 use Rattle.stm_session.specs.Refusal.{chip_with, opening_refusal}
 use Rattle.stm_session.specs.Meaning.{commands_in}
 use Rattle.stm_session.specs.Refusals.{is_in_flash, run_refusal}
-use Rattle.stm_session.specs.Running.{AreRead, bytes_at, bytes_of, is_read}
+use Rattle.stm_session.specs.Running.{AreRead, bytes_at, bytes_of, is_reading}
 use Rattle.stm_client.specs.Keeping.{HoldsIts}
 
 whole_inside : (chip : ChipData) → fits_inside chip chip.base (flash_size chip) ≡ true
@@ -64,7 +64,7 @@ module _ (table : List ChipData) (d : Device) (info : Info) (tabled : HoldsIts t
 
   -- nothing is refused of a read of the whole
   pub told_unrefused : (held : (table : List ChipData) (id : ℕ) (chip : ChipData) → IsChipWith table id chip → chip_with table id ≡ Some chip)
-      → ((journal : List ℕ) (d : Device) (table : List ChipData) (chip : ChipData) (commands : List Command) → list_all is_read commands ≡ true → opening_refusal (journal_of journal) d table ≡ None
+      → ((journal : List ℕ) (d : Device) (table : List ChipData) (chip : ChipData) (commands : List Command) → list_all is_reading commands ≡ true → opening_refusal (journal_of journal) d table ≡ None
       → chip_with table d.chip.id ≡ Some chip → list_all (is_in_flash chip) commands ≡ true → run_refusal (journal_of journal) d table (commands_in commands) ≡ None)
       → (journal : List ℕ) → opening_refusal (journal_of journal) d table ≡ None → run_refusal (journal_of journal) d table (commands_in (Read info.base info.size ∷ [])) ≡ None
   told_unrefused held reads journal none =

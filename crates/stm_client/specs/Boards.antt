@@ -16,7 +16,7 @@ use Rattle.stm_session.specs.Undoable.{state_at}
 
 -- The journal is of another board with the device's product id; and the table has the device's
 -- chip, with the unique id that the device told.
-pub record IsElsewhere (table : List ChipData) (d : Device) (journal : List ℕ) : Type 0 where
+pub record IsOtherBoard (table : List ChipData) (d : Device) (journal : List ℕ) : Type 0 where
   pub good_journal : journal_of journal ≡ good (state_at journal)
   pub other : names_other_board d.chip.unique (state_at journal) ≡ true
   pub same_id : names_other d.chip.id (state_at journal) ≡ false

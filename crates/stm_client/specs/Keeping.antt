@@ -24,7 +24,7 @@ pub record CanBegin (table : List ChipData) (flashes : List (List ℕ))
 
 -- what could be taken back still can; the journal, the flash, the chip, the version
 -- and the codes are the same
-pub record IsKept (flashes : List (List ℕ)) (old : RigState) (d : Device)
+pub record IsAllKept (flashes : List (List ℕ)) (old : RigState) (d : Device)
     (journal : List ℕ) : Type 0 where
   pub undoable : Undoable flashes d journal
   pub journal_same : journal ≡ old.journal
@@ -33,10 +33,10 @@ pub record IsKept (flashes : List (List ℕ)) (old : RigState) (d : Device)
 
 -- Each moment is kept, the last one too; the device followed the protocol; and at Ok
 -- what was asked for is done.
-pub record Keeps {T : Type 0} (flashes : List (List ℕ)) (old new : RigState)
+pub record KeepsAll {T : Type 0} (flashes : List (List ℕ)) (old new : RigState)
     (result : Result T Fault) (Done : T → Type 0) : Type 0 where
-  pub moments : LeavesOnly (IsKept flashes old) old new
+  pub moments : LeavesOnly (IsAllKept flashes old) old new
   pub honest : new.is_honest
-  pub left : IsKept flashes old new.device new.journal
+  pub left : IsAllKept flashes old new.device new.journal
   pub follows : IfErr result (λ fault. fault ≢ DeviceFault)
   pub done : IfOk result Done

@@ -8,7 +8,7 @@ ghost use Rattle.stm_journal.specs.Calls.{AreFetches};
 ghost use Rattle.stm_session.specs.Lines.{depth_at};
 ghost use Rattle.stm_session.specs.Moments.{IsSafe};
 ghost use Rattle.stm_session.specs.Undoable.{Undoable};
-ghost use Rattle.stm_client.specs.Boards.{AreTwoBoards, IsElsewhere, LeavesAsItWas, NamesABoard};
+ghost use Rattle.stm_client.specs.Boards.{AreTwoBoards, IsOtherBoard, LeavesAsItWas, NamesABoard};
 
 use std::alloc::Global;
 use stm_chip::Table;
@@ -21,7 +21,7 @@ pub fn a_journal_is_of_one_board()
     ensures { (flashes : List (List ℕ)) (own other : Device) (journal : List ℕ)
         (table : List ChipData) → Undoable flashes own journal → NamesABoard journal
         → AreTwoBoards own.chip other.chip → IsChipWith table other.chip.id other.chip
-        → IsElsewhere table other journal }
+        → IsOtherBoard table other journal }
 {}
 
 /// Does commands.
@@ -32,7 +32,7 @@ pub fn change_elsewhere<R: Rig>(
     commands: &[Command],
 ) -> Result<Report, Fault>
     ensures refused { let old = R.view rig.old in let new = R.view rig.new in
-        old.is_honest → IsSafe old.device → IsElsewhere table.now old.device old.journal
+        old.is_honest → IsSafe old.device → IsOtherBoard table.now old.device old.journal
         → LeavesAsItWas old new result }
 {
     a_chip_is_looked_up_by_its_id();
@@ -42,7 +42,7 @@ pub fn change_elsewhere<R: Rig>(
 /// Tells what the device is.
 pub fn tell_elsewhere<R: Rig>(alloc: Global, rig: &mut R, table: &Table) -> Result<Info, Fault>
     ensures refused { let old = R.view rig.old in let new = R.view rig.new in
-        old.is_honest → IsSafe old.device → IsElsewhere table.now old.device old.journal
+        old.is_honest → IsSafe old.device → IsOtherBoard table.now old.device old.journal
         → LeavesAsItWas old new result }
 {
     a_chip_is_looked_up_by_its_id();
@@ -51,17 +51,17 @@ pub fn tell_elsewhere<R: Rig>(alloc: Global, rig: &mut R, table: &Table) -> Resu
 
 /// Takes so many segments back, or all where that is 0. Of a device in whatever state, which isn't
 /// sent a byte.
-pub fn take_back_elsewhere<R: Rig>(
+pub fn undo_at_another<R: Rig>(
     alloc: Global,
     rig: &mut R,
     table: &Table,
     count: u32,
 ) -> Result<u32, Fault>
     ensures refused { let old = R.view rig.old in let new = R.view rig.new in
-        old.is_honest → IsElsewhere table.now old.device old.journal → 1 ≤ depth_at old.journal
+        old.is_honest → IsOtherBoard table.now old.device old.journal → 1 ≤ depth_at old.journal
         → LeavesAsItWas old new result }
     ensures unsent { let old = R.view rig.old in let new = R.view rig.new in
-        old.is_honest → IsElsewhere table.now old.device old.journal
+        old.is_honest → IsOtherBoard table.now old.device old.journal
         → GoesOn AreFetches old.calls new.calls }
 {
     a_chip_is_looked_up_by_its_id();

@@ -6,7 +6,7 @@ use std::alloc::Global;
 use stm_chip::Table;
 use stm_session::{
     Command, Fault, Report, a_run_keeps_pages_before_it_changes_them,
-    an_undo_changes_only_pages_that_it_takes_back, run, undo,
+    an_undo_changes_only_pages_that_it_undoes, run, undo,
 };
 use stm_wire::Rig;
 
@@ -29,7 +29,7 @@ pub fn change_kept<R: Rig>(
 /// Takes so many segments back, or all where that is 0. On any Rig, whatever it answers: it erases
 /// and writes only pages that the newest segment which it hasn't taken off yet keeps, and appends
 /// intents only for these.
-pub fn take_back_kept<R: Rig>(
+pub fn undo_kept<R: Rig>(
     alloc: Global,
     rig: &mut R,
     table: &Table,
@@ -40,6 +40,6 @@ pub fn take_back_kept<R: Rig>(
     ensures stopped { let old = R.view rig.old in let new = R.view rig.new in
         IfErr result (UndoStopsBack false table.now old new) }
 {
-    an_undo_changes_only_pages_that_it_takes_back::<R>();
+    an_undo_changes_only_pages_that_it_undoes::<R>();
     undo(alloc, rig, table, count)
 }

@@ -13,17 +13,15 @@ mod reading;
 mod starting;
 mod stopping;
 mod swap;
-mod taking_back;
+mod undoing_stops;
 mod unpowered;
 
-pub use elsewhere::{
-    a_journal_is_of_one_board, change_elsewhere, take_back_elsewhere, tell_elsewhere,
-};
-pub use kept::{change_kept, take_back_kept};
+pub use elsewhere::{a_journal_is_of_one_board, change_elsewhere, tell_elsewhere, undo_at_another};
+pub use kept::{change_kept, undo_kept};
 pub use power::lose_power;
 pub use reading::{a_safe_device_can_begin, read, read_flash, read_twice, tell};
 pub use starting::read_new;
 pub use stopping::{a_stopped_session_can_go_on, read_again};
 pub use swap::{Swapped, Visit, swap_boards};
-pub use taking_back::{take_back_stopped, write_whole};
-pub use unpowered::take_back_unpowered;
+pub use undoing_stops::{undo_behind_stops, write_whole};
+pub use unpowered::undo_unpowered;

@@ -8,7 +8,7 @@ ghost use Rattle.stm_client.specs.Power.{LosesPage};
 
 use std::alloc::Global;
 use stm_journal::{Intent, Journal};
-use stm_session::{Fault, a_power_loss_keeps_what_can_be_taken_back};
+use stm_session::{Fault, a_power_loss_keeps_what_can_be_undone};
 use stm_sim::MemoryRig;
 
 /// The page that an intent names.
@@ -42,7 +42,7 @@ pub fn lose_power(alloc: Global, rig: &mut MemoryRig, bytes: &[u8]) -> Result<()
     ensures honest { let old = rig_state rig.old in let new = rig_state rig.new in
         old.is_honest → OnOk result new.is_honest }
 {
-    a_power_loss_keeps_what_can_be_taken_back();
+    a_power_loss_keeps_what_can_be_undone();
     let journal = Journal::load(alloc, rig)?;
     match journal.last_intent() {
         Some(intent) => lose_page(rig, page_of(intent), bytes),

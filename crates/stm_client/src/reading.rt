@@ -11,15 +11,15 @@ ghost use Rattle.stm_session.specs.Moments.{IsSafe};
 ghost use Rattle.stm_session.specs.Refusal.{opening_refusal};
 ghost use Rattle.stm_session.specs.Meaning.{commands_in};
 ghost use Rattle.stm_session.specs.Refusals.{run_refusal};
-ghost use Rattle.stm_session.specs.Running.{AreRead, bytes_of, is_read};
+ghost use Rattle.stm_session.specs.Running.{AreRead, bytes_of, is_reading};
 ghost use Rattle.stm_session.specs.Undoable.{state_at};
-ghost use Rattle.stm_client.specs.Keeping.{CanBegin, Keeps};
+ghost use Rattle.stm_client.specs.Keeping.{CanBegin, KeepsAll};
 
 use std::alloc::Global;
 use stm_chip::Table;
 use stm_session::{
     Command, Fault, Info, Report, a_chip_is_looked_up_by_its_id, a_run_of_reads_begins_no_segment,
-    an_unrefused_journal_can_be_taken_back, asking_keeps_what_can_be_taken_back, info,
+    an_unrefused_journal_can_be_undone, asking_keeps_what_can_be_undone, info,
     reads_in_the_flash_are_not_refused, run,
 };
 use stm_wire::{Rig, harmless_is_kept};
@@ -33,7 +33,7 @@ pub fn a_safe_device_can_begin<R: Rig>()
         → let kept = (state_at now.journal).stack in
         CanBegin table (flashes_before_segments now.device.chip kept now.device.flash) now }
 {
-    an_unrefused_journal_can_be_taken_back();
+    an_unrefused_journal_can_be_undone();
 }
 
 /// Tells what the device is.
@@ -41,14 +41,14 @@ pub fn tell<R: Rig>(alloc: Global, rig: &mut R, table: &Table) -> Result<Info, F
     ensures told { IfOk result (Describes table.now) }
     ensures keeps { let old = R.view rig.old in let new = R.view rig.new in
         (flashes : List (List ℕ)) → CanBegin table.now flashes old
-        → Keeps flashes old new result (IsInfoOf old.device) }
+        → KeepsAll flashes old new result (IsInfoOf old.device) }
     ensures unrefused { let old = R.view rig.old in
         (flashes : List (List ℕ)) → CanBegin table.now flashes old
         → opening_refusal (journal_of old.journal) old.device table.now ≡ None
         → IfErr result IsOutsideFault }
 {
     harmless_is_kept();
-    asking_keeps_what_can_be_taken_back();
+    asking_keeps_what_can_be_undone();
     info(alloc, rig, table)
 }
 
@@ -59,10 +59,10 @@ pub fn read<R: Rig>(
     table: &Table,
     commands: &[Command],
 ) -> Result<Report, Fault>
-    requires { list_all is_read commands.now ≡ true }
+    requires { list_all is_reading commands.now ≡ true }
     ensures keeps { let old = R.view rig.old in let new = R.view rig.new in
         (flashes : List (List ℕ)) → CanBegin table.now flashes old
-        → Keeps flashes old new result
+        → KeepsAll flashes old new result
         (λ report. AreRead old.device commands.now report.outcomes.items) }
     ensures unrefused { let old = R.view rig.old in
         (flashes : List (List ℕ)) → CanBegin table.now flashes old
@@ -71,7 +71,7 @@ pub fn read<R: Rig>(
         → IfErr result IsOutsideFault }
 {
     harmless_is_kept();
-    asking_keeps_what_can_be_taken_back();
+    asking_keeps_what_can_be_undone();
     a_chip_is_looked_up_by_its_id();
     a_run_of_reads_begins_no_segment::<R>();
     run(alloc, rig, table, commands)
@@ -85,11 +85,11 @@ pub fn read_twice<R: Rig>(
     first: &[Command],
     second: &[Command],
 ) -> Result<(Report, Report), Fault>
-    requires first { list_all is_read first.now ≡ true }
-    requires second { list_all is_read second.now ≡ true }
+    requires first { list_all is_reading first.now ≡ true }
+    requires second { list_all is_reading second.now ≡ true }
     ensures keeps { let old = R.view rig.old in let new = R.view rig.new in
         (flashes : List (List ℕ)) → CanBegin table.now flashes old
-        → Keeps flashes old new result
+        → KeepsAll flashes old new result
         (λ reports. AreRead old.device first.now reports.0.outcomes.items
         × AreRead old.device second.now reports.1.outcomes.items) }
 {
@@ -102,7 +102,7 @@ pub fn read_twice<R: Rig>(
 pub fn read_flash<R: Rig>(alloc: Global, rig: &mut R, table: &Table) -> Result<Report, Fault>
     ensures keeps { let old = R.view rig.old in let new = R.view rig.new in
         (flashes : List (List ℕ)) → CanBegin table.now flashes old
-        → Keeps flashes old new result
+        → KeepsAll flashes old new result
         (λ report. map bytes_of report.outcomes.items ≡ old.device.flash ∷ []) }
     ensures unrefused { let old = R.view rig.old in
         (flashes : List (List ℕ)) → CanBegin table.now flashes old

@@ -6,15 +6,15 @@ ghost use Rattle.stm_session.specs.Events.{Knows, now_of};
 ghost use Rattle.stm_session.specs.Headline.{IsStart, oldest_start};
 ghost use Rattle.stm_session.specs.Lines.{depth_at};
 ghost use Rattle.stm_session.specs.Moments.{IsSafe};
-ghost use Rattle.stm_client.specs.Boards.{AreTwoBoards, IsElsewhere, LeavesAsItWas};
+ghost use Rattle.stm_client.specs.Boards.{AreTwoBoards, IsOtherBoard, LeavesAsItWas};
 ghost use Rattle.stm_client.specs.Swap.{IsLeftThere};
 
-use crate::elsewhere::{change_elsewhere, take_back_elsewhere, tell_elsewhere};
+use crate::elsewhere::{change_elsewhere, tell_elsewhere, undo_at_another};
 use std::alloc::Global;
 use stm_chip::Table;
 use stm_session::{
-    Command, Fault, Report, a_reset_keeps_what_can_be_taken_back, a_run_is_known_by_its_outcomes,
-    a_session_can_be_taken_back, run, undo,
+    Command, Fault, Report, a_reset_keeps_what_can_be_undone, a_run_is_known_by_its_outcomes,
+    a_session_can_be_undone, run, undo,
 };
 use stm_sim::MemoryRig;
 use stm_wire::Rig;
@@ -27,7 +27,7 @@ pub enum Visit<'a> {
     /// These commands.
     Change(&'a [Command]),
     /// So many segments are taken back, or all where that is 0.
-    TakeBack(u32),
+    Undo(u32),
 }
 
 /// What came of a swap.
@@ -61,7 +61,7 @@ fn visit_elsewhere<R: Rig>(
     visit: Visit<'_>,
 ) -> Result<(), Fault>
     ensures refused { let old = R.view rig.old in let new = R.view rig.new in
-        old.is_honest → IsSafe old.device → IsElsewhere table.now old.device old.journal
+        old.is_honest → IsSafe old.device → IsOtherBoard table.now old.device old.journal
         → 1 ≤ depth_at old.journal → LeavesAsItWas old new result }
 {
     match visit {
@@ -73,7 +73,7 @@ fn visit_elsewhere<R: Rig>(
             Ok(_) => Ok(()),
             Err(fault) => Err(fault),
         },
-        Visit::TakeBack(count) => match take_back_elsewhere(alloc, rig, table, count) {
+        Visit::Undo(count) => match undo_at_another(alloc, rig, table, count) {
             Ok(_) => Ok(()),
             Err(fault) => Err(fault),
         },
@@ -105,9 +105,9 @@ pub fn swap_boards<R: Rig>(
         → Knows table.now (now_of here)
         → IfOk result (λ _. own.new.device.flash ≡ oldest_start starts (now_of here)) }
 {
-    a_session_can_be_taken_back::<MemoryRig>();
+    a_session_can_be_undone::<MemoryRig>();
     a_run_is_known_by_its_outcomes::<MemoryRig, Report>();
-    a_reset_keeps_what_can_be_taken_back();
+    a_reset_keeps_what_can_be_undone();
     own.stop_after(steps);
     let _stopped = run(alloc, own, table, commands);
     own.reset();

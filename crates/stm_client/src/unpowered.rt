@@ -8,14 +8,14 @@ use crate::power::lose_power;
 use std::alloc::Global;
 use stm_chip::Table;
 use stm_session::{
-    Command, Fault, Report, a_run_is_known_by_its_outcomes, a_session_can_be_taken_back, run, undo,
+    Command, Fault, Report, a_run_is_known_by_its_outcomes, a_session_can_be_undone, run, undo,
 };
 use stm_sim::MemoryRig;
 
 /// Does commands, which are stopped after so many steps; takes the device's power away, after which
 /// the page of the command that was at work holds these bytes, where they are as many as it has;
 /// and takes everything back.
-pub fn take_back_unpowered(
+pub fn undo_unpowered(
     alloc: Global,
     rig: &mut MemoryRig,
     table: &Table,
@@ -28,7 +28,7 @@ pub fn take_back_unpowered(
         → Knows table.now (now_of old)
         → IfOk result (λ _. rig.new.device.flash ≡ oldest_start starts (now_of old)) }
 {
-    a_session_can_be_taken_back::<MemoryRig>();
+    a_session_can_be_undone::<MemoryRig>();
     a_run_is_known_by_its_outcomes::<MemoryRig, Report>();
     rig.stop_after(steps);
     let _stopped = run(alloc, rig, table, commands);

@@ -7,9 +7,9 @@ use Rattle.std.proofs.lemmas.List.{append-nil, append_assoc, length-append, leng
 use Rattle.std.proofs.Math.Seq.{take-add}
 use Rattle.stm_disk.specs.Sectors.{LinesEndWhole}
 use Rattle.stm_disk.specs.Crash.{MayBeLeft}
-use Rattle.stm_disk.specs.GrowingFile.{FileState, AppendsHonestly, SyncsHonestly, IsModel}
-use Rattle.stm_disk.specs.Moments.{LeavesOnly}
-use Rattle.stm_disk.specs.Lines.{LeftByAdding, IsSettled, Stays, AddsHonestly}
+use Rattle.stm_disk.specs.GrowingFile.{FileState, GrowsHonestly, SyncsHonestly, FollowsFileModel}
+use Rattle.stm_disk.specs.Moments.{CrashLeavesOnly}
+use Rattle.stm_disk.specs.Lines.{LeftByAdding, IsSynced, StaysOnDisk, AddsHonestly}
 use Rattle.stm_disk.proofs.Crashes.{piece_left, settled_left}
 use Rattle.stm_disk.proofs.Times.{started, joined, elapsed}
 
@@ -18,7 +18,7 @@ pub nothing_added : (old bytes left : List ℕ) → left ≡ old → LeftByAddin
 nothing_added old bytes left is = (0, [], is ∙ sym (append-nil old), tt)
 
 -- what a settled file leaves
-pub settled_leaves : (bytes : List ℕ) (at : ℕ) (a : FileState) → IsSettled at a → (left : List ℕ)
+pub settled_leaves : (bytes : List ℕ) (at : ℕ) (a : FileState) → IsSynced at a → (left : List ℕ)
     → MayBeLeft a.synced a.seen left → LeftByAdding a.seen bytes left
 settled_leaves bytes at a s left m =
     nothing_added a.seen bytes left
@@ -26,7 +26,7 @@ settled_leaves bytes at a s left m =
 
 -- what a file leaves that a piece is being added to
 pub piece_leaves : (at : ℕ) (piece : List ℕ) (a : FileState) → LinesEndWhole at piece
-    → IsSettled at a → (left : List ℕ) → MayBeLeft a.synced (a.seen ++ piece) left
+    → IsSynced at a → (left : List ℕ) → MayBeLeft a.synced (a.seen ++ piece) left
     → LeftByAdding a.seen piece left
 piece_leaves at piece a whole s left m =
     piece_left a.seen piece left (subst (λ (n : ℕ). LinesEndWhole n piece) s.place whole)
@@ -34,15 +34,15 @@ piece_leaves at piece a whole s left m =
 
 -- the append of a piece
 pub piece_appended : {T E : Type 0} (result : Result T E) (at : ℕ) (piece : List ℕ) (a b : FileState)
-    → IsModel a → LinesEndWhole at piece → IsSettled at a → AppendsHonestly piece result a b
-    → LeavesOnly (LeftByAdding a.seen piece) a b
+    → FollowsFileModel a → LinesEndWhole at piece → IsSynced at a → GrowsHonestly piece result a b
+    → CrashLeavesOnly (LeftByAdding a.seen piece) a b
 piece_appended result at piece a b model whole s by =
     elapsed (MayBeLeft a.synced (a.seen ++ piece)) (LeftByAdding a.seen piece) a b model by.time
     (settled_leaves piece at a s) (piece_leaves at piece a whole s)
 
 -- what it leaves until it is synced
 pub unsynced_leaves : (at : ℕ) (piece : List ℕ) (a b : FileState) → LinesEndWhole at piece
-    → IsSettled at a → b.seen ≡ a.seen ++ piece → b.synced ≡ a.synced
+    → IsSynced at a → b.seen ≡ a.seen ++ piece → b.synced ≡ a.synced
     → (left : List ℕ) → MayBeLeft b.synced b.seen left → LeftByAdding a.seen piece left
 unsynced_leaves at piece a b whole s seen synced left m =
     piece_leaves at piece a whole s left
@@ -51,10 +51,10 @@ unsynced_leaves at piece a b whole s seen synced left m =
 
 -- its sync
 pub piece_at_sync : {T E : Type 0} (result : Result T E) (at : ℕ) (piece : List ℕ)
-    (a b c : FileState) → IsModel b → LinesEndWhole at piece → IsSettled at a
+    (a b c : FileState) → FollowsFileModel b → LinesEndWhole at piece → IsSynced at a
     → b.seen ≡ a.seen ++ piece → b.synced ≡ a.synced
-    → LeavesOnly (LeftByAdding a.seen piece) a b → SyncsHonestly result b c
-    → LeavesOnly (LeftByAdding a.seen piece) a c
+    → CrashLeavesOnly (LeftByAdding a.seen piece) a b → SyncsHonestly result b c
+    → CrashLeavesOnly (LeftByAdding a.seen piece) a c
 piece_at_sync result at piece a b c model whole s seen synced first by =
     let P : List ℕ → Type 0 = LeftByAdding a.seen piece in
     joined P P P a b c first
@@ -64,8 +64,8 @@ piece_at_sync result at piece a b c model whole s seen synced first by =
     (λ left p. p) (λ left p. p)
 
 -- all is there, and stays
-pub all_stays : (bytes : List ℕ) (a b : FileState) → IsModel b → b.is_honest
-    → b.seen ≡ a.seen ++ bytes → b.synced ≡ length b.seen → Stays bytes a b
+pub all_stays : (bytes : List ℕ) (a b : FileState) → FollowsFileModel b → b.is_honest
+    → b.seen ≡ a.seen ++ bytes → b.synced ≡ length b.seen → StaysOnDisk bytes a b
 all_stays bytes a b model honest seen synced = record {
   honest = honest;
   seen = seen;
@@ -78,7 +78,7 @@ all_stays bytes a b model honest seen synced = record {
 -- the end of a call that has failed
 pub failed_adding : {T E : Type 0} (result : Result T E) (Q : E → Type 0) (bytes : List ℕ)
     (a b : FileState) → IsErrAnd result Q → (n : ℕ) × (b.seen ≡ a.seen ++ take n bytes)
-    → LeavesOnly (LeftByAdding a.seen bytes) a b → AddsHonestly bytes result a b
+    → CrashLeavesOnly (LeftByAdding a.seen bytes) a b → AddsHonestly bytes result a b
 failed_adding (Ok x) Q bytes a b failed some time = absurd failed
 failed_adding (Err e) Q bytes a b failed some time =
     record { ok = tt; err = some; time = time }
@@ -95,8 +95,8 @@ piece_there (Err e) piece a b c seen same = (
 )
 
 pub piece_stays : {T E : Type 0} (result : Result T E) (piece : List ℕ) (a b c : FileState)
-    → (c.is_honest → IsModel c) → b.seen ≡ a.seen ++ piece → SyncsHonestly result b c
-    → OnOk result (Stays piece a c)
+    → (c.is_honest → FollowsFileModel c) → b.seen ≡ a.seen ++ piece → SyncsHonestly result b c
+    → OnOk result (StaysOnDisk piece a c)
 piece_stays (Ok x) piece a b c model seen by =
     all_stays piece a c (model by.honest) by.honest (by.seen ∙ seen)
     (by.ok ∙ ap (λ (xs : List ℕ). length xs) (sym by.seen))
@@ -104,10 +104,10 @@ piece_stays (Err e) piece a b c model seen by = tt
 
 -- a piece that was appended, and its sync, whatever it answers
 pub piece_added : {T E : Type 0} (result : Result T E) (at : ℕ) (piece : List ℕ)
-    (a b c : FileState) → IsModel a → IsModel b → (c.is_honest → IsModel c)
-    → LinesEndWhole at piece → IsSettled at a
+    (a b c : FileState) → FollowsFileModel a → FollowsFileModel b → (c.is_honest → FollowsFileModel c)
+    → LinesEndWhole at piece → IsSynced at a
     → b.seen ≡ a.seen ++ piece → b.synced ≡ a.synced
-    → LeavesOnly (LeftByAdding a.seen piece) a b → SyncsHonestly result b c
+    → CrashLeavesOnly (LeftByAdding a.seen piece) a b → SyncsHonestly result b c
     → AddsHonestly piece result a c
 piece_added result at piece a b c model_a model_b model_c whole s seen synced first by = record {
   ok = piece_stays result piece a b c model_c seen by;
@@ -162,10 +162,10 @@ pub record SoFar (done : ℕ) (bytes : List ℕ) (a b : FileState) : Type 0 wher
   pub honest : b.is_honest
   pub seen : b.seen ≡ a.seen ++ take done bytes
   pub synced : b.synced ≡ length b.seen
-  pub time : LeavesOnly (LeftByAdding a.seen bytes) a b
+  pub time : CrashLeavesOnly (LeftByAdding a.seen bytes) a b
 
-pub so_far_none : (at : ℕ) (bytes : List ℕ) (a : FileState) → IsModel a → a.is_honest
-    → IsSettled at a → SoFar 0 bytes a a
+pub so_far_none : (at : ℕ) (bytes : List ℕ) (a : FileState) → FollowsFileModel a → a.is_honest
+    → IsSynced at a → SoFar 0 bytes a a
 so_far_none at bytes a model honest s = record {
   honest = honest;
   seen = sym (append-nil a.seen);
@@ -174,9 +174,9 @@ so_far_none at bytes a model honest s = record {
 }
 
 -- the end of the file, where the place of the next piece is no more than a number can be
-pub so_far_settled : (at place done : ℕ) (bytes : List ℕ) (a b : FileState) → IsModel b
+pub so_far_settled : (at place done : ℕ) (bytes : List ℕ) (a b : FileState) → FollowsFileModel b
     → at ≡ length a.seen → done ≤ length bytes → (at + done ≤ 2 ^ 64 - 1 → place ≡ at + done)
-    → SoFar done bytes a b → IsSettled place b
+    → SoFar done bytes a b → IsSynced place b
 so_far_settled at place done bytes a b model is le place_is s =
     let long : length b.seen ≡ at + done =
     ap (λ (xs : List ℕ). length xs) s.seen ∙ length-append a.seen (take done bytes)
@@ -188,15 +188,15 @@ so_far_settled at place done bytes a b model is le place_is s =
 -- the next piece, whatever its call answers
 pub next_time : {T E : Type 0} (result : Result T E) (done count : ℕ) (bytes piece : List ℕ)
     (a b c : FileState) → piece ≡ take count (drop done bytes) → SoFar done bytes a b
-    → AddsHonestly piece result b c → LeavesOnly (LeftByAdding a.seen bytes) a c
+    → AddsHonestly piece result b c → CrashLeavesOnly (LeftByAdding a.seen bytes) a c
 next_time result done count bytes piece a b c is s by =
     let P : List ℕ → Type 0 = LeftByAdding a.seen bytes in
     joined P (LeftByAdding b.seen piece) P a b c s.time by.time (λ left p. p)
     (λ left p. next_leaves a.seen bytes b.seen piece left done count s.seen is p)
 
 pub so_far_more : (done count : ℕ) (bytes piece : List ℕ) (a b c : FileState)
-    → piece ≡ take count (drop done bytes) → SoFar done bytes a b → Stays piece b c
-    → LeavesOnly (LeftByAdding a.seen bytes) a c → SoFar (done + count) bytes a c
+    → piece ≡ take count (drop done bytes) → SoFar done bytes a b → StaysOnDisk piece b c
+    → CrashLeavesOnly (LeftByAdding a.seen bytes) a c → SoFar (done + count) bytes a c
 so_far_more done count bytes piece a b c is s stays time = record {
   honest = stays.honest;
   seen =
@@ -208,8 +208,8 @@ so_far_more done count bytes piece a b c is s stays time = record {
   time = time;
 }
 
-pub so_far_all : (done : ℕ) (bytes : List ℕ) (a b : FileState) → IsModel b → length bytes ≤ done
-    → SoFar done bytes a b → Stays bytes a b
+pub so_far_all : (done : ℕ) (bytes : List ℕ) (a b : FileState) → FollowsFileModel b → length bytes ≤ done
+    → SoFar done bytes a b → StaysOnDisk bytes a b
 so_far_all done bytes a b model le s =
     all_stays bytes a b model s.honest
     (s.seen ∙ ap (λ (xs : List ℕ). a.seen ++ xs) (take_all done bytes le)) s.synced

@@ -6,7 +6,7 @@ use Rattle.std.proofs.lemmas.Bool.{cases_Bool}
 use Rattle.std.specs.Option.{option_map}
 use Rattle.stm_disk.specs.Crash.{MayBeLeft}
 use Rattle.stm_disk.specs.Folder.{Folder, Doing, Makes, Locks, LetsGo, SyncsFolder, Adds, SyncsFile}
-use Rattle.stm_disk.specs.Folder.{Step, step, done, IsLet, IsCareful, after, Happens, IsAmong}
+use Rattle.stm_disk.specs.Folder.{FolderStep, folder_step, done, IsLet, IsCareful, after, CanHappen, IsStepAmong}
 use Rattle.stm_disk.specs.Folder.{IsEmptyUnlessKept, of_one, held_by_one, ProgramsAreOne}
 use Rattle.stm_disk.specs.Folder.{ProgramsTakeTurns}
 use Rattle.stm_disk.specs.Folder.{LockedBeforeTheFirstByte, MayBeFound, UnkeptIsEmpty}
@@ -22,8 +22,8 @@ none_some : (p : ℕ) → None ≡ Some p → ⊥
 none_some p e = true≢false (ap (λ (o : Option ℕ). is_none o) e)
 
 -- the steps before, and those behind
-split : (before more : List Step) (f : Folder) → Happens (before ++ more) f
-    → Happens before f × Happens more (after before f)
+split : (before more : List FolderStep) (f : Folder) → CanHappen (before ++ more) f
+    → CanHappen before f × CanHappen more (after before f)
 split [] more f h = (tt, h)
 split (x ∷ before) more f h =
     let rest = split before more (done x.who x.doing f) h.1 in
@@ -31,21 +31,21 @@ split (x ∷ before) more f h =
 
 -- who holds the lock has got it
 got_by : (p : ℕ) (doing : Doing) (f : Folder) (who : ℕ) → (done p doing f).holder ≡ Some who
-    → (f.holder ≡ Some who) ⊎ (step p doing ≡ step who Locks)
+    → (f.holder ≡ Some who) ⊎ (folder_step p doing ≡ folder_step who Locks)
 got_by p Makes f who is = absurd (none_some who is)
-got_by p Locks f who is = inr (ap (λ (n : ℕ). step n Locks) (same_number p who is))
+got_by p Locks f who is = inr (ap (λ (n : ℕ). folder_step n Locks) (same_number p who is))
 got_by p LetsGo f who is = absurd (none_some who is)
 got_by p SyncsFolder f who is = inl is
 got_by p (Adds bytes) f who is = inl is
 got_by p SyncsFile f who is = inl is
 
-got_lock : (steps : List Step) (f : Folder) (who : ℕ) → (after steps f).holder ≡ Some who
-    → (f.holder ≡ Some who) ⊎ IsAmong steps (step who Locks)
+got_lock : (steps : List FolderStep) (f : Folder) (who : ℕ) → (after steps f).holder ≡ Some who
+    → (f.holder ≡ Some who) ⊎ IsStepAmong steps (folder_step who Locks)
 got_lock [] f who is = inl is
 got_lock (x ∷ steps) f who is = elim (got_lock steps (done x.who x.doing f) who is) as
-    (λ _. (f.holder ≡ Some who) ⊎ IsAmong (x ∷ steps) (step who Locks)) [
+    (λ _. (f.holder ≡ Some who) ⊎ IsStepAmong (x ∷ steps) (folder_step who Locks)) [
       | inl held ↦ elim (got_by x.who x.doing f who held) as
-          (λ _. (f.holder ≡ Some who) ⊎ IsAmong (x ∷ steps) (step who Locks)) [
+          (λ _. (f.holder ≡ Some who) ⊎ IsStepAmong (x ∷ steps) (folder_step who Locks)) [
             | inl was ↦ inl was
             | inr here ↦ inr (inl here)
           ]
@@ -56,25 +56,25 @@ got_lock (x ∷ steps) f who is = elim (got_lock steps (done x.who x.doing f) wh
 keeps_by : (who : ℕ) (doing : Doing) (f : Folder) (p : ℕ) → IsLet who doing f
     → f.holder ≡ Some p → f.is_there ≡ true
     → (((done who doing f).holder ≡ Some p) × ((done who doing f).is_there ≡ true))
-    ⊎ (step who doing ≡ step p LetsGo)
+    ⊎ (folder_step who doing ≡ folder_step p LetsGo)
 keeps_by who Makes f p let_it held there = absurd (true≢false (sym there ∙ let_it))
 keeps_by who Locks f p let_it held there = absurd (none_some p (sym let_it.1 ∙ held))
 keeps_by who LetsGo f p let_it held there =
-    inr (ap (λ (n : ℕ). step n LetsGo) (same_number who p (sym let_it ∙ held)))
+    inr (ap (λ (n : ℕ). folder_step n LetsGo) (same_number who p (sym let_it ∙ held)))
 keeps_by who SyncsFolder f p let_it held there = inl (held, there)
 keeps_by who (Adds bytes) f p let_it held there = inl (held, there)
 keeps_by who SyncsFile f p let_it held there = inl (held, there)
 
-keeps_lock : (steps : List Step) (f : Folder) (p q : ℕ) → Happens steps f → f.holder ≡ Some p
+keeps_lock : (steps : List FolderStep) (f : Folder) (p q : ℕ) → CanHappen steps f → f.holder ≡ Some p
     → f.is_there ≡ true → (after steps f).holder ≡ Some q
-    → (p ≡ q) ⊎ IsAmong steps (step p LetsGo)
+    → (p ≡ q) ⊎ IsStepAmong steps (folder_step p LetsGo)
 keeps_lock [] f p q h held there is = inl (same_number p q (sym held ∙ is))
 keeps_lock (x ∷ steps) f p q h held there is =
     elim (keeps_by x.who x.doing f p h.0.0 held there) as
-    (λ _. (p ≡ q) ⊎ IsAmong (x ∷ steps) (step p LetsGo)) [
+    (λ _. (p ≡ q) ⊎ IsStepAmong (x ∷ steps) (folder_step p LetsGo)) [
       | inl still ↦
           elim (keeps_lock steps (done x.who x.doing f) p q h.1 still.0 still.1 is) as
-          (λ _. (p ≡ q) ⊎ IsAmong (x ∷ steps) (step p LetsGo)) [
+          (λ _. (p ≡ q) ⊎ IsStepAmong (x ∷ steps) (folder_step p LetsGo)) [
             | inl same ↦ inl same
             | inr later ↦ inr (inr later)
           ]
@@ -83,18 +83,18 @@ keeps_lock (x ∷ steps) f p q h held there is =
 
 pub programs_take_turns : ProgramsTakeTurns
 programs_take_turns before between p q bytes more f h =
-    let first = split before (step p (Adds bytes) ∷ (between ++ step q (Adds more) ∷ [])) f h in
+    let first = split before (folder_step p (Adds bytes) ∷ (between ++ folder_step q (Adds more) ∷ [])) f h in
     let f1 : Folder = after before f in
     let f2 : Folder = done p (Adds bytes) f1 in
-    let second = split between (step q (Adds more) ∷ []) f2 first.1.1 in
+    let second = split between (folder_step q (Adds more) ∷ []) f2 first.1.1 in
     let held : f2.holder ≡ Some p = first.1.0.1.0 in
     let there : f2.is_there ≡ true = first.1.0.0 in
     let is : (after between f2).holder ≡ Some q = second.1.0.1.0 in
     elim (keeps_lock between f2 p q second.0 held there is) as
-    (λ _. (p ≡ q) ⊎ (IsAmong between (step p LetsGo) × IsAmong between (step q Locks))) [
+    (λ _. (p ≡ q) ⊎ (IsStepAmong between (folder_step p LetsGo) × IsStepAmong between (folder_step q Locks))) [
       | inl same ↦ inl same
       | inr lost ↦ elim (got_lock between f2 q is) as
-          (λ _. (p ≡ q) ⊎ (IsAmong between (step p LetsGo) × IsAmong between (step q Locks))) [
+          (λ _. (p ≡ q) ⊎ (IsStepAmong between (folder_step p LetsGo) × IsStepAmong between (folder_step q Locks))) [
             | inl had ↦ inl (same_number p q (sym held ∙ had))
             | inr got ↦ inr (lost, got)
           ]
@@ -102,7 +102,7 @@ programs_take_turns before between p q bytes more f h =
 
 -- a name that is kept was kept at first, or the folder was synced
 kept_by : (p : ℕ) (doing : Doing) (f : Folder) → (done p doing f).is_kept ≡ true
-    → (f.is_kept ≡ true) ⊎ (step p doing ≡ step p SyncsFolder)
+    → (f.is_kept ≡ true) ⊎ (folder_step p doing ≡ folder_step p SyncsFolder)
 kept_by p Makes f is = absurd (true≢false (sym is))
 kept_by p Locks f is = inl is
 kept_by p LetsGo f is = inl is
@@ -110,13 +110,13 @@ kept_by p SyncsFolder f is = inr refl
 kept_by p (Adds bytes) f is = inl is
 kept_by p SyncsFile f is = inl is
 
-was_kept : (steps : List Step) (f : Folder) → (after steps f).is_kept ≡ true
-    → (f.is_kept ≡ true) ⊎ ((other : ℕ) × IsAmong steps (step other SyncsFolder))
+was_kept : (steps : List FolderStep) (f : Folder) → (after steps f).is_kept ≡ true
+    → (f.is_kept ≡ true) ⊎ ((other : ℕ) × IsStepAmong steps (folder_step other SyncsFolder))
 was_kept [] f is = inl is
 was_kept (x ∷ steps) f is = elim (was_kept steps (done x.who x.doing f) is) as
-    (λ _. (f.is_kept ≡ true) ⊎ ((other : ℕ) × IsAmong (x ∷ steps) (step other SyncsFolder))) [
+    (λ _. (f.is_kept ≡ true) ⊎ ((other : ℕ) × IsStepAmong (x ∷ steps) (folder_step other SyncsFolder))) [
       | inl kept ↦ elim (kept_by x.who x.doing f kept) as
-          (λ _. (f.is_kept ≡ true) ⊎ ((other : ℕ) × IsAmong (x ∷ steps) (step other SyncsFolder))) [
+          (λ _. (f.is_kept ≡ true) ⊎ ((other : ℕ) × IsStepAmong (x ∷ steps) (folder_step other SyncsFolder))) [
             | inl was ↦ inl was
             | inr here ↦ inr (x.who, inl here)
           ]
@@ -125,9 +125,9 @@ was_kept (x ∷ steps) f is = elim (was_kept steps (done x.who x.doing f) is) as
 
 pub locked_before_the_first_byte : LockedBeforeTheFirstByte
 locked_before_the_first_byte before who bytes f free h =
-    let at = split before (step who (Adds bytes) ∷ []) f h in
-    let locked : IsAmong before (step who Locks) =
-    elim (got_lock before f who at.1.0.1.0) as (λ _. IsAmong before (step who Locks)) [
+    let at = split before (folder_step who (Adds bytes) ∷ []) f h in
+    let locked : IsStepAmong before (folder_step who Locks) =
+    elim (got_lock before f who at.1.0.1.0) as (λ _. IsStepAmong before (folder_step who Locks)) [
       | inl had ↦ absurd (none_some who (sym free ∙ had))
       | inr got ↦ got
     ] in
@@ -147,7 +147,7 @@ stays_empty who (Adds bytes) f let_it careful is = record {
 }
 stays_empty who SyncsFile f let_it careful is = record { unkept = is.unkept; none = is.none }
 
-empty_after : (steps : List Step) (f : Folder) → Happens steps f → IsEmptyUnlessKept f
+empty_after : (steps : List FolderStep) (f : Folder) → CanHappen steps f → IsEmptyUnlessKept f
     → IsEmptyUnlessKept (after steps f)
 empty_after [] f h is = is
 empty_after (x ∷ steps) f h is =
@@ -219,7 +219,7 @@ programs_are_one [] f h = (tt, refl)
 programs_are_one (x ∷ steps) f h =
     let rest = programs_are_one steps (done x.who x.doing f) h.1 in
     let same = one_done x.who x.doing f in
-    let H : Folder → Type 0 = λ g. Happens (map of_one steps) g in (
+    let H : Folder → Type 0 = λ g. CanHappen (map of_one steps) g in (
       (
         (one_let x.who x.doing f h.0.0, one_careful x.who x.doing f h.0.1),
         subst H (sym same)

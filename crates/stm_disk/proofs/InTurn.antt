@@ -6,10 +6,10 @@ use Rattle.std.proofs.lemmas.Bool.{cases_lt}
 use Rattle.std.proofs.lemmas.List.{append_assoc, take_all, take-append-le}
 use Rattle.std.proofs.Math.Seq.{take-append-add}
 use Rattle.stm_disk.specs.Crash.{MayBeLeft}
-use Rattle.stm_disk.specs.GrowingFile.{FileState, SyncsHonestly, IsModel}
-use Rattle.stm_disk.specs.Moments.{LeavesOnly}
-use Rattle.stm_disk.specs.Lines.{LeftByAdding, Stays, AddsHonestly}
-use Rattle.stm_disk.specs.Appends.{all_bytes, AppendsAreOne, IsBegun, IsTakenUp}
+use Rattle.stm_disk.specs.GrowingFile.{FileState, SyncsHonestly, FollowsFileModel}
+use Rattle.stm_disk.specs.Moments.{CrashLeavesOnly}
+use Rattle.stm_disk.specs.Lines.{LeftByAdding, StaysOnDisk, AddsHonestly}
+use Rattle.stm_disk.specs.Appends.{all_bytes, AppendsAreOne, IsAppendBegun, IsTakenUp}
 use Rattle.stm_disk.specs.Appends.{LeftByAll, StoppedAppendsFollow, TakesUp}
 use Rattle.stm_disk.proofs.Times.{joined, elapsed}
 
@@ -48,7 +48,7 @@ second_left old bytes more mid left is by =
 
 -- the second stays behind the first
 second_stays : (bytes more : List ℕ) (a b c : FileState) → b.seen ≡ a.seen ++ bytes
-    → Stays more b c → Stays (bytes ++ more) a c
+    → StaysOnDisk more b c → StaysOnDisk (bytes ++ more) a c
 second_stays bytes more a b c is s =
     let all : b.seen ++ more ≡ a.seen ++ (bytes ++ more) =
     ap (λ (xs : List ℕ). xs ++ more) is ∙ append_assoc a.seen bytes more in
@@ -60,8 +60,8 @@ second_stays bytes more a b c is s =
     }
 
 ok_of_both : {T E : Type 0} (result : Result T E) (bytes more : List ℕ) (a b c : FileState)
-    → b.seen ≡ a.seen ++ bytes → OnOk result (Stays more b c)
-    → OnOk result (Stays (bytes ++ more) a c)
+    → b.seen ≡ a.seen ++ bytes → OnOk result (StaysOnDisk more b c)
+    → OnOk result (StaysOnDisk (bytes ++ more) a c)
 ok_of_both (Ok x) bytes more a b c is s = second_stays bytes more a b c is s
 ok_of_both (Err e) bytes more a b c is s = tt
 
@@ -78,7 +78,7 @@ err_of_both (Err e) bytes more a b c is s = (
 
 -- two appends, the first of which answered Ok
 pub both_added : {T E : Type 0} (result : Result T E) (bytes more : List ℕ) (a b c : FileState)
-    → Stays bytes a b → LeavesOnly (LeftByAdding a.seen bytes) a b → AddsHonestly more result b c
+    → StaysOnDisk bytes a b → CrashLeavesOnly (LeftByAdding a.seen bytes) a b → AddsHonestly more result b c
     → AddsHonestly (bytes ++ more) result a c
 both_added result bytes more a b c stays time by = record {
   ok = ok_of_both result bytes more a b c stays.seen by.ok;
@@ -92,7 +92,7 @@ both_added result bytes more a b c stays time by = record {
 -- the first has failed, and the second wasn't begun
 pub first_failed : {T E : Type 0} (result : Result T E) (Q : E → Type 0) (bytes more : List ℕ)
     (a b : FileState) → IsErrAnd result Q → (n : ℕ) × (b.seen ≡ a.seen ++ take n bytes)
-    → LeavesOnly (LeftByAdding a.seen bytes) a b → AddsHonestly (bytes ++ more) result a b
+    → CrashLeavesOnly (LeftByAdding a.seen bytes) a b → AddsHonestly (bytes ++ more) result a b
 first_failed (Ok x) Q bytes more a b failed some time = absurd failed
 first_failed (Err e) Q bytes more a b failed some time =
     let begun = first_begun some.0 bytes more in
@@ -135,7 +135,7 @@ stopped_appends_follow F view (bytes ∷ more) last a z by =
 
 -- a sync adds nothing to what a crash may leave
 synced_begun : {T E : Type 0} (result : Result T E) (bytes : List ℕ) (a b c : FileState)
-    → IsModel b → IsBegun bytes a b → SyncsHonestly result b c → IsBegun bytes a c
+    → FollowsFileModel b → IsAppendBegun bytes a b → SyncsHonestly result b c → IsAppendBegun bytes a c
 synced_begun result bytes a b c model begun by =
     let P : List ℕ → Type 0 = LeftByAdding a.seen bytes in
     let here : (left : List ℕ) → MayBeLeft b.synced b.seen left → P left =
@@ -148,7 +148,7 @@ synced_begun result bytes a b c model begun by =
     }
 
 synced_taken_up : {T E : Type 0} (result : Result T E) (bytes : List ℕ) (a b c : FileState)
-    → SyncsHonestly result b c → IsBegun bytes a c → OnOk result (IsTakenUp bytes a c)
+    → SyncsHonestly result b c → IsAppendBegun bytes a c → OnOk result (IsTakenUp bytes a c)
 synced_taken_up (Ok x) bytes a b c by begun = record {
   honest = by.honest;
   begun = begun;
@@ -157,7 +157,7 @@ synced_taken_up (Ok x) bytes a b c by begun = record {
 synced_taken_up (Err e) bytes a b c by begun = tt
 
 pub taken_up : {F T E : Type 0} (view : F → FileState) (result : Result T E) (b c : F)
-    → IsModel (view b) → SyncsHonestly result (view b) (view c) → TakesUp view result b c
+    → FollowsFileModel (view b) → SyncsHonestly result (view b) (view c) → TakesUp view result b c
 taken_up view result b c model by bytes a begun =
     let still = synced_begun result bytes (view a) (view b) (view c) model begun by in
     (still, synced_taken_up result bytes (view a) (view b) (view c) by still)

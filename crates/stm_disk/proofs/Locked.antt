@@ -1,17 +1,17 @@
 -- What a file promises, it promises while it is locked.
 use Rattle.std.proofs.Common.{◌≡◌, ℕ, Bool, true, List, ◌++◌, Result, Ok, Err, OnOk}
 use Rattle.stm_disk.specs.Crash.{MayBeLeft}
-use Rattle.stm_disk.specs.GrowingFile.{FileState, Elapses, AppendsHonestly, SyncsHonestly}
+use Rattle.stm_disk.specs.GrowingFile.{FileState, FileElapses, GrowsHonestly, SyncsHonestly}
 use Rattle.stm_disk.specs.LockedFile.{locked_state}
 
-time_passes : (P : List ℕ → Type 0) (b : Bool) (old new : FileState) → Elapses P old new
-    → Elapses P (locked_state b old) (locked_state b new)
+time_passes : (P : List ℕ → Type 0) (b : Bool) (old new : FileState) → FileElapses P old new
+    → FileElapses P (locked_state b old) (locked_state b new)
 time_passes P b old new time =
     record { later = time.later; nothing_else = time.nothing_else; keeps = time.keeps }
 
 pub locked_appends : {T E : Type 0} (result : Result T E) (bytes : List ℕ) (b : Bool)
-    (old new : FileState) → b ≡ true → AppendsHonestly bytes result old new
-    → AppendsHonestly bytes result (locked_state b old) (locked_state b new)
+    (old new : FileState) → b ≡ true → GrowsHonestly bytes result old new
+    → GrowsHonestly bytes result (locked_state b old) (locked_state b new)
 locked_appends result bytes b old new locked by = record {
   honest = (by.honest, locked);
   ok = by.ok;

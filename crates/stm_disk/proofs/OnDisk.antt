@@ -13,13 +13,13 @@ use Rattle.stm_wire.specs.declared.rig.Patience.TheVariants.{Brief, Long}
 use Rattle.stm_wire.specs.Device.{Device, LosesOwed}
 use Rattle.stm_wire.specs.Rig.{RigState, IsModel, Elapses, LeftByPut, LeftByGet, LeftByAppend}
 use Rattle.stm_wire.specs.Rig.{PutsHonestly, GetsHonestly, AppendsHonestly, FetchesHonestly}
-use Rattle.stm_wire.specs.Rig.{HasCause, PutsAside, Records, RecordsAppend, Tells, waited}
+use Rattle.stm_wire.specs.Rig.{HasCause, PutsAside, Records, RecordsAppend, TellsBehind, waited}
 use Rattle.stm_journal.specs.Text.{text_of}
 use Rattle.stm_journal.specs.Journals.{journal_of}
 use Rattle.stm_disk.specs.Crash.{MayBeLeft}
 use Rattle.stm_disk.specs.GrowingFile.{FileState}
-use Rattle.stm_disk.specs.GrowingFile.{IsModel as IsFileModel}
-use Rattle.stm_disk.specs.Lines.{LeftByAdding, Stays}
+use Rattle.stm_disk.specs.GrowingFile.{FollowsFileModel as IsFileModel}
+use Rattle.stm_disk.specs.Lines.{LeftByAdding, StaysOnDisk}
 use Rattle.stm_disk.specs.RigCalls.{PutsAsRig, GetsAsRig, AppendsAsRig, FetchesAsRig}
 use Rattle.stm_disk.specs.DiskRig.{DiskState, HoldsJournal, IsDisk, IsOnDisk, SameLines}
 use Rattle.stm_disk.specs.DiskRig.{disk_rig_state, LeftByCall, CrashesAreStopsIn}
@@ -137,7 +137,7 @@ not_waited Long = refl
 
 -- a fetch that is refused tells nothing
 pub not_told : (after : List ℕ) (result : Result ℕ RigFault) (told : Option (List ℕ))
-    → IsErr result → Tells after result told told
+    → IsErr result → TellsBehind after result told told
 not_told after (Ok x) told failed = absurd (true≢false (sym failed))
 not_told after (Err e) None failed = refl
 not_told after (Err e) (Some past) failed = refl
@@ -464,7 +464,7 @@ failed_recorded bytes (Err e) (Err fault) (Some past) now failed is = is
 
 -- all is there, in the file and in the journal
 pub on_disk : (bytes : List ℕ) (size : ℕ) (journal journal2 : List ℕ) (f f2 : FileState)
-    → HoldsJournal journal size f → journal2 ≡ journal ++ bytes → Stays bytes f f2
+    → HoldsJournal journal size f → journal2 ≡ journal ++ bytes → StaysOnDisk bytes f f2
     → IsOnDisk bytes size journal2 f f2
 on_disk bytes size journal journal2 f f2 h is stays =
     let all : f2.seen ≡ journal2 =
@@ -565,11 +565,11 @@ append_crashes bytes old there new same crashes =
 
 pub stays_kept : (bytes : List ℕ) (answer result : Result (Unit {0}) RigFault) (size : ℕ)
     (journal : List ℕ) (f file f2 : FileState) → result ≡ answer → f2 ≡ file
-    → OnOk answer (IsOnDisk bytes size journal f file) → OnOk result (Stays bytes f f2)
+    → OnOk answer (IsOnDisk bytes size journal f file) → OnOk result (StaysOnDisk bytes f f2)
 stays_kept bytes answer (Ok x) size journal f file f2 same same_file on =
     let R : Result (Unit {0}) RigFault → Type 0 = λ r. OnOk r (IsOnDisk bytes size journal f
     file) in
-    let F : FileState → Type 0 = λ g. Stays bytes f g in
+    let F : FileState → Type 0 = λ g. StaysOnDisk bytes f g in
     let there : OnOk {T = Unit {0}} {E = RigFault} (Ok x) (IsOnDisk bytes size journal f file) =
     subst R (sym same) on in
     subst F (sym same_file) there.stays

@@ -6,8 +6,8 @@ use Rattle.std.proofs.lemmas.Bool.{cases_lt}
 use Rattle.std.proofs.lemmas.List.{append-nil, length-append, take-append-le, take-take, take_all, get_or_past}
 use Rattle.std.proofs.lemmas.List.{get_or_append_left, length_push}
 use Rattle.stm_disk.specs.Crash.{MayBeLeft}
-use Rattle.stm_disk.specs.GrowingFile.{Elapses, AppendsHonestly, SyncsHonestly}
-use Rattle.stm_disk.specs.MemoryFile.{IsMemory, sizes_at, LeftSince, file_state}
+use Rattle.stm_disk.specs.GrowingFile.{FileElapses, GrowsHonestly, SyncsHonestly}
+use Rattle.stm_disk.specs.MemoryFile.{IsFileInMemory, sizes_at, CrashLeftSince, file_state}
 use Rattle.stm_disk.specs.MemoryFileLaws.{LeftAt, now_left}
 
 -- what may be left of a file, may be of one that more is being added to
@@ -64,9 +64,9 @@ front_on bytes more sizes left le m =
 
 -- a call: what was is kept as the past, and some bytes are added
 pub recorded : (P : List ℕ → Type 0) (bytes more : List ℕ) (synced now : ℕ) (past : List (ℕ × ℕ))
-    → IsMemory bytes synced past
+    → IsFileInMemory bytes synced past
     → ((left : List ℕ) → MayBeLeft now (bytes ++ more) left → P left)
-    → Elapses P (file_state bytes synced past)
+    → FileElapses P (file_state bytes synced past)
     (file_state (bytes ++ more) now (pushed bytes synced past))
 recorded P bytes more synced now past h here =
     let old : ℕ → ℕ × ℕ = sizes_at bytes synced past in
@@ -80,7 +80,7 @@ recorded P bytes more synced now past h here =
     record {
       later = omega (arith, length_push past (synced, length bytes));
       nothing_else = λ t left le since. elim (cases_lt (length past) since.0) as
-          (λ _. LeftSince bytes synced past t left ⊎ P left) [
+          (λ _. CrashLeftSince bytes synced past t left ⊎ P left) [
             | inl lt ↦
                 inr (here left (now_left (bytes ++ more) now left
                 (subst (λ (sizes : ℕ × ℕ). LeftAt (bytes ++ more) sizes left)
@@ -95,7 +95,7 @@ recorded P bytes more synced now past h here =
                 )
           ];
       keeps = λ t left le since. elim (cases_lt (length past) since.0) as
-          (λ _. LeftSince (bytes ++ more) now (pushed bytes synced past) t left) [
+          (λ _. CrashLeftSince (bytes ++ more) now (pushed bytes synced past) t left) [
             | inl lt ↦ (
               length past,
               le,
@@ -118,9 +118,9 @@ recorded P bytes more synced now past h here =
     }
 
 pub recorded_honestly : (bytes more : List ℕ) (synced now : ℕ) (past : List (ℕ × ℕ))
-    → IsMemory bytes synced past → now ≤ length (bytes ++ more)
+    → IsFileInMemory bytes synced past → now ≤ length (bytes ++ more)
     → length (bytes ++ more) ≤ 2 ^ 63 - 1
-    → IsMemory (bytes ++ more) now (pushed bytes synced past)
+    → IsFileInMemory (bytes ++ more) now (pushed bytes synced past)
 recorded_honestly bytes more synced now past h within limit =
     let long = length-append bytes more in
     record {
@@ -150,8 +150,8 @@ always_on_err (Err e) P p = p
 
 -- an append, whose call may end as it likes
 all_appended : {T E : Type 0} (result : Result T E) (bytes more : List ℕ) (synced : ℕ)
-    (past : List (ℕ × ℕ)) → length (bytes ++ more) ≤ 2 ^ 63 - 1 → IsMemory bytes synced past
-    → AppendsHonestly more result (file_state bytes synced past)
+    (past : List (ℕ × ℕ)) → length (bytes ++ more) ≤ 2 ^ 63 - 1 → IsFileInMemory bytes synced past
+    → GrowsHonestly more result (file_state bytes synced past)
     (file_state (bytes ++ more) synced (pushed bytes synced past))
 all_appended result bytes more synced past limit h = record {
   honest = recorded_honestly bytes more synced synced past h
@@ -168,8 +168,8 @@ all_appended result bytes more synced past limit h = record {
 
 -- an append that found no memory behind its entry
 none_appended : {T E : Type 0} (result : Result T E) (Q : E → Type 0) (bytes more : List ℕ)
-    (synced : ℕ) (past : List (ℕ × ℕ)) → IsErrAnd result Q → IsMemory bytes synced past
-    → AppendsHonestly more result (file_state bytes synced past)
+    (synced : ℕ) (past : List (ℕ × ℕ)) → IsErrAnd result Q → IsFileInMemory bytes synced past
+    → GrowsHonestly more result (file_state bytes synced past)
     (file_state (bytes ++ []) synced (pushed bytes synced past))
 none_appended (Ok x) Q bytes more synced past failed h = absurd failed
 none_appended (Err e) Q bytes more synced past failed h = record {
@@ -185,16 +185,16 @@ none_appended (Err e) Q bytes more synced past failed h = record {
 }
 
 all_synced : {T E : Type 0} (result : Result T E) (bytes : List ℕ) (synced : ℕ)
-    (past : List (ℕ × ℕ)) → IsMemory bytes synced past
+    (past : List (ℕ × ℕ)) → IsFileInMemory bytes synced past
     → SyncsHonestly result (file_state bytes synced past)
     (file_state (bytes ++ []) (length bytes) (pushed bytes synced past))
 all_synced result bytes synced past h =
     let long = length-append bytes [] in
-    let honest : IsMemory (bytes ++ []) (length bytes) (pushed bytes synced past) =
+    let honest : IsFileInMemory (bytes ++ []) (length bytes) (pushed bytes synced past) =
     recorded_honestly bytes [] synced (length bytes) past h
     (omega (arith, long)) (omega (arith, h.limit, long)) in
     record {
-      honest = always_on_ok result (IsMemory (bytes ++ []) (length bytes) (pushed bytes synced past)) honest;
+      honest = always_on_ok result (IsFileInMemory (bytes ++ []) (length bytes) (pushed bytes synced past)) honest;
       seen = append-nil bytes;
       ok = always_on_ok result (length bytes ≡ length bytes) refl;
       time = recorded (MayBeLeft synced bytes) bytes [] synced (length bytes) past h
@@ -211,17 +211,17 @@ past_is bytes synced size past later is by =
 
 pub appended : {T E : Type 0} (result : Result T E) (bytes more longer : List ℕ) (synced size : ℕ)
     (past later : List (ℕ × ℕ)) → size ≡ length bytes → later ≡ past ++ (synced, size) ∷ []
-    → longer ≡ bytes ++ more → size + length more ≤ 2 ^ 63 - 1 → IsMemory bytes synced past
-    → AppendsHonestly more result (file_state bytes synced past) (file_state longer synced later)
+    → longer ≡ bytes ++ more → size + length more ≤ 2 ^ 63 - 1 → IsFileInMemory bytes synced past
+    → GrowsHonestly more result (file_state bytes synced past) (file_state longer synced later)
 appended result bytes more longer synced size past later is by grown limit h =
     let small : length (bytes ++ more) ≤ 2 ^ 63 - 1 =
     omega (arith, limit, is, length-append bytes more) in
     subst
-    (λ (xs : List ℕ). AppendsHonestly more result (file_state bytes synced past)
+    (λ (xs : List ℕ). GrowsHonestly more result (file_state bytes synced past)
     (file_state xs synced later))
     (sym grown)
     (subst
-    (λ (xs : List (ℕ × ℕ)). AppendsHonestly more result (file_state bytes synced past)
+    (λ (xs : List (ℕ × ℕ)). GrowsHonestly more result (file_state bytes synced past)
     (file_state (bytes ++ more) synced xs))
     (past_is bytes synced size past later is by)
     (all_appended result bytes more synced past small h))
@@ -229,22 +229,22 @@ appended result bytes more longer synced size past later is by grown limit h =
 pub unappended : {T E : Type 0} (result : Result T E) (Q : E → Type 0)
     (bytes more same : List ℕ) (synced size : ℕ) (past later : List (ℕ × ℕ)) → IsErrAnd result Q
     → size ≡ length bytes → later ≡ past ++ (synced, size) ∷ [] → same ≡ bytes
-    → IsMemory bytes synced past
-    → AppendsHonestly more result (file_state bytes synced past) (file_state same synced later)
+    → IsFileInMemory bytes synced past
+    → GrowsHonestly more result (file_state bytes synced past) (file_state same synced later)
 unappended result Q bytes more same synced size past later failed is by stays h =
     subst
-    (λ (xs : List ℕ). AppendsHonestly more result (file_state bytes synced past)
+    (λ (xs : List ℕ). GrowsHonestly more result (file_state bytes synced past)
     (file_state xs synced later))
     (append-nil bytes ∙ sym stays)
     (subst
-    (λ (xs : List (ℕ × ℕ)). AppendsHonestly more result (file_state bytes synced past)
+    (λ (xs : List (ℕ × ℕ)). GrowsHonestly more result (file_state bytes synced past)
     (file_state (bytes ++ []) synced xs))
     (past_is bytes synced size past later is by)
     (none_appended result Q bytes more synced past failed h))
 
 pub synced_now : {T E : Type 0} (result : Result T E) (bytes : List ℕ) (synced size : ℕ)
     (past later : List (ℕ × ℕ)) → size ≡ length bytes → later ≡ past ++ (synced, size) ∷ []
-    → IsMemory bytes synced past
+    → IsFileInMemory bytes synced past
     → SyncsHonestly result (file_state bytes synced past) (file_state bytes size later)
 synced_now result bytes synced size past later is by h =
     subst

@@ -1,13 +1,13 @@
 -- Moments of runs of calls join: what holds at each moment of two runs, one after the other, holds
 -- at each of both.
 use Rattle.std.proofs.Common.{⊎_elim, ℕ, List, inl, inr, arith}
-use Rattle.stm_disk.specs.GrowingFile.{FileState, Elapses, IsModel}
+use Rattle.stm_disk.specs.GrowingFile.{FileState, FileElapses, FollowsFileModel}
 use Rattle.stm_disk.specs.Crash.{MayBeLeft}
-use Rattle.stm_disk.specs.Moments.{LeavesOnly}
+use Rattle.stm_disk.specs.Moments.{CrashLeavesOnly}
 
 -- before the first call
-pub started : (P : List ℕ → Type 0) (a : FileState) → IsModel a
-    → ((left : List ℕ) → MayBeLeft a.synced a.seen left → P left) → LeavesOnly P a a
+pub started : (P : List ℕ → Type 0) (a : FileState) → FollowsFileModel a
+    → ((left : List ℕ) → MayBeLeft a.synced a.seen left → P left) → CrashLeavesOnly P a a
 started P a model here =
     record {
       later = omega arith;
@@ -16,9 +16,9 @@ started P a model here =
     }
 
 -- two runs, one after the other
-pub joined : (P Q R : List ℕ → Type 0) (a b c : FileState) → LeavesOnly P a b → LeavesOnly Q b c
+pub joined : (P Q R : List ℕ → Type 0) (a b c : FileState) → CrashLeavesOnly P a b → CrashLeavesOnly Q b c
     → ((left : List ℕ) → P left → R left) → ((left : List ℕ) → Q left → R left)
-    → LeavesOnly R a c
+    → CrashLeavesOnly R a c
 joined P Q R a b c first second p q =
     record {
       later = omega (arith, first.later, second.later);
@@ -33,9 +33,9 @@ joined P Q R a b c first second p q =
     }
 
 -- one call
-pub elapsed : (P R : List ℕ → Type 0) (a b : FileState) → IsModel a → Elapses P a b
+pub elapsed : (P R : List ℕ → Type 0) (a b : FileState) → FollowsFileModel a → FileElapses P a b
     → ((left : List ℕ) → MayBeLeft a.synced a.seen left → R left)
-    → ((left : List ℕ) → P left → R left) → LeavesOnly R a b
+    → ((left : List ℕ) → P left → R left) → CrashLeavesOnly R a b
 elapsed P R a b model time here p =
     record {
       later = time.later;
@@ -47,8 +47,8 @@ elapsed P R a b model time here p =
     }
 
 -- what holds of less
-pub weaker : (P R : List ℕ → Type 0) (a b : FileState) → LeavesOnly P a b
-    → ((left : List ℕ) → P left → R left) → LeavesOnly R a b
+pub weaker : (P R : List ℕ → Type 0) (a b : FileState) → CrashLeavesOnly P a b
+    → ((left : List ℕ) → P left → R left) → CrashLeavesOnly R a b
 weaker P R a b l r =
     record {
       later = l.later;

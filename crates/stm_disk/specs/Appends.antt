@@ -2,7 +2,7 @@
 use Rattle.std.specs.Prelude.{◌≡◌, ◌⊎◌, ℕ, List, [], ◌∷◌, ◌++◌, length, take}
 use Rattle.std.specs.Prelude.{Result, Ok, OnOk}
 use Rattle.stm_disk.specs.GrowingFile.{FileState}
-use Rattle.stm_disk.specs.Moments.{LeavesOnly}
+use Rattle.stm_disk.specs.Moments.{CrashLeavesOnly}
 use Rattle.stm_disk.specs.Lines.{LeftByAdding, AddsHonestly}
 
 -- the bytes of all parts, and behind them the last
@@ -26,14 +26,14 @@ AppendsAreOne F E view = (parts : List (List ℕ)) (last : List ℕ) (result : R
     → AddsHonestly (all_bytes parts last) result (view a) (view z)
 
 -- a beginning of an append is there, which was stopped or has failed
-pub record IsBegun (bytes : List ℕ) (old new : FileState) : Type 0 where
+pub record IsAppendBegun (bytes : List ℕ) (old new : FileState) : Type 0 where
   pub some : (n : ℕ) × (new.seen ≡ old.seen ++ take n bytes)
-  pub time : LeavesOnly (LeftByAdding old.seen bytes) old new
+  pub time : CrashLeavesOnly (LeftByAdding old.seen bytes) old new
 
 -- it is on the disk, so that more can be added behind it
 pub record IsTakenUp (bytes : List ℕ) (old new : FileState) : Type 0 where
   pub honest : new.is_honest
-  pub begun : IsBegun bytes old new
+  pub begun : IsAppendBegun bytes old new
   pub synced : new.synced ≡ length new.seen
 
 -- what a crash leaves of appends, each behind a beginning of the one before: of one of them a
@@ -45,7 +45,7 @@ LeftByAll old (bytes ∷ more) last left =
 
 -- each was stopped or has failed, and was taken up, and the last is at any moment of its own
 abbrev pub TakenUpInTurn : {F : Type 0} → (F → FileState) → List (List ℕ) → List ℕ → F → F → Type 0
-TakenUpInTurn view [] last a z = LeavesOnly (LeftByAdding (view a).seen last) (view a) (view z)
+TakenUpInTurn view [] last a z = CrashLeavesOnly (LeftByAdding (view a).seen last) (view a) (view z)
 TakenUpInTurn {F} view (bytes ∷ more) last a z =
     (mid : F) × IsTakenUp bytes (view a) (view mid) × TakenUpInTurn view more last mid z
 
@@ -53,11 +53,11 @@ TakenUpInTurn {F} view (bytes ∷ more) last a z =
 abbrev pub StoppedAppendsFollow : (F : Type 0) → (F → FileState) → Type 0
 StoppedAppendsFollow F view = (parts : List (List ℕ)) (last : List ℕ) (a z : F)
     → TakenUpInTurn view parts last a z
-    → LeavesOnly (LeftByAll (view a).seen parts last) (view a) (view z)
+    → CrashLeavesOnly (LeftByAll (view a).seen parts last) (view a) (view z)
 
 -- From whatever state, a sync that answered takes up an append that was stopped there, and one that
 -- didn't leaves nothing else.
 abbrev pub TakesUp : {F T E : Type 0} → (F → FileState) → Result T E → F → F → Type 0
 TakesUp {F} view result old new = (bytes : List ℕ) (first : F)
-    → IsBegun bytes (view first) (view old)
-    → IsBegun bytes (view first) (view new) × OnOk result (IsTakenUp bytes (view first) (view new))
+    → IsAppendBegun bytes (view first) (view old)
+    → IsAppendBegun bytes (view first) (view new) × OnOk result (IsTakenUp bytes (view first) (view new))

@@ -6,7 +6,7 @@ use Rattle.stm_wire.specs.Rig.{RigState, LeftByPut, LeftByGet, LeftByAppend}
 use Rattle.stm_journal.specs.Text.{text_of}
 use Rattle.stm_journal.specs.Journals.{journal_of}
 use Rattle.stm_disk.specs.GrowingFile.{FileState}
-use Rattle.stm_disk.specs.Lines.{IsSettled, Stays}
+use Rattle.stm_disk.specs.Lines.{IsSynced, StaysOnDisk}
 use Rattle.stm_disk.specs.declared.disk_rig.DiskRig.{DiskRig}
 
 pub record DiskState : Type 1 where
@@ -25,13 +25,13 @@ pub record DiskState : Type 1 where
 pub record HoldsJournal (journal : List ℕ) (size : ℕ) (file : FileState) : Type 0 where
   pub honest : file.is_honest
   pub seen : file.seen ≡ journal
-  pub settled : IsSettled size file
+  pub settled : IsSynced size file
 
 -- The bytes are there, a crash from now on leaves them, and the file has what the journal has,
 -- up to its new end.
 pub record IsOnDisk (bytes : List ℕ) (size : ℕ) (journal : List ℕ) (old new : FileState)
     : Type 0 where
-  pub stays : Stays bytes old new
+  pub stays : StaysOnDisk bytes old new
   pub holds : HoldsJournal journal (size + length bytes) new
 
 -- the line follows its model, the file its own, and the two agree until an append has failed
@@ -41,8 +41,8 @@ pub record IsDisk (disk : DiskState) : Type 0 where
 
 -- What it tells of itself is what the line tells, with other counts. It promises no room in the
 -- record and doesn't count waits, since a call that is refused stands in neither.
-abbrev pub told_of : Type 0 → ℕ → ℕ → RigState → RigState
-told_of honest line_failures journal_failures rig =
+abbrev pub rig_told : Type 0 → ℕ → ℕ → RigState → RigState
+rig_told honest line_failures journal_failures rig =
     record rig {
       is_honest = honest;
       line_failures = line_failures;
@@ -53,7 +53,7 @@ told_of honest line_failures journal_failures rig =
 
 abbrev pub disk_rig_state : DiskState → RigState
 disk_rig_state disk =
-    told_of (IsDisk disk) (disk.line.line_failures + disk.refused) disk.journal_failures disk.line
+    rig_told (IsDisk disk) (disk.line.line_failures + disk.refused) disk.journal_failures disk.line
 
 -- what contracts see of such a Rig, by what they see of its line and its file
 abbrev pub disk_of : {L F : Type 0} → (L → RigState) → (F → FileState) → DiskRig L F → DiskState

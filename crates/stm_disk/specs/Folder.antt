@@ -29,7 +29,7 @@ pub data Doing : Type 0 where
   SyncsFile : Doing
 
 -- which program, by a number, does what
-pub record Step : Type 0 where
+pub record FolderStep : Type 0 where
   pub who : ℕ
   pub doing : Doing
 
@@ -61,30 +61,30 @@ IsCareful who (Adds bytes) f = (f.holder ≡ Some who) × (f.is_kept ≡ true)
 IsCareful who SyncsFile f = Unit {0}
 
 -- what the steps of several programs, in whichever order, leave
-abbrev pub after : List Step → Folder → Folder
+abbrev pub after : List FolderStep → Folder → Folder
 after [] f = f
 after (x ∷ steps) f = after steps (done x.who x.doing f)
 
 -- they can happen, and each program keeps to it
-abbrev pub Happens : List Step → Folder → Type 0
-Happens [] f = Unit {0}
-Happens (x ∷ steps) f =
-    (IsLet x.who x.doing f × IsCareful x.who x.doing f) × Happens steps (done x.who x.doing f)
+abbrev pub CanHappen : List FolderStep → Folder → Type 0
+CanHappen [] f = Unit {0}
+CanHappen (x ∷ steps) f =
+    (IsLet x.who x.doing f × IsCareful x.who x.doing f) × CanHappen steps (done x.who x.doing f)
 
 -- no byte is under a name that isn't kept, or leads to no file
 pub record IsEmptyUnlessKept (f : Folder) : Type 0 where
   pub unkept : f.is_kept ≡ false → f.seen ≡ []
   pub none : f.is_there ≡ false → f.seen ≡ []
 
-abbrev pub IsAmong : List Step → Step → Type 0
-IsAmong [] x = ⊥
-IsAmong (y ∷ steps) x = (y ≡ x) ⊎ IsAmong steps x
+abbrev pub IsStepAmong : List FolderStep → FolderStep → Type 0
+IsStepAmong [] x = ⊥
+IsStepAmong (y ∷ steps) x = (y ≡ x) ⊎ IsStepAmong steps x
 
-abbrev pub step : ℕ → Doing → Step
-step who doing = record { who = who; doing = doing }
+abbrev pub folder_step : ℕ → Doing → FolderStep
+folder_step who doing = record { who = who; doing = doing }
 
 -- the same steps, all of one program
-abbrev pub of_one : Step → Step
+abbrev pub of_one : FolderStep → FolderStep
 of_one x = record { who = 0; doing = x.doing }
 
 abbrev pub held_by_one : Folder → Folder
@@ -92,24 +92,24 @@ held_by_one f = record f { holder = option_map (λ who. 0) f.holder }
 
 -- Programs that keep to it are as one program that does all their steps.
 abbrev pub ProgramsAreOne : Type 0
-ProgramsAreOne = (steps : List Step) (f : Folder) → Happens steps f
-    → Happens (map of_one steps) (held_by_one f)
+ProgramsAreOne = (steps : List FolderStep) (f : Folder) → CanHappen steps f
+    → CanHappen (map of_one steps) (held_by_one f)
     × (after (map of_one steps) (held_by_one f) ≡ held_by_one (after steps f))
 
 -- Two programs don't add in between one another's bytes: where one adds behind another, that one
 -- has let go since, and this one has got the lock.
 abbrev pub ProgramsTakeTurns : Type 0
-ProgramsTakeTurns = (before between : List Step) (p q : ℕ) (bytes more : List ℕ) (f : Folder)
-    → Happens (before ++ step p (Adds bytes) ∷ (between ++ step q (Adds more) ∷ [])) f
-    → (p ≡ q) ⊎ (IsAmong between (step p LetsGo) × IsAmong between (step q Locks))
+ProgramsTakeTurns = (before between : List FolderStep) (p q : ℕ) (bytes more : List ℕ) (f : Folder)
+    → CanHappen (before ++ folder_step p (Adds bytes) ∷ (between ++ folder_step q (Adds more) ∷ [])) f
+    → (p ≡ q) ⊎ (IsStepAmong between (folder_step p LetsGo) × IsStepAmong between (folder_step q Locks))
 
 -- Before a byte is added, that program got the lock, and where the name wasn't kept at first, the
 -- folder was synced: so a file that was just made is locked, and its name stays.
 abbrev pub LockedBeforeTheFirstByte : Type 0
-LockedBeforeTheFirstByte = (before : List Step) (who : ℕ) (bytes : List ℕ) (f : Folder)
-    → f.holder ≡ None → Happens (before ++ step who (Adds bytes) ∷ []) f
-    → IsAmong before (step who Locks)
-    × ((f.is_kept ≡ true) ⊎ ((other : ℕ) × IsAmong before (step other SyncsFolder)))
+LockedBeforeTheFirstByte = (before : List FolderStep) (who : ℕ) (bytes : List ℕ) (f : Folder)
+    → f.holder ≡ None → CanHappen (before ++ folder_step who (Adds bytes) ∷ []) f
+    → IsStepAmong before (folder_step who Locks)
+    × ((f.is_kept ≡ true) ⊎ ((other : ℕ) × IsStepAmong before (folder_step other SyncsFolder)))
 
 -- what a crash of the PC leaves: of a name that isn't kept perhaps none
 abbrev pub MayBeFound : Folder → Option (List ℕ) → Type 0
@@ -118,8 +118,8 @@ MayBeFound f (Some left) = (f.is_there ≡ true) × MayBeLeft f.synced f.seen le
 
 -- A crash at any moment leaves the file, or one that has no byte, under its name or not.
 abbrev pub UnkeptIsEmpty : Type 0
-UnkeptIsEmpty = (steps : List Step) (f : Folder) (found : Option (List ℕ))
-    → IsEmptyUnlessKept f → Happens steps f → MayBeFound (after steps f) found
+UnkeptIsEmpty = (steps : List FolderStep) (f : Folder) (found : Option (List ℕ))
+    → IsEmptyUnlessKept f → CanHappen steps f → MayBeFound (after steps f) found
     → (((after steps f).is_kept ≡ true)
     × ((left : List ℕ) × (found ≡ Some left)
     × MayBeLeft (after steps f).synced (after steps f).seen left))

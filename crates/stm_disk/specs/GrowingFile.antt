@@ -17,7 +17,7 @@ pub record FileState : Type 1 where
   pub known : Option (List ℕ)
 
 -- From old to new, a crash may have left what it might have left before, or what has P.
-pub record Elapses (P : List ℕ → Type 0) (old new : FileState) : Type 0 where
+pub record FileElapses (P : List ℕ → Type 0) (old new : FileState) : Type 0 where
   pub later : old.moment ≤ new.moment
   pub nothing_else : (t : ℕ) (left : List ℕ) → t ≤ old.moment → new.left_since t left
       → old.left_since t left ⊎ P left
@@ -25,13 +25,13 @@ pub record Elapses (P : List ℕ → Type 0) (old new : FileState) : Type 0 wher
       → new.left_since t left
 
 -- a beginning of the bytes was added, all of them at Ok, and none is synced yet
-pub record AppendsHonestly {T E : Type 0} (bytes : List ℕ) (result : Result T E)
+pub record GrowsHonestly {T E : Type 0} (bytes : List ℕ) (result : Result T E)
     (old new : FileState) : Type 0 where
   pub honest : new.is_honest
   pub ok : OnOk result (new.seen ≡ old.seen ++ bytes)
   pub err : OnErr result ((n : ℕ) × (new.seen ≡ old.seen ++ take n bytes))
   pub synced : new.synced ≡ old.synced
-  pub time : Elapses (MayBeLeft old.synced (old.seen ++ bytes)) old new
+  pub time : FileElapses (MayBeLeft old.synced (old.seen ++ bytes)) old new
 
 -- A sync that answers Ok answers for all bytes. After one that fails nothing more is told of the
 -- file: the system may have dropped what was written.
@@ -39,10 +39,10 @@ pub record SyncsHonestly {T E : Type 0} (result : Result T E) (old new : FileSta
   pub honest : OnOk result new.is_honest
   pub seen : new.seen ≡ old.seen
   pub ok : OnOk result (new.synced ≡ length old.seen)
-  pub time : Elapses (MayBeLeft old.synced old.seen) old new
+  pub time : FileElapses (MayBeLeft old.synced old.seen) old new
 
 -- what is so of a file that follows the model, at each moment
-pub record IsModel (file : FileState) : Type 0 where
+pub record FollowsFileModel (file : FileState) : Type 0 where
   pub limit : length file.seen ≤ 2 ^ 63 - 1
   pub synced : file.synced ≤ length file.seen
   -- this moment is one of those since an earlier one, and since this moment there is no other

@@ -2,7 +2,7 @@
 use Rattle.std.specs.Prelude.{◌≡◌, ℕ, List, ◌++◌, length, take, Result, OnOk, OnErr}
 use Rattle.stm_journal.specs.Text.{HasNoLF}
 use Rattle.stm_disk.specs.GrowingFile.{FileState}
-use Rattle.stm_disk.specs.Moments.{LeavesOnly}
+use Rattle.stm_disk.specs.Moments.{CrashLeavesOnly}
 
 -- A beginning of the bytes was added, and what follows it has no LF: the whole lines that were
 -- added are a beginning of the lines of the bytes, and behind them stands a torn tail.
@@ -11,12 +11,12 @@ LeftByAdding old bytes left =
     (n : ℕ) × (tail : List ℕ) × (left ≡ old ++ (take n bytes ++ tail)) × HasNoLF tail
 
 -- its end is at this place, and all of it is synced
-pub record IsSettled (at : ℕ) (file : FileState) : Type 0 where
+pub record IsSynced (at : ℕ) (file : FileState) : Type 0 where
   pub place : at ≡ length file.seen
   pub synced : file.synced ≡ length file.seen
 
 -- all bytes are there, and a crash from now on leaves them
-pub record Stays (bytes : List ℕ) (old new : FileState) : Type 0 where
+pub record StaysOnDisk (bytes : List ℕ) (old new : FileState) : Type 0 where
   pub honest : new.is_honest
   pub seen : new.seen ≡ old.seen ++ bytes
   pub synced : new.synced ≡ length new.seen
@@ -26,6 +26,6 @@ pub record Stays (bytes : List ℕ) (old new : FileState) : Type 0 where
 -- beginning of the bytes is there.
 pub record AddsHonestly {T E : Type 0} (bytes : List ℕ) (result : Result T E)
     (old new : FileState) : Type 0 where
-  pub ok : OnOk result (Stays bytes old new)
+  pub ok : OnOk result (StaysOnDisk bytes old new)
   pub err : OnErr result ((n : ℕ) × (new.seen ≡ old.seen ++ take n bytes))
-  pub time : LeavesOnly (LeftByAdding old.seen bytes) old new
+  pub time : CrashLeavesOnly (LeftByAdding old.seen bytes) old new

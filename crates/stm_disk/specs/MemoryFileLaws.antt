@@ -2,8 +2,8 @@
 use Rattle.std.proofs.Common.{◌≤◌, ℕ, List, length, take, sym, subst, arith}
 use Rattle.std.proofs.lemmas.List.{take_all, get_or_past}
 use Rattle.stm_disk.specs.Crash.{MayBeLeft}
-use Rattle.stm_disk.specs.GrowingFile.{IsModel}
-use Rattle.stm_disk.specs.MemoryFile.{IsMemory, LeftSince, file_state}
+use Rattle.stm_disk.specs.GrowingFile.{FollowsFileModel}
+use Rattle.stm_disk.specs.MemoryFile.{IsFileInMemory, CrashLeftSince, file_state}
 
 -- what a crash may leave where these are the sizes
 abbrev pub LeftAt : List ℕ → ℕ × ℕ → List ℕ → Type 0
@@ -22,7 +22,7 @@ now_left bytes synced left m =
     (take_all (length bytes) bytes (omega arith)) m
 
 pub counts_now : (bytes : List ℕ) (synced : ℕ) (past : List (ℕ × ℕ)) (t : ℕ) (left : List ℕ)
-    → t ≤ length past → MayBeLeft synced bytes left → LeftSince bytes synced past t left
+    → t ≤ length past → MayBeLeft synced bytes left → CrashLeftSince bytes synced past t left
 counts_now bytes synced past t left le m = (
   length past,
   le,
@@ -32,14 +32,14 @@ counts_now bytes synced past t left le m = (
 )
 
 pub only_now : (bytes : List ℕ) (synced : ℕ) (past : List (ℕ × ℕ)) (left : List ℕ)
-    → LeftSince bytes synced past (length past) left → MayBeLeft synced bytes left
+    → CrashLeftSince bytes synced past (length past) left → MayBeLeft synced bytes left
 only_now bytes synced past left since =
     now_left bytes synced left
     (subst (λ (sizes : ℕ × ℕ). LeftAt bytes sizes left)
     (get_or_past past since.0 (synced, length bytes) since.1) since.2)
 
-pub is_model : (bytes : List ℕ) (synced : ℕ) (past : List (ℕ × ℕ)) → IsMemory bytes synced past
-    → IsModel (file_state bytes synced past)
+pub is_model : (bytes : List ℕ) (synced : ℕ) (past : List (ℕ × ℕ)) → IsFileInMemory bytes synced past
+    → FollowsFileModel (file_state bytes synced past)
 is_model bytes synced past h = record {
   limit = h.limit;
   synced = h.within;

@@ -4,7 +4,7 @@ use Rattle.stm_journal.specs.declared.entry.Entry.{Entry}
 use Rattle.stm_journal.specs.States.{StateData}
 use Rattle.stm_journal.specs.Text.{text_of}
 use Rattle.stm_journal.specs.Journals.{Loaded, IsLoaded, journal_of, good, added_bytes}
-use Rattle.stm_journal.specs.Beginnings.{LeadsTo, AllAllowed, AllPrintable}
+use Rattle.stm_journal.specs.Beginnings.{EntriesLead, AllAllowed, AllPrintable}
 use Rattle.stm_disk.specs.Lines.{LeftByAdding}
 
 -- What a crash leaves has the whole lines, and comes to the journal, of what a stop leaves that has
@@ -22,4 +22,4 @@ CrashesAreGood =
     → IsLoaded l journal → journal_of journal ≡ good s
     → AllAllowed entries s → AllPrintable entries
     → LeftByAdding journal (added_bytes l.is_torn entries) left
-    → (s2 : StateData) × (journal_of left ≡ good s2) × LeadsTo entries s s2
+    → (s2 : StateData) × (journal_of left ≡ good s2) × EntriesLead entries s s2

@@ -1,7 +1,7 @@
 // Appends to one file, one behind the other.
 ghost use Rattle.std.specs.Prelude.{◌≡◌, ◌++◌, OnOk};
 ghost use Rattle.std.specs.Io.KnownBytes.{Appends};
-ghost use Rattle.stm_disk.specs.Lines.{IsSettled, AddsHonestly};
+ghost use Rattle.stm_disk.specs.Lines.{IsSynced, AddsHonestly};
 ghost use Rattle.stm_disk.specs.Appends.{TakesUp};
 
 use crate::{GrowingFile, add_lines};
@@ -17,7 +17,7 @@ pub fn add_both<F: GrowingFile>(
 ) -> io::Result<()>
     ensures known { OnOk result
         (Appends (F.view file.old).known (F.view file.new).known (first.now ++ second.now)) }
-    ensures honest { (F.view file.old).is_honest → IsSettled at (F.view file.old)
+    ensures honest { (F.view file.old).is_honest → IsSynced at (F.view file.old)
         → AddsHonestly (first.now ++ second.now) result (F.view file.old) (F.view file.new) }
 {
     add_lines(file, at, first)?;

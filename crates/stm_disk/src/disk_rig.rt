@@ -4,7 +4,7 @@ ghost use Rattle.std.specs.Result.{IsErr};
 ghost use Rattle.stm_wire.specs.Call.{Append, Fetch, Get, Put};
 ghost use Rattle.stm_wire.specs.Rig.{AppendsHonestly, HasCause, LeftByAppend};
 ghost use Rattle.stm_wire.specs.Rig.{PutsAside, RecordsAppend};
-ghost use Rattle.stm_disk.specs.Lines.{Stays};
+ghost use Rattle.stm_disk.specs.Lines.{StaysOnDisk};
 ghost use Rattle.stm_disk.specs.RigCalls.{AppendsAsRig, FetchesAsRig, GetsAsRig, PutsAsRig};
 ghost use Rattle.stm_disk.specs.DiskRig.{CrashesAreStopsHere, CrashesAreStopsIn, HoldsJournal};
 ghost use Rattle.stm_disk.specs.DiskRig.{IdlesOnceFailed, IsOnDisk, disk_of, disk_rig_state};
@@ -164,7 +164,7 @@ impl<L: Rig + Drop, F: GrowingFile + Drop> Rig for DiskRig<L, F> {
             CrashesAreStopsIn (Append bytes.now) (disk self.old) (disk self.new) }
         ensures idle { IdlesOnceFailed self.old self.new }
         ensures on_disk { (⟦<Self as Rig>⟧.view self.old).is_honest
-            → OnOk result (Stays bytes.now (F.view self.old.file) (F.view self.new.file)) }
+            → OnOk result (StaysOnDisk bytes.now (F.view self.old.file) (F.view self.new.file)) }
         ensures failed { OnErr result (self.new.has_failed ≡ true) }
     {
         if self.has_failed {

@@ -1,7 +1,7 @@
 // A file that grows on a disk.
 ghost use Rattle.std.specs.Prelude.{◌≡◌, OnOk};
 ghost use Rattle.std.specs.Io.KnownBytes.{Appends};
-ghost use Rattle.stm_disk.specs.GrowingFile.{FileState, AppendsHonestly, SyncsHonestly, IsModel};
+ghost use Rattle.stm_disk.specs.GrowingFile.{FileState, GrowsHonestly, SyncsHonestly, FollowsFileModel};
 
 use std::io;
 
@@ -22,7 +22,7 @@ pub trait GrowingFile {
         ensures known { OnOk result
             (Appends (view self.old).known (view self.new).known bytes.now) }
         ensures honest { (view self.old).is_honest
-            → AppendsHonestly bytes.now result (view self.old) (view self.new) };
+            → GrowsHonestly bytes.now result (view self.old) (view self.new) };
 
     /// Answers once all bytes are on the disk. After a sync that failed nothing more may be asked
     /// of the file.
@@ -32,5 +32,5 @@ pub trait GrowingFile {
             → SyncsHonestly result (view self.old) (view self.new) };
 
     // What is so of an honest file at each moment.
-    ghost model: { (file : Self) → (view file).is_honest → IsModel (view file) };
+    ghost model: { (file : Self) → (view file).is_honest → FollowsFileModel (view file) };
 }

@@ -2,7 +2,7 @@
 ghost use Rattle.std.specs.Prelude.{◌≡◌, ◌≤◌, ◌<◌, length, take, OnOk};
 ghost use Rattle.std.specs.Io.KnownBytes.{Appends};
 ghost use Rattle.stm_disk.specs.Sectors.{LinesEndWhole, StopsAtLineEnd};
-ghost use Rattle.stm_disk.specs.Lines.{IsSettled, AddsHonestly};
+ghost use Rattle.stm_disk.specs.Lines.{IsSynced, AddsHonestly};
 
 use crate::GrowingFile;
 use std::io;
@@ -18,7 +18,7 @@ const LF: u8 = b'\n';
 pub fn add_lines<F: GrowingFile>(file: &mut F, at: u64, bytes: &[u8]) -> io::Result<()>
     ensures known { OnOk result
         (Appends (F.view file.old).known (F.view file.new).known bytes.now) }
-    ensures honest { (F.view file.old).is_honest → IsSettled at (F.view file.old)
+    ensures honest { (F.view file.old).is_honest → IsSynced at (F.view file.old)
         → AddsHonestly bytes.now result (F.view file.old) (F.view file.new) }
 {
     let mut done = 0;
@@ -37,7 +37,7 @@ fn add_piece<F: GrowingFile>(file: &mut F, at: u64, piece: &[u8]) -> io::Result<
     requires { LinesEndWhole at piece.now }
     ensures known { OnOk result
         (Appends (F.view file.old).known (F.view file.new).known piece.now) }
-    ensures honest { (F.view file.old).is_honest → IsSettled at (F.view file.old)
+    ensures honest { (F.view file.old).is_honest → IsSynced at (F.view file.old)
         → AddsHonestly piece.now result (F.view file.old) (F.view file.new) }
 {
     let _ = at;

@@ -1,7 +1,7 @@
 // A file that is added to only while this program has its lock.
 ghost use Rattle.std.specs.Prelude.{◌≡◌, false, true, OnOk};
 ghost use Rattle.std.specs.Io.KnownBytes.{Appends};
-ghost use Rattle.stm_disk.specs.GrowingFile.{AppendsHonestly};
+ghost use Rattle.stm_disk.specs.GrowingFile.{GrowsHonestly};
 ghost use Rattle.stm_disk.specs.LockedFile.{locked_state, locked_model};
 
 use crate::GrowingFile;
@@ -40,7 +40,7 @@ impl<F: GrowingFile + Drop> GrowingFile for LockedFile<F> {
         ensures known { OnOk result
             (Appends (F.view self.old.file).known (F.view self.new.file).known bytes.now) }
         ensures honest { let view = ⟦<Self as GrowingFile>⟧.view in (view self.old).is_honest
-            → AppendsHonestly bytes.now result (view self.old) (view self.new) }
+            → GrowsHonestly bytes.now result (view self.old) (view self.new) }
         ensures locked { OnOk result (self.old.is_locked ≡ true) }
         ensures unlocked { self.old.is_locked ≡ false → self.new ≡ self.old }
     {

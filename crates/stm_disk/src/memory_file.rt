@@ -1,6 +1,6 @@
 // A file in memory, of which a crash may leave all that the model allows.
 ghost use Rattle.std.specs.Prelude.{◌≡◌, []};
-ghost use Rattle.stm_disk.specs.MemoryFile.{IsMemory, file_state};
+ghost use Rattle.stm_disk.specs.MemoryFile.{IsFileInMemory, file_state};
 ghost use Rattle.stm_disk.specs.MemoryFileLaws.{is_model};
 
 use crate::GrowingFile;
@@ -23,7 +23,7 @@ impl MemoryFile {
     /// An empty file.
     pub fn new(alloc: Global) -> MemoryFile
         ensures empty { result.bytes.items ≡ [] }
-        ensures honest { IsMemory result.bytes.items result.synced result.past.items }
+        ensures honest { IsFileInMemory result.bytes.items result.synced result.past.items }
     {
         MemoryFile {
             bytes: Vec::new(alloc),

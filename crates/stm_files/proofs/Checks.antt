@@ -17,7 +17,7 @@ use Rattle.stm_journal.specs.InMemory.{forget_state}
 use Rattle.stm_journal.specs.Journals.{IsLoaded, Loaded, good, journal_of}
 use Rattle.stm_journal.specs.KeptPlaces.{kept_count, kept_entry, kept_place, place_of}
 use Rattle.stm_journal.specs.States.{StateData, kept_at}
-use Rattle.stm_files.specs.Checking.{IsCheckFault, IsCounted, IsTied, Reads, Tells, check_text, kept_line, page_line, page_text}
+use Rattle.stm_files.specs.Checking.{IsCheckFault, IsCounted, IsTied, ReadsJournal, TellsState, check_text, kept_page_line, page_line, page_text}
 use Rattle.stm_files.specs.PageSum.{page_sum}
 use Rattle.stm_files.specs.Tally.{IsTallyOf}
 use Rattle.stm_files.specs.declared.tally.Tally.{Tally}
@@ -42,7 +42,7 @@ fits at n after journal within same = elim (cases_lt (length (drop at journal)) 
 ]
 
 -- bytes more
-pub counted-more : (at n : ℕ) (before after : List ℕ) (t u : Tally) (a b d : RigState) → IsModel a → IsCounted at t a b → Reads at before after n b d
+pub counted-more : (at n : ℕ) (before after : List ℕ) (t u : Tally) (a b d : RigState) → IsModel a → IsCounted at t a b → ReadsJournal at before after n b d
     → n ≤ length after → ((bytes : List ℕ) → IsTallyOf bytes t → length bytes + length (take n after) < 2 ^ 63 → IsTallyOf (bytes ++ take n after) u)
     → IsCounted (at + n) u a d
 counted-more at n before after t u a b d model has got within step =
@@ -60,7 +60,7 @@ counted-more at n before after t u a b d model has got within step =
     }
 
 -- behind the last byte
-pub counted-all : (at : ℕ) (before after : List ℕ) (t : Tally) (a b d : RigState) → IsCounted at t a b → Reads at before after 0 b d
+pub counted-all : (at : ℕ) (before after : List ℕ) (t : Tally) (a b d : RigState) → IsCounted at t a b → ReadsJournal at before after 0 b d
     → 0 < length before → StaysHonest a d × IsTallyOf a.journal t
 counted-all at before after t a b d has got some =
     let j : List ℕ = a.journal in
@@ -103,7 +103,7 @@ page-line-is s m k i page line place sum state told stands sums =
   where
     at : (o : Option Kept) → Some (page, line) ≡ option_map {U = ℕ × ℕ} (λ kept. (kept.page, kept.line)) o → Some place ≡ option_map place_of o
         → ((kept : Kept) → o ≡ Some kept → place_of kept ≡ place → sum ≡ page_sum kept.bytes)
-        → page_line page place.line place.length sum ≡ option_map_or kept_line o []
+        → page_line page place.line place.length sum ≡ option_map_or kept_page_line o []
     at None e f g = absurd (cc)
     at (Some kept) e f g =
         let both : (page, line) ≡ (kept.page, kept.line) = cc in
@@ -116,14 +116,14 @@ page-line-is s m k i page line place sum state told stands sums =
 pub no-page : (s m : StateData) (k i : ℕ) → m ≡ forget_state s → None ≡ kept_at m k i → [] ≡ page_text s k i
 no-page s m k i state told = at (kept_entry s k i) (told ∙ ap (λ (x : StateData). kept_at x k i) state ∙ kept_at-forgets s k i)
   where
-    at : (o : Option Kept) → None ≡ option_map {U = ℕ × ℕ} (λ kept. (kept.page, kept.line)) o → [] ≡ option_map_or kept_line o []
+    at : (o : Option Kept) → None ≡ option_map {U = ℕ × ℕ} (λ kept. (kept.page, kept.line)) o → [] ≡ option_map_or kept_page_line o []
     at None e = refl
     at (Some kept) e = absurd (cc)
 
 pub no-place : (s m : StateData) (k i : ℕ) → m ≡ forget_state s → None ≡ kept_place m k i → [] ≡ page_text s k i
 no-place s m k i state stands = at (kept_entry s k i) (stands ∙ ap (λ (x : StateData). kept_place x k i) state ∙ kept_place-forgets s k i)
   where
-    at : (o : Option Kept) → None ≡ option_map place_of o → [] ≡ option_map_or kept_line o []
+    at : (o : Option Kept) → None ≡ option_map place_of o → [] ≡ option_map_or kept_page_line o []
     at None e = refl
     at (Some kept) e = absurd (cc)
 
@@ -149,6 +149,6 @@ tied-first bytes l a b same got =
 
 -- what was told is told of these bytes
 pub tells : {T : Type 0} (bytes : List ℕ) (s : StateData) (r : Result T JournalFault) (items : T → List ℕ) → journal_of bytes ≡ good s
-    → IfOk r (λ t. items t ≡ check_text bytes s) → IfOk r (λ t. Tells bytes (items t))
+    → IfOk r (λ t. items t ≡ check_text bytes s) → IfOk r (λ t. TellsState bytes (items t))
 tells bytes s (Ok t) items means is = record { state = s; means = means; told = is }
 tells bytes s (Err e) items means is = tt

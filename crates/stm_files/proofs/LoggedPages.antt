@@ -9,7 +9,7 @@ use Rattle.std.proofs.Math.ListN.{drop_of_length-le}
 use Rattle.stm_journal.specs.declared.kept.Kept.{Kept}
 use Rattle.stm_journal.specs.States.{StateData, SegmentData, segment_of, kept_at}
 use Rattle.stm_journal.specs.KeptPlaces.{kept_count}
-use Rattle.stm_files.specs.Logging.{numbers_of, pages_text, range_text}
+use Rattle.stm_files.specs.Logging.{numbers_of, logged_pages, range_text}
 
 -- the number and the line of a kept page
 abbrev told : Kept → ℕ × ℕ
@@ -63,11 +63,11 @@ counted s k i e lt = counted-in (segment_of s k) i e lt
 
 -- a page more: it goes on a range, or ends one
 pub step : (first last n : ℕ) (pages rest out : List ℕ) (b : Bool) → pages ≡ n ∷ rest → b ≡ (n == last + 1)
-    → (if b then out ++ pages_text first n rest else (out ++ range_text first last) ++ pages_text n n rest) ≡ out ++ pages_text first last pages
-step first last n pages rest out true is e = ap (λ c. out ++ (if c then pages_text first n rest else range_text first last ++ pages_text n n rest)) e ∙ ap (λ ps. out ++ pages_text first last ps) (sym is)
+    → (if b then out ++ logged_pages first n rest else (out ++ range_text first last) ++ logged_pages n n rest) ≡ out ++ logged_pages first last pages
+step first last n pages rest out true is e = ap (λ c. out ++ (if c then logged_pages first n rest else range_text first last ++ logged_pages n n rest)) e ∙ ap (λ ps. out ++ logged_pages first last ps) (sym is)
 step first last n pages rest out false is e =
-    append_assoc out (range_text first last) (pages_text n n rest)
-    ∙ ap (λ c. out ++ (if c then pages_text first n rest else range_text first last ++ pages_text n n rest)) e ∙ ap (λ ps. out ++ pages_text first last ps) (sym is)
+    append_assoc out (range_text first last) (logged_pages n n rest)
+    ∙ ap (λ c. out ++ (if c then logged_pages first n rest else range_text first last ++ logged_pages n n rest)) e ∙ ap (λ ps. out ++ logged_pages first last ps) (sym is)
 
 -- one number more
 pub range-more : (a n : ℕ) → range_with_len a (n + 1) ≡ range_with_len a n ++ (a + n) ∷ []

@@ -11,7 +11,7 @@ use Rattle.hex.specs.Hex.{IsBytes, decode_of, encode_upper, encode_with, upper_d
 use Rattle.hex.proofs.HexLemmas.{length-encode_with, decode_of-encode_upper}
 use Rattle.stm_wire.specs.Chip.{ChipData}
 use Rattle.stm_wire.specs.Device.{IsOpenPhase, Phase, Fresh, Connected, Gone}
-use Rattle.stm_files.specs.Standing.{are_upper_digits, before_end, behind, is_upper_digit, line_of, phase_from, rest_of_digits, standing_of}
+use Rattle.stm_files.specs.Standing.{are_upper_pairs, before_end, behind_word, is_upper_hex, standing_line, phase_from, rest_of_digits, standing_of}
 
 both : (a b : Bool) → a ≡ true → b ≡ true → (a && b) ≡ true
 both true b h g = g
@@ -27,34 +27,34 @@ second-true false b e = cc
 
 abbrev all_upper_below : ℕ → Bool
 all_upper_below zero = true
-all_upper_below (suc k) = is_upper_digit (slice_index upper_digits k) && all_upper_below k
+all_upper_below (suc k) = is_upper_hex (slice_index upper_digits k) && all_upper_below k
 
 upper_below : (n d : ℕ) → all_upper_below n ≡ true → d < n
-    → is_upper_digit (slice_index upper_digits d) ≡ true
+    → is_upper_hex (slice_index upper_digits d) ≡ true
 upper_below zero d all lt = absurd (omega arith)
 upper_below (suc n) d all lt =
     let within : d ≤ n = omega arith in
     ⊎_elim
-    (λ same. ap (λ (k : ℕ). is_upper_digit (slice_index upper_digits k)) same
-    ∙ first-true (is_upper_digit (slice_index upper_digits n)) (all_upper_below n) all)
+    (λ same. ap (λ (k : ℕ). is_upper_hex (slice_index upper_digits k)) same
+    ∙ first-true (is_upper_hex (slice_index upper_digits n)) (all_upper_below n) all)
     (λ less. upper_below n d
-    (second-true (is_upper_digit (slice_index upper_digits n)) (all_upper_below n) all) less)
+    (second-true (is_upper_hex (slice_index upper_digits n)) (all_upper_below n) all) less)
     (eq-or-lt_of_le within)
 
-upper_at : (d : ℕ) → d < 16 → is_upper_digit (slice_index upper_digits d) ≡ true
+upper_at : (d : ℕ) → d < 16 → is_upper_hex (slice_index upper_digits d) ≡ true
 upper_at d lt = upper_below 16 d refl lt
 
 -- the digits of bytes are upper-case
-all-upper : (bytes : List ℕ) → IsBytes bytes → list_all is_upper_digit (encode_upper bytes) ≡ true
+all-upper : (bytes : List ℕ) → IsBytes bytes → list_all is_upper_hex (encode_upper bytes) ≡ true
 unfolding encode_with
 all-upper [] is = refl
 all-upper (b ∷ rest) is =
     let fits : b < 256 = is 0 in
-    both (is_upper_digit (slice_index upper_digits (b / 16)))
-    (is_upper_digit (slice_index upper_digits (b % 16)) && list_all is_upper_digit
+    both (is_upper_hex (slice_index upper_digits (b / 16)))
+    (is_upper_hex (slice_index upper_digits (b % 16)) && list_all is_upper_hex
     (encode_upper rest)) (upper_at (b / 16) (omega arith))
-    (both (is_upper_digit (slice_index upper_digits (b % 16)))
-    (list_all is_upper_digit (encode_upper rest)) (upper_at (b % 16) (omega arith))
+    (both (is_upper_hex (slice_index upper_digits (b % 16)))
+    (list_all is_upper_hex (encode_upper rest)) (upper_at (b % 16) (omega arith))
     (all-upper rest (λ k. is (suc k))))
 
 some-digits : (n : ℕ) → 0 < n → nat_lt 0 n ≡ true
@@ -65,8 +65,8 @@ digits-say : (bytes : List ℕ) → 0 < length bytes → IsBytes bytes
 digits-say bytes some is =
     let digits : List ℕ = encode_upper bytes in
     let many : 0 < length digits = omega (arith, length-encode_with upper_digits bytes) in
-    let upper : are_upper_digits digits ≡ true = both (nat_lt 0 (length digits))
-    (list_all is_upper_digit digits) (some-digits (length digits) many) (all-upper bytes is) in
+    let upper : are_upper_pairs digits ≡ true = both (nat_lt 0 (length digits))
+    (list_all is_upper_hex digits) (some-digits (length digits) many) (all-upper bytes is) in
     ap (λ (v : Bool). if v then option_map Connected (result_ok (decode_of digits)) else None) upper
     ∙ ap (λ r. option_map Connected (result_ok r)) (decode_of-encode_upper bytes is)
 
@@ -79,7 +79,7 @@ ended words =
     ∙ ap₂ (λ (d t : List ℕ). if bytes_eq d (10 ∷ []) then Some t else None)
     (drop-append_seam words (10 ∷ [])) (take-append_seam words (10 ∷ []))
 
-worded : (digits : List ℕ) → behind (codes "rest ") (codes "rest " ++ digits) ≡ Some digits
+worded : (digits : List ℕ) → behind_word (codes "rest ") (codes "rest " ++ digits) ≡ Some digits
 worded digits =
     ap₂ (λ (t d : List ℕ). if bytes_eq t (codes "rest ") then Some d else None)
     (take-append_seam (codes "rest ") digits) (drop-append_seam (codes "rest ") digits)
@@ -96,14 +96,14 @@ is-bytes xs all i = elim (cases_lt i (length xs)) [
   | inr past ↦ let e : get_or xs i 0 ≡ 0 = get_or_past xs i 0 past in omega arith
 ]
 
-pub line-says : (p : Phase) → HasBytes p → standing_of (line_of p) ≡ Some p
+pub line-says : (p : Phase) → HasBytes p → standing_of (standing_line p) ≡ Some p
 line-says Fresh is = refl
 line-says Gone is = refl
 line-says (Connected []) is = refl
 line-says (Connected (byte ∷ rest)) is =
     let digits : List ℕ = encode_upper (byte ∷ rest) in
     ap (λ o. option_and_then
-    (λ words. option_and_then rest_of_digits (behind (codes "rest ") words)) o)
+    (λ words. option_and_then rest_of_digits (behind_word (codes "rest ") words)) o)
     (ended (codes "rest " ++ digits))
     ∙ ap (λ o. option_and_then rest_of_digits o) (worded digits)
     ∙ digits-say (byte ∷ rest) (omega arith) (is-bytes (byte ∷ rest) is)
@@ -131,7 +131,7 @@ phase-in None = Fresh
 phase-in (Some p) = p
 
 -- a line that was written for where a device stands, and was read
-pub reads-back : (p q : Phase) (line : List ℕ) → HasBytes p → line ≡ line_of p
+pub reads-back : (p q : Phase) (line : List ℕ) → HasBytes p → line ≡ standing_line p
     → Some q ≡ standing_of line → q ≡ p
 reads-back p q line bytes written read = ap phase-in (read ∙ ap standing_of written
     ∙ line-says p bytes)

@@ -8,7 +8,7 @@ use Rattle.stm_wire.specs.Device.{Device, Phase, Fresh, Connected, Gone}
 use Rattle.stm_wire.specs.Exchange.{verdict}
 use Rattle.stm_wire.specs.Reply.{ack, nack}
 use Rattle.stm_sim.specs.Simulator.{after_byte, after_loose, after_verdict, simulated_device}
-use Rattle.stm_files.specs.Replies.{Telling, begun, drained, tell_one, telling}
+use Rattle.stm_files.specs.Replies.{Telling, telling_begun, drained, tell_one, telling}
 use Rattle.stm_files.specs.Serving.{fed_all}
 
 -- what a loose list leaves, by what its code is
@@ -73,15 +73,15 @@ telling-alike t d (byte ∷ bytes) e =
     ∙ simulated-alike byte d)
 
 told-fed : (d : Device) (bytes : List ℕ)
-    → (telling (begun d) bytes).device
-    ≡ record (fed_all d bytes) { owed = (telling (begun d) bytes).device.owed }
+    → (telling (telling_begun d) bytes).device
+    ≡ record (fed_all d bytes) { owed = (telling (telling_begun d) bytes).device.owed }
 told-fed d bytes =
-    ap (λ (x : Device). record x { owed = (telling (begun d) bytes).device.owed })
-    (telling-alike (begun d) d bytes refl)
+    ap (λ (x : Device). record x { owed = (telling (telling_begun d) bytes).device.owed })
+    (telling-alike (telling_begun d) d bytes refl)
 
 -- a device whose client was told something of these bytes
 pub told_serves : (d new : Device) (told bytes : List ℕ)
-    → record { device = new; told = told } ≡ telling (begun d) bytes
+    → record { device = new; told = told } ≡ telling (telling_begun d) bytes
     → new ≡ record (fed_all d bytes) { owed = new.owed }
 told_serves d new told bytes e =
     let same = ap (λ (t : Telling). t.device) e in

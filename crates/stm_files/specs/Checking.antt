@@ -16,7 +16,7 @@ use Rattle.stm_journal.specs.Journals.{IsLoaded, Loaded, bad, good, journal_of}
 use Rattle.stm_journal.specs.KeptPlaces.{kept_count, kept_entry, place_of}
 use Rattle.stm_journal.specs.States.{StateData, depth}
 use Rattle.stm_journal.specs.Text.{is_void, text_of}
-use Rattle.stm_files.specs.Logging.{device_text, end_text, line_of}
+use Rattle.stm_files.specs.Logging.{logged_device, end_text, logged_line}
 use Rattle.stm_files.specs.PageSum.{page_sum}
 use Rattle.stm_files.specs.Tally.{IsTallyOf}
 use Rattle.stm_files.specs.declared.tally.Tally.{Tally}
@@ -28,20 +28,20 @@ page_line page line size sum =
     ++ (codes ", " ++ decimal size) ++ (codes " bytes, crc " ++ encode_upper (to_be_bytes w32 sum))
     ++ 10 ∷ []
 
-abbrev pub kept_line : Kept → List ℕ
-kept_line kept = page_line kept.page kept.line (length kept.bytes) (page_sum kept.bytes)
+abbrev pub kept_page_line : Kept → List ℕ
+kept_page_line kept = page_line kept.page kept.line (length kept.bytes) (page_sum kept.bytes)
 
 -- the i-th page line of segment k, from 0
 abbrev pub page_text : StateData → ℕ → ℕ → List ℕ
-page_text s k i = option_map_or kept_line (kept_entry s k i) []
+page_text s k i = option_map_or kept_page_line (kept_entry s k i) []
 
 -- all pages of segment k
-abbrev pub pages_text : StateData → ℕ → List ℕ
-pages_text s k = flat_map (page_text s k) (range_with_len 0 (kept_count s k))
+abbrev pub checked_pages : StateData → ℕ → List ℕ
+checked_pages s k = flat_map (page_text s k) (range_with_len 0 (kept_count s k))
 
 -- segment k as `log` tells it, and its pages
-abbrev pub segment_text : StateData → ℕ → List ℕ
-segment_text s k = line_of (forget_state s) k ++ pages_text s k
+abbrev pub checked_segment : StateData → ℕ → List ℕ
+checked_segment s k = logged_line (forget_state s) k ++ checked_pages s k
 
 -- lines, those of them that are void, and bytes behind the last
 abbrev pub tally_line : ℕ → ℕ → ℕ → List ℕ
@@ -58,12 +58,12 @@ tally_text bytes =
 -- lines before the last
 abbrev pub check_text : List ℕ → StateData → List ℕ
 check_text bytes s =
-    ((device_text (forget_state s)
-    ++ flat_map (segment_text s) (range_with_len 1 (depth (forget_state s))))
+    ((logged_device (forget_state s)
+    ++ flat_map (checked_segment s) (range_with_len 1 (depth (forget_state s))))
     ++ tally_text bytes) ++ end_text (forget_state s)
 
 -- these bytes come to a state, and this text tells it
-pub record Tells (bytes text : List ℕ) : Type 0 where
+pub record TellsState (bytes text : List ℕ) : Type 0 where
   pub state : StateData
   pub means : journal_of bytes ≡ good state
   pub told : text ≡ check_text bytes state
@@ -85,7 +85,7 @@ pub record IsTied (bytes : List ℕ) (s : StateData) (l : Loaded) (rig : RigStat
   pub state : l.state ≡ forget_state s
 
 -- bytes of an honest Rig's journal were read, from a place on; none only behind the last
-pub record Reads (at : ℕ) (before after : List ℕ) (n : ℕ) (old new : RigState) : Type 0 where
+pub record ReadsJournal (at : ℕ) (before after : List ℕ) (n : ℕ) (old new : RigState) : Type 0 where
   pub stays : StaysHonest old new
   pub bytes : take n after ≡ take n (drop at old.journal)
   pub more : n ≡ 0 → at < length old.journal → length before ≡ 0

@@ -1,6 +1,6 @@
 -- A file of which nobody says that its disk follows the model.
 use Rattle.std.specs.Prelude.{ℕ, List, [], Option}
-use Rattle.stm_disk.specs.GrowingFile.{FileState, IsModel}
+use Rattle.stm_disk.specs.GrowingFile.{FileState, FollowsFileModel}
 
 -- a file that tells its bytes at the most
 abbrev pub told_file : Option (List ℕ) → FileState
@@ -15,5 +15,5 @@ told_file known = record {
 
 -- it vouches for nothing
 pub never_honest : (known : Option (List ℕ)) → (told_file known).is_honest
-    → IsModel (told_file known)
+    → FollowsFileModel (told_file known)
 never_honest known honest = absurd honest

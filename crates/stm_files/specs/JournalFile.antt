@@ -29,10 +29,10 @@ abbrev pub lock_of : Option HeldFile → Option Bool
 lock_of = option_map (λ file. file.is_locked)
 
 -- the bytes of an open file, where it tells them
-abbrev pub known_of : {F : Type 0} → (F → Option (List ℕ)) → Writing F → Option (List ℕ)
-known_of contents Unopened = None
-known_of contents (Open file) = contents file
-known_of contents Failed = None
+abbrev pub known_bytes : {F : Type 0} → (F → Option (List ℕ)) → Writing F → Option (List ℕ)
+known_bytes contents Unopened = None
+known_bytes contents (Open file) = contents file
+known_bytes contents Failed = None
 
 abbrev pub is_failed : {F : Type 0} → Writing F → Bool
 is_failed Unopened = false

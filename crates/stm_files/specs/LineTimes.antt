@@ -7,13 +7,13 @@ use Rattle.stm_wire.specs.declared.rig.Patience.TheVariants.{Brief, Long}
 use Rattle.stm_files.specs.ReplyTime.{ReplyData, no_reply, reply_asked, reply_put, reply_wait}
 use Rattle.stm_files.specs.ShortWaits.{WaitsData, is_over_at, is_over_in, no_waits, with_get}
 use Rattle.stm_files.specs.ShortWaits.{with_spare}
-use Rattle.stm_files.specs.ShortWaits.{with_put as one_more_put}
+use Rattle.stm_files.specs.ShortWaits.{one_put_more as one_more_put}
 use Rattle.stm_files.specs.Silence.{SilenceData, at_first, beyond_now, wait_now, with_put}
 use Rattle.stm_files.specs.SocketLine.{LineState}
 
 -- what the system's own socket shows of a time that was set: nothing
-abbrev pub IsAskedFor : Type 0
-IsAskedFor = Unit {0}
+abbrev pub IsTimeAskedFor : Type 0
+IsTimeAskedFor = Unit {0}
 
 -- how many milliseconds a get of this kind waits: a brief one by the silence, a long one as long as
 -- the reply to the command that was sent may take
@@ -22,8 +22,8 @@ time_of Brief line = wait_now line.silence
 time_of Long line = reply_wait line.reply
 
 -- the time in which the device is given up, in milliseconds; at 0 seconds it never is
-abbrev pub limit_of : ℕ → Option ℕ
-limit_of seconds = if seconds == 0 then None else Some (min (seconds * 1000) (2 ^ 64 - 1))
+abbrev pub give_up_limit : ℕ → Option ℕ
+give_up_limit seconds = if seconds == 0 then None else Some (min (seconds * 1000) (2 ^ 64 - 1))
 
 -- the same in nanoseconds
 abbrev pub row_limit_of : ℕ → Option ℕ
@@ -31,11 +31,11 @@ row_limit_of seconds = if seconds == 0 then None else Some (seconds * 10 ^ 9)
 
 -- A new line: nothing was set at its socket, a brief get waits so many milliseconds, longer behind
 -- many bytes by the line's speed, and the device is given up after so many seconds.
-pub record IsConnected (brief : ℕ) (baud : Option ℕ) (give_up : ℕ) (line : LineState) : Type 0 where
+pub record IsNewLine (brief : ℕ) (baud : Option ℕ) (give_up : ℕ) (line : LineState) : Type 0 where
   pub waits : line.waits ≡ None
   pub silence : line.silence ≡ at_first brief baud
   pub row : line.row ≡ no_waits (row_limit_of give_up)
-  pub reply : line.reply ≡ no_reply (limit_of give_up)
+  pub reply : line.reply ≡ no_reply (give_up_limit give_up)
   pub has_given_up : line.has_given_up ≡ false
 
 -- the device was given up, and all else is as it was

@@ -19,16 +19,16 @@ range_text first last =
 
 -- pages in the order of their lines, those that follow one another as a range; before
 -- them stand `first` to `last`
-abbrev pub pages_text : ℕ → ℕ → List ℕ → List ℕ
-pages_text first last [] = range_text first last
-pages_text first last (n ∷ pages) =
-    if n == last + 1 then pages_text first n pages
-    else range_text first last ++ pages_text n n pages
+abbrev pub logged_pages : ℕ → ℕ → List ℕ → List ℕ
+logged_pages first last [] = range_text first last
+logged_pages first last (n ∷ pages) =
+    if n == last + 1 then logged_pages first n pages
+    else range_text first last ++ logged_pages n n pages
 
 -- all pages of a segment
-abbrev pub kept_text : List ℕ → List ℕ
-kept_text [] = []
-kept_text (n ∷ pages) = codes ":" ++ pages_text n n pages
+abbrev pub kept_pages_text : List ℕ → List ℕ
+kept_pages_text [] = []
+kept_pages_text (n ∷ pages) = codes ":" ++ logged_pages n n pages
 
 abbrev pub stage_text : Stage → List ℕ
 stage_text (Open i) = codes "open"
@@ -52,26 +52,26 @@ standing_text segment =
     ++ (codes ", " ++ decimal (length segment.pages) ++ codes " pages")
 
 -- the line of segment k
-abbrev pub segment_text : ℕ → SegmentData → List ℕ
-segment_text k segment =
+abbrev pub logged_segment : ℕ → SegmentData → List ℕ
+logged_segment k segment =
     codes "segment " ++ decimal k ++ (standing_text segment
-    ++ (kept_text (numbers_of segment) ++ (intent_text (intent_at segment.stage) ++ 10 ∷ [])))
+    ++ (kept_pages_text (numbers_of segment) ++ (intent_text (intent_at segment.stage) ++ 10 ∷ [])))
 
-abbrev pub line_of : StateData → ℕ → List ℕ
-line_of s k = option_map_or (segment_text k) (segment_of s k) []
+abbrev pub logged_line : StateData → ℕ → List ℕ
+logged_line s k = option_map_or (logged_segment k) (segment_of s k) []
 
-abbrev pub id_text : Option JournalHeader → List ℕ
-id_text None = []
-id_text (Some header) =
+abbrev pub logged_id : Option JournalHeader → List ℕ
+logged_id None = []
+logged_id (Some header) =
     codes "id " ++ encode_upper (header.id / 256 ∷ header.id % 256 ∷ []) ++ 10 ∷ []
 
-abbrev pub board_text : Option (List ℕ) → List ℕ
-board_text None = []
-board_text (Some unique) = codes "board " ++ encode_upper unique ++ 10 ∷ []
+abbrev pub logged_board : Option (List ℕ) → List ℕ
+logged_board None = []
+logged_board (Some unique) = codes "board " ++ encode_upper unique ++ 10 ∷ []
 
 -- the device, and its board where the journal names it
-abbrev pub device_text : StateData → List ℕ
-device_text s = id_text s.header ++ board_text (board_of s)
+abbrev pub logged_device : StateData → List ℕ
+logged_device s = logged_id s.header ++ logged_board (board_of s)
 
 -- what can be done next
 abbrev pub end_text : StateData → List ℕ
@@ -81,4 +81,4 @@ end_text s =
 
 -- the device and its board, a line for each segment, the oldest first, and what can be done next
 abbrev pub log_text : StateData → List ℕ
-log_text s = (device_text s ++ flat_map (line_of s) (range_with_len 1 (depth s))) ++ end_text s
+log_text s = (logged_device s ++ flat_map (logged_line s) (range_with_len 1 (depth s))) ++ end_text s

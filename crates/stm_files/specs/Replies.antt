@@ -45,8 +45,8 @@ pub record Telling : Type 0 where
   pub told : List ℕ
 
 -- a device whose client was told nothing yet
-abbrev pub begun : Device → Telling
-begun d = record { device = d; told = [] }
+abbrev pub telling_begun : Device → Telling
+telling_begun d = record { device = d; told = [] }
 
 -- its client is told of a byte
 abbrev pub tell_one : Telling → ℕ → Telling

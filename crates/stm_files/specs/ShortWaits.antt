@@ -24,8 +24,8 @@ no_waits limit = record { limit = limit; puts = 0; gets = 0; since = None; spare
 abbrev pub one_more : ℕ → ℕ
 one_more n = min (n + 1) (2 ^ 32 - 1)
 
-abbrev pub with_put : WaitsData → WaitsData
-with_put w = record w { puts = one_more w.puts }
+abbrev pub one_put_more : WaitsData → WaitsData
+one_put_more w = record w { puts = one_more w.puts }
 
 -- A short get behind one byte, or none, goes on with the row; one behind a batch ends
 -- it, and so does a long one.

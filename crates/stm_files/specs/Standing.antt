@@ -13,10 +13,10 @@ use Rattle.stm_files.specs.declared.standing.Standing.TheVariants.{Fresh as Stan
 use Rattle.stm_files.specs.declared.standing.Standing.TheVariants.{Connected as StandsConnected}
 use Rattle.stm_files.specs.declared.standing.Standing.TheVariants.{Gone as StandsGone}
 
-abbrev pub phase_of : Standing → Phase
-phase_of StandsFresh = Fresh
-phase_of (StandsConnected rest) = Connected rest.items
-phase_of StandsGone = Gone
+abbrev pub standing_phase : Standing → Phase
+standing_phase StandsFresh = Fresh
+standing_phase (StandsConnected rest) = Connected rest.items
+standing_phase StandsGone = Gone
 
 -- of a device that is gone, or else connected with this rest, or else fresh
 abbrev pub phase_from : Bool → Option (List ℕ) → Phase
@@ -24,19 +24,19 @@ phase_from true rest = Gone
 phase_from false None = Fresh
 phase_from false (Some rest) = Connected rest
 
-abbrev pub is_upper_digit : ℕ → Bool
-is_upper_digit c = (nat_le 48 c && nat_le c 57) || (nat_le 65 c && nat_le c 70)
+abbrev pub is_upper_hex : ℕ → Bool
+is_upper_hex c = (nat_le 48 c && nat_le c 57) || (nat_le 65 c && nat_le c 70)
 
-abbrev pub are_upper_digits : List ℕ → Bool
-are_upper_digits digits = nat_lt 0 (length digits) && list_all is_upper_digit digits
+abbrev pub are_upper_pairs : List ℕ → Bool
+are_upper_pairs digits = nat_lt 0 (length digits) && list_all is_upper_hex digits
 
 abbrev pub rest_of_digits : List ℕ → Option Phase
 rest_of_digits digits =
-    if are_upper_digits digits then option_map Connected (result_ok (decode_of digits)) else None
+    if are_upper_pairs digits then option_map Connected (result_ok (decode_of digits)) else None
 
 -- what follows the word, where the text begins with it
-abbrev pub behind : List ℕ → List ℕ → Option (List ℕ)
-behind word text =
+abbrev pub behind_word : List ℕ → List ℕ → Option (List ℕ)
+behind_word word text =
     if bytes_eq (take (length word) text) word then Some (drop (length word) text) else None
 
 -- what stands before the last byte, where that is LF
@@ -51,12 +51,12 @@ standing_of line =
     if bytes_eq line (codes "fresh" ++ 10 ∷ []) then Some Fresh
     else (if bytes_eq line (codes "idle" ++ 10 ∷ []) then Some (Connected [])
     else (if bytes_eq line (codes "gone" ++ 10 ∷ []) then Some Gone
-    else option_and_then (λ words. option_and_then rest_of_digits (behind (codes "rest ") words))
+    else option_and_then (λ words. option_and_then rest_of_digits (behind_word (codes "rest ") words))
     (before_end line)))
 
 -- the line that says it
-abbrev pub line_of : Phase → List ℕ
-line_of Fresh = codes "fresh" ++ 10 ∷ []
-line_of (Connected []) = codes "idle" ++ 10 ∷ []
-line_of (Connected (byte ∷ rest)) = codes "rest " ++ encode_upper (byte ∷ rest) ++ 10 ∷ []
-line_of Gone = codes "gone" ++ 10 ∷ []
+abbrev pub standing_line : Phase → List ℕ
+standing_line Fresh = codes "fresh" ++ 10 ∷ []
+standing_line (Connected []) = codes "idle" ++ 10 ∷ []
+standing_line (Connected (byte ∷ rest)) = codes "rest " ++ encode_upper (byte ∷ rest) ++ 10 ∷ []
+standing_line Gone = codes "gone" ++ 10 ∷ []

@@ -8,5 +8,5 @@ abbrev pub heard_in : TurnData → TurnData → List ℕ → TurnData
 heard_in last heard [] = heard
 heard_in last heard (first ∷ came) = last
 
-abbrev pub heard_of : Turns → TurnData
-heard_of turns = heard_in turns.last turns.heard turns.last.came
+abbrev pub heard_turn : Turns → TurnData
+heard_turn turns = heard_in turns.last turns.heard turns.last.came

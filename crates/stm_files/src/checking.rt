@@ -9,8 +9,8 @@ ghost use Rattle.stm_journal.specs.declared.kept.Kept.{Kept};
 ghost use Rattle.stm_journal.specs.KeptPlaces.{IsPlaceIn, kept_entry, place_of};
 ghost use Rattle.stm_journal.specs.States.{StateData, depth};
 ghost use Rattle.stm_journal.specs.InMemory.{forget_state};
-ghost use Rattle.stm_files.specs.Checking.{IsCheckFault, IsTied, Reads, Tells, page_line, page_text};
-ghost use Rattle.stm_files.specs.Checking.{check_text, pages_text, segment_text, tally_line};
+ghost use Rattle.stm_files.specs.Checking.{IsCheckFault, IsTied, ReadsJournal, TellsState, page_line, page_text};
+ghost use Rattle.stm_files.specs.Checking.{check_text, checked_pages, checked_segment, tally_line};
 ghost use Rattle.stm_files.specs.PageSum.{page_sum};
 ghost use Rattle.stm_files.specs.Tally.{IsTallyOf};
 
@@ -30,7 +30,7 @@ fn fetch<L: Rig>(rig: &mut L, at: u64, buf: &mut [u8]) -> Result<usize, JournalF
     ensures last { 2 ^ 63 - 1 ≤ at → IfOk result (λ n. n ≡ 0) }
     ensures fault { IfErr result (λ e. e ≡ JournalFault.File) }
     ensures honest { let old = L.view rig.old in let new = L.view rig.new in
-        old.is_honest → IfOk result (λ n. Reads at buf.old buf.new n old new) }
+        old.is_honest → IfOk result (λ n. ReadsJournal at buf.old buf.new n old new) }
 {
     match rig.fetch(at, buf) {
         Ok(n) => Ok(n),
@@ -154,7 +154,7 @@ fn add_pages<L: Rig>(
     ensures honest { (bytes : List ℕ) (s : StateData)
         → IsTied bytes s journal.now (L.view rig.old)
         → OnOk result (IsTied bytes s journal.now (L.view rig.new)
-        × (out.new.items ≡ out.old.items ++ pages_text s k)) }
+        × (out.new.items ≡ out.old.items ++ checked_pages s k)) }
     ensures faults { (bytes : List ℕ) (s : StateData)
         → IsTied bytes s journal.now (L.view rig.old) → IfErr result (IsCheckFault bytes) }
 {
@@ -175,7 +175,7 @@ fn add_whole_segment<L: Rig>(
     ensures honest { (bytes : List ℕ) (s : StateData)
         → IsTied bytes s journal.now (L.view rig.old)
         → OnOk result (IsTied bytes s journal.now (L.view rig.new)
-        × (out.new.items ≡ out.old.items ++ segment_text s k)) }
+        × (out.new.items ≡ out.old.items ++ checked_segment s k)) }
     ensures faults { (bytes : List ℕ) (s : StateData)
         → IsTied bytes s journal.now (L.view rig.old) → IfErr result (IsCheckFault bytes) }
 {
@@ -194,7 +194,7 @@ fn add_segments<L: Rig>(
         → IsTied bytes s journal.now (L.view rig.old)
         → OnOk result (IsTied bytes s journal.now (L.view rig.new)
         × (out.new.items ≡ out.old.items
-        ++ flat_map (segment_text s) (range_with_len 1 (depth (forget_state s))))) }
+        ++ flat_map (checked_segment s) (range_with_len 1 (depth (forget_state s))))) }
     ensures faults { (bytes : List ℕ) (s : StateData)
         → IsTied bytes s journal.now (L.view rig.old) → IfErr result (IsCheckFault bytes) }
 {
@@ -241,7 +241,7 @@ fn check_lines<L: Rig>(
 /// of the journal's bytes, and `Bad` comes with the number of their first bad line.
 pub fn check_journal<L: Rig>(alloc: Global, rig: &mut L) -> Result<Vec<u8>, JournalFault>
     ensures honest { let old = L.view rig.old in
-        old.is_honest → IfOk result (λ text. Tells old.journal text.items) }
+        old.is_honest → IfOk result (λ text. TellsState old.journal text.items) }
     ensures faults { let old = L.view rig.old in
         old.is_honest → IfErr result (IsCheckFault old.journal) }
 {

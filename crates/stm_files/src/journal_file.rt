@@ -2,7 +2,7 @@
 ghost use Rattle.std.specs.Prelude.{◌≡◌, ◌≤◌, ◌<◌, ◌-◌, ◌^◌, true, false, IfOk, OnErr, OnOk};
 ghost use Rattle.std.specs.Prelude.{◌||◌, IfSome, length};
 ghost use Rattle.std.specs.Io.KnownBytes.{Appends, IsAtEnd};
-ghost use Rattle.stm_files.specs.JournalFile.{JournalBytes, IsNew, ahead_of, is_failed, known_of};
+ghost use Rattle.stm_files.specs.JournalFile.{JournalBytes, IsNew, ahead_of, is_failed, known_bytes};
 ghost use Rattle.stm_files.specs.JournalFile.{lock_of};
 ghost use Rattle.stm_files.specs.Locks.{IsHeld, IsHeldIfThere};
 
@@ -61,7 +61,7 @@ impl<'a, R: Locks> Model for JournalFile<'a, R> {
     ghost Value = { JournalBytes };
 
     ghost view = { λ j. record {
-      known = known_of R.File.contents j.writing;
+      known = known_bytes R.File.contents j.writing;
       has_failed = is_failed j.writing;
       ahead = ahead_of j.reading;
       lock = lock_of j.reading;

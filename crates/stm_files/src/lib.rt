@@ -73,7 +73,7 @@ pub use simulator_names::SimulatorNames;
 pub use simulator_rig::SimulatorRig;
 pub use socket_line::{SocketLine, Timed};
 pub use socket_rig::SocketRig;
-pub use standing::line_of;
+pub use standing::standing_line;
 pub use turn::Turn;
 pub use turns::Turns;
 pub use unusable::Unusable;

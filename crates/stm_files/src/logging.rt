@@ -3,7 +3,7 @@ ghost use Rattle.std.specs.Prelude.{◌≡◌, ◌/◌, ◌%◌, ◌∷◌, ◌+
 ghost use Rattle.std.specs.Prelude.{codes, decimal};
 ghost use Rattle.hex.specs.Hex.{encode_upper};
 ghost use Rattle.stm_journal.specs.States.{intent_at, segment_of};
-ghost use Rattle.stm_files.specs.Logging.{device_text, end_text, intent_text, kept_text, line_of};
+ghost use Rattle.stm_files.specs.Logging.{logged_device, end_text, intent_text, kept_pages_text, logged_line};
 ghost use Rattle.stm_files.specs.Logging.{log_text, numbers_of, range_text, stage_text};
 
 use std::alloc::{AllocError, Global};
@@ -45,7 +45,7 @@ fn follows(last: u16, page: u16) -> bool
 /// Adds the pages that segment `k` keeps.
 fn add_pages(out: &mut Vec<u8>, alloc: Global, journal: &Journal, k: u32) -> Result<(), AllocError>
     ensures { (segment : _) → segment_of journal.now.state k ≡ Some segment
-        → OnOk result (out.new.items ≡ out.old.items ++ kept_text (numbers_of segment)) }
+        → OnOk result (out.new.items ≡ out.old.items ++ kept_pages_text (numbers_of segment)) }
 {
     let Some((page, _)) = journal.kept(k, 0) else {
         return Ok(());
@@ -123,7 +123,7 @@ pub fn add_segment(
     journal: &Journal,
     k: u32,
 ) -> Result<(), AllocError>
-    ensures { OnOk result (out.new.items ≡ out.old.items ++ line_of journal.now.state k) }
+    ensures { OnOk result (out.new.items ≡ out.old.items ++ logged_line journal.now.state k) }
 {
     let Some(stage) = journal.stage(k) else {
         return Ok(());
@@ -162,7 +162,7 @@ fn add_board(out: &mut Vec<u8>, alloc: Global, unique: UniqueId) -> Result<(), A
 
 /// Adds the lines of the device and of its board, where the journal names them.
 pub fn add_device(out: &mut Vec<u8>, alloc: Global, journal: &Journal) -> Result<(), AllocError>
-    ensures { OnOk result (out.new.items ≡ out.old.items ++ device_text journal.now.state) }
+    ensures { OnOk result (out.new.items ≡ out.old.items ++ logged_device journal.now.state) }
 {
     if let Some(id) = journal.id() {
         add_id(out, alloc, id)?;

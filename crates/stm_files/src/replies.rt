@@ -2,7 +2,7 @@
 // the device refuses.
 ghost use Rattle.std.specs.Prelude.{◌≡◌, ◌++◌, IsTrue, OnOk};
 ghost use Rattle.stm_sim.specs.Simulator.{simulated_device, simulator_version};
-ghost use Rattle.stm_files.specs.Replies.{begun, completes, drained, telling, told_for, told_of};
+ghost use Rattle.stm_files.specs.Replies.{telling_begun, completes, drained, telling, told_for, told_of};
 ghost use Rattle.stm_files.specs.Replies.{version_reply, with_version};
 ghost use Rattle.stm_files.specs.Serving.{fed_all};
 
@@ -113,7 +113,7 @@ fn tell_byte(sim: &mut Simulator, byte: u8, reply: &mut Vec<u8>, told: &mut Vec<
 /// for one reply. False where memory is refused.
 pub fn tell_all(sim: &mut Simulator, bytes: &[u8], reply: &mut Vec<u8>, told: &mut Vec<u8>) -> bool
     ensures told { IsTrue result → record { device = sim.new; told = told.new.items }
-        ≡ telling (begun sim.old) bytes.now }
+        ≡ telling (telling_begun sim.old) bytes.now }
     ensures device { IsTrue result → sim.new
         ≡ record (fed_all sim.old bytes.now) { owed = sim.new.owed } }
 {

@@ -2,7 +2,7 @@
 ghost use Rattle.std.specs.Prelude.{◌≡◌, ℕ, [], List, IfOk, IsTrue, OnOk, length};
 ghost use Rattle.stm_wire.specs.Device.{Connected, Fresh, Gone, IsSettled};
 ghost use Rattle.stm_files.specs.SimulatorFile.{Becomes, fed_byte, standing_at};
-ghost use Rattle.stm_files.specs.Standing.{phase_of};
+ghost use Rattle.stm_files.specs.Standing.{standing_phase};
 
 use crate::standing::Standing;
 use std::alloc::AllocError;
@@ -88,7 +88,7 @@ pub fn stand(rig: &mut MemoryRig, standing: &Standing, base: u32) -> Result<bool
     requires fresh { rig.old.device.phase ≡ Fresh }
     requires owes_nothing { rig.old.device.owed ≡ [] }
     ensures { IfOk result (λ stands. IsTrue stands
-        → Becomes (standing_at (phase_of standing.now) rig.old.device) rig.old rig.new) }
+        → Becomes (standing_at (standing_phase standing.now) rig.old.device) rig.old rig.new) }
 {
     match standing {
         Standing::Fresh => Ok(true),

@@ -2,7 +2,7 @@
 ghost use Rattle.std.specs.Prelude.{◌≡◌, ◌*◌, option_map};
 ghost use Rattle.std.specs.Duration.{as_nanos};
 ghost use Rattle.std.specs.Time.{instant_nanos};
-ghost use Rattle.stm_files.specs.ShortWaits.{WaitsData, no_waits, with_put, with_get, is_over_at};
+ghost use Rattle.stm_files.specs.ShortWaits.{WaitsData, no_waits, one_put_more, with_get, is_over_at};
 ghost use Rattle.stm_files.specs.ShortWaits.{is_over_in, with_spare};
 
 use std::marker::Model;
@@ -59,7 +59,7 @@ impl ShortWaits {
     /// A byte is put.
     #[inline(always)]
     pub fn put(&mut self)
-        ensures { self.new ≡ with_put self.old }
+        ensures { self.new ≡ one_put_more self.old }
     {
         self.puts = self.puts.saturating_add(1);
     }

@@ -4,7 +4,7 @@ ghost use Rattle.std.specs.Prelude.{◌≡◌, length, IfOk, IfSome};
 ghost use Rattle.stm_wire.specs.Chip.{flash_size};
 ghost use Rattle.stm_sim.specs.Memory.{rig_state};
 ghost use Rattle.stm_files.specs.SimulatorFile.{StandsSo, simulator_at};
-ghost use Rattle.stm_files.specs.Standing.{phase_of};
+ghost use Rattle.stm_files.specs.Standing.{standing_phase};
 
 use crate::file_fault::FileFault;
 use crate::files::{open_to_hold, read_up_to, remove_if_there};
@@ -15,7 +15,7 @@ use crate::replacement::{ALONE, Replacement, remove_leftovers};
 use crate::restoring::stand;
 use crate::simulated_board::simulated_chip;
 use crate::simulator_names::line_name;
-use crate::standing::{Standing, line_of, read_standing};
+use crate::standing::{Standing, read_standing, standing_line};
 use crate::unusable::Unusable;
 use std::alloc::{AllocError, Global};
 use std::fs::Files;
@@ -49,7 +49,7 @@ impl StoredSimulator {
     /// a device never stands so.
     pub fn start(self, alloc: Global, journal: Vec<u8>) -> Result<Option<MemoryRig>, AllocError>
         ensures { IfOk result (λ started. IfSome started (λ rig.
-            StandsSo (simulator_at self.chip self.flash.items (phase_of self.standing))
+            StandsSo (simulator_at self.chip self.flash.items (standing_phase self.standing))
             journal.items rig)) }
     {
         let StoredSimulator {
@@ -72,10 +72,10 @@ impl StoredSimulator {
     /// written, and read. Bytes that it owes are lost. None where the files hold no simulator.
     pub fn left(alloc: Global, rig: &MemoryRig) -> Result<Option<StoredSimulator>, AllocError>
         ensures { (rig_state rig.now).is_honest → IfOk result (λ left. IfSome left (λ stored.
-            simulator_at stored.chip stored.flash.items (phase_of stored.standing)
+            simulator_at stored.chip stored.flash.items (standing_phase stored.standing)
             ≡ simulator_at rig.now.device.chip rig.now.device.flash rig.now.device.phase)) }
     {
-        let line = line_of(alloc, rig.is_gone(), rig.rest())?;
+        let line = standing_line(alloc, rig.is_gone(), rig.rest())?;
         let Some(standing) = Standing::parse(alloc, line.as_slice())? else {
             return Ok(None);
         };
@@ -238,7 +238,7 @@ impl<'r, 'a, R: Locks + AllocGlobal> SimulatorFiles<'r, 'a, R> {
 
     /// Writes both files of a Rig in memory. Bytes owed are lost.
     pub fn store_rig(&mut self, rig: &MemoryRig) -> Result<(), FileFault<'a>> {
-        let line = line_of(self.rt.alloc(), rig.is_gone(), rig.rest())?;
+        let line = standing_line(self.rt.alloc(), rig.is_gone(), rig.rest())?;
         self.store(rig.flash(), line.as_slice())
     }
 

@@ -3,7 +3,7 @@ ghost use Rattle.std.specs.Prelude.{◌≡◌, ◌⊎◌, ◌<◌, ℕ, [], IfOk
 ghost use Rattle.std.specs.Prelude.{OnErr, OnOk, Some, length};
 ghost use Rattle.std.specs.Io.KnownBytes.{ReadConsumes};
 ghost use Rattle.std.specs.Io.{ReadsAtMost};
-ghost use Rattle.stm_files.specs.LineTimes.{GivesUp, HasSameTimes, IsAskedFor, IsConnected};
+ghost use Rattle.stm_files.specs.LineTimes.{GivesUp, HasSameTimes, IsTimeAskedFor, IsNewLine};
 ghost use Rattle.stm_files.specs.LineTimes.{PutsInTime, WaitsInTime, given_up, having_heard};
 ghost use Rattle.stm_files.specs.LineTimes.{time_of, waiting_for};
 ghost use Rattle.stm_files.specs.SocketLine.{Comes, HasToWait, LineState, PutsOnLine, ReadsNothing};
@@ -43,7 +43,7 @@ pub trait Timed: Read + Write {
 
 impl Timed for UnixStream {
     // the system's own socket shows nothing; code over any stream can't have it without that call
-    ghost waits = { λ stream millis. IsAskedFor };
+    ghost waits = { λ stream millis. IsTimeAskedFor };
 
     fn set_limit(&mut self, millis: u64) -> io::Result<()> {
         self.set_read_timeout(Some(Duration::from_millis(millis)))
@@ -117,7 +117,7 @@ impl<'a, C: Clock> SocketLine<'a, UnixStream, C> {
         baud: Option<u32>,
         give_up: u64,
     ) -> io::Result<SocketLine<'a, UnixStream, C>>
-        ensures { IfOk result (IsConnected brief baud give_up) }
+        ensures { IfOk result (IsNewLine brief baud give_up) }
     {
         let (limit, at_once) = match give_up {
             0 => (None, None),

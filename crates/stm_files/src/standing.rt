@@ -4,8 +4,8 @@ ghost use Rattle.std.specs.Prelude.{List, ℕ};
 ghost use Rattle.std.specs.List.{list_all};
 ghost use Rattle.std.specs.Result.{result_ok};
 ghost use Rattle.hex.specs.Hex.{decode_of, encode_upper};
-ghost use Rattle.stm_files.specs.Standing.{are_upper_digits, is_upper_digit, line_of, phase_from};
-ghost use Rattle.stm_files.specs.Standing.{phase_of, rest_of_digits, standing_of};
+ghost use Rattle.stm_files.specs.Standing.{are_upper_pairs, is_upper_hex, standing_line, phase_from};
+ghost use Rattle.stm_files.specs.Standing.{standing_phase, rest_of_digits, standing_of};
 
 use crate::files::{open_if_there, read_up_to};
 use hex::FromHexError;
@@ -37,29 +37,29 @@ pub enum Standing {
     Gone,
 }
 
-fn is_upper_digit(c: u8) -> bool
-    ensures { result ≡ is_upper_digit c }
+fn is_upper_hex(c: u8) -> bool
+    ensures { result ≡ is_upper_hex c }
 {
     (48 <= c && c <= 57) || (65 <= c && c <= 70)
 }
 
 fn are_all_upper(digits: &[u8]) -> bool
-    ensures { result ≡ list_all is_upper_digit digits.now }
+    ensures { result ≡ list_all is_upper_hex digits.now }
 {
-    digits.iter().all(|c| is_upper_digit(*c))
+    digits.iter().all(|c| is_upper_hex(*c))
 }
 
-fn are_upper_digits(digits: &[u8]) -> bool
-    ensures { result ≡ are_upper_digits digits.now }
+fn are_upper_pairs(digits: &[u8]) -> bool
+    ensures { result ≡ are_upper_pairs digits.now }
 {
     !digits.is_empty() && are_all_upper(digits)
 }
 
 /// The rest that upper-case digits write, at least one byte.
 fn rest_of(alloc: Global, digits: &[u8]) -> Result<Option<Standing>, AllocError>
-    ensures { IfOk result (λ standing. option_map phase_of standing ≡ rest_of_digits digits.now) }
+    ensures { IfOk result (λ standing. option_map standing_phase standing ≡ rest_of_digits digits.now) }
 {
-    if !are_upper_digits(digits) {
+    if !are_upper_pairs(digits) {
         return Ok(None);
     }
     match hex::decode(alloc, digits) {
@@ -73,7 +73,7 @@ impl Standing {
     /// What a line says: `fresh`, `idle`, `gone`, or `rest` and the rest's bytes in upper-case
     /// digits. None where it has another form.
     pub fn parse(alloc: Global, line: &[u8]) -> Result<Option<Standing>, AllocError>
-        ensures { IfOk result (λ standing. option_map phase_of standing ≡ standing_of line.now) }
+        ensures { IfOk result (λ standing. option_map standing_phase standing ≡ standing_of line.now) }
     {
         if line == FRESH {
             return Ok(Some(Standing::Fresh));
@@ -105,9 +105,13 @@ pub fn read_standing<R: Files + AllocGlobal>(rt: &R, name: &str) -> io::Result<O
 }
 
 /// The line of a device that is gone, or else connected with this rest, or else fresh.
-pub fn line_of(alloc: Global, is_gone: bool, rest: Option<&[u8]>) -> Result<Vec<u8>, AllocError>
+pub fn standing_line(
+    alloc: Global,
+    is_gone: bool,
+    rest: Option<&[u8]>,
+) -> Result<Vec<u8>, AllocError>
     ensures { IfOk result
-        (λ line. line.items ≡ line_of (phase_from is_gone (option_map (λ r. r.now) rest.entry))) }
+        (λ line. line.items ≡ standing_line (phase_from is_gone (option_map (λ r. r.now) rest.entry))) }
 {
     if is_gone {
         return Vec::from_slice(alloc, GONE);

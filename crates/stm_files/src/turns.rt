@@ -1,6 +1,6 @@
 // The last turns on a line.
 ghost use Rattle.std.specs.Prelude.{◌≡◌};
-ghost use Rattle.stm_files.specs.Turns.{heard_of};
+ghost use Rattle.stm_files.specs.Turns.{heard_turn};
 
 use crate::turn::Turn;
 use std::mem;
@@ -29,7 +29,7 @@ impl Turns {
 
     /// The last turn in which something came, or one in which nothing did.
     pub fn heard(&self) -> &Turn
-        ensures { result.now ≡ heard_of self.now }
+        ensures { result.now ≡ heard_turn self.now }
     {
         if self.last.came().is_empty() {
             &self.heard

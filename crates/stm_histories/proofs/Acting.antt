@@ -12,7 +12,7 @@ use Rattle.stm_session.specs.declared.fault.Fault.{Fault}
 use Rattle.stm_session.specs.declared.information.Info.{Info}
 use Rattle.stm_session.specs.Events.{AllLead, Event, Happening, Knows, Leads, OutcomesAreTheRun, World, end_of, identified, informed, left_refused, lost_owed, lost_power, now_of, ran, told_by, undid, unprotected, was_reset}
 use Rattle.stm_session.specs.Fresh.{IsReset}
-use Rattle.stm_session.specs.Headline.{AllIsTakenBack, EachCanFollow, Headline, IsStart, oldest_after, oldest_of, oldest_start, starts_after}
+use Rattle.stm_session.specs.Headline.{AllIsUndone, EachCanFollow, Headline, IsStart, oldest_after, oldest_of, oldest_start, starts_after}
 use Rattle.stm_session.specs.Meaning.{CommandData, verifies, writes}
 use Rattle.stm_session.specs.Moments.{SameMake}
 use Rattle.stm_session.specs.Promises.{UndoContract}
@@ -26,12 +26,12 @@ use Rattle.stm_work.specs.declared.content.Content.{Content}
 use Rattle.stm_work.specs.declared.content.Content.TheVariants.{Placed, AtBase}
 use Rattle.stm_work.specs.declared.failure.Failure.{Failure}
 use Rattle.stm_work.specs.declared.failure.Failure.TheVariants.{Session}
-use Rattle.stm_work.specs.Action.{Calls, Does, HandsOn, Parts, PlacesFirst}
+use Rattle.stm_work.specs.Action.{Calls, DoesAction, HandsOn, Parts, PlacesFirst}
 use Rattle.stm_work.specs.Answer.{outcomes_told}
-use Rattle.stm_work.specs.Conduct.{Asks, AsksFirst, RunsIfRoom, RunsTold}
+use Rattle.stm_work.specs.Conduct.{PromisesInfo, AsksThenGoesOn, RunsIfRoom, RunsTold}
 use Rattle.stm_work.specs.Content.{ImageOn}
 use Rattle.stm_work.specs.Reading.{ReadsPart, part_given, start_given, to_the_end}
-use Rattle.stm_histories.specs.Histories.{ActionsAreHistories, CanAct, IdentifyingIsHistory, IsHistory, IsRefused, StoppedActionsAreTakenBack, UnprotectedActionsAreTakenBack}
+use Rattle.stm_histories.specs.Histories.{ActionsAreHistories, CanAct, IdentifyingIsHistory, IsHistory, IsPartingRefused, StoppedActionsAreUndone, UnprotectedActionsAreUndone}
 
 -- two histories, one after the other
 leads-both : {R : Type 0} (view : R → RigState) (a b : List (Happening R)) (w : World) → AllLead view a w → AllLead view b (end_of a w) → AllLead view (a ++ b) w
@@ -52,7 +52,7 @@ same-make a b c first next = record { chip = next.chip ∙ first.chip; version =
 -- what a session promises
 pub record Laws {R : Type 0} (view : R → RigState) : Type 0 where
   pub headline : Headline view
-  pub whole : AllIsTakenBack view
+  pub whole : AllIsUndone view
   pub follows : EachCanFollow view
   pub told : OutcomesAreTheRun R Answer view
 
@@ -130,14 +130,14 @@ module _ {R : Type 0} (view : R → RigState) (laws : Laws view) where
     room-goes commands old new result at runs =
         ⊎_elim (λ told. told-goes commands old new result at told) (λ lacks. goes-nowhere at.starts old new at.honest at.start lacks.1) runs
 
-    asks-goes : (old new : R) (told : Result Info Fault) → At old → Asks table (view old) (view new) told → Goes old new
+    asks-goes : (old new : R) (told : Result Info Fault) → At old → PromisesInfo table (view old) (view new) told → Goes old new
     asks-goes old new told at asks =
         let event = informed table old new told in
         let leads : Leads view event (now_of (view old)) (now_of (view new)) = ((at.honest, refl), asks.promised, refl) in
         goes-once event at.starts old new at.start leads (λ flash. refl) (laws.follows event at.starts (now_of (view old)) (now_of (view new)) at.start leads).honest
 
     -- a step that asks first
-    first-goes : {T E : Type 0} (fails : Fault → E) (Then : Info → R → R → Result T E → Type 0) (old new : R) (result : Result T E) → At old → AsksFirst view table fails Then old new result
+    first-goes : {T E : Type 0} (fails : Fault → E) (Then : Info → R → R → Result T E → Type 0) (old new : R) (result : Result T E) → At old → AsksThenGoesOn view table fails Then old new result
         → ((told : Info) (mid : R) → At mid → Then told mid new result → Goes mid new) → Goes old new
     first-goes fails Then old new result at asks next = by-told asks.told (asks-goes old asks.mid asks.told at asks.asks) asks.goes_on
       where
@@ -150,7 +150,7 @@ module _ {R : Type 0} (view : R → RigState) (laws : Laws view) where
     part-goes (Some part) old new result at runs = told-goes _ old new result at runs
 
     range-goes : (range : Option Range) (old new : R) (result : Result Answer Fault) → At old → (part : Option (ℕ × ℕ))
-        → MatchOption part (AsksFirst view table (λ fault. fault) (λ told. ReadsPart view table (to_the_end (start_given range) told.base told.size)) old new result) (λ part. ReadsPart view table (Some part) old new result)
+        → MatchOption part (AsksThenGoesOn view table (λ fault. fault) (λ told. ReadsPart view table (to_the_end (start_given range) told.base told.size)) old new result) (λ part. ReadsPart view table (Some part) old new result)
         → Goes old new
     range-goes range old new result at None asks = first-goes (λ fault. fault) _ old new result at asks (λ told mid then done. part-goes _ mid new result then done)
     range-goes range old new result at (Some part) runs = part-goes (Some part) old new result at runs
@@ -170,7 +170,7 @@ module _ {R : Type 0} (view : R → RigState) (laws : Laws view) where
         by-image (Ok image) goes (said, done, hands) = goes-then old places.mid new goes (next image places.mid said (behind old places.mid at goes) done)
         by-image (Err failure) goes (same, failed) = let G : R → Type 0 = λ x. Goes old x in subst G (sym same) goes
 
-    parts-goes : (turns : List Turn) (frame : List ℕ) (Allows : Device → Type 0) (old new : R) (parted : Result (Unit {0}) Fault) → At old → IsRefused (view old).journal → Parts turns frame Allows (view old) (view new) parted
+    parts-goes : (turns : List Turn) (frame : List ℕ) (Allows : Device → Type 0) (old new : R) (parted : Result (Unit {0}) Fault) → At old → IsPartingRefused (view old).journal → Parts turns frame Allows (view old) (view new) parted
         → Goes old new
     parts-goes turns frame Allows old new parted at refused parts = by-refusal (open_refusal (journal_of (view old).journal)) refl refused
       where
@@ -180,7 +180,7 @@ module _ {R : Type 0} (view : R → RigState) (laws : Laws view) where
             let refuses = parts.refused at.honest fault is in
             goes-once (left_refused fault old new parted) at.starts old new at.start ((at.honest, refl), is, refuses, refl) (λ flash. refl) refuses.honest
 
-    does-goes : (does : Action) (old new : R) (result : Result Answer Failure) (at : At old) → CanAct view table at.starts does old → Does view table does old new result → Goes old new
+    does-goes : (does : Action) (old new : R) (result : Result Answer Failure) (at : At old) → CanAct view table at.starts does old → DoesAction view table does old new result → Goes old new
     does-goes action.Info old new result at can (said, asks, hands) = asks-goes old new said at asks
     does-goes (action.Read range) old new result at can (said, reads, hands) = range-goes range old new said at (part_given range) reads
     does-goes (action.Write content) old new result at can places =
@@ -224,8 +224,8 @@ module _ {R : Type 0} (view : R → RigState) (laws : Laws view) where
 
   -- an action, events behind it that give no way back up, and an undo of everything that answers Ok
   taken-back-behind : (table : List ChipData) (starts : List (List ℕ)) (does : Action) (first mid again last : R) (said : Result Answer Failure) (told : Answer) (after : List (Happening R))
-      → CanAct view table starts does first → Does view table does first mid said → AllLead view after (now_of (view mid)) → end_of after (now_of (view mid)) ≡ now_of (view again)
-      → ((flash : List ℕ) → oldest_of after flash ≡ flash) → SameMake (view mid).device (view again).device → (view again).is_honest → Does view table (action.Undo 0) again last (Ok told)
+      → CanAct view table starts does first → DoesAction view table does first mid said → AllLead view after (now_of (view mid)) → end_of after (now_of (view mid)) ≡ now_of (view again)
+      → ((flash : List ℕ) → oldest_of after flash ≡ flash) → SameMake (view mid).device (view again).device → (view again).is_honest → DoesAction view table (action.Undo 0) again last (Ok told)
       → (view last).device.flash ≡ oldest_start starts (now_of (view first))
   taken-back-behind table starts does first mid again last said told after can done next stands kept made honest (undone, takes, hands) =
       by-answer undone takes.promised hands
@@ -254,7 +254,7 @@ module _ {R : Type 0} (view : R → RigState) (laws : Laws view) where
           (laws.whole (is.history ++ after) start starts can.start leads table again last n (now_of (view last)) ((honest, sym ends), knows, contract, refl)).0
           ∙ oldest-both is.history after (oldest_start starts start) ∙ kept (oldest_of is.history (oldest_start starts start)) ∙ is.oldest (oldest_start starts start)
 
-  pub stopped-actions-are-taken-back : StoppedActionsAreTakenBack R view
+  pub stopped-actions-are-taken-back : StoppedActionsAreUndone R view
   stopped-actions-are-taken-back table starts does first mid again last said told w can done loses owed honest undoes =
       let after : List (Happening R) = record { event = lost_power; after = w } ∷ record { event = lost_owed; after = now_of (view again) } ∷ [] in
       taken-back-behind table starts does first mid again last said told after can done (loses, (owed, tt)) refl (λ flash. refl)
@@ -262,7 +262,7 @@ module _ {R : Type 0} (view : R → RigState) (laws : Laws view) where
       (record { chip = ap (λ (d : Device). d.chip) owed.0.1; version = ap (λ (d : Device). d.version) owed.0.1; codes = ap (λ (d : Device). d.codes) owed.0.1 }))
       honest undoes
 
-  pub unprotected-actions-are-taken-back : UnprotectedActionsAreTakenBack R view
+  pub unprotected-actions-are-taken-back : UnprotectedActionsAreUndone R view
   unprotected-actions-are-taken-back table starts does first mid before left again last said cleared told can done resets fresh (parted, unprotects, hands) follows same honest undoes =
       let after : List (Happening R) = record { event = was_reset; after = now_of (view before) } ∷ record { event = unprotected before left parted; after = now_of (view again) } ∷ [] in
       let I : World → Type 0 = λ w. IsReset w.device in

@@ -11,10 +11,10 @@ use Rattle.stm_work.specs.declared.action.Action.{Action}
 use Rattle.stm_work.specs.declared.action.Action.TheVariants as action
 use Rattle.stm_work.specs.declared.answer.Answer.{Answer}
 use Rattle.stm_work.specs.declared.failure.Failure.{Failure}
-use Rattle.stm_histories.specs.Histories.{ActionsAreHistories, CanAct, IsHistory, IsSaidRightly, StaysInSession, StoppedActionsAreTakenBack, StoredCanBegin, StoredGoesOn}
+use Rattle.stm_histories.specs.Histories.{ActionsAreHistories, CanAct, IsHistory, IsSaidRightly, StaysInSession, StoppedActionsAreUndone, StoredCanBegin, StoredGoesOn}
 use Rattle.stm_files.specs.SimulatorFile.{StandsSo, simulator_at}
 use Rattle.stm_files.specs.SimulatorRig.{SimulatorState, simulator_rig_state}
-use Rattle.stm_histories.specs.Unpowered.{DoesOnFiles, IsTakenBack, Suits}
+use Rattle.stm_histories.specs.Unpowered.{DoesOnFiles, IsUndoneUnpowered, Suits}
 use Rattle.stm_histories.proofs.Risks.{same-world}
 
 abbrev Follows : MemoryData → Type 0
@@ -23,7 +23,7 @@ Follows m = (rig_state m).is_honest
 -- what is promised of actions over files, and of a simulator from one run to the next
 pub record FileLaws : Type 0 where
   pub history : ActionsAreHistories SimulatorState simulator_rig_state
-  pub back : StoppedActionsAreTakenBack SimulatorState simulator_rig_state
+  pub back : StoppedActionsAreUndone SimulatorState simulator_rig_state
   pub begins : StoredCanBegin
   pub goes_on : StoredGoesOn
 
@@ -130,7 +130,7 @@ module _ (laws : FileLaws) (table : List ChipData) (starts : List (List ℕ)) (d
     again_honest : (simulator_rig_state undoes.first).is_honest
     again_honest = subst Follows (sym undoes.begins) stood.honest
 
-    all-done : IsTakenBack table does steps start last
+    all-done : IsUndoneUnpowered table does steps start last
     all-done =
         record {
           first = acts.first;
@@ -157,7 +157,7 @@ module _ (laws : FileLaws) (table : List ChipData) (starts : List (List ℕ)) (d
         ∙ ap (λ w. oldest_start starts w) first_world
 
     pub taken-back :
-        IsTakenBack table does steps start last × (last.device.flash ≡ oldest_start starts start)
+        IsUndoneUnpowered table does steps start last × (last.device.flash ≡ oldest_start starts start)
     taken-back = (all-done, same-flash)
 
 -- a session can begin on a ready simulator beside an empty journal

@@ -6,7 +6,7 @@ use Rattle.std.proofs.lemmas.Bool.{eqb-true}
 use Rattle.std.proofs.lemmas.Bool.Decides.{nat_tests}
 use Rattle.stm_wire.specs.Device.{Device, reset}
 use Rattle.stm_wire.specs.Harmless.{SameOutside}
-use Rattle.stm_sim.specs.Memory.{MemoryData, begins, rig_state}
+use Rattle.stm_sim.specs.Memory.{MemoryData, begins_anew, rig_state}
 use Rattle.stm_journal.specs.declared.header.JournalHeader.{JournalHeader}
 use Rattle.stm_journal.specs.declared.kept.Kept.{Kept}
 use Rattle.stm_journal.specs.ForgetLaws.{is_unfinished-forgets, newest_pages-forgets}
@@ -105,7 +105,7 @@ same-world m n device journal =
 -- the power is back
 pub powerless : (pages : List ℕ) (old mid new : MemoryData) → SpoilsOnly pages old mid
     → pages ≡ risked_pages (state_at old.journal) → (rig_state old).is_honest
-    → new ≡ begins (reset mid.device) mid → ((rig_state mid).is_honest → (rig_state new).is_honest)
+    → new ≡ begins_anew (reset mid.device) mid → ((rig_state mid).is_honest → (rig_state new).is_honest)
     → Leads rig_state lost_power (now_of (rig_state old)) (now_of (rig_state new))
 powerless pages old mid new was risked honest is stays =
     let d : Device = old.device in

@@ -18,7 +18,7 @@ use Rattle.stm_work.specs.declared.action.Action.TheVariants as action
 use Rattle.stm_work.specs.declared.answer.Answer.{Answer}
 use Rattle.stm_work.specs.declared.failure.Failure.{Failure}
 use Rattle.stm_work.specs.declared.work.Work.TheVariants as work
-use Rattle.stm_work.specs.Action.{Does, Works}
+use Rattle.stm_work.specs.Action.{DoesAction, Works}
 use Rattle.stm_files.specs.SimulatorFile.{StandsSo, simulator_at}
 
 -- From one Rig to another some events lead, one after another, none of which gives up the way
@@ -32,8 +32,8 @@ pub record IsHistory {R : Type 0} (view : R → RigState) (old new : R) : Type 0
   pub honest : (view new).is_honest
 
 -- the journal refuses what parts from a session
-abbrev pub IsRefused : List ℕ → Type 0
-IsRefused journal = IsSome (open_refusal (journal_of journal))
+abbrev pub IsPartingRefused : List ℕ → Type 0
+IsPartingRefused journal = IsSome (open_refusal (journal_of journal))
 
 -- the action is no `go` and no protection, or the journal refuses these; one that no journal refuses
 -- resets its device, of which another law speaks
@@ -49,8 +49,8 @@ StaysInSession (action.Undo count) journal = Unit {0}
 StaysInSession (action.UndoFresh count) journal = Unit {0}
 StaysInSession (action.UndoVerified count) journal = Unit {0}
 StaysInSession (action.UndoVerifiedFresh count) journal = Unit {0}
-StaysInSession (action.Go address) journal = IsRefused journal
-StaysInSession (action.Protect kind) journal = IsRefused journal
+StaysInSession (action.Go address) journal = IsPartingRefused journal
+StaysInSession (action.Protect kind) journal = IsPartingRefused journal
 StaysInSession action.UnprotectFresh journal = ⊥
 
 -- where the action says that the device is fresh from reset, it is
@@ -74,7 +74,7 @@ abbrev pub ActionsAreHistories : (R : Type 0) → (R → RigState) → Type 0
 ActionsAreHistories R view =
     (table : List ChipData) (starts : List (List ℕ)) (does : Action) (old new : R)
     (result : Result Answer Failure)
-    → CanAct view table starts does old → Does view table does old new result
+    → CanAct view table starts does old → DoesAction view table does old new result
     → IsHistory view old new
 
 -- So is the question who a device is, with any table.
@@ -88,30 +88,30 @@ IdentifyingIsHistory R view =
 -- An action, whatever came of it; a loss of power; owed bytes that are lost between two runs of the
 -- program; and an undo of everything that answers Ok: every byte of the flash is as it was at the
 -- start of the oldest segment, or as the action found it.
-abbrev pub StoppedActionsAreTakenBack : (R : Type 0) → (R → RigState) → Type 0
-StoppedActionsAreTakenBack R view =
+abbrev pub StoppedActionsAreUndone : (R : Type 0) → (R → RigState) → Type 0
+StoppedActionsAreUndone R view =
     (table : List ChipData) (starts : List (List ℕ)) (does : Action) (first mid again last : R)
     (said : Result Answer Failure)
     (told : Answer) (w : World) → CanAct view table starts does first
-    → Does view table does first mid said
+    → DoesAction view table does first mid said
     → Leads view lost_power (now_of (view mid)) w → Leads view lost_owed w (now_of (view again))
     → (view again).is_honest
-    → Does view table (action.Undo 0) again last (Ok told)
+    → DoesAction view table (action.Undo 0) again last (Ok told)
     → (view last).device.flash ≡ oldest_start starts (now_of (view first))
 
 -- An action, whatever came of it; a reset; Write Unprotect, whatever came of it, behind which the
 -- device goes on as AN3155 has it, or was reset; and an undo of everything that answers Ok: every
 -- byte of the flash is as it was at the start of the oldest segment, or as the action found it.
-abbrev pub UnprotectedActionsAreTakenBack : (R : Type 0) → (R → RigState) → Type 0
-UnprotectedActionsAreTakenBack R view =
+abbrev pub UnprotectedActionsAreUndone : (R : Type 0) → (R → RigState) → Type 0
+UnprotectedActionsAreUndone R view =
     (table : List ChipData) (starts : List (List ℕ)) (does : Action)
     (first mid before left again last : R) (said cleared : Result Answer Failure) (told : Answer)
-    → CanAct view table starts does first → Does view table does first mid said
+    → CanAct view table starts does first → DoesAction view table does first mid said
     → Leads view was_reset (now_of (view mid)) (now_of (view before)) → (view before).is_honest
-    → Does view table action.UnprotectFresh before left cleared
+    → DoesAction view table action.UnprotectFresh before left cleared
     → FollowsUnprotect (view before).device (view left).device (view again).device
     → (view again).journal ≡ (view left).journal → (view again).is_honest
-    → Does view table (action.Undo 0) again last (Ok told)
+    → DoesAction view table (action.Undo 0) again last (Ok told)
     → (view last).device.flash ≡ oldest_start starts (now_of (view first))
 
 -- A simulator that starts ready beside an empty journal is where a session can begin.

@@ -12,17 +12,17 @@ use Rattle.stm_work.specs.declared.action.Action.TheVariants as action
 use Rattle.stm_work.specs.declared.answer.Answer.{Answer}
 use Rattle.stm_work.specs.declared.failure.Failure.{Failure}
 use Rattle.stm_files.specs.declared.simulator_file.StoredSimulator.{StoredSimulator}
-use Rattle.stm_work.specs.Action.{Does}
+use Rattle.stm_work.specs.Action.{DoesAction}
 use Rattle.stm_histories.specs.Histories.{IsSaidRightly, StaysInSession}
 use Rattle.stm_files.specs.SimulatorFile.{simulator_at}
 use Rattle.stm_files.specs.SimulatorRig.{SimulatorState, simulator_rig_state}
-use Rattle.stm_files.specs.Standing.{phase_of}
+use Rattle.stm_files.specs.Standing.{standing_phase}
 
 -- what a run of the program finds: the simulator as its files hold it, and the journal beside it
 abbrev pub found : StoredSimulator → List ℕ → World
 found stored journal =
     record {
-      device = simulator_at stored.chip stored.flash.items (phase_of stored.standing);
+      device = simulator_at stored.chip stored.flash.items (standing_phase stored.standing);
       journal = journal;
     }
 
@@ -40,7 +40,7 @@ pub record DoesOnFiles (table : List ChipData) (does : Action) (old new : Memory
   pub last : SimulatorState
   pub begins : first.memory ≡ old
   pub leaves : last.memory ≡ new
-  pub done : Does simulator_rig_state table does first last said
+  pub done : DoesAction simulator_rig_state table does first last said
 
 -- these pages alone may hold other bytes; the journal is the same
 pub record SpoilsOnly (pages : List ℕ) (old new : MemoryData) : Type 0 where
@@ -52,7 +52,7 @@ pub record SpoilsOnly (pages : List ℕ) (old new : MemoryData) : Type 0 where
 -- What was done on the program's own Rig, each step from where the one before left it: the action,
 -- with a stop ahead; a loss of power; what is owed is lost between two runs of the program; and an
 -- undo of everything, which answered Ok.
-pub record IsTakenBack (table : List ChipData) (does : Action) (steps : ℕ) (w : World)
+pub record IsUndoneUnpowered (table : List ChipData) (does : Action) (steps : ℕ) (w : World)
     (left : MemoryData) : Type 0 where
   pub first : SimulatorState
   pub stopped : SimulatorState
@@ -63,8 +63,8 @@ pub record IsTakenBack (table : List ChipData) (does : Action) (steps : ℕ) (w 
   pub told : Answer
   pub begins : now_of (simulator_rig_state first) ≡ w
   pub stops : first.memory.plan.stop ≡ After steps
-  pub acts : Does simulator_rig_state table does first stopped said
+  pub acts : DoesAction simulator_rig_state table does first stopped said
   pub loses : Leads simulator_rig_state lost_power (now_of (simulator_rig_state stopped)) lost
   pub owes : Leads simulator_rig_state lost_owed lost (now_of (simulator_rig_state again))
-  pub undoes : Does simulator_rig_state table (action.Undo 0) again last (Ok told)
+  pub undoes : DoesAction simulator_rig_state table (action.Undo 0) again last (Ok told)
   pub ends : last.memory ≡ left

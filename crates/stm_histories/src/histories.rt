@@ -3,13 +3,13 @@
 ghost use Rattle.stm_histories.specs.Histories.{
   ActionsAreHistories,
   IdentifyingIsHistory,
-  StoppedActionsAreTakenBack,
+  StoppedActionsAreUndone,
 };
 ghost use Rattle.stm_histories.specs.Histories.{StoredCanBegin, StoredGoesOn};
-ghost use Rattle.stm_histories.specs.Histories.{UnprotectedActionsAreTakenBack};
+ghost use Rattle.stm_histories.specs.Histories.{UnprotectedActionsAreUndone};
 
 use stm_session::{
-    a_ready_device_can_begin, a_run_is_known_by_its_outcomes, a_session_can_be_taken_back,
+    a_ready_device_can_begin, a_run_is_known_by_its_outcomes, a_session_can_be_undone,
 };
 use stm_wire::Rig;
 use stm_work::Answer;
@@ -21,10 +21,10 @@ use stm_work::Answer;
 pub fn actions_are_histories<L: Rig>()
     ensures history { ActionsAreHistories L L.view }
     ensures identifies { IdentifyingIsHistory L L.view }
-    ensures back { StoppedActionsAreTakenBack L L.view }
-    ensures unprotected { UnprotectedActionsAreTakenBack L L.view }
+    ensures back { StoppedActionsAreUndone L L.view }
+    ensures unprotected { UnprotectedActionsAreUndone L L.view }
 {
-    a_session_can_be_taken_back::<L>();
+    a_session_can_be_undone::<L>();
     a_run_is_known_by_its_outcomes::<L, Answer>();
 }
 

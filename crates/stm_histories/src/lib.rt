@@ -6,4 +6,4 @@ mod histories;
 mod unpowered;
 
 pub use histories::{a_stored_simulator_goes_on, actions_are_histories};
-pub use unpowered::{Names, SpoiltPage, take_back_stored};
+pub use unpowered::{Names, SpoiltPage, undo_stored};

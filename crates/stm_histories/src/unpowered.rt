@@ -7,8 +7,8 @@ ghost use Rattle.stm_session.specs.Events.{Leads, lost_power, now_of};
 ghost use Rattle.stm_session.specs.Headline.{IsStart, oldest_start};
 ghost use Rattle.stm_session.specs.Undoable.{risked_pages};
 ghost use Rattle.stm_files.specs.SimulatorFile.{StandsSo, simulator_at};
-ghost use Rattle.stm_files.specs.Standing.{phase_of};
-ghost use Rattle.stm_histories.specs.Unpowered.{DoesOnFiles, IsTakenBack, SpoilsOnly, Suits, found};
+ghost use Rattle.stm_files.specs.Standing.{standing_phase};
+ghost use Rattle.stm_histories.specs.Unpowered.{DoesOnFiles, IsUndoneUnpowered, SpoilsOnly, Suits, found};
 
 use crate::histories::{a_stored_simulator_goes_on, actions_are_histories};
 use std::alloc::Global;
@@ -76,7 +76,7 @@ fn start<'a>(
     journal: Vec<u8>,
 ) -> Result<MemoryRig, Failure<'a>>
     ensures { IfOk result (StandsSo
-        (simulator_at stored.chip stored.flash.items (phase_of stored.standing)) journal.items) }
+        (simulator_at stored.chip stored.flash.items (standing_phase stored.standing)) journal.items) }
 {
     match stored.start(alloc, journal)? {
         Some(memory) => Ok(memory),
@@ -125,7 +125,7 @@ fn act<'a, R: Locks + AllocGlobal>(
 /// Starts a simulator as its files hold it, beside a journal; does an action on it, which is
 /// stopped after so many steps; takes its power away, after which pages at risk hold these bytes;
 /// starts it again from what that left; and takes everything back.
-pub fn take_back_stored<'a, R: Locks + AllocGlobal>(
+pub fn undo_stored<'a, R: Locks + AllocGlobal>(
     rt: &R,
     names: Names<'a>,
     stored: StoredSimulator,
@@ -137,7 +137,7 @@ pub fn take_back_stored<'a, R: Locks + AllocGlobal>(
 ) -> Result<MemoryRig, Failure<'a>>
     ensures done { let w = found stored journal.items in
         (starts : List (List ℕ)) → IsStart starts w → Suits table.now action w
-        → IfOk result (IsTakenBack table.now action steps w) }
+        → IfOk result (IsUndoneUnpowered table.now action steps w) }
     ensures back { let w = found stored journal.items in
         (starts : List (List ℕ)) → IsStart starts w → Suits table.now action w
         → IfOk result (λ rig. rig.device.flash ≡ oldest_start starts w) }

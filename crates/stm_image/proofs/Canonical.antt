@@ -8,7 +8,7 @@ use Rattle.std.proofs.lemmas.List.Elements.{All-cons, All-nil, All-head, All-tai
 use Rattle.std.proofs.Math.Seq.{take-append_seam}
 use Rattle.stm_image.specs.Pairs.{Pairs, InRange, IsImage, IsSetOf, Agree, raw_pairs}
 use Rattle.stm_image.specs.Record.{Whole, scan, offset_of, data_of}
-use Rattle.stm_image.specs.Text.{Means, Follows, pairs_from, pairs_of, placed, all_pairs}
+use Rattle.stm_image.specs.Text.{Means, RecordsPrecede, pairs_from, pairs_of, placed, all_pairs}
 use Rattle.stm_image.specs.Reads.{EndsAt}
 use Rattle.stm_image.specs.Canon.{Run, join, runs_of, cut, parts_of, line, lines, upper_line, canon, record_bytes}
 use Rattle.stm_image.specs.declared.place.Form.{Form}
@@ -161,7 +161,7 @@ data_pairs s bytes fits =
 record ReadsAs (form : Form) (text : List ℕ) (pairs : Pairs) : Type 0 where
   records : List (List ℕ)
   rest : List ℕ
-  follows : Follows text records rest
+  follows : RecordsPrecede text records rest
   ends : EndsAt rest
   are : placed form records ≡ pairs
 

@@ -8,7 +8,7 @@ use Rattle.stm_image.specs.Clash.{IsClash, Names, IsPutOver, HasAll, HasFirsts}
 use Rattle.stm_image.specs.Lay.{AgreesWith, DiffersAt, IsFirstDifference}
 use Rattle.stm_image.specs.Layout.{Covers}
 use Rattle.stm_image.specs.Pairs.{Pairs, Agree, byte_at, raw_pairs}
-use Rattle.stm_image.specs.Pieces.{bytes_at, pairs_at, Stand, IsWithin}
+use Rattle.stm_image.specs.Pieces.{piece_bytes, pairs_at, Stand, IsWithin}
 use Rattle.stm_image.specs.declared.pieces.Piece.{Piece}
 use Rattle.stm_image.proofs.Lying.{raw_lies, raw_holds, piece_of, holds_piece, length-raw, length-bytes_at, length-pairs_at, stands_within}
 use Rattle.stm_image.proofs.Overlaps.{held_at}
@@ -74,8 +74,8 @@ none_put set bytes list left past all = record {
 }
 
 -- a set has the addresses of each piece
-pub piece_named : (set : Pairs) (bytes : List ℕ) (list : List Piece) (p : Piece) → HasAll set (pairs_at bytes list) → Contains list p → Names set p.first (length (bytes_at bytes p))
-piece_named set bytes list p all held i lt = all (p.first + i, slice_index (bytes_at bytes p) i) (holds_piece bytes list p (p.first + i, slice_index (bytes_at bytes p) i) held (raw_holds p.first (bytes_at bytes p) i lt))
+pub piece_named : (set : Pairs) (bytes : List ℕ) (list : List Piece) (p : Piece) → HasAll set (pairs_at bytes list) → Contains list p → Names set p.first (length (piece_bytes bytes p))
+piece_named set bytes list p all held i lt = all (p.first + i, slice_index (piece_bytes bytes p) i) (holds_piece bytes list p (p.first + i, slice_index (piece_bytes bytes p) i) held (raw_holds p.first (piece_bytes bytes p) i lt))
 
 -- where an address lies beside bytes
 data Where (s count a : ℕ) : Type 0 where
@@ -93,17 +93,17 @@ where_is s count a = elim (cases_lt a s) [
 
 -- one piece more
 pub piece_put : (set new : Pairs) (bytes : List ℕ) (list : List Piece) (i : ℕ) (d : Piece) → i < length list → IsPutDown set (pairs_at bytes list) (pairs_at bytes (drop (i + 1) list))
-    → IsPutOver set (get_or list i d).first (bytes_at bytes (get_or list i d)) new → IsPutDown new (pairs_at bytes list) (pairs_at bytes (drop i list))
+    → IsPutOver set (get_or list i d).first (piece_bytes bytes (get_or list i d)) new → IsPutDown new (pairs_at bytes list) (pairs_at bytes (drop i list))
 piece_put set new bytes list i d lt so_far over = record {
-  all = λ q held. stays q (so_far.all q held) (where_is (get_or list i d).first (length (bytes_at bytes (get_or list i d))) q.0);
-  firsts = subst (HasFirsts new) (sym whole) (λ q held. first q held (where_is (get_or list i d).first (length (bytes_at bytes (get_or list i d))) q.0));
+  all = λ q held. stays q (so_far.all q held) (where_is (get_or list i d).first (length (piece_bytes bytes (get_or list i d))) q.0);
+  firsts = subst (HasFirsts new) (sym whole) (λ q held. first q held (where_is (get_or list i d).first (length (piece_bytes bytes (get_or list i d))) q.0));
 }
   where
     p : Piece
     p = get_or list i d
 
     own : List ℕ
-    own = bytes_at bytes p
+    own = piece_bytes bytes p
 
     whole : pairs_at bytes (drop i list) ≡ raw_pairs p.first own ++ pairs_at bytes (drop (i + 1) list)
     whole = ap (pairs_at bytes) (drop_more list i d lt)
@@ -155,22 +155,22 @@ agree_by_set set pairs each a b c in_b in_c = let both : Some b ≡ Some c = sym
 
 -- pieces that agree with a set
 agreeing : (set : Pairs) (bytes : List ℕ) (list some : List Piece) → Stand 0 (length bytes) list → HasFirsts set (pairs_at bytes list) → ((r : Piece) → Contains some r → Contains list r)
-    → ((r : Piece) → Contains some r → AgreesWith set r.first (bytes_at bytes r)) → (q : ℕ × ℕ) → Contains (pairs_at bytes some) q → byte_at set q.0 ≡ Some q.1
+    → ((r : Piece) → Contains some r → AgreesWith set r.first (piece_bytes bytes r)) → (q : ℕ × ℕ) → Contains (pairs_at bytes some) q → byte_at set q.0 ≡ Some q.1
 agreeing set bytes list some stand firsts among agrees q held =
     let found = piece_of bytes some q held in
     let r = found.0 in
-    let lies = raw_lies r.first (bytes_at bytes r) q found.2 in
-    same_byte set (pairs_at bytes list) r.first (bytes_at bytes r) q firsts (holds_piece bytes list r q (among r found.1) found.2) lies.from lies.to lies.byte (agrees r found.1 q.0)
+    let lies = raw_lies r.first (piece_bytes bytes r) q found.2 in
+    same_byte set (pairs_at bytes list) r.first (piece_bytes bytes r) q firsts (holds_piece bytes list r q (among r found.1) found.2) lies.from lies.to lies.byte (agrees r found.1 q.0)
 
 -- all of them
 pub all_agree : (set : Pairs) (bytes : List ℕ) (list : List Piece) → Stand 0 (length bytes) list → HasFirsts set (pairs_at bytes list)
-    → ((r : Piece) → Contains list r → AgreesWith set r.first (bytes_at bytes r)) → Agree (pairs_at bytes list)
+    → ((r : Piece) → Contains list r → AgreesWith set r.first (piece_bytes bytes r)) → Agree (pairs_at bytes list)
 all_agree set bytes list stand firsts agrees = agree_by_set set (pairs_at bytes list) (agreeing set bytes list list stand firsts (λ r h. h) agrees)
 
 module _ (set : Pairs) (bytes : List ℕ) (list : List Piece) (i : ℕ) (p : Piece) (address : ℕ) (stand : Stand 0 (length bytes) list) (lt : i < length list) (is : p ≡ get_or list i p) (firsts : HasFirsts set (pairs_at bytes list))
-    (agrees : (r : Piece) → Contains (take i list) r → AgreesWith set r.first (bytes_at bytes r)) (found : IsFirstDifference set p.first (bytes_at bytes p) address) where
+    (agrees : (r : Piece) → Contains (take i list) r → AgreesWith set r.first (piece_bytes bytes r)) (found : IsFirstDifference set p.first (piece_bytes bytes p) address) where
   abbrev pub own : List ℕ
-  own = bytes_at bytes p
+  own = piece_bytes bytes p
 
   abbrev pub pairs : Pairs
   pairs = pairs_at bytes list

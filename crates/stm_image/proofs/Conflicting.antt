@@ -5,9 +5,9 @@ use Rattle.std.proofs.lemmas.List.{length-take, take_all, take-append-drop}
 use Rattle.std.proofs.lemmas.List.Elements.{Contains-append_left}
 use Rattle.stm_image.specs.Clash.{IsClash}
 use Rattle.stm_image.specs.Pairs.{Pairs, Agree}
-use Rattle.stm_image.specs.Reads.{Reads, HasByte, IsRecordOf}
+use Rattle.stm_image.specs.Reads.{Reads, HasByte, IsByteOfRecord}
 use Rattle.stm_image.specs.Record.{kind_of, offset_of, data_of}
-use Rattle.stm_image.specs.Text.{Stands, all_pairs, pairs_from, pairs_of, form_of}
+use Rattle.stm_image.specs.Text.{FaultStands, all_pairs, pairs_from, pairs_of, form_of}
 use Rattle.stm_image.specs.declared.faults.HexFault.{HexFault}
 use Rattle.stm_image.specs.declared.faults.HexFault.TheVariants.{Conflict}
 use Rattle.stm_image.specs.declared.place.Form.{Form}
@@ -48,7 +48,7 @@ agree_taken : (n : ℕ) (pairs : Pairs) → Agree pairs → Agree (take n pairs)
 agree_taken n pairs agree = agree_front (take n pairs) (drop n pairs) (subst Agree (sym (take-append-drop n pairs)) agree)
 
 -- the record of the first place where pairs clash conflicts
-pub conflict_stands : (text : List ℕ) (pairs : Pairs) (stop : Option HexFault) (place n : ℕ) → Reads text pairs stop → IsClash pairs place → IsRecordOf text place n → Stands text (Conflict n)
+pub conflict_stands : (text : List ℕ) (pairs : Pairs) (stop : Option HexFault) (place n : ℕ) → Reads text pairs stop → IsClash pairs place → IsByteOfRecord text place n → FaultStands text (Conflict n)
 conflict_stands text pairs stop place n reads clash found =
     let records = found.records in
     let next = found.next in

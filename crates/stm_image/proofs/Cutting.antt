@@ -9,7 +9,7 @@ use Rattle.std.proofs.lemmas.List.Elements.{Contains-get_or}
 use Rattle.std.proofs.Math.Seq.{take-append_seam, drop-append_seam}
 use Rattle.stm_image.specs.Pairs.{Pairs, raw_pairs}
 use Rattle.stm_image.specs.Canon.{Run, join, runs_of, cut, parts_of, lines, line, upper_line}
-use Rattle.stm_image.specs.Parts.{IsPart, EndsPart, IsBehind}
+use Rattle.stm_image.specs.Parts.{IsRecordPart, EndsPart, IsBehind}
 use Rattle.stm_image.proofs.Standing.{raw_pairs-append}
 
 -- bytes from a start on before some runs, where `next` is the address after them
@@ -131,7 +131,7 @@ at_edge t n edge = elim (cases_eq t n) [
     edge_test n edge = grind (arith, nat_tests)
 
 -- THE LINES OF A PART, and then those of what is left
-pub lines_part : (upper s count : ℕ) (bytes : List ℕ) (later : Pairs) → IsPart s (length bytes) count → IsBehind (s + length bytes) later
+pub lines_part : (upper s count : ℕ) (bytes : List ℕ) (later : Pairs) → IsRecordPart s (length bytes) count → IsBehind (s + length bytes) later
     → lines upper (parts_of (runs_of (raw_pairs s bytes ++ later)))
     ≡ upper_line upper (s / 65536) ++ line (s % 65536) 0 (take count bytes) ++ lines (s / 65536) (parts_of (runs_of (raw_pairs (s + count) (drop count bytes) ++ later)))
 unfolding lines

@@ -10,7 +10,7 @@ use Rattle.std.proofs.lemmas.List.Sums.{prefix_len_passes, prefix_len_stops}
 use Rattle.std.proofs.lemmas.Grind.{common_steps}
 use Rattle.hex.specs.Hex.{is_hex_digit, decode_sized}
 use Rattle.hex.proofs.HexLemmas.{IsOk-decode_sized, decode_sized-twice}
-use Rattle.stm_image.specs.Record.{Whole, Cut, Broken, Ended, Stray, is_blank, scan, scan_begun, bytes_of, digits_needed, ends_digits, scan_digits}
+use Rattle.stm_image.specs.Record.{Whole, Cut, Broken, Ended, Stray, is_blank, scan, scan_begun, digits_bytes, digits_needed, ends_digits, scan_digits}
 
 -- an element of the front is that of the list
 pub get_or-take : (xs : List ℕ) (m k d : ℕ) → k < m → get_or (take m xs) k d ≡ get_or xs k d
@@ -44,17 +44,17 @@ decodes text n within =
     (λ ok. let parts = both.0 ok in front.0 parts.1, λ enough. both.1 (len, front.1 enough))
 
 -- what decoding wrote are the bytes of the digits
-pub written_bytes : (digits : List ℕ) (n : ℕ) (out bytes : List ℕ) → length digits ≡ 2 * n → decode_sized digits n ≡ Ok bytes → out ≡ bytes → out ≡ bytes_of digits
+pub written_bytes : (digits : List ℕ) (n : ℕ) (out bytes : List ℕ) → length digits ≡ 2 * n → decode_sized digits n ≡ Ok bytes → out ≡ bytes → out ≡ digits_bytes digits
 written_bytes digits n out bytes len ok is = rw (sym (decode_sized-twice digits n len) ∙ ok) is
 
 -- where the digits suffice
-pub needed : (text : List ℕ) (count : ℕ) → 2 ≤ prefix_len is_hex_digit text → count ≡ slice_index (bytes_of (take 2 text)) 0 + 5 → digits_needed text ≡ 2 * count
+pub needed : (text : List ℕ) (count : ℕ) → 2 ≤ prefix_len is_hex_digit text → count ≡ slice_index (digits_bytes (take 2 text)) 0 + 5 → digits_needed text ≡ 2 * count
 needed text count two is = grind (arith, nat_tests)
 
 pub needed_two : (text : List ℕ) → prefix_len is_hex_digit text < 2 → digits_needed text ≡ 2
 needed_two text few = grind (arith, nat_tests)
 
-pub scans_whole : (text : List ℕ) (m : ℕ) → digits_needed text ≡ m → m ≤ prefix_len is_hex_digit text → scan_digits text ≡ Whole (bytes_of (take m text)) (drop m text)
+pub scans_whole : (text : List ℕ) (m : ℕ) → digits_needed text ≡ m → m ≤ prefix_len is_hex_digit text → scan_digits text ≡ Whole (digits_bytes (take m text)) (drop m text)
 unfolding scan_digits
 scans_whole text m is enough = grind (arith, nat_tests)
 
@@ -63,7 +63,7 @@ unfolding scan_digits
 scans_short text few = grind (arith, nat_tests)
 
 -- the count is in the first byte
-pub count_read : (text buffer : List ℕ) → take 1 buffer ≡ bytes_of (take 2 text) → get_or buffer 0 0 ≡ slice_index (bytes_of (take 2 text)) 0
+pub count_read : (text buffer : List ℕ) → take 1 buffer ≡ digits_bytes (take 2 text) → get_or buffer 0 0 ≡ slice_index (digits_bytes (take 2 text)) 0
 count_read text buffer is = sym (get_or-take buffer 1 0 0 (omega arith)) ∙ ap (λ t. get_or t 0 0) is
 
 pub ends_cut : (text : List ℕ) (m : ℕ) → m ≡ length text → ends_digits (drop m text) ≡ Cut
@@ -112,7 +112,7 @@ digits_shrink : (text r after : List ℕ) → scan_digits text ≡ Whole r after
 digits_shrink text r after e = elim (cases_lt (prefix_len is_hex_digit text) (digits_needed text)) [
   | inl short ↦ absurd (ends_nothing_whole (drop (prefix_len is_hex_digit text) text) r after (sym (scans_short text short) ∙ e))
   | inr enough ↦
-      let whole : Whole (bytes_of (take (digits_needed text) text)) (drop (digits_needed text) text) ≡ Whole r after = sym (scans_whole text (digits_needed text) refl enough) ∙ e in
+      let whole : Whole (digits_bytes (take (digits_needed text) text)) (drop (digits_needed text) text) ≡ Whole r after = sym (scans_whole text (digits_needed text) refl enough) ∙ e in
       let same : drop (digits_needed text) text ≡ after = cc whole in
       rw (← same) (grind (arith, common_steps))
 ]

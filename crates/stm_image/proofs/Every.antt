@@ -4,9 +4,9 @@ use Rattle.std.specs.Prelude.{Contains, ◌↔◌, All}
 use Rattle.std.proofs.lemmas.Bool.{cases_eq, cases_lt}
 use Rattle.std.proofs.lemmas.List.Elements.{Contains-get_or}
 use Rattle.std.proofs.lemmas.List.Kept.{AllPairs-cons}
-use Rattle.stm_image.specs.Pairs.{Pairs, Rises, Agree, IsSetOf}
+use Rattle.stm_image.specs.Pairs.{Pairs, AddressesRise, Agree, IsSetOf}
 use Rattle.stm_image.specs.Record.{Scan, Ended, Stray, Broken, Cut, Whole, scan, flaw_of, kind_of, Flaw, BadSum, BadKind, BadLength}
-use Rattle.stm_image.specs.Text.{Follows, HasVerdict, scan_fault, flaw_fault, all_pairs}
+use Rattle.stm_image.specs.Text.{RecordsPrecede, HasVerdict, scan_fault, flaw_fault, all_pairs}
 use Rattle.stm_image.specs.declared.faults.HexFault.{HexFault}
 use Rattle.stm_image.specs.declared.faults.HexFault.TheVariants.{BadDigit, Short, Checksum, Kind, Length, Conflict, NoEnd, NoColon}
 use Rattle.stm_image.proofs.Digits.{scan_shrinks}
@@ -16,13 +16,13 @@ use Rattle.stm_image.proofs.Verdicts.{first_least, rises_tail, in_longer}
 
 -- A PAIR AMONG RISING PAIRS: it has a place there, or its address has another byte
 data Inserted (p : ℕ × ℕ) (set : Pairs) : Type 0 where
-  Among : (more : Pairs) → Rises more → ((q : ℕ × ℕ) → Contains more q ↔ Contains (p ∷ set) q) → Inserted p set
+  Among : (more : Pairs) → AddressesRise more → ((q : ℕ × ℕ) → Contains more q ↔ Contains (p ∷ set) q) → Inserted p set
   Clashes : (Agree (p ∷ set) → ⊥) → Inserted p set
 
-rises_single : (p : ℕ × ℕ) → Rises (p ∷ [])
+rises_single : (p : ℕ × ℕ) → AddressesRise (p ∷ [])
 rises_single p i j d lt within = absurd (omega arith)
 
-all_above : (p s : ℕ × ℕ) (set : Pairs) → p.0 < s.0 → Rises (s ∷ set) → All (λ q. p.0 < q.0) (s ∷ set)
+all_above : (p s : ℕ × ℕ) (set : Pairs) → p.0 < s.0 → AddressesRise (s ∷ set) → All (λ q. p.0 < q.0) (s ∷ set)
 all_above p s set lt rises k d within =
     let least = first_least s set rises (get_or (s ∷ set) k d) (Contains-get_or (s ∷ set) k d within) in omega arith
 
@@ -45,22 +45,22 @@ cons_members : (p q : ℕ × ℕ) (xs ys : Pairs) → (Contains xs q → Contain
 cons_members p q xs ys among (zero, lt, is) = (zero, omega arith, is)
 cons_members p q xs ys among (suc k, lt, is) = in_longer p q ys (among (k, omega arith, is))
 
-above_member : (p s q : ℕ × ℕ) (set : Pairs) → s.0 < p.0 → Rises (s ∷ set) → Contains (p ∷ set) q → s.0 < q.0
+above_member : (p s q : ℕ × ℕ) (set : Pairs) → s.0 < p.0 → AddressesRise (s ∷ set) → Contains (p ∷ set) q → s.0 < q.0
 above_member p s q set lt rises (zero, within, is) = let e : p.0 ≡ q.0 = ap (λ (r : ℕ × ℕ). r.0) is in omega arith
 above_member p s q set lt rises (suc k, within, is) =
     let up = rises zero (suc k) q (omega arith) (omega arith) in
     let e : (get_or set k q).0 ≡ q.0 = ap (λ (r : ℕ × ℕ). r.0) is in
     omega arith
 
-above_more : (p s : ℕ × ℕ) (more set : Pairs) → s.0 < p.0 → Rises (s ∷ set) → ((q : ℕ × ℕ) → Contains more q ↔ Contains (p ∷ set) q) → All (λ q. s.0 < q.0) more
+above_more : (p s : ℕ × ℕ) (more set : Pairs) → s.0 < p.0 → AddressesRise (s ∷ set) → ((q : ℕ × ℕ) → Contains more q ↔ Contains (p ∷ set) q) → All (λ q. s.0 < q.0) more
 above_more p s more set lt rises same k d within = above_member p s (get_or more k d) set lt rises ((same (get_or more k d)).0 (Contains-get_or more k d within))
 
-after_first : (p s : ℕ × ℕ) (set : Pairs) → s.0 < p.0 → Rises (s ∷ set) → Inserted p set → Inserted p (s ∷ set)
+after_first : (p s : ℕ × ℕ) (set : Pairs) → s.0 < p.0 → AddressesRise (s ∷ set) → Inserted p set → Inserted p (s ∷ set)
 after_first p s set lt rises (Among more up same) =
     Among (s ∷ more) (AllPairs-cons (λ q r. q.0 < r.0) s more (above_more p s more set lt rises same) up) (λ q. (swap_to p s q more set (same q).0, swap_from p s q more set (same q).1))
 after_first p s set lt rises (Clashes never) = Clashes (λ agree. never (agree_among (p ∷ s ∷ set) (p ∷ set) (λ q. skip p s q set) agree))
 
-at_first : (p s : ℕ × ℕ) (set : Pairs) → p.0 ≡ s.0 → Rises (s ∷ set) → Inserted p (s ∷ set)
+at_first : (p s : ℕ × ℕ) (set : Pairs) → p.0 ≡ s.0 → AddressesRise (s ∷ set) → Inserted p (s ∷ set)
 at_first p s set at rises = elim (cases_eq p.1 s.1) [
   | inl same ↦
       let e : p ≡ s = ap₂ (λ a b. (a, b)) at same in
@@ -68,7 +68,7 @@ at_first p s set at rises = elim (cases_eq p.1 s.1) [
   | inr differ ↦ Clashes (λ agree. differ (agree p.0 p.1 s.1 (zero, omega arith, refl) (suc zero, omega arith, ap (λ a. (a, s.1)) (sym at))))
 ]
 
-insert : (p : ℕ × ℕ) (set : Pairs) → Rises set → Inserted p set
+insert : (p : ℕ × ℕ) (set : Pairs) → AddressesRise set → Inserted p set
 insert p [] rises = Among (p ∷ []) (rises_single p) (λ q. (λ h. h, λ h. h))
 insert p (s ∷ set) rises =
     let later = insert p set (rises_tail s set rises) in
@@ -101,7 +101,7 @@ decide [] = Makes [] record { rises = λ i j d lt within. absurd (omega arith); 
 decide (p ∷ pairs) = decide_more p pairs (decide pairs)
 
 -- THE VERDICT from a place in the text on
-module _ (text : List ℕ) (records : List (List ℕ)) (rest : List ℕ) (follows : Follows text records rest) (agree : Agree (all_pairs records)) where
+module _ (text : List ℕ) (records : List (List ℕ)) (rest : List ℕ) (follows : RecordsPrecede text records rest) (agree : Agree (all_pairs records)) where
   faulted : (fault : HexFault) → scan_fault (length records + 1) (scan rest) ≡ Some fault → HasVerdict text
   faulted fault e = inr (fault, record { records = records; rest = rest; follows = follows; agree = agree; is = is_fault records rest fault e })
 
@@ -142,7 +142,7 @@ module _ (text : List ℕ) (records : List (List ℕ)) (rest : List ℕ) (follow
   of_scan Cut s next = faulted (Short (length records + 1)) (ap (scan_fault (length records + 1)) s)
   of_scan (Whole r after) s next = of_record r after (flaw_of r) s refl (next r after s)
 
-verdict_from : (steps : ℕ) (text : List ℕ) (records : List (List ℕ)) (rest : List ℕ) → Follows text records rest → Agree (all_pairs records) → length rest ≤ steps → HasVerdict text
+verdict_from : (steps : ℕ) (text : List ℕ) (records : List (List ℕ)) (rest : List ℕ) → RecordsPrecede text records rest → Agree (all_pairs records) → length rest ≤ steps → HasVerdict text
 verdict_from zero text records rest follows agree short =
     of_scan text records rest follows agree (scan rest) refl (λ r after s k f more. absurd (omega (arith, scan_shrinks rest r after s)))
 verdict_from (suc steps) text records rest follows agree short =

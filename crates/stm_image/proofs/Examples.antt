@@ -7,9 +7,9 @@ use Rattle.std.proofs.lemmas.List.Kept.{AllPairs-cons}
 use Rattle.std.specs.Prelude.{All}
 use Rattle.hex.proofs.OnLiterals.{hex_on_literals}
 use Rattle.stm_image.specs.Canon.{canon, lines, line, cut}
-use Rattle.stm_image.specs.Pairs.{Pairs, Rises, Agree}
+use Rattle.stm_image.specs.Pairs.{Pairs, AddressesRise, Agree}
 use Rattle.stm_image.specs.Record.{scan, scan_digits, flaw_of}
-use Rattle.stm_image.specs.Text.{Means, Stands, Follows, all_pairs, IsFault}
+use Rattle.stm_image.specs.Text.{Means, FaultStands, RecordsPrecede, all_pairs, IsFault}
 use Rattle.stm_image.specs.declared.faults.HexFault.{HexFault}
 use Rattle.stm_image.specs.declared.faults.HexFault.TheVariants.{BadDigit, Short, Checksum, Kind, Length, Conflict, NoEnd, NoColon}
 use Rattle.stm_image.proofs.Sets.{agree_rising, set_rising}
@@ -26,7 +26,7 @@ above least ((a, b) ∷ rest) passes =
     let first = ltb-true least (a + 1) parts.0 in
     All-cons (λ p. least < p.0 + 1) (a, b) rest first (All-weaker (λ p. a + 1 < p.0 + 1) (λ p. least < p.0 + 1) (λ p lt. omega arith) rest (above (a + 1) rest parts.1))
 
-rises : (least : ℕ) (pairs : Pairs) → rising_from least pairs ≡ true → Rises pairs
+rises : (least : ℕ) (pairs : Pairs) → rising_from least pairs ≡ true → AddressesRise pairs
 rises least [] passes = λ i j d lt within. absurd (omega arith)
 rises least ((a, b) ∷ rest) passes =
     let parts = and_parts (nat_lt least (a + 1)) (rising_from (a + 1) rest) passes in
@@ -42,7 +42,7 @@ upper = 2 ∷ 0 ∷ 0 ∷ 4 ∷ 8 ∷ 0 ∷ 242 ∷ []
 four : List ℕ
 four = 4 ∷ 0 ∷ 0 ∷ 0 ∷ 1 ∷ 2 ∷ 3 ∷ 4 ∷ 242 ∷ []
 
-four_follow : Follows (codes ":020000040800F2" ++ crlf ++ codes ":0400000001020304F2" ++ crlf ++ codes ":00000001FF" ++ crlf) (upper ∷ four ∷ []) (crlf ++ codes ":00000001FF" ++ crlf)
+four_follow : RecordsPrecede (codes ":020000040800F2" ++ crlf ++ codes ":0400000001020304F2" ++ crlf ++ codes ":00000001FF" ++ crlf) (upper ∷ four ∷ []) (crlf ++ codes ":00000001FF" ++ crlf)
 unfolding scan scan_digits hex_on_literals crlf upper four flaw_of
 four_follow = (_, refl, refl, (λ e. omega arith), (_, refl, refl, (λ e. omega arith), refl))
 
@@ -91,7 +91,7 @@ they_differ : ¬ Agree (all_pairs (fives ∷ sixes ∷ []))
 unfolding fives sixes
 they_differ agree = different 85 86 (lit< tt) (agree 0 85 86 (0, lit< tt, refl) (1, lit< tt, refl))
 
-conflict : Stands (codes ":0100000055AA" ++ codes ":0100000056A9" ++ codes ":00000001FF") (Conflict 2)
+conflict : FaultStands (codes ":0100000055AA" ++ codes ":0100000056A9" ++ codes ":00000001FF") (Conflict 2)
 unfolding scan scan_digits hex_on_literals fives sixes flaw_of
 conflict = record {
   records = fives ∷ [];
@@ -102,33 +102,33 @@ conflict = record {
 }
 
 -- a text whose first record is at fault
-at_first : (text : List ℕ) (fault : HexFault) → IsFault [] text fault → Stands text fault
+at_first : (text : List ℕ) (fault : HexFault) → IsFault [] text fault → FaultStands text fault
 at_first text fault is = record { records = []; rest = text; follows = refl; agree = agree_rising [] (rises 0 [] refl); is = is }
 
-empty : Stands [] (NoEnd 1)
+empty : FaultStands [] (NoEnd 1)
 unfolding scan
 empty = at_first _ _ refl
 
-short : Stands (codes ":02000002120") (Short 1)
+short : FaultStands (codes ":02000002120") (Short 1)
 unfolding scan scan_digits hex_on_literals
 short = at_first _ _ refl
 
-bad_digit : Stands (codes ":0G") (BadDigit 1)
+bad_digit : FaultStands (codes ":0G") (BadDigit 1)
 unfolding scan scan_digits hex_on_literals
 bad_digit = at_first _ _ refl
 
-no_colon : Stands (codes "x") (NoColon 1)
+no_colon : FaultStands (codes "x") (NoColon 1)
 unfolding scan
 no_colon = at_first _ _ refl
 
-unknown_type : Stands (codes ":00000006FA") (Kind 1)
+unknown_type : FaultStands (codes ":00000006FA") (Kind 1)
 unfolding scan scan_digits hex_on_literals flaw_of
 unknown_type = at_first _ _ refl
 
-checksum_before_type : Stands (codes ":00000006FB") (Checksum 1)
+checksum_before_type : FaultStands (codes ":00000006FB") (Checksum 1)
 unfolding scan scan_digits hex_on_literals flaw_of
 checksum_before_type = at_first _ _ refl
 
-wrong_length : Stands (codes ":0100000100FE") (Length 1)
+wrong_length : FaultStands (codes ":0100000100FE") (Length 1)
 unfolding scan scan_digits hex_on_literals flaw_of
 wrong_length = at_first _ _ refl

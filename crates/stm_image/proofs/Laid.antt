@@ -4,7 +4,7 @@ use Rattle.std.specs.Prelude.{Contains, All}
 use Rattle.std.proofs.lemmas.Bool.{cases_eq, cases_lt, ne_eqb}
 use Rattle.std.proofs.lemmas.List.{get_or-drop, get_or-set_same, get_or-set_other, length-drop}
 use Rattle.std.proofs.lemmas.List.Elements.{All-head, All-tail, Contains-append_left, Contains-append_right}
-use Rattle.stm_image.specs.Pairs.{Pairs, InRange, IsImage, byte_at, IsNext, HasNone, Rises, raw_pairs}
+use Rattle.stm_image.specs.Pairs.{Pairs, InRange, IsImage, byte_at, IsNext, HasNone, AddressesRise, raw_pairs}
 use Rattle.stm_image.specs.Lay.{lay, laid_byte, DiffersAt, AgreesWith, AreAlike, IsFirstDifference, IsFirstOther, IsPutAt}
 use Rattle.stm_image.specs.Runs.{IsRunFrom}
 use Rattle.stm_image.proofs.Lying.{raw_holds}
@@ -134,21 +134,21 @@ lay_from set a (x ∷ xs) agrees =
         record { byte = d.byte; held = d.held; from = omega arith; within = omega arith; differs = λ e. d.differs (sym (ap (slice_index (x ∷ xs)) at) ∙ e) }
 
 -- BY RUNS: a place before one that comes next in the set does not differ
-no_difference_before : (set : Pairs) (a : ℕ) (xs : List ℕ) (from start place : ℕ) (bytes : List ℕ) → Rises set → IsRunFrom set from start bytes → from ≤ place → place < start → ¬ DiffersAt set a xs place
+no_difference_before : (set : Pairs) (a : ℕ) (xs : List ℕ) (from start place : ℕ) (bytes : List ℕ) → AddressesRise set → IsRunFrom set from start bytes → from ≤ place → place < start → ¬ DiffersAt set a xs place
 no_difference_before set a xs from start place bytes rises run low high differs =
     let next = next_of_run set from start bytes rises run in
     let up = next.least (place, differs.byte) (held_at set place differs.byte differs.held) low in
     omega arith
 
 -- the bytes of a run
-pub byte_in_run : (set : Pairs) (from start i : ℕ) (bytes : List ℕ) → Rises set → IsRunFrom set from start bytes → i < length bytes → byte_at set (start + i) ≡ Some (slice_index bytes i)
+pub byte_in_run : (set : Pairs) (from start i : ℕ) (bytes : List ℕ) → AddressesRise set → IsRunFrom set from start bytes → i < length bytes → byte_at set (start + i) ≡ Some (slice_index bytes i)
 byte_in_run set from start i bytes rises run lt =
     let S : Pairs → Type 0 = λ ps. Contains ps (start + i, slice_index bytes i) in
     byte_held set (start + i) (slice_index bytes i) rises
     (subst S (sym run.whole) (Contains-append_right run.front (raw_pairs start bytes ++ run.back) (start + i, slice_index bytes i) (Contains-append_left (raw_pairs start bytes) run.back (start + i, slice_index bytes i) (raw_holds start bytes i lt))))
 
 -- what a place in a run tells
-run_byte : (set : Pairs) (a from start place : ℕ) (xs bytes : List ℕ) → Rises set → IsRunFrom set from start bytes → start ≤ place → place < start + length bytes → (d : DiffersAt set a xs place) → d.byte ≡ slice_index bytes (place - start)
+run_byte : (set : Pairs) (a from start place : ℕ) (xs bytes : List ℕ) → AddressesRise set → IsRunFrom set from start bytes → start ≤ place → place < start + length bytes → (d : DiffersAt set a xs place) → d.byte ≡ slice_index bytes (place - start)
 run_byte set a from start place xs bytes rises run low high d =
     let at : start + (place - start) ≡ place = omega arith in
     let there = byte_in_run set from start (place - start) bytes rises run (omega arith) in
@@ -162,7 +162,7 @@ at_dropped a start place xs low high =
     get_or-drop (start - a) xs (place - start) 0 ∙ ap (slice_index xs) at
 
 -- up to the end of a run that is alike, no place differs
-pub alike_more : (set : Pairs) (a from start : ℕ) (xs bytes : List ℕ) → Rises set → IsRunFrom set from start bytes → a ≤ from → AreAlike bytes (drop (start - a) xs)
+pub alike_more : (set : Pairs) (a from start : ℕ) (xs bytes : List ℕ) → AddressesRise set → IsRunFrom set from start bytes → a ≤ from → AreAlike bytes (drop (start - a) xs)
     → ((p : ℕ) → p < from → ¬ DiffersAt set a xs p) → (p : ℕ) → p < start + length bytes → ¬ DiffersAt set a xs p
 alike_more set a from start xs bytes rises run low alike same p lt d = elim (cases_lt p from) [
   | inl before ↦ same p before d
@@ -186,14 +186,14 @@ none_differs set a from xs none same p d = elim (cases_lt p from) [
 ]
 
 -- nor where the next place lies past the bytes
-pub far_next : (set : Pairs) (a from start : ℕ) (xs bytes : List ℕ) → Rises set → IsRunFrom set from start bytes → a + length xs ≤ start → ((p : ℕ) → p < from → ¬ DiffersAt set a xs p) → AgreesWith set a xs
+pub far_next : (set : Pairs) (a from start : ℕ) (xs bytes : List ℕ) → AddressesRise set → IsRunFrom set from start bytes → a + length xs ≤ start → ((p : ℕ) → p < from → ¬ DiffersAt set a xs p) → AgreesWith set a xs
 far_next set a from start xs bytes rises run far same p d = elim (cases_lt p from) [
   | inl before ↦ same p before d
   | inr after ↦ let within = d.within in no_difference_before set a xs from start p bytes rises run after (omega arith) d
 ]
 
 -- the first place of a run that is another
-pub first_in_run : (set : Pairs) (a from start k : ℕ) (xs bytes : List ℕ) → Rises set → IsRunFrom set from start bytes → a ≤ from → IsFirstOther bytes (drop (start - a) xs) k
+pub first_in_run : (set : Pairs) (a from start k : ℕ) (xs bytes : List ℕ) → AddressesRise set → IsRunFrom set from start bytes → a ≤ from → IsFirstOther bytes (drop (start - a) xs) k
     → ((p : ℕ) → p < from → ¬ DiffersAt set a xs p) → IsFirstDifference set a xs (start + k)
 first_in_run set a from start k xs bytes rises run low other same =
     let from_low = run.from in

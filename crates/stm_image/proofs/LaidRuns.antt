@@ -4,7 +4,7 @@ use Rattle.std.specs.Prelude.{Contains, All}
 use Rattle.std.proofs.lemmas.Bool.{cases_eq, cases_lt, ne_eqb}
 use Rattle.std.proofs.lemmas.List.{get_or-drop, get_or-set_same, get_or-set_other, length-drop}
 use Rattle.std.proofs.lemmas.List.Elements.{All-head, All-tail, Contains-append_left, Contains-append_right}
-use Rattle.stm_image.specs.Pairs.{Pairs, InRange, IsImage, byte_at, IsNext, HasNone, Rises, raw_pairs}
+use Rattle.stm_image.specs.Pairs.{Pairs, InRange, IsImage, byte_at, IsNext, HasNone, AddressesRise, raw_pairs}
 use Rattle.stm_image.specs.Lay.{lay, laid_byte, DiffersAt, AgreesWith, AreAlike, IsFirstDifference, IsFirstOther, IsPutAt}
 use Rattle.stm_image.specs.Runs.{IsRunFrom}
 use Rattle.stm_image.proofs.Lying.{raw_holds}
@@ -21,7 +21,7 @@ pub set_elsewhere : (xs : List ℕ) (i k x : ℕ) → k ≢ i → slice_index (s
 set_elsewhere xs i k x other = get_or-set_other xs i k x 0 other
 
 -- no byte stands between an address and the next run
-none_between : (set : Pairs) (from start place : ℕ) (bytes : List ℕ) → Rises set → IsRunFrom set from start bytes → from ≤ place → place < start → byte_at set place ≡ None
+none_between : (set : Pairs) (from start place : ℕ) (bytes : List ℕ) → AddressesRise set → IsRunFrom set from start bytes → from ≤ place → place < start → byte_at set place ≡ None
 none_between set from start place bytes rises run low high = of_byte (byte_at set place) refl
   where
     of_byte : (o : Option ℕ) → byte_at set place ≡ o → byte_at set place ≡ None
@@ -39,7 +39,7 @@ pub laid_start : (set : Pairs) (a : ℕ) (old : List ℕ) → IsLaidTo set a old
 laid_start set a old = record { same_length = refl; from = omega arith; laid = λ i lt below. absurd (omega arith); rest = λ i le. refl }
 
 -- one run more
-pub laid_run : (set : Pairs) (a from start : ℕ) (old new next bytes : List ℕ) → Rises set → IsRunFrom set from start bytes → IsLaidTo set a old from new → IsPutAt bytes new (start - a) next → IsLaidTo set a old (start + length bytes) next
+pub laid_run : (set : Pairs) (a from start : ℕ) (old new next bytes : List ℕ) → AddressesRise set → IsRunFrom set from start bytes → IsLaidTo set a old from new → IsPutAt bytes new (start - a) next → IsLaidTo set a old (start + length bytes) next
 laid_run set a from start old new next bytes rises run so_far put =
     let low = so_far.from in
     let up = run.from in
@@ -87,7 +87,7 @@ laid_none set a at old new so_far none = laid_each set a old new so_far.same_len
   | inr past ↦ so_far.rest i past ∙ ap (λ (o : Option ℕ). laid_byte o (slice_index old i)) (byte_at_none set (a + i) (λ q held. let below = none q held in omega arith))
 ])
 
-pub laid_far : (set : Pairs) (a at start : ℕ) (old new bytes : List ℕ) → Rises set → IsRunFrom set at start bytes → IsLaidTo set a old at new → a + length old ≤ start → new ≡ lay set a old
+pub laid_far : (set : Pairs) (a at start : ℕ) (old new bytes : List ℕ) → AddressesRise set → IsRunFrom set at start bytes → IsLaidTo set a old at new → a + length old ≤ start → new ≡ lay set a old
 laid_far set a at start old new bytes rises run so_far far = laid_each set a old new so_far.same_length (λ i lt. elim (cases_lt (a + i) at) [
   | inl done ↦ so_far.laid i lt done
   | inr past ↦ so_far.rest i past ∙ sym (ap (λ (o : Option ℕ). laid_byte o (slice_index old i)) (none_between set at start (a + i) bytes rises run past (omega arith)))

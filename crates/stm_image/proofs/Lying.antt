@@ -4,8 +4,8 @@ use Rattle.std.specs.Prelude.{Contains, All}
 use Rattle.std.proofs.lemmas.List.{length-take}
 use Rattle.std.proofs.lemmas.List.Elements.{All-take, All-drop, All-get_or, Contains-get_or, Contains-append_left, Contains-append_right, Contains-append_cases}
 use Rattle.std.proofs.lemmas.List.Kept.{AllPairs-cons}
-use Rattle.stm_image.specs.Pairs.{Pairs, Rises, InRange, IsImage, raw_pairs}
-use Rattle.stm_image.specs.Pieces.{size_of, bytes_at, pairs_of_piece, pairs_at, Stand, Apart, IsWithin}
+use Rattle.stm_image.specs.Pairs.{Pairs, AddressesRise, InRange, IsImage, raw_pairs}
+use Rattle.stm_image.specs.Pieces.{piece_size, piece_bytes, pairs_of_piece, pairs_at, Stand, Apart, IsWithin}
 use Rattle.stm_image.specs.declared.pieces.Piece.{Piece}
 use Rattle.stm_image.proofs.Sets.{rises_raw}
 use Rattle.stm_image.proofs.Standing.{Stand-le}
@@ -45,16 +45,16 @@ length-raw s [] = refl
 length-raw s (b ∷ bytes) = ap (λ n. suc n) (length-raw (s + 1) bytes)
 
 -- RISING, PART BY PART
-pub Rises-tail : (p : ℕ × ℕ) (pairs : Pairs) → Rises (p ∷ pairs) → Rises pairs
+pub Rises-tail : (p : ℕ × ℕ) (pairs : Pairs) → AddressesRise (p ∷ pairs) → AddressesRise pairs
 Rises-tail p pairs rises i j d lt within = rises (suc i) (suc j) d (omega arith) (omega arith)
 
-pub rises_head : (p : ℕ × ℕ) (pairs : Pairs) (q : ℕ × ℕ) → Rises (p ∷ pairs) → Contains pairs q → p.0 < q.0
+pub rises_head : (p : ℕ × ℕ) (pairs : Pairs) (q : ℕ × ℕ) → AddressesRise (p ∷ pairs) → Contains pairs q → p.0 < q.0
 rises_head p pairs q rises (i, lt, is) =
     let up = rises zero (suc i) q (omega arith) (omega arith) in
     let same : (get_or pairs i q).0 ≡ q.0 = ap (λ (r : ℕ × ℕ). r.0) is in
     omega arith
 
-pub Rises-append : (xs ys : Pairs) → Rises xs → Rises ys → ((p q : ℕ × ℕ) → Contains xs p → Contains ys q → p.0 < q.0) → Rises (xs ++ ys)
+pub Rises-append : (xs ys : Pairs) → AddressesRise xs → AddressesRise ys → ((p q : ℕ × ℕ) → Contains xs p → Contains ys q → p.0 < q.0) → AddressesRise (xs ++ ys)
 Rises-append [] ys rx ry between = ry
 Rises-append (x ∷ xs) ys rx ry between =
     AllPairs-cons (λ q r. q.0 < r.0) x (xs ++ ys)
@@ -65,7 +65,7 @@ Rises-append (x ∷ xs) ys rx ry between =
     above q (inl held) = rises_head x xs q rx held
     above q (inr held) = between x q (zero, omega arith, refl) held
 
-pub rises_across : (xs ys : Pairs) (p q : ℕ × ℕ) → Rises (xs ++ ys) → Contains xs p → Contains ys q → p.0 < q.0
+pub rises_across : (xs ys : Pairs) (p q : ℕ × ℕ) → AddressesRise (xs ++ ys) → Contains xs p → Contains ys q → p.0 < q.0
 rises_across [] ys p q rises hp hq = absurd (omega (arith, hp.1))
 rises_across (x ∷ xs) ys p q rises (zero, lt, is) hq =
     let up = rises_head x (xs ++ ys) q rises (Contains-append_right xs ys q hq) in
@@ -74,11 +74,11 @@ rises_across (x ∷ xs) ys p q rises (zero, lt, is) hq =
 rises_across (x ∷ xs) ys p q rises (suc i, lt, is) hq = rises_across xs ys p q (Rises-tail x (xs ++ ys) rises) (i, omega arith, is) hq
 
 -- PIECES
-pub length-bytes_at : (bytes : List ℕ) (p : Piece) → p.place + size_of p ≤ length bytes → length (bytes_at bytes p) ≡ size_of p
-length-bytes_at bytes p within = let dropped = length-drop p.place bytes in let taken = length-take (size_of p) (drop p.place bytes) in omega arith
+pub length-bytes_at : (bytes : List ℕ) (p : Piece) → p.place + piece_size p ≤ length bytes → length (piece_bytes bytes p) ≡ piece_size p
+length-bytes_at bytes p within = let dropped = length-drop p.place bytes in let taken = length-take (piece_size p) (drop p.place bytes) in omega arith
 
-pub short-bytes_at : (bytes : List ℕ) (p : Piece) → length (bytes_at bytes p) ≤ size_of p
-short-bytes_at bytes p = let taken = length-take (size_of p) (drop p.place bytes) in omega arith
+pub short-bytes_at : (bytes : List ℕ) (p : Piece) → length (piece_bytes bytes p) ≤ piece_size p
+short-bytes_at bytes p = let taken = length-take (piece_size p) (drop p.place bytes) in omega arith
 
 -- the piece of a pair
 pub piece_of : (bytes : List ℕ) (ps : List Piece) (q : ℕ × ℕ) → Contains (pairs_at bytes ps) q → (p : Piece) × Contains ps p × Contains (pairs_of_piece bytes p) q
@@ -97,33 +97,33 @@ holds_piece bytes (r ∷ ps) p q (suc i, lt, is) here = Contains-append_right (p
 
 -- where the pairs of a piece lie
 pub piece_from : (bytes : List ℕ) (p : Piece) (q : ℕ × ℕ) → Contains (pairs_of_piece bytes p) q → p.first ≤ q.0
-piece_from bytes p q held = (raw_lies p.first (bytes_at bytes p) q held).from
+piece_from bytes p q held = (raw_lies p.first (piece_bytes bytes p) q held).from
 
-pub piece_to : (bytes : List ℕ) (p : Piece) (q : ℕ × ℕ) → Contains (pairs_of_piece bytes p) q → q.0 < p.first + size_of p
-piece_to bytes p q held = let lies = raw_lies p.first (bytes_at bytes p) q held in let to = lies.to in let short = short-bytes_at bytes p in omega arith
+pub piece_to : (bytes : List ℕ) (p : Piece) (q : ℕ × ℕ) → Contains (pairs_of_piece bytes p) q → q.0 < p.first + piece_size p
+piece_to bytes p q held = let lies = raw_lies p.first (piece_bytes bytes p) q held in let to = lies.to in let short = short-bytes_at bytes p in omega arith
 
 -- the pairs of pieces that are apart lie at the least address or after it, and rise
 pub apart_from : (bytes : List ℕ) (from to least : ℕ) (ps : List Piece) (q : ℕ × ℕ) → Stand from to ps → Apart least ps → Contains (pairs_at bytes ps) q → least ≤ q.0
 apart_from bytes from to least [] q stand apart held = absurd (omega (arith, held.1))
 apart_from bytes from to least (p ∷ ps) q stand apart held = elim (Contains-append_cases (pairs_of_piece bytes p) (pairs_at bytes ps) q held) [
   | inl here ↦ let low = piece_from bytes p q here in omega (arith, apart.0)
-  | inr later ↦ let low = apart_from bytes (from + size_of p) to (p.last + 2) ps q stand.3 apart.1 later in omega (arith, apart.0, stand.1)
+  | inr later ↦ let low = apart_from bytes (from + piece_size p) to (p.last + 2) ps q stand.3 apart.1 later in omega (arith, apart.0, stand.1)
 ]
 
-pub rises_apart : (bytes : List ℕ) (from to least : ℕ) (ps : List Piece) → Stand from to ps → Apart least ps → Rises (pairs_at bytes ps)
+pub rises_apart : (bytes : List ℕ) (from to least : ℕ) (ps : List Piece) → Stand from to ps → Apart least ps → AddressesRise (pairs_at bytes ps)
 rises_apart bytes from to least [] stand apart = λ i j d lt within. absurd (omega arith)
 rises_apart bytes from to least (p ∷ ps) stand apart =
-    Rises-append (pairs_of_piece bytes p) (pairs_at bytes ps) (rises_raw p.first (bytes_at bytes p)) (rises_apart bytes (from + size_of p) to (p.last + 2) ps stand.3 apart.1)
-    (λ x y hx hy. let high = piece_to bytes p x hx in let low = apart_from bytes (from + size_of p) to (p.last + 2) ps y stand.3 apart.1 hy in omega (arith, stand.1))
+    Rises-append (pairs_of_piece bytes p) (pairs_at bytes ps) (rises_raw p.first (piece_bytes bytes p)) (rises_apart bytes (from + piece_size p) to (p.last + 2) ps stand.3 apart.1)
+    (λ x y hx hy. let high = piece_to bytes p x hx in let low = apart_from bytes (from + piece_size p) to (p.last + 2) ps y stand.3 apart.1 hy in omega (arith, stand.1))
 
 -- each piece of some that stand
 pub stands_within : (from to : ℕ) (ps : List Piece) (p : Piece) → Stand from to ps → Contains ps p → IsWithin to p
 stands_within from to [] p stand held = absurd (omega (arith, held.1))
 stands_within from to (r ∷ ps) p stand (zero, lt, is) =
-    let later = Stand-le (from + size_of r) to ps stand.3 in
+    let later = Stand-le (from + piece_size r) to ps stand.3 in
     let W : Piece → Type 0 = λ s. IsWithin to s in
     subst W is (record { order = stand.1; fits = stand.2; ends = omega (arith, stand.0) })
-stands_within from to (r ∷ ps) p stand (suc i, lt, is) = stands_within (from + size_of r) to ps p stand.3 (i, omega arith, is)
+stands_within from to (r ∷ ps) p stand (suc i, lt, is) = stands_within (from + piece_size r) to ps p stand.3 (i, omega arith, is)
 
 pub is_image : (bytes : List ℕ) (to : ℕ) (ps : List Piece) → Stand 0 to ps → Apart 0 ps → All (λ b. b < 256) bytes → IsImage (pairs_at bytes ps)
 is_image bytes to ps stand apart all = record {
@@ -139,11 +139,11 @@ is_image bytes to ps stand apart all = record {
         let order = within.order in
         let fits = within.fits in
         let high = piece_to bytes p q found.2 in
-        let lies = raw_lies p.first (bytes_at bytes p) q found.2 in
+        let lies = raw_lies p.first (piece_bytes bytes p) q found.2 in
         let from = lies.from in
         let ends = lies.to in
-        let part = All-take (λ b. b < 256) (size_of p) (drop p.place bytes) (All-drop (λ b. b < 256) p.place bytes all) in
-        let small : slice_index (bytes_at bytes p) (q.0 - p.first) < 256 = All-get_or (λ b. b < 256) (bytes_at bytes p) (q.0 - p.first) 0 (omega arith) part in
+        let part = All-take (λ b. b < 256) (piece_size p) (drop p.place bytes) (All-drop (λ b. b < 256) p.place bytes all) in
+        let small : slice_index (piece_bytes bytes p) (q.0 - p.first) < 256 = All-get_or (λ b. b < 256) (piece_bytes bytes p) (q.0 - p.first) 0 (omega arith) part in
         let B : ℕ → Type 0 = λ b. b < 256 in
         (omega arith, subst B lies.byte small)
 
@@ -151,14 +151,14 @@ is_image bytes to ps stand apart all = record {
 pub length-pairs_at : (bytes : List ℕ) (from to : ℕ) (ps : List Piece) → Stand from to ps → to ≤ length bytes → from + length (pairs_at bytes ps) ≡ to
 length-pairs_at bytes from to [] stand within = omega (arith, stand)
 length-pairs_at bytes from to (p ∷ ps) stand within =
-    let later = Stand-le (from + size_of p) to ps stand.3 in
-    let more = length-pairs_at bytes (from + size_of p) to ps stand.3 within in
+    let later = Stand-le (from + piece_size p) to ps stand.3 in
+    let more = length-pairs_at bytes (from + piece_size p) to ps stand.3 within in
     let at = stand.0 in
     let own = length-bytes_at bytes p (omega arith) in
-    let raw = length-raw p.first (bytes_at bytes p) in
+    let raw = length-raw p.first (piece_bytes bytes p) in
     let both = length-append (pairs_of_piece bytes p) (pairs_at bytes ps) in
     omega arith
 
-pub rises_back : (xs ys : Pairs) → Rises (xs ++ ys) → Rises ys
+pub rises_back : (xs ys : Pairs) → AddressesRise (xs ++ ys) → AddressesRise ys
 rises_back [] ys rises = rises
 rises_back (x ∷ xs) ys rises = rises_back xs ys (Rises-tail x (xs ++ ys) rises)

@@ -6,9 +6,9 @@ use Rattle.std.proofs.lemmas.Bool.{cases_eq, cases_lt, ne_eqb, eq-eqb}
 use Rattle.std.proofs.lemmas.List.{take-append-drop, length-take, take_more, take_all, drop_all, append-nil}
 use Rattle.std.proofs.lemmas.List.Elements.{Contains-append_left, Contains-append_right, Contains-append_cases}
 use Rattle.std.proofs.lemmas.List.Sorted.{Contains-permutation, IsPermutation-sym}
-use Rattle.stm_image.specs.Pairs.{Pairs, Rises, Agree, IsSetOf, byte_at, raw_pairs}
+use Rattle.stm_image.specs.Pairs.{Pairs, AddressesRise, Agree, IsSetOf, byte_at, raw_pairs}
 use Rattle.stm_image.specs.Layout.{AllWithin, IsAmong, Covers, AllAgree, HasDifference, IsLaidOut}
-use Rattle.stm_image.specs.Pieces.{size_of, bytes_at, pairs_of_piece, pairs_at, Stand, IsWithin}
+use Rattle.stm_image.specs.Pieces.{piece_size, piece_bytes, pairs_of_piece, pairs_at, Stand, IsWithin}
 use Rattle.stm_image.specs.declared.pieces.Piece.{Piece}
 use Rattle.stm_image.proofs.Lying.{raw_lies, raw_holds, piece_of, holds_piece, stands_within, length-bytes_at, rises_head, Rises-tail}
 use Rattle.stm_image.proofs.Standing.{raw_pairs-append, pairs_at-snoc}
@@ -26,7 +26,7 @@ held_at ((x, y) ∷ set) a b e = elim (cases_eq x a) [
       (suc found.0, omega (arith, found.1), found.2)
 ]
 
-pub byte_held : (set : Pairs) (a b : ℕ) → Rises set → Contains set (a, b) → byte_at set a ≡ Some b
+pub byte_held : (set : Pairs) (a b : ℕ) → AddressesRise set → Contains set (a, b) → byte_at set a ≡ Some b
 byte_held [] a b rises held = absurd (omega (arith, held.1))
 byte_held ((x, y) ∷ set) a b rises (zero, lt, is) =
     ap (λ (t : Bool). if t then Some y else byte_at set a) (eq-eqb x a (ap (λ (p : ℕ × ℕ). p.0) is)) ∙ ap (λ (p : ℕ × ℕ). Some p.1) is
@@ -40,9 +40,9 @@ nothing_laid = record { among = λ q held. held; covers = λ q held. absurd (ome
 
 pub piece_laid : (bytes : List ℕ) (p : Piece) (done laid : Pairs) (low next after : ℕ) → IsWithin (length bytes) p → IsLaidOut done laid low next → low ≤ p.first
     → p.last + 1 ≤ after → next ≤ after → (after ≡ next) ⊎ (after ≡ p.last + 1)
-    → IsLaidOut (done ++ pairs_of_piece bytes p) (laid ++ raw_pairs (p.first + (next - p.first)) (drop (next - p.first) (bytes_at bytes p))) p.first after
+    → IsLaidOut (done ++ pairs_of_piece bytes p) (laid ++ raw_pairs (p.first + (next - p.first)) (drop (next - p.first) (piece_bytes bytes p))) p.first after
 piece_laid bytes p done laid low next after within so_far order ends grows which =
-    let D = raw_pairs (p.first + (next - p.first)) (drop (next - p.first) (bytes_at bytes p)) in
+    let D = raw_pairs (p.first + (next - p.first)) (drop (next - p.first) (piece_bytes bytes p)) in
     let P = pairs_of_piece bytes p in
     record {
       among = λ q held. elim (Contains-append_cases laid D q held) [
@@ -52,7 +52,7 @@ piece_laid bytes p done laid low next after within so_far order ends grows which
       covers = λ q held. elim (Contains-append_cases done P q held) [
         | inl old ↦ let found = so_far.covers q old in (found.0, Contains-append_left laid D (q.0, found.0) found.1)
         | inr new ↦
-            let lies = raw_lies p.first (bytes_at bytes p) q new in
+            let lies = raw_lies p.first (piece_bytes bytes p) q new in
             let from = lies.from in
             let to = lies.to in
             let long = length-bytes_at bytes p within.ends in
@@ -62,14 +62,14 @@ piece_laid bytes p done laid low next after within so_far order ends grows which
       filled = fill;
     }
   where
-    fill : (a : ℕ) → p.first ≤ a → a < after → (b : ℕ) × Contains (laid ++ raw_pairs (p.first + (next - p.first)) (drop (next - p.first) (bytes_at bytes p))) (a, b)
+    fill : (a : ℕ) → p.first ≤ a → a < after → (b : ℕ) × Contains (laid ++ raw_pairs (p.first + (next - p.first)) (drop (next - p.first) (piece_bytes bytes p))) (a, b)
     fill a from to = elim (cases_lt a next) [
       | inl early ↦ let found = so_far.filled a (omega (arith, order)) early in (found.0, Contains-append_left laid _ (a, found.0) found.1)
       | inr late ↦
           let skip = next - p.first in
-          let rest = drop skip (bytes_at bytes p) in
+          let rest = drop skip (piece_bytes bytes p) in
           let long = length-bytes_at bytes p within.ends in
-          let shorter = length-drop skip (bytes_at bytes p) in
+          let shorter = length-drop skip (piece_bytes bytes p) in
           let first_to_last = within.order in
           let last : after ≡ p.last + 1 = elim which [ inl same ↦ absurd (omega arith) | inr own ↦ own ] in
           let i = a - (p.first + skip) in
@@ -78,12 +78,12 @@ piece_laid bytes p done laid low next after within so_far order ends grows which
           (slice_index rest i, Contains-append_right laid _ (a, slice_index rest i) (subst H at (raw_holds (p.first + skip) rest i (omega arith))))
     ]
 
-    own : (q : ℕ × ℕ) → Contains (raw_pairs (p.first + (next - p.first)) (drop (next - p.first) (bytes_at bytes p))) q → Contains (pairs_of_piece bytes p) q
-    own q new = elim (cases_lt (length (bytes_at bytes p)) (next - p.first)) [
-      | inl none ↦ let shorter = length-drop (next - p.first) (bytes_at bytes p) in let lies = raw_lies (p.first + (next - p.first)) (drop (next - p.first) (bytes_at bytes p)) q new in let from = lies.from in let to = lies.to in absurd (omega arith)
+    own : (q : ℕ × ℕ) → Contains (raw_pairs (p.first + (next - p.first)) (drop (next - p.first) (piece_bytes bytes p))) q → Contains (pairs_of_piece bytes p) q
+    own q new = elim (cases_lt (length (piece_bytes bytes p)) (next - p.first)) [
+      | inl none ↦ let shorter = length-drop (next - p.first) (piece_bytes bytes p) in let lies = raw_lies (p.first + (next - p.first)) (drop (next - p.first) (piece_bytes bytes p)) q new in let from = lies.from in let to = lies.to in absurd (omega arith)
       | inr some ↦
           let skip = next - p.first in
-          let own_bytes = bytes_at bytes p in
+          let own_bytes = piece_bytes bytes p in
           let front = length-take skip own_bytes in
           let at : p.first + length (take skip own_bytes) ≡ p.first + skip = omega arith in
           let parts : raw_pairs p.first own_bytes ≡ raw_pairs p.first (take skip own_bytes) ++ raw_pairs (p.first + skip) (drop skip own_bytes) =
@@ -98,7 +98,7 @@ nothing_more laid s skip bytes le = sym (ap (λ b. laid ++ raw_pairs s b) (drop_
 -- one piece more of a list
 pub next_laid : (bytes : List ℕ) (list : List Piece) (i : ℕ) (d : Piece) (laid more : Pairs) (low next after : ℕ) → i < length list → IsWithin (length bytes) (get_or list i d)
     → IsLaidOut (pairs_at bytes (take i list)) laid low next → low ≤ (get_or list i d).first → (get_or list i d).last + 1 ≤ after → next ≤ after → (after ≡ next) ⊎ (after ≡ (get_or list i d).last + 1)
-    → more ≡ laid ++ raw_pairs ((get_or list i d).first + (next - (get_or list i d).first)) (drop (next - (get_or list i d).first) (bytes_at bytes (get_or list i d)))
+    → more ≡ laid ++ raw_pairs ((get_or list i d).first + (next - (get_or list i d).first)) (drop (next - (get_or list i d).first) (piece_bytes bytes (get_or list i d)))
     → IsLaidOut (pairs_at bytes (take (i + 1) list)) more (get_or list i d).first after
 next_laid bytes list i d laid more low next after lt within so_far order ends grows which is =
     let p = get_or list i d in
@@ -109,13 +109,13 @@ next_laid bytes list i d laid more low next after lt within so_far order ends gr
 
 -- a piece that brings no address
 pub none_laid : (bytes : List ℕ) (list : List Piece) (i : ℕ) (d : Piece) (laid : Pairs) (low next : ℕ) → i < length list → IsWithin (length bytes) (get_or list i d)
-    → IsLaidOut (pairs_at bytes (take i list)) laid low next → low ≤ (get_or list i d).first → size_of (get_or list i d) ≤ next - (get_or list i d).first
+    → IsLaidOut (pairs_at bytes (take i list)) laid low next → low ≤ (get_or list i d).first → piece_size (get_or list i d) ≤ next - (get_or list i d).first
     → IsLaidOut (pairs_at bytes (take (i + 1) list)) laid (get_or list i d).first next
 none_laid bytes list i d laid low next lt within so_far order none =
     let p = get_or list i d in
     let first_to_last = within.order in
     let long = length-bytes_at bytes p within.ends in
-    next_laid bytes list i d laid laid low next next lt within so_far order (omega arith) (omega arith) (inl refl) (nothing_more laid (p.first + (next - p.first)) (next - p.first) (bytes_at bytes p) (omega arith))
+    next_laid bytes list i d laid laid low next next lt within so_far order (omega arith) (omega arith) (inl refl) (nothing_more laid (p.first + (next - p.first)) (next - p.first) (piece_bytes bytes p) (omega arith))
 
 pub all_laid : (bytes : List ℕ) (list : List Piece) (i : ℕ) (laid : Pairs) (low next : ℕ) → length list ≤ i → IsLaidOut (pairs_at bytes (take i list)) laid low next → IsLaidOut (pairs_at bytes list) laid low next
 all_laid bytes list i laid low next past out = let L : List Piece → Type 0 = λ l. IsLaidOut (pairs_at bytes l) laid low next in subst L (take_all i list past) out
@@ -124,16 +124,16 @@ pub within_moved : (to : ℕ) (xs ys : List Piece) → Stand 0 to xs → IsPermu
 within_moved to xs ys stand moved p held = stands_within 0 to xs p stand (Contains-permutation ys xs p (IsPermutation-sym xs ys moved) held)
 
 -- THE SET: where it agrees with each piece, it is that of their pairs
-pub set_agreeing : (set : Pairs) (bytes : List ℕ) (list : List Piece) → Rises set → IsAmong set (pairs_at bytes list) → Covers set (pairs_at bytes list) → AllAgree set bytes list → IsSetOf set (pairs_at bytes list)
+pub set_agreeing : (set : Pairs) (bytes : List ℕ) (list : List Piece) → AddressesRise set → IsAmong set (pairs_at bytes list) → Covers set (pairs_at bytes list) → AllAgree set bytes list → IsSetOf set (pairs_at bytes list)
 set_agreeing set bytes list rises among covers agree = record { rises = rises; same = λ q. (among q, back q) }
   where
     back : (q : ℕ × ℕ) → Contains (pairs_at bytes list) q → Contains set q
     back q held =
         let found = piece_of bytes list q held in
         let p = found.0 in
-        let lies = raw_lies p.first (bytes_at bytes p) q found.2 in
+        let lies = raw_lies p.first (piece_bytes bytes p) q found.2 in
         let there = covers q held in
-        elim (cases_eq (slice_index (bytes_at bytes p) (q.0 - p.first)) there.0) [
+        elim (cases_eq (slice_index (piece_bytes bytes p) (q.0 - p.first)) there.0) [
           | inl same ↦ let C : ℕ → Type 0 = λ b. Contains set (q.0, b) in subst C (sym same ∙ lies.byte) there.1
           | inr other ↦ absurd (agree p found.1 q.0 (record { byte = there.0; held = byte_held set q.0 there.0 rises there.1; from = lies.from; within = lies.to; differs = other }))
         ]
@@ -147,9 +147,9 @@ pairs_differ set bytes list among has agree =
     let within = d.within in
     let i = has.place - p.first in
     let at : p.first + i ≡ has.place = omega arith in
-    let H : ℕ → Type 0 = λ n. Contains (pairs_of_piece bytes p) (n, slice_index (bytes_at bytes p) i) in
-    let own = subst H at (raw_holds p.first (bytes_at bytes p) i (omega arith)) in
-    d.differs (agree has.place (slice_index (bytes_at bytes p) i) d.byte (holds_piece bytes list p (has.place, slice_index (bytes_at bytes p) i) has.held own) (among (has.place, d.byte) (held_at set has.place d.byte d.held)))
+    let H : ℕ → Type 0 = λ n. Contains (pairs_of_piece bytes p) (n, slice_index (piece_bytes bytes p) i) in
+    let own = subst H at (raw_holds p.first (piece_bytes bytes p) i (omega arith)) in
+    d.differs (agree has.place (slice_index (piece_bytes bytes p) i) d.byte (holds_piece bytes list p (has.place, slice_index (piece_bytes bytes p) i) has.held own) (among (has.place, d.byte) (held_at set has.place d.byte d.held)))
 
 -- pieces in another order have the same pairs
 pub pairs_moved : (bytes : List ℕ) (xs ys : List Piece) (q : ℕ × ℕ) → IsPermutation xs ys → Contains (pairs_at bytes xs) q → Contains (pairs_at bytes ys) q

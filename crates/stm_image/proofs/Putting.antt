@@ -8,39 +8,39 @@ use Rattle.std.proofs.lemmas.List.Elements.{Contains-append_left, Contains-appen
 use Rattle.stm_image.specs.Clash.{Names, IsPutOver}
 use Rattle.stm_image.specs.Lay.{IsPutAt}
 use Rattle.stm_image.specs.Pairs.{Pairs, byte_at}
-use Rattle.stm_image.specs.Pieces.{size_of, bytes_at, pairs_of_piece, pairs_at, Stand, Apart, IsWithin}
+use Rattle.stm_image.specs.Pieces.{piece_size, piece_bytes, pairs_of_piece, pairs_at, Stand, Apart, IsWithin}
 use Rattle.stm_image.specs.declared.pieces.Piece.{Piece}
 use Rattle.stm_image.proofs.Lying.{raw_lies, raw_holds, piece_of, holds_piece, piece_from, piece_to, stands_within, length-bytes_at, rises_apart}
 use Rattle.stm_image.proofs.Overlaps.{byte_held, held_at}
 use Rattle.stm_image.proofs.Running.{pairs_at-append, ends_before, none_from, behind_piece}
 
 -- the bytes of a piece
-pub byte_of_piece : (bytes : List ℕ) (p : Piece) (k : ℕ) → k < size_of p → slice_index (bytes_at bytes p) k ≡ slice_index bytes (p.place + k)
-byte_of_piece bytes p k lt = get_or-take (size_of p) (drop p.place bytes) k 0 lt ∙ get_or-drop p.place bytes k 0
+pub byte_of_piece : (bytes : List ℕ) (p : Piece) (k : ℕ) → k < piece_size p → slice_index (piece_bytes bytes p) k ≡ slice_index bytes (p.place + k)
+byte_of_piece bytes p k lt = get_or-take (piece_size p) (drop p.place bytes) k 0 lt ∙ get_or-drop p.place bytes k 0
 
 -- a pair of a piece
-in_place : (bytes : List ℕ) (p : Piece) (k a b : ℕ) → k < length (bytes_at bytes p) → p.first + k ≡ a → slice_index (bytes_at bytes p) k ≡ b → Contains (pairs_of_piece bytes p) (a, b)
-in_place bytes p k a b lt at byte = subst (λ (r : ℕ × ℕ). Contains (pairs_of_piece bytes p) r) (ap₂ (λ (x y : ℕ). (x, y)) at byte) (raw_holds p.first (bytes_at bytes p) k lt)
+in_place : (bytes : List ℕ) (p : Piece) (k a b : ℕ) → k < length (piece_bytes bytes p) → p.first + k ≡ a → slice_index (piece_bytes bytes p) k ≡ b → Contains (pairs_of_piece bytes p) (a, b)
+in_place bytes p k a b lt at byte = subst (λ (r : ℕ × ℕ). Contains (pairs_of_piece bytes p) r) (ap₂ (λ (x y : ℕ). (x, y)) at byte) (raw_holds p.first (piece_bytes bytes p) k lt)
 
 -- where pieces stand that come before one, and after it
 pub Stand-split : (from to : ℕ) (front : List Piece) (p : Piece) (back : List Piece) → Stand from to (front ++ p ∷ back) → Stand from p.place front × Stand p.place to (p ∷ back)
-Stand-split from to [] p back (at, order, fits, more) = (sym at, (refl, order, fits, subst (λ n. Stand (n + size_of p) to back) (sym at) more))
-Stand-split from to (q ∷ front) p back (at, order, fits, more) = let parts = Stand-split (from + size_of q) to front p back more in ((at, order, fits, parts.0), parts.1)
+Stand-split from to [] p back (at, order, fits, more) = (sym at, (refl, order, fits, subst (λ n. Stand (n + piece_size p) to back) (sym at) more))
+Stand-split from to (q ∷ front) p back (at, order, fits, more) = let parts = Stand-split (from + piece_size q) to front p back more in ((at, order, fits, parts.0), parts.1)
 
 pub stands_from : (from to : ℕ) (ps : List Piece) (q : Piece) → Stand from to ps → Contains ps q → from ≤ q.place
 stands_from from to [] q stand held = absurd (omega (arith, held.1))
 stands_from from to (r ∷ ps) q stand (zero, lt, is) = let e : r.place ≡ q.place = ap (λ (s : Piece). s.place) is in let at = stand.0 in omega arith
-stands_from from to (r ∷ ps) q stand (suc i, lt, is) = let more = stands_from (from + size_of r) to ps q stand.3 (i, omega arith, is) in omega arith
+stands_from from to (r ∷ ps) q stand (suc i, lt, is) = let more = stands_from (from + piece_size r) to ps q stand.3 (i, omega arith, is) in omega arith
 
 -- where the byte of a pair stands, beside a piece
 record Sits (list : List Piece) (bytes : List ℕ) (p : Piece) (a b : ℕ) : Type 0 where
   piece : Piece
   held : Contains list piece
   k : ℕ
-  within : k < size_of piece
+  within : k < piece_size piece
   at : piece.first + k ≡ a
   byte : slice_index bytes (piece.place + k) ≡ b
-  beside : (piece.place + k < p.place) ⊎ (piece ≡ p) ⊎ (p.place + size_of p ≤ piece.place + k)
+  beside : (piece.place + k < p.place) ⊎ (piece ≡ p) ⊎ (p.place + piece_size p ≤ piece.place + k)
 
 -- PUTTING BYTES OVER PART OF A PIECE, the n-th of some that stand apart
 module _ (bytes : List ℕ) (list : List Piece) (n : ℕ) (p : Piece) (stand : Stand 0 (length bytes) list) (apart : Apart 0 list) (lt : n < length list) (is : p ≡ get_or list n p) where
@@ -74,7 +74,7 @@ module _ (bytes : List ℕ) (list : List Piece) (n : ℕ) (p : Piece) (stand : S
       ]
 
   -- a pair of a list of pieces that are among these
-  sits_in : (some : List Piece) (from : List ℕ) (a b : ℕ) → ((q : Piece) → Contains some q → Contains list q) → ((q : Piece) (k : ℕ) → Contains some q → k < size_of q → (q.place + k < p.place) ⊎ (q ≡ p) ⊎ (p.place + size_of p ≤ q.place + k))
+  sits_in : (some : List Piece) (from : List ℕ) (a b : ℕ) → ((q : Piece) → Contains some q → Contains list q) → ((q : Piece) (k : ℕ) → Contains some q → k < piece_size q → (q.place + k < p.place) ⊎ (q ≡ p) ⊎ (p.place + piece_size p ≤ q.place + k))
       → length from ≡ length bytes → Contains (pairs_at from some) (a, b) → Sits list from p a b
   sits_in some from a b among beside same held =
       let found = piece_of from some (a, b) held in
@@ -82,12 +82,12 @@ module _ (bytes : List ℕ) (list : List Piece) (n : ℕ) (p : Piece) (stand : S
       let within = stands_within 0 (length bytes) list q stand (among q found.1) in
       let order = within.order in
       let ends = within.ends in
-      let lies = raw_lies q.first (bytes_at from q) (a, b) found.2 in
+      let lies = raw_lies q.first (piece_bytes from q) (a, b) found.2 in
       let low = lies.from in
       let high = lies.to in
       let long = length-bytes_at from q (omega arith) in
       let k = a - q.first in
-      let short : k < size_of q = omega arith in
+      let short : k < piece_size q = omega arith in
       record { piece = q; held = among q found.1; k = k; within = short; at = omega arith; byte = sym (byte_of_piece from q k short) ∙ lies.byte; beside = beside q k found.1 short }
 
   sits : (from : List ℕ) (a b : ℕ) → length from ≡ length bytes → Contains (pairs_at from list) (a, b) → Sits list from p a b
@@ -103,9 +103,9 @@ module _ (bytes : List ℕ) (list : List Piece) (n : ℕ) (p : Piece) (stand : S
             (λ q k h short. from_here q k h) same late
       ]
     where
-      from_here : (q : Piece) (k : ℕ) → Contains (p ∷ drop (n + 1) list) q → (q.place + k < p.place) ⊎ (q ≡ p) ⊎ (p.place + size_of p ≤ q.place + k)
+      from_here : (q : Piece) (k : ℕ) → Contains (p ∷ drop (n + 1) list) q → (q.place + k < p.place) ⊎ (q ≡ p) ⊎ (p.place + piece_size p ≤ q.place + k)
       from_here q k (zero, inside, e) = inr (inl (sym e))
-      from_here q k (suc i, inside, e) = let up = stands_from (p.place + size_of p) (length bytes) (drop (n + 1) list) q parts.1.3 (i, omega arith, e) in inr (inr (omega arith))
+      from_here q k (suc i, inside, e) = let up = stands_from (p.place + piece_size p) (length bytes) (drop (n + 1) list) q parts.1.3 (i, omega arith, e) in inr (inr (omega arith))
 
   -- it holds all of so many addresses, from one on that the set has
   module _ (address count : ℕ) (low : AllWithin (λ (r : Piece). r.last < address) list 0 n) (high : address ≤ p.last) (names : Names (pairs_at bytes list) address count) (some : 0 < count) where
@@ -154,7 +154,7 @@ module _ (bytes : List ℕ) (list : List Piece) (n : ℕ) (p : Piece) (stand : S
               ]
           | inr (inr after) ↦ inr (omega arith)
         ] in
-        let byte : slice_index (bytes_at to q) k ≡ b = byte_of_piece to q k s.within ∙ same (q.place + k) outside ∙ s.byte in
+        let byte : slice_index (piece_bytes to q) k ≡ b = byte_of_piece to q k s.within ∙ same (q.place + k) outside ∙ s.byte in
         let within = stands_within 0 (length bytes) list q stand s.held in
         let fits = within.ends in
         let long = length-bytes_at to q (omega arith) in
@@ -172,8 +172,8 @@ module _ (bytes : List ℕ) (list : List Piece) (n : ℕ) (p : Piece) (stand : S
           let k = (address - p.first) + i in
           let at : p.first + k ≡ address + i = omega arith in
           let place : p.place + k ≡ p.place + (address - p.first) + i = omega arith in
-          let short : k < size_of p = omega arith in
-          let byte : slice_index (bytes_at new p) k ≡ slice_index more i = byte_of_piece new p k short ∙ ap (slice_index new) place ∙ put.over i inside (omega arith) in
+          let short : k < piece_size p = omega arith in
+          let byte : slice_index (piece_bytes new p) k ≡ slice_index more i = byte_of_piece new p k short ∙ ap (slice_index new) place ∙ put.over i inside (omega arith) in
           let long = length-bytes_at new p (omega arith) in
           let moved = in_place new p k (address + i) (slice_index more i) (omega arith) at byte in
           byte_held (pairs_at new list) (address + i) (slice_index more i) (rises_apart new 0 (length bytes) 0 list stand apart) (holds_piece new list p (address + i, slice_index more i) there moved);

@@ -3,7 +3,7 @@ use Rattle.std.proofs.Common.{◌≡◌, ◌≤◌, ◌⊎◌, inl, inr, ℕ, �
 use Rattle.std.proofs.lemmas.Bool.Decides.{nat_tests}
 use Rattle.stm_image.specs.Pairs.{Pairs, Agree, IsSetOf}
 use Rattle.stm_image.specs.Record.{Scan, Ended, Stray, Broken, Cut, Whole, scan, kind_of, flaw_of, Flaw, BadSum, BadKind, BadLength}
-use Rattle.stm_image.specs.Text.{Means, Stands, IsOutOfMemory, Follows, IsFault, scan_fault, flaw_fault, placed, pairs_of, form_of, form_after}
+use Rattle.stm_image.specs.Text.{Means, FaultStands, IsOutOfMemory, RecordsPrecede, IsFault, scan_fault, flaw_fault, placed, pairs_of, form_of, form_after}
 use Rattle.stm_image.specs.declared.place.Form.{Form}
 use Rattle.std.proofs.lemmas.List.{append-nil}
 use Rattle.stm_image.specs.Reads.{Reads, EndsAt, PassStopsAt}
@@ -56,7 +56,7 @@ is_fault records rest (NoEnd n) e = e
 is_fault records rest (NoColon n) e = e
 is_fault records rest (Memory n) e = e
 
-pub fault_from : (text : List ℕ) (pairs : Pairs) (fault : HexFault) → Reads text pairs (Some fault) → Agree pairs → Stands text fault ⊎ IsOutOfMemory text fault
+pub fault_from : (text : List ℕ) (pairs : Pairs) (fault : HexFault) → Reads text pairs (Some fault) → Agree pairs → FaultStands text fault ⊎ IsOutOfMemory text fault
 fault_from text pairs fault reads agree = elim reads.stops [
   | inl stands ↦ inl record {
     records = reads.records;
@@ -75,8 +75,8 @@ fault_from text pairs fault reads agree = elim reads.stops [
 ]
 
 -- one more record after others
-pub Follows-snoc : (text : List ℕ) (records : List (List ℕ)) (rest r after : List ℕ) → Follows text records rest
-    → scan rest ≡ Whole r after → flaw_of r ≡ None → (kind_of r ≡ 1 → ⊥) → Follows text (records ++ r ∷ []) after
+pub Follows-snoc : (text : List ℕ) (records : List (List ℕ)) (rest r after : List ℕ) → RecordsPrecede text records rest
+    → scan rest ≡ Whole r after → flaw_of r ≡ None → (kind_of r ≡ 1 → ⊥) → RecordsPrecede text (records ++ r ∷ []) after
 Follows-snoc text [] rest r after same s f k = (after, ap scan same ∙ s, f, k, refl)
 Follows-snoc text (first ∷ records) rest r after (middle, s1, f1, k1, more) s f k = (middle, s1, f1, k1, Follows-snoc middle records rest r after more s f k)
 

@@ -5,7 +5,7 @@ use Rattle.std.specs.List.Sorted.{IsPermutation, IsNonDecreasingBy}
 use Rattle.std.proofs.lemmas.Bool.{ne_eqb, eq-eqb}
 use Rattle.std.proofs.lemmas.List.Sums.{sum_by-cons}
 use Rattle.std.proofs.lemmas.List.Sorted.{Contains-permutation, IsPermutation-sym, sum_by-IsPermutation}
-use Rattle.stm_image.specs.Pieces.{size_of, Stand}
+use Rattle.stm_image.specs.Pieces.{piece_size, Stand}
 use Rattle.stm_image.specs.declared.pieces.Piece.{Piece}
 use Rattle.stm_image.proofs.Putting.{stands_from}
 
@@ -31,7 +31,7 @@ unfolding count_at
 none_before n from to [] stand lt = refl
 none_before n from to (p ∷ ps) stand lt =
     let at = stand.0 in
-    let more = none_before n (from + size_of p) to ps stand.3 (omega arith) in
+    let more = none_before n (from + piece_size p) to ps stand.3 (omega arith) in
     let here = none_at n p (λ e. omega (arith, e)) in
     omega arith
 
@@ -55,7 +55,7 @@ unfolding count_at
 same_order from to [] [] stand order counts back on = refl
 same_order from to [] (y ∷ ys) stand order counts back on = let none = back y (0, omega arith, refl) in absurd (omega (arith, none.1))
 same_order from to (x ∷ xs) [] stand order counts back on = let none = on x (0, omega arith, refl) in absurd (omega (arith, none.1))
-same_order from to (x ∷ xs) (y ∷ ys) stand order counts back on = go (λ o c b n. same_order (from + size_of x) to xs ys stand.3 o c b n) (back y (0, omega arith, refl))
+same_order from to (x ∷ xs) (y ∷ ys) stand order counts back on = go (λ o c b n. same_order (from + piece_size x) to xs ys stand.3 o c b n) (back y (0, omega arith, refl))
   where
     low : y.place ≤ from
     low = let least = least_first y ys x order (on x (0, omega arith, refl)) in let at = stand.0 in omega arith
@@ -65,7 +65,7 @@ same_order from to (x ∷ xs) (y ∷ ys) stand order counts back on = go (λ o c
         let same : x.place ≡ y.place = ap (λ (r : Piece). r.place) e in
         let at = stand.0 in
         let first_to_last = stand.1 in
-        let later_x = none_before from (from + size_of x) to xs stand.3 (omega arith) in
+        let later_x = none_before from (from + piece_size x) to xs stand.3 (omega arith) in
         let mine = one_at from x at in
         let yours = one_at from y (omega arith) in
         let all = counts from in
@@ -80,7 +80,7 @@ same_order from to (x ∷ xs) (y ∷ ys) stand order counts back on = go (λ o c
     go : (IsNonDecreasingBy (λ (p : Piece). p.place) ys → ((n : ℕ) → count_at n ys ≡ count_at n xs) → ((p : Piece) → Contains ys p → Contains xs p) → ((p : Piece) → Contains xs p → Contains ys p) → ys ≡ xs) → Contains (x ∷ xs) y → y ∷ ys ≡ x ∷ xs
     go again (zero, lt, is) = rest again is
     go again (suc i, lt, is) =
-        let up = stands_from (from + size_of x) to xs y stand.3 (i, omega arith, is) in
+        let up = stands_from (from + piece_size x) to xs y stand.3 (i, omega arith, is) in
         let order = stand.1 in
         let below = low in
         absurd (omega arith)

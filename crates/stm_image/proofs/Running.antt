@@ -5,8 +5,8 @@ use Rattle.std.specs.List.{AllWithin}
 use Rattle.std.specs.List.Sorted.{IsNonDecreasingBy}
 use Rattle.std.proofs.lemmas.List.{take-append-drop, drop_more, get_or_default, get_or-take, length-take, take_all}
 use Rattle.std.proofs.lemmas.List.Elements.{Contains-append_left, Contains-append_right, Contains-append_cases}
-use Rattle.stm_image.specs.Pairs.{Pairs, Rises, IsNext, HasNone, raw_pairs}
-use Rattle.stm_image.specs.Pieces.{size_of, bytes_at, pairs_of_piece, pairs_at, Stand, Apart, IsWithin}
+use Rattle.stm_image.specs.Pairs.{Pairs, AddressesRise, IsNext, HasNone, raw_pairs}
+use Rattle.stm_image.specs.Pieces.{piece_size, piece_bytes, pairs_of_piece, pairs_at, Stand, Apart, IsWithin}
 use Rattle.stm_image.specs.Runs.{IsRunFrom}
 use Rattle.stm_image.specs.declared.pieces.Piece.{Piece}
 use Rattle.stm_image.specs.declared.pieces.Pieces.{Pieces}
@@ -17,14 +17,14 @@ use Rattle.stm_image.proofs.Standing.{raw_pairs-append}
 last_from : (from to least : ℕ) (ps : List Piece) (j : ℕ) (d : Piece) → Stand from to ps → Apart least ps → j < length ps → least ≤ (get_or ps j d).last
 last_from from to least [] j d stand apart lt = absurd (omega arith)
 last_from from to least (p ∷ ps) zero d stand apart lt = omega (arith, apart.0, stand.1)
-last_from from to least (p ∷ ps) (suc j) d stand apart lt = let more = last_from (from + size_of p) to (p.last + 2) ps j d stand.3 apart.1 (omega arith) in omega (arith, apart.0, stand.1)
+last_from from to least (p ∷ ps) (suc j) d stand apart lt = let more = last_from (from + piece_size p) to (p.last + 2) ps j d stand.3 apart.1 (omega arith) in omega (arith, apart.0, stand.1)
 
 pub lasts_rise : (from to least : ℕ) (ps : List Piece) → Stand from to ps → Apart least ps → IsNonDecreasingBy (λ (p : Piece). p.last) ps
 lasts_rise from to least [] stand apart i j d le lt = absurd (omega arith)
 lasts_rise from to least (p ∷ ps) stand apart zero zero d le lt = omega arith
-lasts_rise from to least (p ∷ ps) stand apart zero (suc j) d le lt = let more = last_from (from + size_of p) to (p.last + 2) ps j d stand.3 apart.1 (omega arith) in omega arith
+lasts_rise from to least (p ∷ ps) stand apart zero (suc j) d le lt = let more = last_from (from + piece_size p) to (p.last + 2) ps j d stand.3 apart.1 (omega arith) in omega arith
 lasts_rise from to least (p ∷ ps) stand apart (suc i) zero d le lt = absurd (omega arith)
-lasts_rise from to least (p ∷ ps) stand apart (suc i) (suc j) d le lt = lasts_rise (from + size_of p) to (p.last + 2) ps stand.3 apart.1 i j d (omega arith) (omega arith)
+lasts_rise from to least (p ∷ ps) stand apart (suc i) (suc j) d le lt = lasts_rise (from + piece_size p) to (p.last + 2) ps stand.3 apart.1 i j d (omega arith) (omega arith)
 
 pub pairs_at-append : (bytes : List ℕ) (xs ys : List Piece) → pairs_at bytes (xs ++ ys) ≡ pairs_at bytes xs ++ pairs_at bytes ys
 pairs_at-append bytes [] ys = refl
@@ -54,10 +54,10 @@ none_from bytes to address ps n stand low all q held =
 
 -- the first piece that ends at the address or after it has the run from there on
 pub run_at : (bytes : List ℕ) (address : ℕ) (ps : List Piece) (n : ℕ) (p : Piece) → Stand 0 (length bytes) ps → AllWithin (λ (q : Piece). q.last < address) ps 0 n → n < length ps → p ≡ get_or ps n p → address ≤ p.last
-    → IsRunFrom (pairs_at bytes ps) address (p.first + (address - p.first)) (drop (address - p.first) (bytes_at bytes p))
+    → IsRunFrom (pairs_at bytes ps) address (p.first + (address - p.first)) (drop (address - p.first) (piece_bytes bytes p))
 run_at bytes address ps n p stand low lt is high =
     let skip = address - p.first in
-    let own = bytes_at bytes p in
+    let own = piece_bytes bytes p in
     let within = stands_within 0 (length bytes) ps p stand (n, lt, sym is) in
     let order = within.order in
     let ends = within.ends in
@@ -88,7 +88,7 @@ run_at bytes address ps n p stand low lt is high =
     regroup a b c d = simp append_assoc
 
 -- the first pair of a run
-pub next_of_run : (set : Pairs) (address start : ℕ) (bytes : List ℕ) → Rises set → IsRunFrom set address start bytes → IsNext set address (start, slice_index bytes 0)
+pub next_of_run : (set : Pairs) (address start : ℕ) (bytes : List ℕ) → AddressesRise set → IsRunFrom set address start bytes → IsNext set address (start, slice_index bytes 0)
 next_of_run set address start bytes rises run =
     let front = run.front in
     let back = run.back in
@@ -97,19 +97,19 @@ next_of_run set address start bytes rises run =
     let C : ℕ → Type 0 = λ s. Contains (raw_pairs start bytes) (s, slice_index bytes 0) in
     let own : Contains (raw_pairs start bytes) (start, slice_index bytes 0) = subst C zero_on (raw_holds start bytes 0 run.some) in
     let S : Pairs → Type 0 = λ ps. Contains ps (start, slice_index bytes 0) in
-    let R : Pairs → Type 0 = λ ps. Rises ps in
-    let parts : Rises (front ++ (raw_pairs start bytes ++ back)) = subst R run.whole rises in
+    let R : Pairs → Type 0 = λ ps. AddressesRise ps in
+    let parts : AddressesRise (front ++ (raw_pairs start bytes ++ back)) = subst R run.whole rises in
     record {
       held = subst S (sym run.whole) (Contains-append_right front (raw_pairs start bytes ++ back) (start, slice_index bytes 0) (Contains-append_left (raw_pairs start bytes) back (start, slice_index bytes 0) own));
       after = from;
       least = λ q held high. let Q : Pairs → Type 0 = λ ps. Contains ps q in least q (Contains-append_cases front (raw_pairs start bytes ++ back) q (subst Q run.whole held)) high parts own;
     }
   where
-    later : (q : ℕ × ℕ) → Contains (raw_pairs start bytes) q ⊎ Contains run.back q → Rises (raw_pairs start bytes ++ run.back) → Contains (raw_pairs start bytes) (start, slice_index bytes 0) → start ≤ q.0
+    later : (q : ℕ × ℕ) → Contains (raw_pairs start bytes) q ⊎ Contains run.back q → AddressesRise (raw_pairs start bytes ++ run.back) → Contains (raw_pairs start bytes) (start, slice_index bytes 0) → start ≤ q.0
     later q (inl here) parts own = (raw_lies start bytes q here).from
     later q (inr after) parts own = let up = rises_across (raw_pairs start bytes) run.back (start, slice_index bytes 0) q parts own after in omega arith
 
-    least : (q : ℕ × ℕ) → Contains run.front q ⊎ Contains (raw_pairs start bytes ++ run.back) q → address ≤ q.0 → Rises (run.front ++ (raw_pairs start bytes ++ run.back)) → Contains (raw_pairs start bytes) (start, slice_index bytes 0) → start ≤ q.0
+    least : (q : ℕ × ℕ) → Contains run.front q ⊎ Contains (raw_pairs start bytes ++ run.back) q → address ≤ q.0 → AddressesRise (run.front ++ (raw_pairs start bytes ++ run.back)) → Contains (raw_pairs start bytes) (start, slice_index bytes 0) → start ≤ q.0
     least q (inl early) high parts own = let low = run.before q early in absurd (omega arith)
     least q (inr more) high parts own = later q (Contains-append_cases (raw_pairs start bytes) run.back q more) (rises_back run.front (raw_pairs start bytes ++ run.back) parts) own
 
@@ -129,5 +129,5 @@ within_read runs bytes list place d same_bytes same_list stand lt =
 pub behind_piece : (bytes : List ℕ) (from to least : ℕ) (ps : List Piece) (i : ℕ) (d : Piece) (q : ℕ × ℕ) → Stand from to ps → Apart least ps → i < length ps
     → Contains (pairs_at bytes (drop (suc i) ps)) q → (get_or ps i d).last + 1 < q.0
 behind_piece bytes from to least [] i d q stand apart lt held = absurd (omega arith)
-behind_piece bytes from to least (p ∷ ps) zero d q stand apart lt held = let low = apart_from bytes (from + size_of p) to (p.last + 2) ps q stand.3 apart.1 held in omega arith
-behind_piece bytes from to least (p ∷ ps) (suc i) d q stand apart lt held = behind_piece bytes (from + size_of p) to (p.last + 2) ps i d q stand.3 apart.1 (omega arith) held
+behind_piece bytes from to least (p ∷ ps) zero d q stand apart lt held = let low = apart_from bytes (from + piece_size p) to (p.last + 2) ps q stand.3 apart.1 held in omega arith
+behind_piece bytes from to least (p ∷ ps) (suc i) d q stand apart lt held = behind_piece bytes (from + piece_size p) to (p.last + 2) ps i d q stand.3 apart.1 (omega arith) held

@@ -12,7 +12,7 @@ use Rattle.std.proofs.lemmas.List.Sums.{prefix_len_is, sum_by-append}
 use Rattle.std.proofs.Math.Seq.{take-append_seam, drop-append_seam, get_or-append_seam}
 use Rattle.hex.specs.Hex.{is_hex_digit, encode_with, encode_upper, upper_digits, decode_sized, IsBytes}
 use Rattle.hex.proofs.HexLemmas.{length-encode_with, decode_of-encode_upper, decode_sized-twice, IsOk-decode_sized}
-use Rattle.stm_image.specs.Record.{Whole, scan, scan_digits, scan_begun, is_blank, bytes_of, flaw_of, has_length}
+use Rattle.stm_image.specs.Record.{Whole, scan, scan_digits, scan_begun, is_blank, digits_bytes, flaw_of, has_length}
 use Rattle.stm_image.specs.Canon.{line, record_bytes, checked}
 use Rattle.stm_image.proofs.Digits.{needed, scans_whole}
 
@@ -27,7 +27,7 @@ is_bytes xs all i = elim (cases_lt i (length xs)) [
 ]
 
 -- printed bytes are digits, which decode to them
-decodes_back : (xs : List ℕ) → AllBytes xs → bytes_of (encode_upper xs) ≡ xs
+decodes_back : (xs : List ℕ) → AllBytes xs → digits_bytes (encode_upper xs) ≡ xs
 decodes_back xs all = ap (λ r. result_unwrap_or r []) (decode_of-encode_upper xs (is_bytes xs all))
 
 are_digits : (xs : List ℕ) → AllBytes xs → AllPass is_hex_digit (encode_upper xs)
@@ -57,13 +57,13 @@ scans_digits b rest more all long =
     let twice = length-encode_with upper_digits xs in
     let front = digits_end xs more all in
     let one : AllBytes (b ∷ []) = All-cons (λ x. x < 256) b [] (all zero 0 (omega arith)) (All-nil (λ x. x < 256)) in
-    let first : slice_index (bytes_of (take 2 text)) 0 ≡ b = ap (λ ds. slice_index (bytes_of ds) 0) (first_two b rest more) ∙ ap (λ bs. slice_index bs 0) (decodes_back (b ∷ []) one) in
+    let first : slice_index (digits_bytes (take 2 text)) 0 ≡ b = ap (λ ds. slice_index (digits_bytes ds) 0) (first_two b rest more) ∙ ap (λ bs. slice_index bs 0) (decodes_back (b ∷ []) one) in
     let need = needed text (b + 5) (omega arith) (ap (λ n. n + 5) (sym first)) in
     let m : 2 * (b + 5) ≡ length (encode_upper xs) = omega arith in
     let whole = scans_whole text (length (encode_upper xs)) (need ∙ m) (omega arith) in
     let front_is : take (length (encode_upper xs)) text ≡ encode_upper xs = take-append_seam (encode_upper xs) (10 ∷ more) in
     let back_is : drop (length (encode_upper xs)) text ≡ 10 ∷ more = drop-append_seam (encode_upper xs) (10 ∷ more) in
-    whole ∙ ap₂ Whole (ap bytes_of front_is ∙ decodes_back xs all) back_is
+    whole ∙ ap₂ Whole (ap digits_bytes front_is ∙ decodes_back xs all) back_is
 
 scan_colon : (digits : List ℕ) → scan (58 ∷ digits) ≡ scan_digits digits
 unfolding scan

@@ -14,15 +14,15 @@ use Rattle.std.proofs.lemmas.List.Elements.{Contains-get_or, All-cons, All-head,
 use Rattle.std.proofs.lemmas.List.Filters.{All-dedup}
 use Rattle.std.proofs.lemmas.List.Kept.{AllPairs-cons, Contains-dedup, Contains-from_dedup}
 use Rattle.std.proofs.lemmas.List.Sorted.{Contains-permutation, IsPermutation-sym}
-use Rattle.stm_image.specs.Pairs.{Pairs, Rises, Agree, IsSetOf, IsNext, HasNone, byte_at, raw_pairs}
+use Rattle.stm_image.specs.Pairs.{Pairs, AddressesRise, Agree, IsSetOf, IsNext, HasNone, byte_at, raw_pairs}
 use Rattle.stm_image.specs.Sorting.{HasFall, NeverFalls, same_pair}
 
 -- two places of one address are one place
-pub one_place : (pairs : Pairs) → Rises pairs → (i j : ℕ) (d : ℕ × ℕ) → i < length pairs → j < length pairs → (get_or pairs i d).0 ≡ (get_or pairs j d).0 → i ≡ j
+pub one_place : (pairs : Pairs) → AddressesRise pairs → (i j : ℕ) (d : ℕ × ℕ) → i < length pairs → j < length pairs → (get_or pairs i d).0 ≡ (get_or pairs j d).0 → i ≡ j
 one_place pairs rises i j d in_i in_j same = grind (arith, rises i j d, rises j i d)
 
 -- where addresses rise, no address has two bytes
-pub agree_rising : (pairs : Pairs) → Rises pairs → Agree pairs
+pub agree_rising : (pairs : Pairs) → AddressesRise pairs → Agree pairs
 agree_rising pairs rises a b c (i, in_i, is_i) (j, in_j, is_j) =
     let at_j : get_or pairs j (a, b) ≡ (a, c) = get_or_default pairs j (a, b) (a, c) in_j ∙ is_j in
     let first = λ (p : ℕ × ℕ). p.0 in
@@ -35,7 +35,7 @@ pub agree_among : (xs ys : Pairs) → ((p : ℕ × ℕ) → Contains ys p → Co
 agree_among xs ys among agree a b c in_b in_c = agree a b c (among (a, b) in_b) (among (a, c) in_c)
 
 -- addresses that rise have no fall
-pub no_fall : (pairs : Pairs) → Rises pairs → HasFall pairs → ⊥
+pub no_fall : (pairs : Pairs) → AddressesRise pairs → HasFall pairs → ⊥
 no_fall pairs rises fall = omega (arith, rises fall.place (fall.place + 1) (0, 0), fall.falls (0, 0), fall.within)
 
 -- the first pair of an address tells its byte
@@ -55,7 +55,7 @@ byte_at_absent ((a, b) ∷ set) address d absent =
     rw test (byte_at_absent set address d (λ i lt. absent (suc i) (omega arith)))
 
 -- what the next pair tells of the byte at an address
-pub byte_at_next : (set : Pairs) (address byte : ℕ) → Rises set → (a : ℕ) → IsNext set address (a, byte) → a ≡ address → Some byte ≡ byte_at set address
+pub byte_at_next : (set : Pairs) (address byte : ℕ) → AddressesRise set → (a : ℕ) → IsNext set address (a, byte) → a ≡ address → Some byte ≡ byte_at set address
 byte_at_next set address byte rises a next same =
     let held = next.held in
     let second = λ (p : ℕ × ℕ). p.1 in
@@ -77,7 +77,7 @@ byte_at_none set address none =
     sym (byte_at_absent set address (0, 0) (λ i lt e. let below = none (get_or set i (0, 0)) (Contains-get_or set i (0, 0) lt) in omega arith))
 
 -- the pair at the place before which all addresses are lower
-next_at : (set : Pairs) (address place : ℕ) → Rises set → IsPartitionPoint (λ (p : ℕ × ℕ). nat_lt p.0 address ≡ true) (λ (p : ℕ × ℕ). nat_lt p.0 address ≡ false) set place
+next_at : (set : Pairs) (address place : ℕ) → AddressesRise set → IsPartitionPoint (λ (p : ℕ × ℕ). nat_lt p.0 address ≡ true) (λ (p : ℕ × ℕ). nat_lt p.0 address ≡ false) set place
     → place < length set → (p : ℕ × ℕ) → p ≡ get_or set place p → IsNext set address p
 next_at set address place rises parted within p is =
     let at : address ≤ (get_or set place p).0 = ltb-false _ _ (parted.1 place p (omega arith) within) in
@@ -115,24 +115,24 @@ none_at set address place parted past q held =
     let there : (get_or set held.0 q).0 ≡ q.0 = ap first held.2 in
     omega arith
 
-pub next_of : (set : Pairs) (address place : ℕ) → Rises set → IsPartitionPoint (λ (p : ℕ × ℕ). nat_lt p.0 address ≡ true) (λ (p : ℕ × ℕ). nat_lt p.0 address ≡ false) set place
+pub next_of : (set : Pairs) (address place : ℕ) → AddressesRise set → IsPartitionPoint (λ (p : ℕ × ℕ). nat_lt p.0 address ≡ true) (λ (p : ℕ × ℕ). nat_lt p.0 address ≡ false) set place
     → (r : Option (Bor (ℕ × ℕ))) → IsGetResult set place place r → MatchOption (option_copied r) (HasNone set address) (IsNext set address)
 next_of set address place rises parted None got = none_at set address place parted got.3
 next_of set address place rises parted (Some x) got = next_at set address place rises parted got.3.0 x.now got.1
 
 -- rising addresses do not fall
-pub not_falling : (pairs : Pairs) → Rises pairs → NeverFalls pairs
+pub not_falling : (pairs : Pairs) → AddressesRise pairs → NeverFalls pairs
 not_falling pairs rises i j d le within = elim (cases_eq i j) [
   | inl e ↦ rw e (omega arith)
   | inr ne ↦ let up = rises i j d (omega arith) within in omega arith
 ]
 
 -- THE SET OF PAIRS: rising pairs are their own
-pub set_rising : (pairs : Pairs) → Rises pairs → IsSetOf pairs pairs
+pub set_rising : (pairs : Pairs) → AddressesRise pairs → IsSetOf pairs pairs
 set_rising pairs rises = record { rises = rises; same = λ p. (λ h. h, λ h. h) }
 
 -- pairs that rise once they are sorted are the set of the pairs, which agree
-pub set_from_sorted : (pairs sorted : Pairs) → IsPermutation pairs sorted → Rises sorted → IsSetOf sorted pairs
+pub set_from_sorted : (pairs sorted : Pairs) → IsPermutation pairs sorted → AddressesRise sorted → IsSetOf sorted pairs
 set_from_sorted pairs sorted moved rises = record {
   rises = rises;
   same = λ p. (Contains-permutation sorted pairs p (IsPermutation-sym pairs sorted moved), Contains-permutation pairs sorted p moved);
@@ -154,7 +154,7 @@ same_pair_equiv = record {
   congr = λ p q r e. ap (λ s. same_pair s r) (alike p q e);
 }
 
-pub set_from_dedup : (pairs sorted : Pairs) → IsPermutation pairs sorted → Rises (dedup same_pair sorted) → IsSetOf (dedup same_pair sorted) pairs
+pub set_from_dedup : (pairs sorted : Pairs) → IsPermutation pairs sorted → AddressesRise (dedup same_pair sorted) → IsSetOf (dedup same_pair sorted) pairs
 set_from_dedup pairs sorted moved rises = record {
   rises = rises;
   same = λ p. (
@@ -196,7 +196,7 @@ neighbours_alike (a, b) (c, d) pairs agree e =
 
 -- pairs that agree rise once they do not fall and doubles are dropped
 rises_by_test : (k p : ℕ × ℕ) (pairs : Pairs) (b : Bool) → same_pair p k ≡ b → Climbs k (p ∷ pairs) → Agree (k ∷ p ∷ pairs)
-    → Rises (dedup_from same_pair k pairs) → Rises (dedup_from same_pair p pairs) → Rises (cond b (dedup_from same_pair k pairs) (k ∷ dedup_from same_pair p pairs))
+    → AddressesRise (dedup_from same_pair k pairs) → AddressesRise (dedup_from same_pair p pairs) → AddressesRise (cond b (dedup_from same_pair k pairs) (k ∷ dedup_from same_pair p pairs))
 rises_by_test k p pairs true e up agree without with = without
 rises_by_test k p pairs false e up agree without with =
     let apart : k.0 < p.0 = elim (cases_eq k.0 p.0) [
@@ -210,14 +210,14 @@ pub skip : (k p q : ℕ × ℕ) (pairs : Pairs) → Contains (k ∷ pairs) q →
 skip k p q pairs (zero, lt, is) = (zero, omega arith, is)
 skip k p q pairs (suc i, lt, is) = (suc (suc i), omega arith, is)
 
-rises_dedup_from : (k : ℕ × ℕ) (pairs : Pairs) → Climbs k pairs → Agree (k ∷ pairs) → Rises (dedup_from same_pair k pairs)
+rises_dedup_from : (k : ℕ × ℕ) (pairs : Pairs) → Climbs k pairs → Agree (k ∷ pairs) → AddressesRise (dedup_from same_pair k pairs)
 rises_dedup_from k [] up agree = λ i j d lt within. absurd (omega arith)
 rises_dedup_from k (p ∷ pairs) up agree =
     rises_by_test k p pairs (same_pair p k) refl up agree
     (rises_dedup_from k pairs (climbs_without k p pairs up) (agree_among (k ∷ p ∷ pairs) (k ∷ pairs) (λ q. skip k p q pairs) agree))
     (rises_dedup_from p pairs up.1 (agree_among (k ∷ p ∷ pairs) (p ∷ pairs) (λ q. later k q (p ∷ pairs)) agree))
 
-pub rises_dedup : (pairs : Pairs) → NeverFalls pairs → Agree pairs → Rises (dedup same_pair pairs)
+pub rises_dedup : (pairs : Pairs) → NeverFalls pairs → Agree pairs → AddressesRise (dedup same_pair pairs)
 rises_dedup [] up agree = λ i j d lt within. absurd (omega arith)
 rises_dedup (k ∷ pairs) up agree = rises_dedup_from k pairs (climbs_from k pairs up) agree
 
@@ -232,6 +232,6 @@ raw_above : (low start : ℕ) (bytes : List ℕ) → low < start → All (λ q. 
 raw_above low start [] lt = All-nil (λ q. low < q.0)
 raw_above low start (b ∷ bytes) lt = All-cons (λ q. low < q.0) (start, b) (raw_pairs (start + 1) bytes) lt (raw_above low (start + 1) bytes (omega arith))
 
-pub rises_raw : (start : ℕ) (bytes : List ℕ) → Rises (raw_pairs start bytes)
+pub rises_raw : (start : ℕ) (bytes : List ℕ) → AddressesRise (raw_pairs start bytes)
 rises_raw start [] = λ i j d lt within. absurd (omega arith)
 rises_raw start (b ∷ bytes) = AllPairs-cons (λ q r. q.0 < r.0) (start, b) (raw_pairs (start + 1) bytes) (raw_above start (start + 1) bytes (omega arith)) (rises_raw (start + 1) bytes)

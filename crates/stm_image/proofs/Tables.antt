@@ -11,7 +11,7 @@ use Rattle.hex.specs.Hex.{hex_digit_value, is_hex_digit, decode_pairs, decode_of
 use Rattle.hex.specs.declared.error.FromHexError.{FromHexError}
 use Rattle.hex.proofs.HexLemmas.{decode_sized-twice, decode_of-even, IsOk-decode_sized}
 use Rattle.stm_image.specs.Digits.{table_value, IsPair, HasOther}
-use Rattle.stm_image.specs.Record.{bytes_of}
+use Rattle.stm_image.specs.Record.{digits_bytes}
 use Rattle.stm_image.proofs.Digits.{decodes}
 
 -- a digit's value is below 16
@@ -81,7 +81,7 @@ more_pairs digits out i byte lt pairs here k below = elim (cases_lt k i) [
 
 -- decoding the front of a text succeeds exactly where its digits suffice, and gives their bytes
 pub front_decoded : (r : Bool) (text : List ℕ) (n : ℕ) (digits out : List ℕ) → 2 * n ≤ length text → digits ≡ take (2 * n) text → MatchBool r (decode_of digits ≡ Ok out) (HasOther digits)
-    → (IsTrue r ↔ (2 * n ≤ prefix_len is_hex_digit text)) × OnTrue r (out ≡ bytes_of (take (2 * n) text))
+    → (IsTrue r ↔ (2 * n ≤ prefix_len is_hex_digit text)) × OnTrue r (out ≡ digits_bytes (take (2 * n) text))
 front_decoded true text n digits out within is ok =
     let front = take (2 * n) text in
     let long : length front ≡ 2 * n = grind (arith, common_steps) in

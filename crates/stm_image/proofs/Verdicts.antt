@@ -3,9 +3,9 @@ use Rattle.std.proofs.Common.{◌≡◌, ◌≢◌, ℕ, zero, suc, ◌+◌, ◌
 use Rattle.std.specs.Prelude.{Contains, ◌↔◌}
 use Rattle.std.proofs.lemmas.List.{append-nil, take-append-le}
 use Rattle.std.proofs.lemmas.List.Elements.{Contains-append_left}
-use Rattle.stm_image.specs.Pairs.{Pairs, Rises, Agree, IsSetOf}
+use Rattle.stm_image.specs.Pairs.{Pairs, AddressesRise, Agree, IsSetOf}
 use Rattle.stm_image.specs.Record.{Whole, scan, flaw_of, kind_of}
-use Rattle.stm_image.specs.Text.{Means, Stands, Follows, IsFault, Conflicts, scan_fault, flaw_fault, all_pairs, placed, pairs_of, form_of, form_after}
+use Rattle.stm_image.specs.Text.{Means, FaultStands, RecordsPrecede, IsFault, Conflicts, scan_fault, flaw_fault, all_pairs, placed, pairs_of, form_of, form_after}
 use Rattle.stm_image.specs.Reads.{EndsAt, StopsAt}
 use Rattle.stm_image.specs.declared.place.Form.{Form}
 use Rattle.stm_image.specs.declared.place.Form.TheVariants.{Linear}
@@ -17,18 +17,18 @@ use Rattle.stm_image.proofs.Sets.{agree_among}
 record Front (xs : List (List ℕ)) (at : List ℕ) (ys : List (List ℕ)) (to : List ℕ) : Type 0 where
   more : List (List ℕ)
   is : ys ≡ xs ++ more
-  follows : Follows at more to
+  follows : RecordsPrecede at more to
 
 whole_same : (r s a b : List ℕ) → Whole r a ≡ Whole s b → (r ≡ s) × (a ≡ b)
 whole_same r s a b e = (cc, cc)
 
 -- the records of one text: one list begins the other
-front_of : (text : List ℕ) (xs : List (List ℕ)) (at : List ℕ) (ys : List (List ℕ)) (to : List ℕ) → Follows text xs at → Follows text ys to → Front xs at ys to ⊎ Front ys to xs at
-front_of text [] at ys to same follows = inl record { more = ys; is = refl; follows = subst (λ t. Follows t ys to) same follows }
-front_of text (x ∷ xs) at [] to follows same = inr record { more = x ∷ xs; is = refl; follows = subst (λ t. Follows t (x ∷ xs) at) same follows }
+front_of : (text : List ℕ) (xs : List (List ℕ)) (at : List ℕ) (ys : List (List ℕ)) (to : List ℕ) → RecordsPrecede text xs at → RecordsPrecede text ys to → Front xs at ys to ⊎ Front ys to xs at
+front_of text [] at ys to same follows = inl record { more = ys; is = refl; follows = subst (λ t. RecordsPrecede t ys to) same follows }
+front_of text (x ∷ xs) at [] to follows same = inr record { more = x ∷ xs; is = refl; follows = subst (λ t. RecordsPrecede t (x ∷ xs) at) same follows }
 front_of text (x ∷ xs) at (y ∷ ys) to (after, s, f, k, more) (after', s', f', k', more') =
     let same = whole_same x y after after' (sym s ∙ s') in
-    elim (front_of after xs at ys to more (subst (λ t. Follows t ys to) (sym same.1) more')) [
+    elim (front_of after xs at ys to more (subst (λ t. RecordsPrecede t ys to) (sym same.1) more')) [
       | inl front ↦ inl record { more = front.more; is = ap₂ (λ z zs. z ∷ zs) (sym same.0) front.is; follows = front.follows }
       | inr front ↦ inr record { more = front.more; is = ap₂ (λ z zs. z ∷ zs) same.0 front.is; follows = front.follows }
     ]
@@ -49,14 +49,14 @@ abbrev Halts : List (List ℕ) → List ℕ → Type 0
 Halts records rest = (r after : List ℕ) → scan rest ≡ Whole r after → flaw_of r ≡ None → kind_of r ≢ 1 → Agree (all_pairs (records ++ r ∷ [])) → ⊥
 
 -- where the first list halts, the second goes no further
-no_more : (xs : List (List ℕ)) (at : List ℕ) (ys : List (List ℕ)) (to : List ℕ) (more : List (List ℕ)) → Halts xs at → Agree (all_pairs ys) → ys ≡ xs ++ more → Follows at more to → (xs ≡ ys) × (at ≡ to)
+no_more : (xs : List (List ℕ)) (at : List ℕ) (ys : List (List ℕ)) (to : List ℕ) (more : List (List ℕ)) → Halts xs at → Agree (all_pairs ys) → ys ≡ xs ++ more → RecordsPrecede at more to → (xs ≡ ys) × (at ≡ to)
 no_more xs at ys to [] halts agree is follows = (sym (is ∙ append-nil xs), follows)
 no_more xs at ys to (r ∷ more) halts agree is (after, s, f, k, rest) =
     let longer : Agree (all_pairs ((xs ++ r ∷ []) ++ more)) = subst (λ zs. Agree (all_pairs zs)) (is ∙ sym (append_assoc xs (r ∷ []) more)) agree in
     absurd (halts r after s f k (agree_front (xs ++ r ∷ []) more longer))
 
 -- so two halts in one text are one
-meet : (text : List ℕ) (xs : List (List ℕ)) (at : List ℕ) (ys : List (List ℕ)) (to : List ℕ) → Follows text xs at → Follows text ys to
+meet : (text : List ℕ) (xs : List (List ℕ)) (at : List ℕ) (ys : List (List ℕ)) (to : List ℕ) → RecordsPrecede text xs at → RecordsPrecede text ys to
     → Agree (all_pairs xs) → Agree (all_pairs ys) → Halts xs at → Halts ys to → (xs ≡ ys) × (at ≡ to)
 meet text xs at ys to fx fy ax ay hx hy = elim (front_of text xs at ys to fx fy) [
   | inl front ↦ no_more xs at ys to front.more hx ay front.is front.follows
@@ -112,21 +112,21 @@ no_fault_at_end records rest fault end (inr (is, c)) =
     c.goes_on (ap kind_of (sym same.0) ∙ end.ends)
 
 -- a set's first pair is below all others
-pub first_least : (p : ℕ × ℕ) (set : Pairs) → Rises (p ∷ set) → (q : ℕ × ℕ) → Contains (p ∷ set) q → p.0 ≤ q.0
+pub first_least : (p : ℕ × ℕ) (set : Pairs) → AddressesRise (p ∷ set) → (q : ℕ × ℕ) → Contains (p ∷ set) q → p.0 ≤ q.0
 first_least p set rises q (zero, lt, is) = let e : p.0 ≡ q.0 = ap (λ (r : ℕ × ℕ). r.0) is in omega arith
 first_least p set rises q (suc k, lt, is) =
     let up = rises zero (suc k) q (omega arith) lt in
     let e : (get_or set k q).0 ≡ q.0 = ap (λ (r : ℕ × ℕ). r.0) is in
     omega arith
 
-pub rises_tail : (p : ℕ × ℕ) (set : Pairs) → Rises (p ∷ set) → Rises set
+pub rises_tail : (p : ℕ × ℕ) (set : Pairs) → AddressesRise (p ∷ set) → AddressesRise set
 rises_tail p set rises i j d lt within = rises (suc i) (suc j) d (omega arith) (omega arith)
 
 pub in_longer : (p q : ℕ × ℕ) (set : Pairs) → Contains set q → Contains (p ∷ set) q
 in_longer p q set (k, lt, is) = (suc k, omega arith, is)
 
 -- what stands in the rest of one set stands in the rest of the other
-in_rest : (p q r : ℕ × ℕ) (set other : Pairs) → Rises (p ∷ set) → p ≡ q → Contains set r → Contains (q ∷ other) r → Contains other r
+in_rest : (p q r : ℕ × ℕ) (set other : Pairs) → AddressesRise (p ∷ set) → p ≡ q → Contains set r → Contains (q ∷ other) r → Contains other r
 in_rest p q r set other rises same member (suc k, lt, is) = (k, omega arith, is)
 in_rest p q r set other rises same (k, within, is') (zero, lt, is) =
     let up = rises zero (suc k) r (omega arith) (omega arith) in
@@ -135,7 +135,7 @@ in_rest p q r set other rises same (k, within, is') (zero, lt, is) =
     let there : p.0 ≡ r.0 = ap first same ∙ ap first is in
     absurd (omega arith)
 
-same_first : (p q : ℕ × ℕ) (set other : Pairs) → Rises (q ∷ other) → p.0 ≡ q.0 → Contains (q ∷ other) p → p ≡ q
+same_first : (p q : ℕ × ℕ) (set other : Pairs) → AddressesRise (q ∷ other) → p.0 ≡ q.0 → Contains (q ∷ other) p → p ≡ q
 same_first p q set other rises e (zero, lt, is) = sym is
 same_first p q set other rises e (suc k, lt, is) =
     let up = rises zero (suc k) p (omega arith) lt in
@@ -143,7 +143,7 @@ same_first p q set other rises e (suc k, lt, is) =
     absurd (omega arith)
 
 -- rising pairs are told by what they contain
-same_set : (xs ys : Pairs) → Rises xs → Rises ys → ((p : ℕ × ℕ) → Contains xs p ↔ Contains ys p) → xs ≡ ys
+same_set : (xs ys : Pairs) → AddressesRise xs → AddressesRise ys → ((p : ℕ × ℕ) → Contains xs p ↔ Contains ys p) → xs ≡ ys
 same_set [] [] rx ry same = refl
 same_set [] (q ∷ ys) rx ry same = let member = (same q).1 (zero, omega arith, refl) in absurd (omega (arith, member.1))
 same_set (p ∷ xs) [] rx ry same = let member = (same p).0 (zero, omega arith, refl) in absurd (omega (arith, member.1))
@@ -168,14 +168,14 @@ one_meaning text s t m n =
     let second : P (all_pairs m.records) = subst P (ap all_pairs (sym same.0)) n.is_set in
     same_set s t m.is_set.rises second.rises (λ p. (λ h. (second.same p).1 ((m.is_set.same p).0 h), λ h. (m.is_set.same p).1 ((second.same p).0 h)))
 
-pub one_fault : (text : List ℕ) (f g : HexFault) → Stands text f → Stands text g → f ≡ g
+pub one_fault : (text : List ℕ) (f g : HexFault) → FaultStands text f → FaultStands text g → f ≡ g
 one_fault text f g m n =
     let first = fault_view m.records m.rest f m.is in
     let second = fault_view n.records n.rest g n.is in
     let same = meet text m.records m.rest n.records n.rest m.follows n.follows m.agree n.agree (halts_at m.records m.rest f first) (halts_at n.records n.rest g second) in
     same_fault m.records m.rest f g first (subst (λ at. FaultView m.records at g) (sym same.1) (subst (λ zs. FaultView zs n.rest g) (sym same.0) second))
 
-pub not_both : (text : List ℕ) (s : Pairs) (f : HexFault) → Means text s → Stands text f → ⊥
+pub not_both : (text : List ℕ) (s : Pairs) (f : HexFault) → Means text s → FaultStands text f → ⊥
 not_both text s f m n =
     let end = end_of text s m in
     let fault = fault_view n.records n.rest f n.is in
@@ -183,8 +183,8 @@ not_both text s f m n =
     no_fault_at_end n.records n.rest f (subst EndsAt same.1 end) fault
 
 -- WHERE A PASS STOPS no record goes on, so its records have all pairs
-pub longest_at_stop : (text : List ℕ) (n : ℕ) (xs : List (List ℕ)) (at : List ℕ) (stop : Option HexFault) → Follows text xs at → StopsAt n at stop
-    → (ys : List (List ℕ)) (to : List ℕ) → Follows text ys to → length (all_pairs ys) ≤ length (all_pairs xs)
+pub longest_at_stop : (text : List ℕ) (n : ℕ) (xs : List (List ℕ)) (at : List ℕ) (stop : Option HexFault) → RecordsPrecede text xs at → StopsAt n at stop
+    → (ys : List (List ℕ)) (to : List ℕ) → RecordsPrecede text ys to → length (all_pairs ys) ≤ length (all_pairs xs)
 longest_at_stop text n xs at stop fx stops ys to fy = elim (front_of text xs at ys to fx fy) [
   | inl front ↦ all_the_way front.more front.is front.follows
   | inr front ↦
@@ -194,7 +194,7 @@ longest_at_stop text n xs at stop fx stops ys to fy = elim (front_of text xs at 
       omega arith
 ]
   where
-    all_the_way : (more : List (List ℕ)) → ys ≡ xs ++ more → Follows at more to → length (all_pairs ys) ≤ length (all_pairs xs)
+    all_the_way : (more : List (List ℕ)) → ys ≡ xs ++ more → RecordsPrecede at more to → length (all_pairs ys) ≤ length (all_pairs xs)
     all_the_way [] is follows = let same = ap (λ (zs : List (List ℕ)). length (all_pairs zs)) (is ∙ append-nil xs) in omega arith
     all_the_way (r ∷ more) is (after, s, f, k, rest) = absurd (ends stop stops r after s f k)
       where
@@ -203,7 +203,7 @@ longest_at_stop text n xs at stop fx stops ys to fy = elim (front_of text xs at 
         ends (Some fault) e r after s f k = no_fault_in_good n r after at fault s f e
 
 -- two lists of records of a text have the same pairs up to a place that both reach
-pub same_up_to : (text : List ℕ) (xs : List (List ℕ)) (at : List ℕ) (ys : List (List ℕ)) (to : List ℕ) (n : ℕ) → Follows text xs at → Follows text ys to
+pub same_up_to : (text : List ℕ) (xs : List (List ℕ)) (at : List ℕ) (ys : List (List ℕ)) (to : List ℕ) (n : ℕ) → RecordsPrecede text xs at → RecordsPrecede text ys to
     → n ≤ length (all_pairs xs) → n ≤ length (all_pairs ys) → take n (all_pairs xs) ≡ take n (all_pairs ys)
 same_up_to text xs at ys to n fx fy in_x in_y = elim (front_of text xs at ys to fx fy) [
   | inl front ↦ longer xs front.more in_x ∙ ap (λ (zs : List (List ℕ)). take n (all_pairs zs)) (sym front.is)

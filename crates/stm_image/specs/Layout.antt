@@ -2,7 +2,7 @@
 use Rattle.std.specs.Prelude.{ℕ, ◌<◌, ◌≤◌, List, Contains}
 use Rattle.stm_image.specs.Lay.{AgreesWith, DiffersAt}
 use Rattle.stm_image.specs.Pairs.{Pairs}
-use Rattle.stm_image.specs.Pieces.{IsWithin, bytes_at}
+use Rattle.stm_image.specs.Pieces.{IsWithin, piece_bytes}
 use Rattle.stm_image.specs.declared.pieces.Piece.{Piece}
 
 -- each piece stands among so many bytes
@@ -19,14 +19,14 @@ Covers set pairs = (q : ℕ × ℕ) → Contains pairs q → (b : ℕ) × Contai
 
 -- a set has no other byte than each piece, wherever it names their places
 abbrev pub AllAgree : Pairs → List ℕ → List Piece → Type 0
-AllAgree set bytes list = (p : Piece) → Contains list p → AgreesWith set p.first (bytes_at bytes p)
+AllAgree set bytes list = (p : Piece) → Contains list p → AgreesWith set p.first (piece_bytes bytes p)
 
 -- it has another byte than some piece
 pub record HasDifference (set : Pairs) (bytes : List ℕ) (list : List Piece) : Type 0 where
   pub piece : Piece
   pub held : Contains list piece
   pub place : ℕ
-  pub differs : DiffersAt set piece.first (bytes_at bytes piece) place
+  pub differs : DiffersAt set piece.first (piece_bytes bytes piece) place
 
 -- what was laid out of some pairs so far: one more than the last address is `next`, and from
 -- `low` on no address is free

@@ -6,8 +6,8 @@ abbrev pub Pairs : Type 0
 Pairs = List (ℕ × ℕ)
 
 -- the addresses rise strictly, so each comes once
-abbrev pub Rises : Pairs → Type 0
-Rises pairs = AllPairs (λ p q. p.0 < q.0) pairs
+abbrev pub AddressesRise : Pairs → Type 0
+AddressesRise pairs = AllPairs (λ p q. p.0 < q.0) pairs
 
 -- an address of 32 bits, and a byte
 abbrev pub InRange : ℕ × ℕ → Type 0
@@ -15,7 +15,7 @@ InRange p = (p.0 < 2 ^ 32) × (p.1 < 256)
 
 -- what every image is
 pub record IsImage (set : Pairs) : Type 0 where
-  pub rises : Rises set
+  pub rises : AddressesRise set
   pub in_range : All InRange set
 
 -- the byte at an address
@@ -29,7 +29,7 @@ Agree pairs = (a b c : ℕ) → Contains pairs (a, b) → Contains pairs (a, c) 
 
 -- the set that has just these pairs
 pub record IsSetOf (set pairs : Pairs) : Type 0 where
-  pub rises : Rises set
+  pub rises : AddressesRise set
   pub same : (p : ℕ × ℕ) → Contains set p ↔ Contains pairs p
 
 -- the least pair at or after an address

@@ -8,7 +8,7 @@ abbrev pub EndsPart : ℕ → ℕ → ℕ → Type 0
 EndsPart start left count = (count ≡ 16) ⊎ ((start + count) % 65536 ≡ 0) ⊎ (count ≡ left)
 
 -- so many of the bytes that are left from an address on go into one record
-pub record IsPart (start left count : ℕ) : Type 0 where
+pub record IsRecordPart (start left count : ℕ) : Type 0 where
   pub some : 0 < count
   pub within : count ≤ left
   pub short : count ≤ 16
@@ -21,8 +21,8 @@ IsBehind address pairs = (q : ℕ × ℕ) → Contains pairs q → address < q.0
 
 -- the lines of a run were added to a text, and then those of pairs behind a
 -- gap make it the text of all
-abbrev pub IsWritten : List ℕ → ℕ → ℕ → List ℕ → List ℕ → ℕ → Type 0
-IsWritten text upper start bytes written high =
+abbrev pub IsTextWritten : List ℕ → ℕ → ℕ → List ℕ → List ℕ → ℕ → Type 0
+IsTextWritten text upper start bytes written high =
     (later : Pairs) → IsBehind (start + length bytes) later
     → written ++ lines high (parts_of (runs_of later))
     ≡ text ++ lines upper (parts_of (runs_of (raw_pairs start bytes ++ later)))

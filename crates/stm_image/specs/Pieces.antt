@@ -7,15 +7,15 @@ use Rattle.stm_image.specs.declared.pieces.Mark.{Mark}
 use Rattle.stm_image.specs.declared.pieces.Pieces.{Pieces}
 
 -- how many bytes a piece has
-abbrev pub size_of : Piece → ℕ
-size_of p = p.last + 1 - p.first
+abbrev pub piece_size : Piece → ℕ
+piece_size p = p.last + 1 - p.first
 
 -- the bytes of a piece, and its pairs, where `bytes` are those of all pieces
-abbrev pub bytes_at : List ℕ → Piece → List ℕ
-bytes_at bytes p = take (size_of p) (drop p.place bytes)
+abbrev pub piece_bytes : List ℕ → Piece → List ℕ
+piece_bytes bytes p = take (piece_size p) (drop p.place bytes)
 
 abbrev pub pairs_of_piece : List ℕ → Piece → Pairs
-pairs_of_piece bytes p = raw_pairs p.first (bytes_at bytes p)
+pairs_of_piece bytes p = raw_pairs p.first (piece_bytes bytes p)
 
 abbrev pub pairs_at : List ℕ → List Piece → Pairs
 pairs_at bytes [] = []
@@ -26,13 +26,13 @@ pairs_at bytes (p ∷ pieces) = pairs_of_piece bytes p ++ pairs_at bytes pieces
 abbrev pub Stand : ℕ → ℕ → List Piece → Type 0
 Stand from to [] = from ≡ to
 Stand from to (p ∷ pieces) =
-    (p.place ≡ from) × (p.first ≤ p.last) × (p.last < 2 ^ 32) × Stand (from + size_of p) to pieces
+    (p.place ≡ from) × (p.first ≤ p.last) × (p.last < 2 ^ 32) × Stand (from + piece_size p) to pieces
 
 -- a piece has a byte, its addresses have 32 bits, and it stands among so many bytes
 pub record IsWithin (to : ℕ) (p : Piece) : Type 0 where
   pub order : p.first ≤ p.last
   pub fits : p.last < 2 ^ 32
-  pub ends : p.place + size_of p ≤ to
+  pub ends : p.place + piece_size p ≤ to
 
 -- the pieces begin at an address or after it, in their order, with a gap between any two
 abbrev pub Apart : ℕ → List Piece → Type 0
@@ -52,7 +52,7 @@ abbrev pub AllStand : Pieces → Type 0
 AllStand p = Stand 0 (length p.bytes.items) p.list.items
 
 -- bytes were added to these, from an address on
-pub record Adds (bytes : List ℕ) (list : List Piece) (start : ℕ) (more bytes_after : List ℕ)
+pub record AddsFrom (bytes : List ℕ) (list : List Piece) (start : ℕ) (more bytes_after : List ℕ)
     (list_after : List Piece) : Type 0 where
   pub stand : Stand 0 (length bytes_after) list_after
   pub pairs : pairs_at bytes_after list_after ≡ pairs_at bytes list ++ raw_pairs start more
@@ -64,7 +64,7 @@ pub record Adds (bytes : List ℕ) (list : List Piece) (start : ℕ) (more bytes
 
 abbrev pub AreAdded : Pieces → Pieces → ℕ → List ℕ → Type 0
 AreAdded old new start more =
-    Adds old.bytes.items old.list.items start more new.bytes.items new.list.items
+    AddsFrom old.bytes.items old.list.items start more new.bytes.items new.list.items
 
 -- nothing was
 pub record AreAsBefore (old new : Pieces) : Type 0 where

@@ -5,7 +5,7 @@ use Rattle.stm_image.specs.declared.step.Step.{Step}
 use Rattle.stm_image.specs.declared.step.Step.TheVariants.{Stop, Goes}
 use Rattle.stm_image.specs.Pairs.{Pairs}
 use Rattle.stm_image.specs.Record.{Whole, scan, flaw_of, kind_of}
-use Rattle.stm_image.specs.Text.{Follows, all_pairs, scan_fault}
+use Rattle.stm_image.specs.Text.{RecordsPrecede, all_pairs, scan_fault}
 use Rattle.stm_image.specs.declared.faults.HexFault.{HexFault}
 use Rattle.stm_image.specs.declared.faults.HexFault.TheVariants.{Memory}
 
@@ -30,7 +30,7 @@ PassStopsAt n rest stop = StopsAt n rest stop ⊎ (stop ≡ Some (Memory n))
 pub record Reads (text : List ℕ) (pairs : Pairs) (stop : Option HexFault) : Type 0 where
   pub records : List (List ℕ)
   pub rest : List ℕ
-  pub follows : Follows text records rest
+  pub follows : RecordsPrecede text records rest
   pub pairs_are : pairs ≡ all_pairs records
   pub stops : PassStopsAt (length records + 1) rest stop
 
@@ -38,14 +38,14 @@ pub record Reads (text : List ℕ) (pairs : Pairs) (stop : Option HexFault) : Ty
 pub record HasByte (text : List ℕ) (place : ℕ) : Type 0 where
   pub records : List (List ℕ)
   pub rest : List ℕ
-  pub follows : Follows text records rest
+  pub follows : RecordsPrecede text records rest
   pub within : place < length (all_pairs records)
 
 -- record n has the byte at a place among those of all records
-pub record IsRecordOf (text : List ℕ) (place n : ℕ) : Type 0 where
+pub record IsByteOfRecord (text : List ℕ) (place n : ℕ) : Type 0 where
   pub records : List (List ℕ)
   pub rest : List ℕ
-  pub follows : Follows text records rest
+  pub follows : RecordsPrecede text records rest
   pub next : List ℕ
   pub after : List ℕ
   pub stands : scan rest ≡ Whole next after

@@ -11,14 +11,14 @@ abbrev pub is_blank : ℕ → Bool
 is_blank b = b == 13 || b == 10 || b == 32 || b == 9
 
 -- the bytes of some digits
-abbrev pub bytes_of : List ℕ → List ℕ
-bytes_of digits = result_unwrap_or (decode_of digits) []
+abbrev pub digits_bytes : List ℕ → List ℕ
+digits_bytes digits = result_unwrap_or (decode_of digits) []
 
 -- how many digits a record has: two until these tell its length
 abbrev pub digits_needed : List ℕ → ℕ
 digits_needed text =
     if nat_le 2 (prefix_len is_hex_digit text)
-    then 2 * (slice_index (bytes_of (take 2 text)) 0 + 5) else 2
+    then 2 * (slice_index (digits_bytes (take 2 text)) 0 + 5) else 2
 
 -- what stands where a record may begin: nothing; another byte than a colon; a colon and too few
 -- digits, with another byte or the end after them; a record's bytes, and the text after them
@@ -37,7 +37,7 @@ ends_digits (_ ∷ _) = Broken
 unfoldable pub scan_digits : List ℕ → Scan
 scan_digits text =
     if nat_le (digits_needed text) (prefix_len is_hex_digit text)
-    then Whole (bytes_of (take (digits_needed text) text)) (drop (digits_needed text) text)
+    then Whole (digits_bytes (take (digits_needed text) text)) (drop (digits_needed text) text)
     else ends_digits (drop (prefix_len is_hex_digit text) text)
 
 abbrev pub scan_begun : List ℕ → Scan
@@ -58,8 +58,8 @@ abbrev pub data_of : List ℕ → List ℕ
 data_of record_bytes = take (length record_bytes - 5) (drop 4 record_bytes)
 
 -- the number in a record of two data bytes
-abbrev pub number_of : List ℕ → ℕ
-number_of record_bytes = slice_index record_bytes 4 * 256 + slice_index record_bytes 5
+abbrev pub record_number : List ℕ → ℕ
+record_number record_bytes = slice_index record_bytes 4 * 256 + slice_index record_bytes 5
 
 -- whether a kind may have so many data bytes
 abbrev pub has_length : ℕ → ℕ → Bool

@@ -4,7 +4,7 @@ use Rattle.std.specs.Prelude.{◌∷◌, ◌++◌, length, Option, Some, None}
 use Rattle.stm_image.specs.Pairs.{Pairs, Agree, IsSetOf}
 use Rattle.stm_image.specs.Record.{Scan, Ended, Stray, Broken, Cut, Whole, scan, Flaw, BadSum}
 use Rattle.stm_image.specs.Record.{BadKind, BadLength, flaw_of, kind_of, offset_of, data_of}
-use Rattle.stm_image.specs.Record.{number_of}
+use Rattle.stm_image.specs.Record.{record_number}
 use Rattle.stm_image.specs.declared.place.Form.{Form}
 use Rattle.stm_image.specs.declared.place.Form.TheVariants.{Linear, Segment}
 use Rattle.stm_image.specs.declared.faults.HexFault.{HexFault}
@@ -15,8 +15,8 @@ use Rattle.stm_image.specs.declared.faults.HexFault.TheVariants.{Memory}
 -- the form for the records after this one
 abbrev pub form_after : Form → List ℕ → Form
 form_after form r =
-    if kind_of r == 4 then Linear (number_of r)
-    else if kind_of r == 2 then Segment (number_of r) else form
+    if kind_of r == 4 then Linear (record_number r)
+    else if kind_of r == 2 then Segment (record_number r) else form
 
 -- the address of a data byte, at the offset of its record plus its place there
 abbrev pub address_at : Form → ℕ → ℕ
@@ -44,11 +44,11 @@ form_of form (r ∷ records) = form_of (form_after form r) records
 
 -- the text is blanks and these records, each without a flaw and none an end
 -- record, and then the rest
-abbrev pub Follows : List ℕ → List (List ℕ) → List ℕ → Type 0
-Follows text [] rest = text ≡ rest
-Follows text (r ∷ records) rest =
+abbrev pub RecordsPrecede : List ℕ → List (List ℕ) → List ℕ → Type 0
+RecordsPrecede text [] rest = text ≡ rest
+RecordsPrecede text (r ∷ records) rest =
     (after : List ℕ) × (scan text ≡ Whole r after) × (flaw_of r ≡ None) × (kind_of r ≢ 1)
-    × Follows after records rest
+    × RecordsPrecede after records rest
 
 -- all pairs of a text's records
 abbrev pub all_pairs : List (List ℕ) → Pairs
@@ -58,7 +58,7 @@ all_pairs records = placed (Linear 0) records
 pub record Means (text : List ℕ) (set : Pairs) : Type 0 where
   pub records : List (List ℕ)
   pub rest : List ℕ
-  pub follows : Follows text records rest
+  pub follows : RecordsPrecede text records rest
   pub last : List ℕ
   pub after : List ℕ
   pub stops : scan rest ≡ Whole last after
@@ -96,22 +96,22 @@ IsFault records rest (Conflict n) = (n ≡ length records + 1) × Conflicts reco
 IsFault records rest fault = scan_fault (length records + 1) (scan rest) ≡ Some fault
 
 -- the fault stands in the text, at the record after `records`
-pub record Stands (text : List ℕ) (fault : HexFault) : Type 0 where
+pub record FaultStands (text : List ℕ) (fault : HexFault) : Type 0 where
   pub records : List (List ℕ)
   pub rest : List ℕ
-  pub follows : Follows text records rest
+  pub follows : RecordsPrecede text records rest
   pub agree : Agree (all_pairs records)
   pub is : IsFault records rest fault
 
 -- the text means a set, or a fault stands in it
 abbrev pub HasVerdict : List ℕ → Type 0
-HasVerdict text = ((set : Pairs) × Means text set) ⊎ ((fault : HexFault) × Stands text fault)
+HasVerdict text = ((set : Pairs) × Means text set) ⊎ ((fault : HexFault) × FaultStands text fault)
 
 -- memory was refused at the record after `records`, which agree: the
 -- fault's number is that record's
 pub record IsOutOfMemory (text : List ℕ) (fault : HexFault) : Type 0 where
   pub records : List (List ℕ)
   pub rest : List ℕ
-  pub follows : Follows text records rest
+  pub follows : RecordsPrecede text records rest
   pub agree : Agree (all_pairs records)
   pub is : fault ≡ Memory (length records + 1)

@@ -1,6 +1,6 @@
 //! Which record gives an address another byte.
 ghost use Rattle.std.specs.Prelude.{◌≡◌, ◌≤◌, length};
-ghost use Rattle.stm_image.specs.Reads.{HasByte, IsRecordOf};
+ghost use Rattle.stm_image.specs.Reads.{HasByte, IsByteOfRecord};
 ghost use Rattle.stm_image.specs.Text.{pairs_of};
 ghost use Rattle.stm_image.specs.declared.place.Form.{Form};
 
@@ -10,7 +10,7 @@ use crate::step::{Step, next_record};
 /// Which record has the byte at a place among those of all records.
 pub fn record_of(text: &[u8], place: usize) -> u64
     requires { HasByte text.now place }
-    ensures { IsRecordOf text.now place result }
+    ensures { IsByteOfRecord text.now place result }
 {
     let values = digit_values();
     let mut bytes = [0u8; 260];

@@ -4,7 +4,7 @@ ghost use Rattle.std.specs.Prelude.{drop, slice_index};
 ghost use Rattle.stm_image.specs.Canon.{canon};
 ghost use Rattle.stm_image.specs.Lay.{lay, laid_byte, AgreesWith};
 ghost use Rattle.stm_image.specs.Pairs.{Pairs, IsImage, IsNext, HasNone, byte_at};
-ghost use Rattle.stm_image.specs.Text.{HasVerdict, Means, Stands};
+ghost use Rattle.stm_image.specs.Text.{HasVerdict, Means, FaultStands};
 ghost use Rattle.stm_image.specs.declared.faults.HexFault.{HexFault};
 
 /// The canonical text of an image means that image, and nothing else.
@@ -13,7 +13,7 @@ pub fn canonical_text_means_the_image()
     ensures nothing_else { (set other : Pairs) →
         IsImage set → Means (canon set) other → other ≡ set }
     ensures faultless { (set : Pairs) (fault : HexFault) → IsImage set
-        → ¬ Stands (canon set) fault }
+        → ¬ FaultStands (canon set) fault }
 {}
 
 /// Every text has a verdict: it means a set, or a fault stands in it.
@@ -26,9 +26,9 @@ pub fn verdict_is_unique()
     ensures meaning { (text : List ℕ) (set other : Pairs) →
         Means text set → Means text other → set ≡ other }
     ensures fault { (text : List ℕ) (fault other : HexFault) →
-        Stands text fault → Stands text other → fault ≡ other }
+        FaultStands text fault → FaultStands text other → fault ≡ other }
     ensures never_both { (text : List ℕ) (set : Pairs) (fault : HexFault) →
-        Means text set → ¬ Stands text fault }
+        Means text set → ¬ FaultStands text fault }
 {}
 
 /// A set laid over bytes by parts is the set laid over them whole.

@@ -3,7 +3,7 @@ ghost use Rattle.std.specs.Prelude.{◌≡◌, ◌≢◌, [], ◌<◌, ◌≤◌
 ghost use Rattle.std.specs.List.{AllWithin};
 ghost use Rattle.std.specs.List.Sorted.{IsNonDecreasingBy};
 ghost use Rattle.stm_image.specs.declared.pieces.Piece.{Piece};
-ghost use Rattle.stm_image.specs.Pieces.{IsWithin, bytes_at, next_apart, AllStand, AreAdded};
+ghost use Rattle.stm_image.specs.Pieces.{IsWithin, piece_bytes, next_apart, AllStand, AreAdded};
 ghost use Rattle.stm_image.specs.Pieces.{AreAsBefore, IsBack, IsMark};
 
 use std::alloc::{AllocError, Global};
@@ -38,7 +38,7 @@ impl Piece {
     /// Its bytes, among those of all pieces.
     pub fn bytes_in<'a>(&self, bytes: &'a [u8]) -> &'a [u8]
         requires { IsWithin (length bytes.now) self.now }
-        ensures { result.now ≡ bytes_at bytes.now self.now }
+        ensures { result.now ≡ piece_bytes bytes.now self.now }
     {
         let count = (self.last - self.first) as usize + 1;
         &bytes[self.place..self.place + count]

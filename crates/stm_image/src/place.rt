@@ -1,6 +1,6 @@
 //! Where data bytes lie.
 ghost use Rattle.std.specs.Prelude.{◌≡◌, ◌<◌, length};
-ghost use Rattle.stm_image.specs.Record.{number_of};
+ghost use Rattle.stm_image.specs.Record.{record_number};
 ghost use Rattle.stm_image.specs.Text.{address_at};
 
 /// How data records are placed.
@@ -26,7 +26,7 @@ pub fn address_in(form: Form, offset: u32) -> u32
 /// The number in a record of two data bytes.
 pub fn two_bytes(bytes: &[u8]) -> u16
     requires { 6 < length bytes.now }
-    ensures { result ≡ number_of bytes.now }
+    ensures { result ≡ record_number bytes.now }
 {
     u16::from(bytes[4]) * 256 + u16::from(bytes[5])
 }

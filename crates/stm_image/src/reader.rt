@@ -2,7 +2,7 @@
 ghost use Rattle.std.specs.Prelude.{◌⊎◌, IfOk, IfErr};
 ghost use Rattle.stm_image.specs.Pieces.{AllStand, pairs_in};
 ghost use Rattle.stm_image.specs.Reads.{Reads};
-ghost use Rattle.stm_image.specs.Text.{Means, Stands, IsOutOfMemory};
+ghost use Rattle.stm_image.specs.Text.{Means, FaultStands, IsOutOfMemory};
 
 use crate::conflict::record_of;
 use crate::data::take_up;
@@ -56,7 +56,7 @@ fn read_pieces(alloc: Global, text: &[u8]) -> Reading
 /// found no room in the order of their addresses.
 pub fn read_hex(alloc: Global, text: &[u8]) -> Result<Image, HexFault>
     ensures ok { IfOk result (Means text.now) }
-    ensures err { IfErr result (λ e. Stands text.now e ⊎ IsOutOfMemory text.now e) }
+    ensures err { IfErr result (λ e. FaultStands text.now e ⊎ IsOutOfMemory text.now e) }
 {
     let reading = read_pieces(alloc, text);
     let Ok(found) = set_of(alloc, reading.pieces) else {

@@ -5,7 +5,7 @@ ghost use Rattle.std.specs.Bool.{OnTrue};
 ghost use Rattle.std.specs.List.{prefix_len};
 ghost use Rattle.hex.specs.Hex.{is_hex_digit};
 ghost use Rattle.stm_image.specs.Digits.{IsTable};
-ghost use Rattle.stm_image.specs.Record.{is_blank, bytes_of, digits_needed, scan, scan_digits};
+ghost use Rattle.stm_image.specs.Record.{is_blank, digits_bytes, digits_needed, scan, scan_digits};
 ghost use Rattle.stm_image.specs.Scanned.{scan_of, HasRoom};
 
 use crate::digit_table::decode;
@@ -65,7 +65,7 @@ fn decode_first(values: &[u8; 256], text: &[u8], out: &mut [u8]) -> bool
     requires short { length out.old ≤ 260 }
     ensures enough { IsTrue result ↔ (2 * length out.old ≤ prefix_len is_hex_digit text.now) }
     ensures fits { IsTrue result → 2 * length out.old ≤ length text.now }
-    ensures value { OnTrue result (out.new ≡ bytes_of (take (2 * length out.old) text.now)) }
+    ensures value { OnTrue result (out.new ≡ digits_bytes (take (2 * length out.old) text.now)) }
 {
     match text.get(..2 * out.len()) {
         Some(digits) => decode(values, digits, out),
@@ -79,7 +79,7 @@ fn fill(values: &[u8; 256], text: &[u8], bytes: &mut [u8; 260], count: usize) ->
     requires short { count ≤ 260 }
     ensures enough { IsTrue result ↔ (2 * count ≤ prefix_len is_hex_digit text.now) }
     ensures fits { IsTrue result → 2 * count ≤ length text.now }
-    ensures value { OnTrue result (take count bytes.new ≡ bytes_of (take (2 * count) text.now)) }
+    ensures value { OnTrue result (take count bytes.new ≡ digits_bytes (take (2 * count) text.now)) }
 {
     decode_first(values, text, &mut bytes[..count])
 }

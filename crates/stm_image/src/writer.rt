@@ -1,7 +1,7 @@
 //! Writes the canonical text of an image.
 ghost use Rattle.std.specs.Prelude.{◌≡◌, ◌<◌, ◌≤◌, ◌+◌, ◌/◌, ◌%◌, ◌^◌, ◌++◌, length, IfOk, OnOk};
 ghost use Rattle.stm_image.specs.Canon.{canon, line, upper_line};
-ghost use Rattle.stm_image.specs.Parts.{IsPart, IsWritten};
+ghost use Rattle.stm_image.specs.Parts.{IsRecordPart, IsTextWritten};
 
 use crate::Image;
 use crate::lines::{put_line, put_upper};
@@ -10,7 +10,7 @@ use std::alloc::{AllocError, Global};
 // How many of the bytes that stand together from an address on go into one record.
 fn part_len(at: u64, left: usize) -> usize
     requires { 0 < left }
-    ensures { IsPart at left result }
+    ensures { IsRecordPart at left result }
 {
     let edge = (65536 - at % 65536) as usize;
     if edge <= 16 && edge <= left {
@@ -39,7 +39,7 @@ fn put_part(text: &mut Vec<u8>, upper: u16, start: u32, bytes: &[u8]) -> Result<
 fn put_run(text: &mut Vec<u8>, upper: u16, start: u32, bytes: &[u8]) -> Result<u16, AllocError>
     requires { start + length bytes.now ≤ 2 ^ 32 }
     ensures { IfOk result
-        (λ high. IsWritten text.old.items upper start bytes.now text.new.items high) }
+        (λ high. IsTextWritten text.old.items upper start bytes.now text.new.items high) }
 {
     let mut high = upper;
     let mut at = u64::from(start);

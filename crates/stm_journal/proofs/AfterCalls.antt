@@ -15,7 +15,7 @@ use Rattle.stm_journal.specs.declared.header.JournalHeader.{JournalHeader}
 use Rattle.stm_journal.specs.declared.entry.Entry.{Entry}
 use Rattle.stm_journal.specs.declared.entry.Entry.TheVariants.{Names, Opens, Keeps, Erases, Programs, Ends, Undoes}
 use Rattle.stm_journal.specs.Entries.{line_of}
-use Rattle.stm_journal.specs.States.{StateData, SegmentData, newest_has, newest_keeps, newest_may_keep, keeps, is_open_stage, is_ended_stage, intent_of, intent_at, stage_with, on_newest, keeping, kept_in, intending, ending, fresh_segment, allows, after_entry, is_other_board, header_board, AllEnded, EndedBelow, IsSound}
+use Rattle.stm_journal.specs.States.{StateData, SegmentData, newest_has, newest_keeps, newest_may_keep, keeps, is_open_stage, is_ended_stage, intent_of, intent_at, stage_with, on_newest, keeping, kept_in, intending, ended_segment, fresh_segment, allows, after_entry, is_other_board, header_board, AllEnded, EndedBelow, IsSound}
 use Rattle.stm_journal.specs.Newest.{KeepsSame, HasBegun, HasKept, HasIntended, HasEnded, HasUndone}
 use Rattle.stm_journal.specs.Added.{HasAdded}
 use Rattle.stm_journal.specs.Blank.{blank}
@@ -110,7 +110,7 @@ HasIntended-program n l may =
     let H : StateData → Type 0 = λ s. HasIntended n (Program n) l.state s in
     subst H (sym (state-after (Programs n) l)) (intended (Program n) n l.state.header l.state.stack may)
 
-ended : (header : Option JournalHeader) (stack : List SegmentData) → HasEnded (record { header = header; stack = stack }) (record { header = header; stack = on_newest ending stack })
+ended : (header : Option JournalHeader) (stack : List SegmentData) → HasEnded (record { header = header; stack = stack }) (record { header = header; stack = on_newest ended_segment stack })
 ended header [] = record { same = KeepsSame-stage header [] (λ s. Ended); finished = refl; intent = refl }
 ended header (segment ∷ below) = record { same = KeepsSame-stage header (segment ∷ below) (λ s. Ended); finished = refl; intent = refl }
 

@@ -6,14 +6,14 @@ use Rattle.std.proofs.lemmas.Bool.Decides.{nat_tests}
 use Rattle.hex.specs.declared.error.FromHexError.{FromHexError}
 use Rattle.hex.specs.Hex.{decode_sized, encode_upper, encode_with, upper_digits}
 use Rattle.hex.proofs.HexLemmas.{decode_sized-ok}
-use Rattle.stm_wire.specs.Rig.{Tells}
+use Rattle.stm_wire.specs.Rig.{TellsBehind}
 use Rattle.stm_journal.specs.Entries.{is_upper_digit}
 use Rattle.stm_journal.specs.PageFetching.{Brings}
 use Rattle.stm_journal.proofs.Upper.{first-true, second-true}
 use Rattle.stm_journal.proofs.Piecing.{digit_of, bytes_of, decode-all, sized}
 
 -- a fetch that answered
-pub tells-brings : (after : List ℕ) (n : ℕ) (a b : Option (List ℕ)) → Tells after (Ok n) a b → Brings (take n after) a b
+pub tells-brings : (after : List ℕ) (n : ℕ) (a b : Option (List ℕ)) → TellsBehind after (Ok n) a b → Brings (take n after) a b
 tells-brings after n None b tells = tells
 tells-brings after n (Some past) b tells = tells
 

@@ -8,7 +8,7 @@ use Rattle.std.proofs.lemmas.List.{take-take, drop-take, drop-drop, take-append-
 use Rattle.std.proofs.lemmas.List.Folds.{list_all-append}
 use Rattle.stm_journal.specs.declared.entry.Entry.{Entry}
 use Rattle.stm_journal.specs.declared.entry.Entry.TheVariants.{Names, Opens, Keeps, Erases, Programs, Ends, Undoes}
-use Rattle.stm_journal.specs.Entries.{is_upper_digit, number_of, number_of_pair, hex_bytes_of, behind, entry_of, worded, page_of, page_at, page_of_fields, header_of, id_of, unique_of, board_at, board_of_fields, board_header_of, numbered_entry_of}
+use Rattle.stm_journal.specs.Entries.{is_upper_digit, decimal_of, number_of_pair, hex_bytes_of, behind, entry_of, worded, kept_entry_of, page_at, page_of_fields, header_of, id_of, unique_id_of, board_at, board_of_fields, board_header_of, numbered_entry_of}
 use Rattle.stm_wire.specs.UniqueId.{is_unique_length}
 use Rattle.stm_journal.specs.Blank.{blank}
 use Rattle.stm_journal.specs.InMemory.{forget_entry}
@@ -122,7 +122,7 @@ position-some xs lt = let t : nat_lt (space_in xs) (length xs) ≡ true = is-lt 
     is-lt a b lt = grind (arith, nat_tests)
 
 long-rest : (rest : List ℕ) → 77 < length rest
-    → option_map forget_entry (page_of rest) ≡ (if list_all is_upper_digit (drop 77 rest) then long_at (take 77 rest) (length rest - 77) (position (λ b. b == 32) (take 77 rest)) else None)
+    → option_map forget_entry (kept_entry_of rest) ≡ (if list_all is_upper_digit (drop 77 rest) then long_at (take 77 rest) (length rest - 77) (position (λ b. b == 32) (take 77 rest)) else None)
 long-rest rest many = ⊎_elim near far (cases_lt (space_in rest) 77)
   where
     i : ℕ
@@ -131,7 +131,7 @@ long-rest rest many = ⊎_elim near far (cases_lt (space_in rest) 77)
     short : length (take 77 rest) ≡ 77
     short = length-take-le 77 rest (omega (arith, many))
 
-    near : space_in rest < 77 → option_map forget_entry (page_of rest) ≡ (if list_all is_upper_digit (drop 77 rest) then long_at (take 77 rest) (length rest - 77) (position (λ b. b == 32) (take 77 rest)) else None)
+    near : space_in rest < 77 → option_map forget_entry (kept_entry_of rest) ≡ (if list_all is_upper_digit (drop 77 rest) then long_at (take 77 rest) (length rest - 77) (position (λ b. b == 32) (take 77 rest)) else None)
     near lt =
         let k : ℕ = 77 - (i + 1) in
         let ds : List ℕ = drop (i + 1) rest in
@@ -143,24 +143,24 @@ long-rest rest many = ⊎_elim near far (cases_lt (space_in rest) 77)
         let found : position (λ b. b == 32) (take 77 rest) ≡ Some i = position-some (take 77 rest) (omega (arith, lt, short, space-take 77 rest lt)) ∙ ap (λ (n : ℕ). Some n) (space-take 77 rest lt) in
         let number : take i (take 77 rest) ≡ take i rest = take-take i 77 rest (omega (arith, lt)) in
         ap (λ (o : Option ℕ). option_map forget_entry (page_at rest o)) (position-some rest (omega (arith, many, lt)))
-        ∙ forgets i ds (length (take k ds) + (length rest - 77)) some count (number_of (take i rest))
-        ∙ split-upper k ds (page_with (number_of (take i rest)) (length (take k ds) + (length rest - 77)))
-        ∙ ap (λ (xs : List ℕ). if list_all is_upper_digit xs then (if list_all is_upper_digit (take k ds) then page_with (number_of (take i rest)) (length (take k ds) + (length rest - 77)) else None) else None) back
+        ∙ forgets i ds (length (take k ds) + (length rest - 77)) some count (decimal_of (take i rest))
+        ∙ split-upper k ds (page_with (decimal_of (take i rest)) (length (take k ds) + (length rest - 77)))
+        ∙ ap (λ (xs : List ℕ). if list_all is_upper_digit xs then (if list_all is_upper_digit (take k ds) then page_with (decimal_of (take i rest)) (length (take k ds) + (length rest - 77)) else None) else None) back
         ∙ sym (ap (λ (o : Option ℕ). if list_all is_upper_digit (drop 77 rest) then long_at (take 77 rest) (length rest - 77) o else None) found
-        ∙ ap (λ (xs : List ℕ). if list_all is_upper_digit (drop 77 rest) then (if list_all is_upper_digit xs then page_with (number_of (take i (take 77 rest))) (length xs + (length rest - 77)) else None) else None) front
-        ∙ ap (λ (xs : List ℕ). if list_all is_upper_digit (drop 77 rest) then (if list_all is_upper_digit (take k ds) then page_with (number_of xs) (length (take k ds) + (length rest - 77)) else None) else None) number)
+        ∙ ap (λ (xs : List ℕ). if list_all is_upper_digit (drop 77 rest) then (if list_all is_upper_digit xs then page_with (decimal_of (take i (take 77 rest))) (length xs + (length rest - 77)) else None) else None) front
+        ∙ ap (λ (xs : List ℕ). if list_all is_upper_digit (drop 77 rest) then (if list_all is_upper_digit (take k ds) then page_with (decimal_of xs) (length (take k ds) + (length rest - 77)) else None) else None) number)
 
-    said-none : 77 ≤ space_in rest → option_map forget_entry (page_of rest) ≡ None
+    said-none : 77 ≤ space_in rest → option_map forget_entry (kept_entry_of rest) ≡ None
     said-none le = ⊎_elim
         (λ lt.
-        let long : number_of (take i rest) ≡ None = number_of-long (take i rest) (omega (arith, le, lt, length-take-le i rest (omega (arith, lt)))) in
+        let long : decimal_of (take i rest) ≡ None = number_of-long (take i rest) (omega (arith, le, lt, length-take-le i rest (omega (arith, lt)))) in
         ap (λ (o : Option ℕ). option_map forget_entry (page_at rest o)) (position-some rest lt)
         ∙ ap (λ (o : Option ℕ). option_map forget_entry (page_of_fields o (hex_bytes_of (drop (i + 1) rest)))) long
         ∙ ap (λ (o : Option Entry). option_map forget_entry o) (no-page (hex_bytes_of (drop (i + 1) rest))))
         (λ ge. ap (λ (o : Option ℕ). option_map forget_entry (page_at rest o)) (position-none rest ge))
         (cases_lt (space_in rest) (length rest))
 
-    far : 77 ≤ space_in rest → option_map forget_entry (page_of rest) ≡ (if list_all is_upper_digit (drop 77 rest) then long_at (take 77 rest) (length rest - 77) (position (λ b. b == 32) (take 77 rest)) else None)
+    far : 77 ≤ space_in rest → option_map forget_entry (kept_entry_of rest) ≡ (if list_all is_upper_digit (drop 77 rest) then long_at (take 77 rest) (length rest - 77) (position (λ b. b == 32) (take 77 rest)) else None)
     far le =
         let lost : position (λ b. b == 32) (take 77 rest) ≡ None = position-none (take 77 rest) (omega (arith, short, space-far 77 rest le (omega (arith, many)))) in
         said-none le ∙ sym (ap (λ (o : Option ℕ). if list_all is_upper_digit (drop 77 rest) then long_at (take 77 rest) (length rest - 77) o else None) lost ∙ if-none (list_all is_upper_digit (drop 77 rest)))
@@ -183,7 +183,7 @@ worded-none word said line other none left = at (behind word line) none
     at None h = left
     at (Some rest) h = h rest refl
 
-numbered-none : (word : List ℕ) (line : List ℕ) (k : ℕ) (f : ℕ → Entry) → length word ≡ k → k ≤ 11 → 82 < length line → (rest : List ℕ) → behind word line ≡ Some rest → option_map f (number_of rest) ≡ None
+numbered-none : (word : List ℕ) (line : List ℕ) (k : ℕ) (f : ℕ → Entry) → length word ≡ k → k ≤ 11 → 82 < length line → (rest : List ℕ) → behind word line ≡ Some rest → option_map f (decimal_of rest) ≡ None
 numbered-none word line k f size few many rest is =
     let e : rest ≡ drop k line = behind-long word line k rest size is in
     let long : 6 ≤ length rest = omega (arith, many, few, ap (λ (xs : List ℕ). length xs) e, length-drop k line) in
@@ -223,7 +223,7 @@ long-unique bytes many = ap (λ (b : Bool). if b then Some bytes else None) (not
     not-unique : (n : ℕ) → 32 < n → is_unique_length n ≡ false
     not-unique n many = grind (arith, nat_tests)
 
-unique-none : (digits : List ℕ) → 64 < length digits → unique_of digits ≡ None
+unique-none : (digits : List ℕ) → 64 < length digits → unique_id_of digits ≡ None
 unique-none digits many = elim (cases_Bool (list_all is_upper_digit digits)) [
   | inl upper ↦ elim (cases_Bool (length digits % 2 == 0)) [
     | inl even ↦
@@ -256,9 +256,9 @@ board-none rest many = ⊎_elim
 
     far : space_in rest < length rest → 4 < space_in rest → board_at rest (Some (space_in rest)) ≡ None
     far lt long =
-        ap (λ (o : Option ℕ). board_of_fields o (unique_of (drop (i + 1) rest)))
+        ap (λ (o : Option ℕ). board_of_fields o (unique_id_of (drop (i + 1) rest)))
         (id-none (take i rest) (omega (arith, long, length-take-le i rest (omega (arith, lt)))))
-        ∙ no-id (unique_of (drop (i + 1) rest))
+        ∙ no-id (unique_id_of (drop (i + 1) rest))
 
     near : space_in rest ≤ 4 → board_at rest (Some (space_in rest)) ≡ None
     near few =
@@ -307,7 +307,7 @@ long-line line many = elim (cases_Bool (bytes_eq (take 5 line) (codes "page ")))
       in
       let back : drop 77 rest ≡ drop 82 line = drop-drop 77 5 line in
       let count : length rest - 77 ≡ length line - 82 = omega (arith, length-drop 5 line) in
-      ap (λ (o : Option (List ℕ)). option_map forget_entry (elim o as (λ _. Option Entry) [ None ↦ other_of line | Some r ↦ page_of r ])) here
+      ap (λ (o : Option (List ℕ)). option_map forget_entry (elim o as (λ _. Option Entry) [ None ↦ other_of line | Some r ↦ kept_entry_of r ])) here
       ∙ long-rest rest (omega (arith, many, length-drop 5 line))
       ∙ ap (λ (xs : List ℕ). if list_all is_upper_digit xs then long_at (take 77 rest) (length rest - 77) (position (λ b. b == 32) (take 77 rest)) else None) back
       ∙ ap (λ (n : ℕ). if list_all is_upper_digit (drop 82 line) then long_at (take 77 rest) n (position (λ b. b == 32) (take 77 rest)) else None) count
@@ -319,7 +319,7 @@ long-line line many = elim (cases_Bool (bytes_eq (take 5 line) (codes "page ")))
       ap (λ (xs : List ℕ). if bytes_eq xs (codes "page ") then Some (drop 5 (take 82 line)) else None) cut
       ∙ ap (λ (b : Bool). if b then Some (drop 5 (take 82 line)) else None) isnt
       in
-      ap (λ (o : Option (List ℕ)). option_map forget_entry (elim o as (λ _. Option Entry) [ None ↦ other_of line | Some r ↦ page_of r ])) here
+      ap (λ (o : Option (List ℕ)). option_map forget_entry (elim o as (λ _. Option Entry) [ None ↦ other_of line | Some r ↦ kept_entry_of r ])) here
       ∙ ap (λ (o : Option Entry). option_map forget_entry o) (other-none line many)
       ∙ sym (ap (λ (o : Option (List ℕ)). if list_all is_upper_digit (drop 82 line) then (elim o as (λ _. Option Entry) [ None ↦ None | Some r ↦ long_at r (length line - 82) (position (λ b. b == 32) r) ]) else None) there
       ∙ if-none (list_all is_upper_digit (drop 82 line)))

@@ -14,7 +14,7 @@ use Rattle.stm_wire.specs.Call.{Call, Put, Get, Append, Fetch}
 use Rattle.stm_wire.specs.Dialogue.{GoesOn}
 use Rattle.std.proofs.Common.{Option, Some, None}
 use Rattle.stm_journal.specs.Calls.{AreFetches, Loads, IsUntouched, IsFaultOf, KeepsDevice}
-use Rattle.stm_journal.specs.Loading.{IsRead, StopsAt, IsLoadFault, Fetches, HasRead}
+use Rattle.stm_journal.specs.Loading.{IsRead, LoadingStopsAt, IsLoadFault, Fetches, HasReadJournal}
 
 untouched : (a b : RigState) → b.journal ≡ a.journal → b.device ≡ a.device → (d : Device) (j : List ℕ) → IsUntouched b d j → IsUntouched a d j
 untouched a b same still d j u =
@@ -24,7 +24,7 @@ untouched a b same still d j u =
 further : (a b c : RigState) → b.journal ≡ a.journal → b.device ≡ a.device → LeavesOnly (IsUntouched a) a b → LeavesOnly (IsUntouched b) b c → LeavesOnly (IsUntouched a) a c
 further a b c same still first second = joined (IsUntouched a) (IsUntouched b) (IsUntouched a) a b c first second (λ d j u. u) (untouched a b same still)
 
-pub HasRead-start : (l : Loaded) (tail : Summary) (a : RigState) → IsModel a → a.is_honest → IsRead l tail [] → HasRead l tail a a
+pub HasRead-start : (l : Loaded) (tail : Summary) (a : RigState) → IsModel a → a.is_honest → IsRead l tail [] → HasReadJournal l tail a a
 HasRead-start l tail a model honest is =
     let none : l.size ≡ 0 = is.size in
     let B : ℕ → Type 0 = λ n. IsRead l tail (take n a.journal) in
@@ -52,17 +52,17 @@ take-further (suc at) n (x ∷ xs) =
     let e : suc at + n ≡ suc (at + n) = omega arith in
     ap (λ (ys : List ℕ). x ∷ ys) (take-further at n xs) ∙ sym (ap (λ (k : ℕ). take k (x ∷ xs)) e)
 
-bytes-read : (l : Loaded) (tail : Summary) (n : ℕ) (before after more : List ℕ) (a b c : RigState) → HasRead l tail a b → Fetches l.size before after b c (Ok n)
+bytes-read : (l : Loaded) (tail : Summary) (n : ℕ) (before after more : List ℕ) (a b c : RigState) → HasReadJournal l tail a b → Fetches l.size before after b c (Ok n)
     → n ≤ length after → more ≡ take n after → take l.size a.journal ++ more ≡ take (l.size + n) a.journal
 bytes-read l tail n before after more a b c has got within cut =
     ap (λ (xs : List ℕ). take l.size a.journal ++ xs) (cut ∙ got.bytes ∙ ap (λ (j : List ℕ). take n (drop l.size j)) has.journal) ∙ take-further l.size n a.journal
 
-room : (l : Loaded) (tail : Summary) (n : ℕ) (before after : List ℕ) (a b c : RigState) → HasRead l tail a b → Fetches l.size before after b c (Ok n) → n ≤ length after → l.size + n ≤ length a.journal
+room : (l : Loaded) (tail : Summary) (n : ℕ) (before after : List ℕ) (a b c : RigState) → HasReadJournal l tail a b → Fetches l.size before after b c (Ok n) → n ≤ length after → l.size + n ≤ length a.journal
 room l tail n before after a b c has got within =
     omega (arith, has.within, next-bytes l.size n after b.journal within got.bytes, length-drop l.size b.journal, ap (λ (xs : List ℕ). length xs) has.journal)
 
-pub HasRead-more : (l l2 : Loaded) (tail tail2 : Summary) (n : ℕ) (before after more : List ℕ) (a b c : RigState) → HasRead l tail a b → Fetches l.size before after b c (Ok n)
-    → n ≤ length after → more ≡ take n after → IsRead l2 tail2 (take l.size a.journal ++ more) → HasRead l2 tail2 a c
+pub HasRead-more : (l l2 : Loaded) (tail tail2 : Summary) (n : ℕ) (before after more : List ℕ) (a b c : RigState) → HasReadJournal l tail a b → Fetches l.size before after b c (Ok n)
+    → n ≤ length after → more ≡ take n after → IsRead l2 tail2 (take l.size a.journal ++ more) → HasReadJournal l2 tail2 a c
 HasRead-more l l2 tail tail2 n before after more a b c has got within cut read =
     let all : take l.size a.journal ++ more ≡ take (l.size + n) a.journal = bytes-read l tail n before after more a b c has got within cut in
     let fits : l.size + n ≤ length a.journal = room l tail n before after a b c has got within in
@@ -77,7 +77,7 @@ HasRead-more l l2 tail tail2 n before after more a b c has got within cut read =
       within = omega (arith, size, fits);
     }
 
-pub Loads-file : (l : Loaded) (tail : Summary) (before after : List ℕ) (e : JournalFault) (a b c : RigState) → HasRead l tail a b → Fetches l.size before after b c (Err e) → Loads a c (Err File)
+pub Loads-file : (l : Loaded) (tail : Summary) (before after : List ℕ) (e : JournalFault) (a b c : RigState) → HasReadJournal l tail a b → Fetches l.size before after b c (Err e) → Loads a c (Err File)
 Loads-file l tail before after e a b c has got =
     let D : Device → Type 0 = λ d. LosesOwed d c.device in
     record {
@@ -97,7 +97,7 @@ kept-device a c OtherDevice is same = absurd is
 kept-device a c OtherBoard is same = absurd is
 kept-device a c Memory is same = same
 
-fault-of : (bytes rest journal : List ℕ) (e : JournalFault) → IsLoadFault e → 0 < length journal → bytes ++ rest ≡ journal → StopsAt bytes e → IsFaultOf journal e
+fault-of : (bytes rest journal : List ℕ) (e : JournalFault) → IsLoadFault e → 0 < length journal → bytes ++ rest ≡ journal → LoadingStopsAt bytes e → IsFaultOf journal e
 fault-of bytes rest journal File is some whole stops = absurd is
 fault-of bytes rest journal (Bad line) is some whole stops = ap (λ (xs : List ℕ). journal_of xs) (sym whole) ∙ stops rest
 fault-of bytes rest journal OtherDevice is some whole stops = absurd is
@@ -105,11 +105,11 @@ fault-of bytes rest journal OtherBoard is some whole stops = absurd is
 fault-of bytes rest [] Memory is some whole stops = absurd (omega (arith, some))
 fault-of bytes rest (x ∷ journal) Memory is some whole stops = tt
 
-pub Loads-stopped : (l : Loaded) (tail : Summary) (n : ℕ) (before after more : List ℕ) (e : JournalFault) (a b c : RigState) → HasRead l tail a b → Fetches l.size before after b c (Ok n)
-    → n ≤ length after → 0 < n → more ≡ take n after → IsLoadFault e → StopsAt (take l.size a.journal ++ more) e → Loads a c (Err e)
+pub Loads-stopped : (l : Loaded) (tail : Summary) (n : ℕ) (before after more : List ℕ) (e : JournalFault) (a b c : RigState) → HasReadJournal l tail a b → Fetches l.size before after b c (Ok n)
+    → n ≤ length after → 0 < n → more ≡ take n after → IsLoadFault e → LoadingStopsAt (take l.size a.journal ++ more) e → Loads a c (Err e)
 Loads-stopped l tail n before after more e a b c has got within some cut is stops =
     let all : take l.size a.journal ++ more ≡ take (l.size + n) a.journal = bytes-read l tail n before after more a b c has got within cut in
-    let S : List ℕ → Type 0 = λ xs. StopsAt xs e in
+    let S : List ℕ → Type 0 = λ xs. LoadingStopsAt xs e in
     record {
       honest = got.honest;
       moments = further a b c has.journal has.device has.moments got.moments;
@@ -123,7 +123,7 @@ Loads-stopped l tail n before after more e a b c has got within some cut is stop
 at_end : (at len size : ℕ) → 0 < size → (at < len → size ≡ 0) → len ≤ at
 at_end at len size some h = ⊎_elim (λ lt. absurd (omega (arith, some, h lt))) (λ le. le) (cases_lt at len)
 
-pub Loads-done : (l l2 : Loaded) (tail : Summary) (n : ℕ) (before after : List ℕ) (a b c : RigState) → HasRead l tail a b → Fetches l.size before after b c (Ok n)
+pub Loads-done : (l l2 : Loaded) (tail : Summary) (n : ℕ) (before after : List ℕ) (a b c : RigState) → HasReadJournal l tail a b → Fetches l.size before after b c (Ok n)
     → 0 < length before → n ≡ 0 → IsLoaded l2 (take l.size a.journal) → Loads a c (Ok l2)
 Loads-done l l2 tail n before after a b c has got some none is =
     let same : length b.journal ≡ length a.journal = ap (λ (xs : List ℕ). length xs) has.journal in
@@ -157,7 +157,7 @@ GoesOn-fetches (Some past) b c p q =
     (p.0 ++ r.0, r.1 ∙ ap (λ (xs : List Call). Some xs) (append_assoc past p.0 r.0), AreFetches-append p.0 r.0 p.2 r.2)
 
 -- the numbers stay small
-pub short-read : (l : Loaded) (tail : Summary) (n : ℕ) (before after : List ℕ) (a b c : RigState) → IsModel a → HasRead l tail a b → Fetches l.size before after b c (Ok n) → n ≤ length after
+pub short-read : (l : Loaded) (tail : Summary) (n : ℕ) (before after : List ℕ) (a b c : RigState) → IsModel a → HasReadJournal l tail a b → Fetches l.size before after b c (Ok n) → n ≤ length after
     → length (take l.size a.journal) + length (take n after) < 2 ^ 63
 short-read l tail n before after a b c model has got within =
     omega (arith, model.journal, room l tail n before after a b c has got within, length-take l.size a.journal, length-take n after)

@@ -5,7 +5,7 @@ use Rattle.stm_wire.specs.declared.intent.Intent.TheVariants.{Erase, Program}
 use Rattle.stm_journal.specs.declared.kept.Kept.{Kept}
 use Rattle.stm_journal.specs.declared.entry.Entry.{Entry}
 use Rattle.stm_journal.specs.declared.entry.Entry.TheVariants.{Names, Opens, Keeps, Erases, Programs, Ends, Undoes}
-use Rattle.stm_journal.specs.States.{StateData, SegmentData, allows, after_entry, on_newest, keeping, intending, ending, kept_in}
+use Rattle.stm_journal.specs.States.{StateData, SegmentData, allows, after_entry, on_newest, keeping, intending, ended_segment, kept_in}
 use Rattle.stm_journal.specs.Text.{is_void}
 use Rattle.stm_journal.specs.Entries.{entry_of}
 use Rattle.stm_journal.specs.Journals.{JournalData, good, bad, after_line, after_said}
@@ -46,7 +46,7 @@ after-forgets line ends s (Keeps n bytes) =
     ∙ change-forgets (keeping (forget_kept (kept_in line ends n bytes))) (keeping (kept_in line ends n bytes)) s.stack (keeping-forgets (kept_in line ends n bytes)))
 after-forgets line ends s (Erases n) = ap (λ (stack : List SegmentData). let x : StateData = record { header = s.header; stack = stack } in x) (change-forgets (intending (Erase n)) (intending (Erase n)) s.stack (λ segment. refl))
 after-forgets line ends s (Programs n) = ap (λ (stack : List SegmentData). let x : StateData = record { header = s.header; stack = stack } in x) (change-forgets (intending (Program n)) (intending (Program n)) s.stack (λ segment. refl))
-after-forgets line ends s (Ends k) = ap (λ (stack : List SegmentData). let x : StateData = record { header = s.header; stack = stack } in x) (change-forgets ending ending s.stack (λ segment. refl))
+after-forgets line ends s (Ends k) = ap (λ (stack : List SegmentData). let x : StateData = record { header = s.header; stack = stack } in x) (change-forgets ended_segment ended_segment s.stack (λ segment. refl))
 after-forgets line ends s (Undoes k) = ap (λ (stack : List SegmentData). let x : StateData = record { header = s.header; stack = stack } in x) (drop-forgets s.stack)
 
 if-forgets : (b : Bool) (i j : JournalData) → (if b then forget_journal i else forget_journal j) ≡ forget_journal (if b then i else j)

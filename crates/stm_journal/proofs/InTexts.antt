@@ -10,7 +10,7 @@ use Rattle.stm_journal.specs.Journals.{Loaded, IsLoaded, IsPrintable, journal_of
 use Rattle.stm_journal.specs.CallEntries.{header-for, own-board}
 use Rattle.stm_journal.specs.Newest.{HasBegun}
 use Rattle.stm_journal.specs.Calls.{InText}
-use Rattle.stm_journal.specs.Added.{HasAdded, HasOpened}
+use Rattle.stm_journal.specs.Added.{HasAdded, HasOpenedSegment}
 use Rattle.stm_journal.specs.ForgetLaws.{allows-forgets}
 use Rattle.stm_journal.proofs.Sound.{journal-is-sound}
 use Rattle.stm_journal.proofs.AfterCalls.{HasAdded-entry, HasBegun-opened}
@@ -60,7 +60,7 @@ named-so id header h is same = ap (λ (o : Option JournalHeader). option_map (λ
 
 -- a segment begun under the header that stands
 pub InText-opened : (l : Loaded) (id : ℕ) (unique : List ℕ) (h : JournalHeader) (old new : List ℕ) → IsLoaded l old → l.state.header ≡ Some h → h.id ≡ id
-    → is_other_board unique (header_board h) ≡ false → InText HasOpened old new → InText (HasBegun id unique) old new
+    → is_other_board unique (header_board h) ≡ false → InText HasOpenedSegment old new → InText (HasBegun id unique) old new
 InText-opened l id unique h old new is named same mine opened s s2 means means2 =
     let tied : l.state ≡ forget_state s = tied-to l old s is means in
     let text : s.header ≡ Some h = sym (ap (λ (t : StateData). t.header) tied) ∙ named in

@@ -7,7 +7,7 @@ use Rattle.stm_journal.specs.declared.kept.Kept.{Kept}
 use Rattle.stm_journal.specs.declared.stage.Stage.{Stage}
 use Rattle.stm_journal.specs.declared.stage.Stage.TheVariants.{Open, Ended, Returning}
 use Rattle.stm_journal.specs.declared.header.JournalHeader.{JournalHeader}
-use Rattle.stm_journal.specs.States.{SegmentData, AllEnded, IntentIsKept, intent_at, intent_page, newest_has, keeps, on_newest, keeping, intending, ending, stage_with}
+use Rattle.stm_journal.specs.States.{SegmentData, AllEnded, IntentIsKept, intent_at, intent_page, newest_has, keeps, on_newest, keeping, intending, ended_segment, stage_with}
 
 intent-with : (i : Intent) (stage : Stage) → intent_at (stage_with i stage) ≡ Some i
 intent-with i (Open old) = refl
@@ -26,7 +26,7 @@ pub intended-keep : (header : Option JournalHeader) (segment : SegmentData) (bel
 intended-keep header segment below k intended i is =
     list_any-append (λ x. x.page == intent_page i) segment.pages (k ∷ []) ∙ ap (λ (b : Bool). b || ((k.page == intent_page i) || false)) (intended i is)
 
-pub intended-end : (header : Option JournalHeader) (stack : List SegmentData) → IntentIsKept (record { header = header; stack = on_newest ending stack })
+pub intended-end : (header : Option JournalHeader) (stack : List SegmentData) → IntentIsKept (record { header = header; stack = on_newest ended_segment stack })
 intended-end header [] i is = absurd (none-some i is)
 intended-end header (segment ∷ below) i is = absurd (none-some i is)
 

@@ -10,7 +10,7 @@ use Rattle.hex.specs.Hex.{encode_upper, IsBytes}
 use Rattle.stm_journal.specs.declared.entry.Entry.{Entry}
 use Rattle.stm_journal.specs.declared.entry.Entry.TheVariants.{Names, Opens, Keeps, Erases, Programs, Ends, Undoes}
 use Rattle.stm_journal.specs.Text.{is_void, HasNoLF}
-use Rattle.stm_journal.specs.Entries.{entry_of, line_of, header_word, device_text, id_digits, id_of, unique_of, board_at, board_of_fields, number_of, number_of_pair, hex_bytes_of, page_at, page_of_fields}
+use Rattle.stm_journal.specs.Entries.{entry_of, line_of, header_word, device_text, id_digits, id_of, unique_id_of, board_at, board_of_fields, decimal_of, number_of_pair, hex_bytes_of, page_at, page_of_fields}
 use Rattle.stm_journal.specs.Journals.{IsPrintable, IsHeaderOf}
 use Rattle.stm_journal.proofs.Texts.{HasNoLF-append}
 use Rattle.stm_journal.proofs.Numbers.{number_of-decimal}
@@ -60,7 +60,7 @@ id-read id within =
 some-bytes : (n : ℕ) → IsTrue (is_unique_length n) → 0 < n
 some-bytes n is = grind (arith, nat_tests)
 
-unique-read : (unique : List ℕ) → IsTrue (is_unique_length (length unique)) → IsBytes unique → unique_of (encode_upper unique) ≡ Some unique
+unique-read : (unique : List ℕ) → IsTrue (is_unique_length (length unique)) → IsBytes unique → unique_id_of (encode_upper unique) ≡ Some unique
 unique-read unique size are =
     ap (λ (o : Option (List ℕ)). option_and_then (λ bytes. if is_unique_length (length bytes) then Some bytes else None) o)
     (hex_bytes_of-encode unique (some-bytes (length unique) size) are)
@@ -75,9 +75,9 @@ board-read id unique within size are =
     let hex : List ℕ = encode_upper unique in
     let rest : List ℕ = ds ++ 32 ∷ hex in
     ap (λ (o : Option ℕ). board_at rest o) (position-space ds hex (plain-encode (id / 256 ∷ id % 256 ∷ []) (pair-bytes id within)))
-    ∙ ap (λ (xs : List ℕ). board_of_fields (id_of xs) (unique_of (drop (length ds + 1) rest))) (take-front ds (32 ∷ hex))
-    ∙ ap (λ (xs : List ℕ). board_of_fields (id_of ds) (unique_of xs)) (drop-field ds hex)
-    ∙ ap (λ (o : Option ℕ). board_of_fields o (unique_of hex)) (id-read id within)
+    ∙ ap (λ (xs : List ℕ). board_of_fields (id_of xs) (unique_id_of (drop (length ds + 1) rest))) (take-front ds (32 ∷ hex))
+    ∙ ap (λ (xs : List ℕ). board_of_fields (id_of ds) (unique_id_of xs)) (drop-field ds hex)
+    ∙ ap (λ (o : Option ℕ). board_of_fields o (unique_id_of hex)) (id-read id within)
     ∙ ap (λ (o : Option (List ℕ)). board_of_fields (Some id) o) (unique-read unique size are)
 
 -- a printed line says its entry
@@ -97,8 +97,8 @@ entry_of-line (Keeps n bytes) is =
     let hex : List ℕ = encode_upper bytes in
     let rest : List ℕ = ds ++ 32 ∷ hex in
     ap (λ (o : Option ℕ). page_at rest o) (position-space ds hex (plain-decimal n is.0))
-    ∙ ap (λ (xs : List ℕ). page_of_fields (number_of xs) (hex_bytes_of (drop (length ds + 1) rest))) (take-front ds (32 ∷ hex))
-    ∙ ap (λ (xs : List ℕ). page_of_fields (number_of ds) (hex_bytes_of xs)) (drop-field ds hex)
+    ∙ ap (λ (xs : List ℕ). page_of_fields (decimal_of xs) (hex_bytes_of (drop (length ds + 1) rest))) (take-front ds (32 ∷ hex))
+    ∙ ap (λ (xs : List ℕ). page_of_fields (decimal_of ds) (hex_bytes_of xs)) (drop-field ds hex)
     ∙ ap (λ (o : Option ℕ). page_of_fields o (hex_bytes_of hex)) (number_of-decimal n is.0)
     ∙ ap (λ (o : Option (List ℕ)). page_of_fields (Some n) o) (hex_bytes_of-encode bytes is.1.0 is.1.1)
 entry_of-line (Erases n) is = ap (λ (o : Option ℕ). option_map (λ k. Erases k) o) (number_of-decimal n is)

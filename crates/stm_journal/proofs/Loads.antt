@@ -10,7 +10,7 @@ use Rattle.stm_journal.specs.Journals.{JournalData, Loaded, IsLoaded, journal_of
 use Rattle.stm_journal.specs.InMemory.{forget_state}
 use Rattle.stm_journal.specs.Summary.{Summary, summary_of, extended}
 use Rattle.stm_journal.specs.Forget.{forget_journal, after_summary}
-use Rattle.stm_journal.specs.Loading.{PassesLine, BadLine, IsRead, StopsAt, TakesBytes}
+use Rattle.stm_journal.specs.Loading.{PassesLine, BadLine, IsRead, LoadingStopsAt, TakesBytes}
 use Rattle.stm_journal.proofs.Texts.{text-more-lines, text-more-tail}
 use Rattle.stm_journal.proofs.Readings.{journal-line, journal-tail, journal-bad, lines-within, reading-size}
 use Rattle.stm_journal.proofs.GoesOn.{goes-on}
@@ -69,7 +69,7 @@ IsRead-line l l2 y bytes is short passes =
       rest = ap (λ (t : Text). summary_of t.tail) more;
     }
 
-pub StopsAt-line : (l : Loaded) (y : Summary) (bytes : List ℕ) (e : JournalFault) → IsRead l y bytes → length bytes < 2 ^ 63 → BadLine y l e → StopsAt (bytes ++ LF) e
+pub StopsAt-line : (l : Loaded) (y : Summary) (bytes : List ℕ) (e : JournalFault) → IsRead l y bytes → length bytes < 2 ^ 63 → BadLine y l e → LoadingStopsAt (bytes ++ LF) e
 StopsAt-line l y bytes File is short wrong = wrong
 StopsAt-line l y bytes (Bad line) is short wrong = λ rest.
     let J : List ℕ → Type 0 = λ xs. journal_of xs ≡ bad line in
@@ -109,7 +109,7 @@ IsRead-part l l2 y y2 part bytes none same is short empty some =
         ∙ sym (s (omega arith) (omega (arith, fits, tail-within, known)))
 
 -- a fault in the first of these bytes
-pub StopsAt-first : (bytes first rest : List ℕ) (e : JournalFault) → StopsAt (bytes ++ first) e → StopsAt (bytes ++ (first ++ rest)) e
+pub StopsAt-first : (bytes first rest : List ℕ) (e : JournalFault) → LoadingStopsAt (bytes ++ first) e → LoadingStopsAt (bytes ++ (first ++ rest)) e
 StopsAt-first bytes first rest File wrong = wrong
 StopsAt-first bytes first rest (Bad line) wrong = λ more.
     let J : List ℕ → Type 0 = λ xs. journal_of xs ≡ bad line in
@@ -141,14 +141,14 @@ IsLoaded-read l l2 y bytes is same =
 pub TakesBytes-join : {T : Type 0} (bytes first rest : List ℕ) (l : Loaded) (y : Summary) (result : Result T JournalFault)
     → TakesBytes rest (bytes ++ first) l y result → TakesBytes (first ++ rest) bytes l y result
 TakesBytes-join bytes first rest l y (Ok x) is = let R : List ℕ → Type 0 = λ xs. IsRead l y xs in subst R (append_assoc bytes first rest) is
-TakesBytes-join bytes first rest l y (Err e) is = let S : List ℕ → Type 0 = λ xs. StopsAt xs e in subst S (append_assoc bytes first rest) is
+TakesBytes-join bytes first rest l y (Err e) is = let S : List ℕ → Type 0 = λ xs. LoadingStopsAt xs e in subst S (append_assoc bytes first rest) is
 
 pub TakesBytes-same : {T : Type 0} (bytes xs ys : List ℕ) (l : Loaded) (y : Summary) (result : Result T JournalFault) → xs ≡ ys → TakesBytes xs bytes l y result → TakesBytes ys bytes l y result
 TakesBytes-same {T} bytes xs ys l y result e is = let R : List ℕ → Type 0 = λ zs. TakesBytes zs bytes l y result in subst R e is
 
 -- a fault in a line of these bytes
-pub StopsAt-part : (bytes more first : List ℕ) (k : ℕ) (e : JournalFault) → first ≡ bytes ++ take k more → StopsAt first e → StopsAt (bytes ++ more) e
+pub StopsAt-part : (bytes more first : List ℕ) (k : ℕ) (e : JournalFault) → first ≡ bytes ++ take k more → LoadingStopsAt first e → LoadingStopsAt (bytes ++ more) e
 StopsAt-part bytes more first k e same wrong =
-    let S : List ℕ → Type 0 = λ xs. StopsAt xs e in
-    let A : List ℕ → Type 0 = λ xs. StopsAt (bytes ++ xs) e in
+    let S : List ℕ → Type 0 = λ xs. LoadingStopsAt xs e in
+    let A : List ℕ → Type 0 = λ xs. LoadingStopsAt (bytes ++ xs) e in
     subst A (take-append-drop k more) (StopsAt-first bytes (take k more) (drop k more) e (subst S same wrong))

@@ -3,7 +3,7 @@ use Rattle.std.proofs.Common.{◌≡◌, ◌≤◌, ◌<◌, ℕ, zero, suc, ◌
 use Rattle.std.proofs.lemmas.Bool.Decides.{nat_tests}
 use Rattle.std.proofs.lemmas.List.Sums.{fold_push}
 use Rattle.std.proofs.lemmas.Fmt.{decimal_by_steps, decimal_digit, first_decimal, decimal_nonempty}
-use Rattle.stm_journal.specs.Entries.{with_digit, number_of}
+use Rattle.stm_journal.specs.Entries.{with_digit, decimal_of}
 
 -- a test that holds
 taken : (b : Bool) (x y : Option ℕ) → b ≡ true → (if b then x else y) ≡ x
@@ -39,7 +39,7 @@ fold-decimal n fits =
 no-zero : (len first : ℕ) → 0 < len → 48 < first → ((len == 0) || (nat_lt 1 len && (first == 48))) ≡ false
 no-zero len first some big = grind (arith, nat_tests)
 
-pub number_of-decimal : (n : ℕ) → n ≤ 65535 → number_of (decimal n) ≡ Some n
+pub number_of-decimal : (n : ℕ) → n ≤ 65535 → decimal_of (decimal n) ≡ Some n
 number_of-decimal zero within =
     let e : decimal 0 ≡ 48 ∷ [] = decimal_digit 0 (omega arith) in
     rw e refl

@@ -15,8 +15,8 @@ use Rattle.stm_journal.specs.declared.kept.Kept.{Kept}
 use Rattle.stm_journal.specs.declared.entry.Entry.{Entry}
 use Rattle.stm_journal.specs.declared.entry.Entry.TheVariants.{Names, Opens, Keeps, Erases, Programs, Ends, Undoes}
 use Rattle.stm_journal.specs.Text.{text_of, in_front, is_void}
-use Rattle.stm_journal.specs.Entries.{is_upper_digit, number_of, hex_bytes_of, page_of_fields, page_at, page_of, header_of, id_of, unique_of, board_at, board_of_fields, board_header_of, worded, entry_of}
-use Rattle.stm_journal.specs.States.{StateData, SegmentData, allows, after_entry, on_newest, keeping, kept_in, intending, ending}
+use Rattle.stm_journal.specs.Entries.{is_upper_digit, decimal_of, hex_bytes_of, page_of_fields, page_at, kept_entry_of, header_of, id_of, unique_id_of, board_at, board_of_fields, board_header_of, worded, entry_of}
+use Rattle.stm_journal.specs.States.{StateData, SegmentData, allows, after_entry, on_newest, keeping, kept_in, intending, ended_segment}
 use Rattle.stm_journal.specs.Journals.{JournalData, good, bad, Reading, read_line, start, journal_of, after_line, after_said}
 use Rattle.stm_journal.specs.Places.{cut, IsPlaced, PagesPlaced, AllPlaced}
 
@@ -105,7 +105,7 @@ says-fields text d (Some n) (Some bytes) is = (d, is)
 
 says-page : (line : List ℕ) (o : Option ℕ) → Says line (page_at (drop 5 line) o)
 says-page line None = tt
-says-page line (Some i) = says-fields line (5 + (i + 1)) (number_of (take i (drop 5 line))) (hex_bytes_of (drop (i + 1) (drop 5 line))) (ap (λ (zs : List ℕ). hex_bytes_of zs) (sym (drop-drop (i + 1) 5 line)))
+says-page line (Some i) = says-fields line (5 + (i + 1)) (decimal_of (take i (drop 5 line))) (hex_bytes_of (drop (i + 1) (drop 5 line))) (ap (λ (zs : List ℕ). hex_bytes_of zs) (sym (drop-drop (i + 1) 5 line)))
 
 says-board-fields : (text : List ℕ) (o : Option ℕ) (u : Option (List ℕ)) → Says text (board_of_fields o u)
 says-board-fields text None u = tt
@@ -114,19 +114,19 @@ says-board-fields text (Some id) (Some unique) = tt
 
 says-board : (text rest : List ℕ) (o : Option ℕ) → Says text (board_at rest o)
 says-board text rest None = tt
-says-board text rest (Some i) = says-board-fields text (id_of (take i rest)) (unique_of (drop (i + 1) rest))
+says-board text rest (Some i) = says-board-fields text (id_of (take i rest)) (unique_id_of (drop (i + 1) rest))
 
 says-entry : (line : List ℕ) → Says line (entry_of line)
 says-entry line =
-    says-worded (codes "page ") page_of line _ (says-page line (position (λ b. b == 32) (drop 5 line)))
+    says-worded (codes "page ") kept_entry_of line _ (says-page line (position (λ b. b == 32) (drop 5 line)))
     (says-worded (codes "stmjournal 1 ") (header_of 1) line _ (says-map line (λ id. Names 1 id []) (λ n. tt) (id_of (drop 13 line)))
     (says-worded (codes "stmjournal 2 ") (header_of 2) line _ (says-map line (λ id. Names 2 id []) (λ n. tt) (id_of (drop 13 line)))
     (says-worded (codes "stmjournal 3 ") board_header_of line _ (says-board line (drop 13 line) (position (λ b. b == 32) (drop 13 line)))
-    (says-worded (codes "open ") _ line _ (says-map line (λ n. Opens n) (λ n. tt) (number_of (drop 5 line)))
-    (says-worded (codes "erase ") _ line _ (says-map line (λ n. Erases n) (λ n. tt) (number_of (drop 6 line)))
-    (says-worded (codes "program ") _ line _ (says-map line (λ n. Programs n) (λ n. tt) (number_of (drop 8 line)))
-    (says-worded (codes "end ") _ line _ (says-map line (λ n. Ends n) (λ n. tt) (number_of (drop 4 line)))
-    (says-worded (codes "undone ") _ line None (says-map line (λ n. Undoes n) (λ n. tt) (number_of (drop 7 line))) tt))))))))
+    (says-worded (codes "open ") _ line _ (says-map line (λ n. Opens n) (λ n. tt) (decimal_of (drop 5 line)))
+    (says-worded (codes "erase ") _ line _ (says-map line (λ n. Erases n) (λ n. tt) (decimal_of (drop 6 line)))
+    (says-worded (codes "program ") _ line _ (says-map line (λ n. Programs n) (λ n. tt) (decimal_of (drop 8 line)))
+    (says-worded (codes "end ") _ line _ (says-map line (λ n. Ends n) (λ n. tt) (decimal_of (drop 4 line)))
+    (says-worded (codes "undone ") _ line None (says-map line (λ n. Undoes n) (λ n. tt) (decimal_of (drop 7 line))) tt))))))))
 
 -- what an entry makes of the places
 placed-keep : (bytes : List ℕ) (k : Kept) (stack : List SegmentData) → AllPlaced bytes stack → IsPlaced bytes k → AllPlaced bytes (on_newest (keeping k) stack)
@@ -150,7 +150,7 @@ placed-entry done text line ends s (Opens k) place has all = (tt, all)
 placed-entry done text line ends s (Keeps n bytes) place has all = placed-keep (done ++ (text ++ 10 ∷ [])) (kept_in line ends n bytes) s.stack all (IsPlaced-new done text line ends n has.0 bytes place has.1)
 placed-entry done text line ends s (Erases n) place has all = placed-change (done ++ (text ++ 10 ∷ [])) (intending (Erase n)) s.stack (λ segment. refl) all
 placed-entry done text line ends s (Programs n) place has all = placed-change (done ++ (text ++ 10 ∷ [])) (intending (Program n)) s.stack (λ segment. refl) all
-placed-entry done text line ends s (Ends k) place has all = placed-change (done ++ (text ++ 10 ∷ [])) ending s.stack (λ segment. refl) all
+placed-entry done text line ends s (Ends k) place has all = placed-change (done ++ (text ++ 10 ∷ [])) ended_segment s.stack (λ segment. refl) all
 placed-entry done text line ends s (Undoes k) place has all = placed-drop (done ++ (text ++ 10 ∷ [])) s.stack all
 
 abbrev PlacedIfGood : List ℕ → JournalData → Type 0

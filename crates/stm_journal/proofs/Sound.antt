@@ -12,7 +12,7 @@ use Rattle.stm_journal.specs.declared.header.JournalHeader.{JournalHeader}
 use Rattle.stm_journal.specs.declared.entry.Entry.{Entry}
 use Rattle.stm_journal.specs.declared.entry.Entry.TheVariants.{Names, Opens, Keeps, Erases, Programs, Ends, Undoes}
 use Rattle.stm_journal.specs.Text.{text_of, is_void}
-use Rattle.stm_journal.specs.Entries.{with_digit, number_of, behind, page_of_fields, page_at, page_of, header_of, id_of, unique_of, board_at, board_of_fields, board_header_of, worded, entry_of}
+use Rattle.stm_journal.specs.Entries.{with_digit, decimal_of, behind, page_of_fields, page_at, kept_entry_of, header_of, id_of, unique_id_of, board_at, board_of_fields, board_header_of, worded, entry_of}
 use Rattle.stm_journal.specs.States.{StateData, SegmentData, empty_state, allows, after_entry, IsSound, IntentIsKept, EndedBelow, AllEnded, on_newest, keeping, kept_in, may_keep, newest_has, newest_keeps, newest_may_keep, is_ended_stage, is_unfinished, stage_with}
 use Rattle.stm_journal.specs.Journals.{JournalData, good, bad, Reading, read_line, start, journal_of, after_line, after_said}
 use Rattle.stm_journal.proofs.Intended.{intended-intend, intended-end, intended-ended}
@@ -52,7 +52,7 @@ within-digits : (o : Option ℕ) (digits : List ℕ) → IsWithin o → IsWithin
 within-digits o [] h = h
 within-digits o (c ∷ digits) h = within-digits (with_digit o c) digits (within-digit o c)
 
-within-number : (digits : List ℕ) → IsWithin (number_of digits)
+within-number : (digits : List ℕ) → IsWithin (decimal_of digits)
 within-number digits = within-refused (length digits == 0 || (nat_lt 1 (length digits) && slice_index digits 0 == 48)) (fold with_digit (Some 0) digits) (within-digits (Some 0) digits (omega arith))
 
 -- a segment's number, as an entry opens it, is at most 65,535
@@ -100,7 +100,7 @@ short-board-fields (Some id) (Some unique) = tt
 
 short-board : (rest : List ℕ) (o : Option ℕ) → SaysShort (board_at rest o)
 short-board rest None = tt
-short-board rest (Some i) = short-board-fields (id_of (take i rest)) (unique_of (drop (i + 1) rest))
+short-board rest (Some i) = short-board-fields (id_of (take i rest)) (unique_id_of (drop (i + 1) rest))
 
 short-fields : (o : Option ℕ) (bytes : Option (List ℕ)) → SaysShort (page_of_fields o bytes)
 short-fields (Some n) (Some bytes) = tt
@@ -122,15 +122,15 @@ short-worded word said line other h g = short-behind (behind word line) said oth
 
 short-entry : (line : List ℕ) → SaysShort (entry_of line)
 short-entry line =
-    short-worded (codes "page ") page_of line _ (λ rest. short-page rest (position (λ b. b == 32) rest))
+    short-worded (codes "page ") kept_entry_of line _ (λ rest. short-page rest (position (λ b. b == 32) rest))
     (short-worded (codes "stmjournal 1 ") (header_of 1) line _ (λ rest. short-names 1 (id_of rest))
     (short-worded (codes "stmjournal 2 ") (header_of 2) line _ (λ rest. short-names 2 (id_of rest))
     (short-worded (codes "stmjournal 3 ") board_header_of line _ (λ rest. short-board rest (position (λ b. b == 32) rest))
-    (short-worded (codes "open ") (λ rest. option_map (λ n. Opens n) (number_of rest)) line _ (λ rest. short-opens (number_of rest) (within-number rest))
-    (short-worded (codes "erase ") (λ rest. option_map (λ n. Erases n) (number_of rest)) line _ (λ rest. short-erases (number_of rest))
-    (short-worded (codes "program ") (λ rest. option_map (λ n. Programs n) (number_of rest)) line _ (λ rest. short-programs (number_of rest))
-    (short-worded (codes "end ") (λ rest. option_map (λ n. Ends n) (number_of rest)) line _ (λ rest. short-ends (number_of rest))
-    (short-worded (codes "undone ") (λ rest. option_map (λ n. Undoes n) (number_of rest)) line None (λ rest. short-undoes (number_of rest)) tt))))))))
+    (short-worded (codes "open ") (λ rest. option_map (λ n. Opens n) (decimal_of rest)) line _ (λ rest. short-opens (decimal_of rest) (within-number rest))
+    (short-worded (codes "erase ") (λ rest. option_map (λ n. Erases n) (decimal_of rest)) line _ (λ rest. short-erases (decimal_of rest))
+    (short-worded (codes "program ") (λ rest. option_map (λ n. Programs n) (decimal_of rest)) line _ (λ rest. short-programs (decimal_of rest))
+    (short-worded (codes "end ") (λ rest. option_map (λ n. Ends n) (decimal_of rest)) line _ (λ rest. short-ends (decimal_of rest))
+    (short-worded (codes "undone ") (λ rest. option_map (λ n. Undoes n) (decimal_of rest)) line None (λ rest. short-undoes (decimal_of rest)) tt))))))))
 
 sound-change : (header : Option JournalHeader) (stack : List SegmentData) (stage : SegmentData → Stage) → IsSound (record { header = header; stack = stack })
     → IntentIsKept (record { header = header; stack = on_newest (λ segment. record segment { stage = stage segment }) stack })

@@ -9,7 +9,7 @@ use Rattle.stm_journal.specs.Text.{Text, text_of, HasNoLF}
 use Rattle.stm_journal.specs.Entries.{line_of, line_text}
 use Rattle.stm_journal.specs.States.{StateData, SegmentData, allows, after_entry, names_other, names_other_board, IsSound}
 use Rattle.stm_journal.specs.Journals.{IsLoaded, Loaded, journal_of, good, after_line, mark, added_bytes, begin_entries, version_for, NamesThis}
-use Rattle.stm_journal.specs.Beginnings.{LeadsTo, AllAllowed, AllPrintable, BeginningsAreGood}
+use Rattle.stm_journal.specs.Beginnings.{EntriesLead, AllAllowed, AllPrintable, BeginningsAreGood}
 use Rattle.stm_journal.specs.Added.{HasAdded, EntriesLeaveEither, BeginningsLeaveEither}
 use Rattle.stm_journal.specs.Newest.{HasBegun}
 use Rattle.stm_journal.specs.CallEntries.{allowed-begin, printable-begin, own-board}
@@ -22,9 +22,9 @@ use Rattle.stm_journal.proofs.Ties.{no-tail, void-after, said-after}
 
 -- these bytes come to what a beginning of the entries makes of the state
 abbrev Begun : List Entry → StateData → List ℕ → Type 0
-Begun entries s bytes = (s2 : StateData) × (journal_of bytes ≡ good s2) × LeadsTo entries s s2
+Begun entries s bytes = (s2 : StateData) × (journal_of bytes ≡ good s2) × EntriesLead entries s s2
 
-leads-nowhere : (entries : List Entry) (s : StateData) → LeadsTo entries s s
+leads-nowhere : (entries : List Entry) (s : StateData) → EntriesLead entries s s
 leads-nowhere [] s = refl
 leads-nowhere (e ∷ entries) s = inl refl
 
@@ -115,7 +115,7 @@ entries-leave-either l journal s e n is means may printable =
 
 -- what begins a segment
 begun-at : (id : ℕ) (unique : List ℕ) (header : Option JournalHeader) (stack : List SegmentData) (s2 : StateData) → NamesThis id unique (record { header = header; stack = stack })
-    → LeadsTo (begin_entries id unique (record { header = header; stack = stack })) (record { header = header; stack = stack }) s2
+    → EntriesLead (begin_entries id unique (record { header = header; stack = stack })) (record { header = header; stack = stack }) s2
     → ((s2.stack ≡ stack) × NamesThis id unique s2) ⊎ HasBegun id unique (record { header = header; stack = stack }) s2
 begun-at id unique None stack s2 mine leads =
     let header : ℕ → JournalHeader = λ line. record { version = version_for unique; id = id; unique = unique; line = line } in

@@ -6,7 +6,7 @@ use Rattle.std.proofs.lemmas.Bool.{true≢false}
 use Rattle.std.proofs.lemmas.Bool.Decides.{nat_tests}
 use Rattle.hex.specs.Hex.{decode_sized}
 use Rattle.stm_wire.specs.UniqueId.{is_unique_length}
-use Rattle.stm_journal.specs.Entries.{is_upper_digit, hex_bytes_of, unique_of}
+use Rattle.stm_journal.specs.Entries.{is_upper_digit, hex_bytes_of, unique_id_of}
 use Rattle.stm_journal.proofs.Piecing.{said, pieces-say}
 
 -- digits are decoded as the bytes that they say
@@ -39,7 +39,7 @@ abbrev pub Decoded : List ℕ → ℕ → List ℕ → Bool → Type 0
 Decoded digits count out ok = (bytes : List ℕ) → list_all is_upper_digit digits ≡ true → decode_sized digits count ≡ Ok bytes → (ok ≡ true) × (out ≡ bytes)
 
 pub unique-decoded : (digits out : List ℕ) (count : ℕ) (ok : Bool) (r : Option (List ℕ)) → option_map (λ bytes. length bytes) (hex_bytes_of digits) ≡ Some count
-    → Decoded digits count out ok → SomeIff r (IsTrue (is_unique_length (length out))) out → r ≡ unique_of digits
+    → Decoded digits count out ok → SomeIff r (IsTrue (is_unique_length (length out))) out → r ≡ unique_id_of digits
 unique-decoded digits out count ok r h decoded is =
     let s = so-many digits count h in
     let w = whole-said digits s.0 s.1 in
@@ -57,7 +57,7 @@ unique-decoded digits out count ok r h decoded is =
     sized bytes (Some x) b e h = ap (λ (xs : List ℕ). Some xs) h.1 ∙ sym (ap (λ (b : Bool). if b then Some bytes else None) h.0)
 
 pub unique-refused : (digits out : List ℕ) (count : ℕ) (ok : Bool) → option_map (λ bytes. length bytes) (hex_bytes_of digits) ≡ Some count
-    → Decoded digits count out ok → ok ≡ false → None ≡ unique_of digits
+    → Decoded digits count out ok → ok ≡ false → None ≡ unique_id_of digits
 unique-refused digits out count ok h decoded lost =
     let s = so-many digits count h in
     let w = whole-said digits s.0 s.1 in
@@ -65,7 +65,7 @@ unique-refused digits out count ok h decoded lost =
     absurd (true≢false (sym (decoded s.0 w.0 (subst D s.2 w.1)).0 ∙ lost))
 
 -- digits that say no bytes, or too many
-pub unique-unsaid : (digits : List ℕ) → option_map (λ bytes. length bytes) (hex_bytes_of digits) ≡ None → None ≡ unique_of digits
+pub unique-unsaid : (digits : List ℕ) → option_map (λ bytes. length bytes) (hex_bytes_of digits) ≡ None → None ≡ unique_id_of digits
 unique-unsaid digits h = at (hex_bytes_of digits) h
   where
     some : (n : ℕ) → Some n ≡ None → ⊥
@@ -75,7 +75,7 @@ unique-unsaid digits h = at (hex_bytes_of digits) h
     at None e = refl
     at (Some bytes) e = absurd (some (length bytes) e)
 
-pub unique-long : (digits : List ℕ) (count : ℕ) → option_map (λ bytes. length bytes) (hex_bytes_of digits) ≡ Some count → 32 < count → None ≡ unique_of digits
+pub unique-long : (digits : List ℕ) (count : ℕ) → option_map (λ bytes. length bytes) (hex_bytes_of digits) ≡ Some count → 32 < count → None ≡ unique_id_of digits
 unique-long digits count h long =
     let s = so-many digits count h in
     let many : is_unique_length (length s.0) ≡ false = not-unique (length s.0) (omega (arith, long, s.2)) in

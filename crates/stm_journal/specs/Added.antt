@@ -20,8 +20,8 @@ pub record HasNamed (version id : ℕ) (unique : List ℕ) (old new : StateData)
   pub stack : new.stack ≡ old.stack
 
 -- a segment more, for the device that the header names, and for each board but another one
-abbrev pub HasOpened : StateData → StateData → Type 0
-HasOpened old new =
+abbrev pub HasOpenedSegment : StateData → StateData → Type 0
+HasOpenedSegment old new =
     (new.header ≡ old.header)
     × ((id : ℕ) (unique : List ℕ) → option_map (λ header. header.id) old.header ≡ Some id
     → names_other_board unique old ≡ false → HasBegun id unique old new)
@@ -29,7 +29,7 @@ HasOpened old new =
 -- what an entry has made of a state
 abbrev pub HasAdded : Entry → StateData → StateData → Type 0
 HasAdded (Names version id unique) old new = HasNamed version id unique old new
-HasAdded (Opens k) old new = HasOpened old new
+HasAdded (Opens k) old new = HasOpenedSegment old new
 HasAdded (Keeps n bytes) old new = HasKept n bytes old new
 HasAdded (Erases n) old new = HasIntended n (Erase n) old new
 HasAdded (Programs n) old new = HasIntended n (Program n) old new

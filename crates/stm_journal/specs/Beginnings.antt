@@ -6,10 +6,10 @@ use Rattle.stm_journal.specs.Journals.{Loaded, IsLoaded, IsPrintable, journal_of
 
 -- a beginning of these entries leads from one state to the other, whatever numbers
 -- and places their lines have
-abbrev pub LeadsTo : List Entry → StateData → StateData → Type 0
-LeadsTo [] s s2 = s2 ≡ s
-LeadsTo (e ∷ entries) s s2 =
-    (s2 ≡ s) ⊎ ((line : ℕ) × (ends : ℕ) × LeadsTo entries (after_entry line ends s e) s2)
+abbrev pub EntriesLead : List Entry → StateData → StateData → Type 0
+EntriesLead [] s s2 = s2 ≡ s
+EntriesLead (e ∷ entries) s s2 =
+    (s2 ≡ s) ⊎ ((line : ℕ) × (ends : ℕ) × EntriesLead entries (after_entry line ends s e) s2)
 
 -- each entry is allowed where it comes
 abbrev pub AllAllowed : List Entry → StateData → Type 0
@@ -28,4 +28,4 @@ BeginningsAreGood = (l : Loaded) (journal : List ℕ) (s : StateData) (entries :
     → IsLoaded l journal → journal_of journal ≡ good s
     → AllAllowed entries s → AllPrintable entries
     → (s2 : StateData) × (journal_of (journal ++ take n (added_bytes l.is_torn entries)) ≡ good s2)
-    × LeadsTo entries s s2
+    × EntriesLead entries s s2

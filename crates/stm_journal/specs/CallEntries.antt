@@ -17,7 +17,7 @@ use Rattle.stm_journal.specs.States.{newest_is_open, newest_keeps, newest_may_ke
 use Rattle.stm_journal.specs.States.{names_other, names_other_board, is_other_board, header_board}
 use Rattle.stm_journal.specs.States.{fresh_segment, IsSound}
 use Rattle.stm_journal.specs.Journals.{begin_entries, version_for, IsHeaderOf}
-use Rattle.stm_journal.specs.Beginnings.{LeadsTo, AllAllowed, AllPrintable}
+use Rattle.stm_journal.specs.Beginnings.{EntriesLead, AllAllowed, AllPrintable}
 
 both : (a b : Bool) → a ≡ true → b ≡ true → (a && b) ≡ true
 both true b h g = g
@@ -102,7 +102,7 @@ printable-begin id unique s within is room =
 -- a beginning of what `begin` adds may be the header alone
 stack-begin_at : (id : ℕ) (unique : List ℕ) (header : Option JournalHeader)
     (stack : List SegmentData) (s2 : StateData)
-    → LeadsTo (begin_entries id unique (record { header = header; stack = stack }))
+    → EntriesLead (begin_entries id unique (record { header = header; stack = stack }))
     (record { header = header; stack = stack }) s2
     → (s2.stack ≡ stack) ⊎ (s2.stack ≡ fresh_segment ∷ stack)
 stack-begin_at id unique None stack s2 leads =
@@ -116,7 +116,7 @@ stack-begin_at id unique (Some h) stack s2 leads =
     (λ begun. inr (ap (λ (s : StateData). s.stack) begun.2)) leads
 
 pub stack-begin : (id : ℕ) (unique : List ℕ) (s s2 : StateData)
-    → LeadsTo (begin_entries id unique s) s s2
+    → EntriesLead (begin_entries id unique s) s s2
     → (s2.stack ≡ s.stack) ⊎ (s2.stack ≡ fresh_segment ∷ s.stack)
 stack-begin id unique s s2 leads = stack-begin_at id unique s.header s.stack s2 leads
 
@@ -135,7 +135,7 @@ own-board unique header same = at (header.version == 3)
 names-begin_at : (id : ℕ) (unique : List ℕ) (header : Option JournalHeader)
     (stack : List SegmentData) (s2 : StateData)
     → names_other id (record { header = header; stack = stack }) ≡ false
-    → LeadsTo (begin_entries id unique (record { header = header; stack = stack }))
+    → EntriesLead (begin_entries id unique (record { header = header; stack = stack }))
     (record { header = header; stack = stack }) s2 → names_other id s2 ≡ false
 names-begin_at id unique None stack s2 mine leads =
     let own : not (id == id) ≡ false = ap (λ (b : Bool). not b) (same-number id) in
@@ -149,13 +149,13 @@ names-begin_at id unique (Some h) stack s2 mine leads =
     (λ begun. ap (λ (s : StateData). names_other id s) begun.2 ∙ mine) leads
 
 pub names-begin : (id : ℕ) (unique : List ℕ) (s s2 : StateData) → names_other id s ≡ false
-    → LeadsTo (begin_entries id unique s) s s2 → names_other id s2 ≡ false
+    → EntriesLead (begin_entries id unique s) s s2 → names_other id s2 ≡ false
 names-begin id unique s s2 mine leads = names-begin_at id unique s.header s.stack s2 mine leads
 
 board-begin_at : (id : ℕ) (unique : List ℕ) (header : Option JournalHeader)
     (stack : List SegmentData) (s2 : StateData)
     → names_other_board unique (record { header = header; stack = stack }) ≡ false
-    → LeadsTo (begin_entries id unique (record { header = header; stack = stack }))
+    → EntriesLead (begin_entries id unique (record { header = header; stack = stack }))
     (record { header = header; stack = stack }) s2 → names_other_board unique s2 ≡ false
 board-begin_at id unique None stack s2 mine leads =
     let named : ℕ → JournalHeader = λ line.
@@ -178,7 +178,7 @@ board-begin_at id unique (Some h) stack s2 mine leads =
 
 pub board-begin : (id : ℕ) (unique : List ℕ) (s s2 : StateData)
     → names_other_board unique s ≡ false
-    → LeadsTo (begin_entries id unique s) s s2 → names_other_board unique s2 ≡ false
+    → EntriesLead (begin_entries id unique s) s s2 → names_other_board unique s2 ≡ false
 board-begin id unique s s2 mine leads =
     board-begin_at id unique s.header s.stack s2 mine leads
 
@@ -241,7 +241,7 @@ header-entry line ends s (Ends k) named may = refl
 header-entry line ends s (Undoes k) named may = refl
 
 pub header-leads : (entries : List Entry) (s s2 : StateData) → IsSome s.header
-    → AllAllowed entries s → LeadsTo entries s s2 → s2.header ≡ s.header
+    → AllAllowed entries s → EntriesLead entries s s2 → s2.header ≡ s.header
 header-leads [] s s2 named may leads = ap (λ (x : StateData). x.header) leads
 header-leads (e ∷ entries) s s2 named may leads =
     ⊎_elim

@@ -16,19 +16,19 @@ use Rattle.stm_journal.specs.States.{StateData}
 use Rattle.stm_journal.specs.KeptPlaces.{kept_entry, place_of}
 
 -- the fault of a file comes exactly where the count of such failures rose
-abbrev pub RisesFor : ℕ → ℕ → JournalFault → Type 0
-RisesFor before now File = Rises before now
-RisesFor before now (Bad line) = now ≡ before
-RisesFor before now OtherDevice = now ≡ before
-RisesFor before now OtherBoard = now ≡ before
-RisesFor before now Memory = now ≡ before
+abbrev pub FileCountRises : ℕ → ℕ → JournalFault → Type 0
+FileCountRises before now File = Rises before now
+FileCountRises before now (Bad line) = now ≡ before
+FileCountRises before now OtherDevice = now ≡ before
+FileCountRises before now OtherBoard = now ≡ before
+FileCountRises before now Memory = now ≡ before
 
 -- on any Rig: the counts; and an honest one stays honest
 pub record HasJournalCause {T : Type 0} (old new : RigState)
     (result : Result T JournalFault) : Type 0 where
   pub later : old.journal_failures ≤ new.journal_failures
   pub done : OnOk result (new.journal_failures ≡ old.journal_failures)
-  pub failed : IfErr result (RisesFor old.journal_failures new.journal_failures)
+  pub failed : IfErr result (FileCountRises old.journal_failures new.journal_failures)
   pub line_count : new.line_failures ≡ old.line_failures
   pub honest : old.is_honest → new.is_honest
 

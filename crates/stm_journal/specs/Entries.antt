@@ -23,8 +23,8 @@ with_digit (Some n) c =
     then Some (n * 10 + (c - 48)) else None
 
 -- a decimal number of at most 65,535: digits without a leading zero, but for `0` itself
-abbrev pub number_of : List ℕ → Option ℕ
-number_of digits =
+abbrev pub decimal_of : List ℕ → Option ℕ
+decimal_of digits =
     if length digits == 0 || (nat_lt 1 (length digits) && slice_index digits 0 == 48) then None
     else fold with_digit (Some 0) digits
 
@@ -53,18 +53,18 @@ page_of_fields None bytes = None
 
 abbrev pub page_at : List ℕ → Option ℕ → Option Entry
 page_at rest None = None
-page_at rest (Some i) = page_of_fields (number_of (take i rest)) (hex_bytes_of (drop (i + 1) rest))
+page_at rest (Some i) = page_of_fields (decimal_of (take i rest)) (hex_bytes_of (drop (i + 1) rest))
 
-abbrev pub page_of : List ℕ → Option Entry
-page_of rest = page_at rest (position (λ b. b == 32) rest)
+abbrev pub kept_entry_of : List ℕ → Option Entry
+kept_entry_of rest = page_at rest (position (λ b. b == 32) rest)
 
 -- a product id: four digits
 abbrev pub id_of : List ℕ → Option ℕ
 id_of digits = option_and_then number_of_pair (hex_bytes_of digits)
 
 -- a unique id: the digits of 8 to 32 bytes
-abbrev pub unique_of : List ℕ → Option (List ℕ)
-unique_of digits =
+abbrev pub unique_id_of : List ℕ → Option (List ℕ)
+unique_id_of digits =
     option_and_then (λ bytes. if is_unique_length (length bytes) then Some bytes else None)
     (hex_bytes_of digits)
 
@@ -80,7 +80,7 @@ board_of_fields None unique = None
 
 abbrev pub board_at : List ℕ → Option ℕ → Option Entry
 board_at rest None = None
-board_at rest (Some i) = board_of_fields (id_of (take i rest)) (unique_of (drop (i + 1) rest))
+board_at rest (Some i) = board_of_fields (id_of (take i rest)) (unique_id_of (drop (i + 1) rest))
 
 abbrev pub board_header_of : List ℕ → Option Entry
 board_header_of rest = board_at rest (position (λ b. b == 32) rest)
@@ -92,16 +92,16 @@ worded word said line other =
 
 abbrev pub numbered_entry_of : List ℕ → Option Entry
 numbered_entry_of line =
-    worded (codes "open ") (λ rest. option_map (λ n. Opens n) (number_of rest)) line
-    (worded (codes "erase ") (λ rest. option_map (λ n. Erases n) (number_of rest)) line
-    (worded (codes "program ") (λ rest. option_map (λ n. Programs n) (number_of rest)) line
-    (worded (codes "end ") (λ rest. option_map (λ n. Ends n) (number_of rest)) line
-    (worded (codes "undone ") (λ rest. option_map (λ n. Undoes n) (number_of rest)) line None))))
+    worded (codes "open ") (λ rest. option_map (λ n. Opens n) (decimal_of rest)) line
+    (worded (codes "erase ") (λ rest. option_map (λ n. Erases n) (decimal_of rest)) line
+    (worded (codes "program ") (λ rest. option_map (λ n. Programs n) (decimal_of rest)) line
+    (worded (codes "end ") (λ rest. option_map (λ n. Ends n) (decimal_of rest)) line
+    (worded (codes "undone ") (λ rest. option_map (λ n. Undoes n) (decimal_of rest)) line None))))
 
 -- what a whole line says, if it says anything
 abbrev pub entry_of : List ℕ → Option Entry
 entry_of line =
-    worded (codes "page ") page_of line
+    worded (codes "page ") kept_entry_of line
     (worded (codes "stmjournal 1 ") (header_of 1) line
     (worded (codes "stmjournal 2 ") (header_of 2) line
     (worded (codes "stmjournal 3 ") board_header_of line (numbered_entry_of line))))

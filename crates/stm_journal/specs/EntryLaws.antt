@@ -15,7 +15,7 @@ use Rattle.stm_journal.specs.States.{StateData, SegmentData, after_entry, depth,
 use Rattle.stm_journal.specs.States.{newest_is_open, newest_keeps, newest_may_keep, newest_has}
 use Rattle.stm_journal.specs.States.{newest_intent, intent_of, intent_at, is_open_stage}
 use Rattle.stm_journal.specs.States.{is_ended_stage, stage_with, keeps, may_keep, kept_in}
-use Rattle.stm_journal.specs.States.{on_newest, keeping, intending, ending, EndedBelow, AllEnded}
+use Rattle.stm_journal.specs.States.{on_newest, keeping, intending, ended_segment, EndedBelow, AllEnded}
 
 depth-on : (change : SegmentData → SegmentData) (stack : List SegmentData)
     → length (on_newest change stack) ≡ length stack
@@ -268,24 +268,24 @@ intent_of-programs line ends n s kept =
 -- `end K`: ended, without an intent, and the pages are kept
 pub depth-ends : (line ends k : ℕ) (s : StateData)
     → depth (after_entry line ends s (Ends k)) ≡ depth s
-depth-ends line ends k s = depth-on ending s.stack
+depth-ends line ends k s = depth-on ended_segment s.stack
 
 pub is_unfinished-ends : (line ends k : ℕ) (s : StateData)
     → is_unfinished (after_entry line ends s (Ends k)) ≡ false
 is_unfinished-ends line ends k s =
-    false-on (λ segment. not (is_ended_stage segment.stage)) ending s.stack (λ segment. refl)
+    false-on (λ segment. not (is_ended_stage segment.stage)) ended_segment s.stack (λ segment. refl)
 
 pub newest_is_open-ends : (line ends k : ℕ) (s : StateData)
     → newest_is_open (after_entry line ends s (Ends k)) ≡ false
 newest_is_open-ends line ends k s =
-    false-on (λ segment. is_open_stage segment.stage) ending s.stack (λ segment. refl)
+    false-on (λ segment. is_open_stage segment.stage) ended_segment s.stack (λ segment. refl)
 
 pub newest_keeps-ends : (line ends k m : ℕ) (s : StateData)
     → newest_keeps m (after_entry line ends s (Ends k)) ≡ newest_keeps m s
 newest_keeps-ends line ends k m s =
-    same-on (λ segment. keeps segment m) ending s.stack (λ segment. refl)
+    same-on (λ segment. keeps segment m) ended_segment s.stack (λ segment. refl)
 
-intent-ending : (stack : List SegmentData) → newest_intent (on_newest ending stack) ≡ None
+intent-ending : (stack : List SegmentData) → newest_intent (on_newest ended_segment stack) ≡ None
 intent-ending [] = refl
 intent-ending (segment ∷ below) = refl
 

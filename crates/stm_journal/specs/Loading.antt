@@ -40,12 +40,12 @@ pub record IsRead (l : Loaded) (y : Summary) (bytes : List ℕ) : Type 0 where
   pub rest : summary_of (text_of bytes).tail ≡ y
 
 -- these bytes have a bad line, whatever follows; or there was no memory
-abbrev pub StopsAt : List ℕ → JournalFault → Type 0
-StopsAt bytes File = ⊥
-StopsAt bytes (Bad line) = (rest : List ℕ) → journal_of (bytes ++ rest) ≡ bad line
-StopsAt bytes OtherDevice = ⊥
-StopsAt bytes OtherBoard = ⊥
-StopsAt bytes Memory = Unit {0}
+abbrev pub LoadingStopsAt : List ℕ → JournalFault → Type 0
+LoadingStopsAt bytes File = ⊥
+LoadingStopsAt bytes (Bad line) = (rest : List ℕ) → journal_of (bytes ++ rest) ≡ bad line
+LoadingStopsAt bytes OtherDevice = ⊥
+LoadingStopsAt bytes OtherBoard = ⊥
+LoadingStopsAt bytes Memory = Unit {0}
 
 abbrev pub IsLoadFault : JournalFault → Type 0
 IsLoadFault File = ⊥
@@ -58,7 +58,7 @@ IsLoadFault Memory = Unit {0}
 abbrev pub TakesBytes : {T : Type 0} → List ℕ → List ℕ → Loaded → Summary
     → Result T JournalFault → Type 0
 TakesBytes more bytes l y (Ok x) = IsRead l y (bytes ++ more)
-TakesBytes more bytes l y (Err e) = StopsAt (bytes ++ more) e
+TakesBytes more bytes l y (Err e) = LoadingStopsAt (bytes ++ more) e
 
 -- a fetch of an honest Rig's journal
 pub record Fetches (at : ℕ) (before after : List ℕ) (old new : RigState)
@@ -72,7 +72,7 @@ pub record Fetches (at : ℕ) (before after : List ℕ) (old new : RigState)
   pub more : IfOk result (λ n. n ≡ 0 → at < length old.journal → length before ≡ 0)
 
 -- an honest Rig's journal, of which a beginning was read and nothing was changed
-pub record HasRead (l : Loaded) (y : Summary) (old new : RigState) : Type 0 where
+pub record HasReadJournal (l : Loaded) (y : Summary) (old new : RigState) : Type 0 where
   pub honest : new.is_honest
   pub journal : new.journal ≡ old.journal
   pub device : new.device ≡ old.device

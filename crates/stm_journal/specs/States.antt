@@ -145,8 +145,8 @@ keeping kept segment = record segment { pages = segment.pages ++ kept ∷ [] }
 abbrev pub intending : Intent → SegmentData → SegmentData
 intending i segment = record segment { stage = stage_with i segment.stage }
 
-abbrev pub ending : SegmentData → SegmentData
-ending segment = record segment { stage = Ended }
+abbrev pub ended_segment : SegmentData → SegmentData
+ended_segment segment = record segment { stage = Ended }
 
 -- what an entry makes of the state, where it is allowed; it stands in the line with this number,
 -- whose LF is at this place
@@ -161,7 +161,7 @@ after_entry line ends s (Keeps n bytes) =
 after_entry line ends s (Erases n) = record s { stack = on_newest (intending (Erase n)) s.stack }
 after_entry line ends s (Programs n) =
     record s { stack = on_newest (intending (Program n)) s.stack }
-after_entry line ends s (Ends k) = record s { stack = on_newest ending s.stack }
+after_entry line ends s (Ends k) = record s { stack = on_newest ended_segment s.stack }
 after_entry line ends s (Undoes k) = record s { stack = drop 1 s.stack }
 
 -- segment k, counted from the oldest, which is 1

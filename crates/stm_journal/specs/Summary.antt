@@ -7,7 +7,7 @@ use Rattle.std.specs.List.{list_all}
 use Rattle.stm_journal.specs.declared.entry.Entry.{Entry}
 use Rattle.stm_journal.specs.declared.entry.Entry.TheVariants.{Keeps}
 use Rattle.stm_journal.specs.Text.{is_void}
-use Rattle.stm_journal.specs.Entries.{is_upper_digit, number_of, behind, entry_of}
+use Rattle.stm_journal.specs.Entries.{is_upper_digit, decimal_of, behind, entry_of}
 use Rattle.stm_journal.specs.Blank.{blank}
 use Rattle.stm_journal.specs.InMemory.{forget_entry}
 
@@ -46,7 +46,7 @@ abbrev pub long_at : List ℕ → ℕ → Option ℕ → Option Entry
 long_at rest more None = None
 long_at rest more (Some i) =
     if list_all is_upper_digit (drop (i + 1) rest)
-    then page_with (number_of (take i rest)) (length (drop (i + 1) rest) + more) else None
+    then page_with (decimal_of (take i rest)) (length (drop (i + 1) rest) + more) else None
 
 abbrev pub long_page : List ℕ → ℕ → Option Entry
 long_page prefix more =

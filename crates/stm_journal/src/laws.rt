@@ -95,6 +95,6 @@ pub fn changes_of_kept_pages_keep_the_flashes()
 {}
 
 /// Once the flash holds all that a segment keeps, it is the flash before that segment.
-pub fn restored_pages_are_the_flash_before()
+pub fn pages_given_back_are_the_flash_before()
     ensures { HeldIsBefore }
 {}

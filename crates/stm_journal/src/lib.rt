@@ -29,7 +29,7 @@ pub use laws::{
     a_stopped_append_is_good, a_summary_decides, a_summary_follows, a_summary_goes_on,
     an_entry_leaves_the_old_state_or_the_new, changes_of_kept_pages_keep_the_flashes,
     entries_forget, flashes_before_segments, keeping_a_page_keeps_the_flashes, pages_are_placed,
-    pieces_say, restored_pages_are_the_flash_before,
+    pages_given_back_are_the_flash_before, pieces_say,
 };
 pub use stage::Stage;
 pub use stm_wire::Intent;

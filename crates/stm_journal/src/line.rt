@@ -7,9 +7,9 @@ ghost use Rattle.std.specs.List.{list_all};
 ghost use Rattle.hex.specs.Hex.{decode_sized, encode_upper};
 ghost use Rattle.stm_journal.specs.InMemory.{forget_entry};
 ghost use Rattle.stm_journal.specs.Entries.{is_upper_digit, are_upper_digits, number_of_pair};
-ghost use Rattle.stm_journal.specs.Entries.{page_at, with_digit, number_of, hex_bytes_of, id_of};
-ghost use Rattle.stm_journal.specs.Entries.{unique_of, board_at, board_header_of};
-ghost use Rattle.stm_journal.specs.Entries.{header_of, page_of, numbered_entry_of, entry_of};
+ghost use Rattle.stm_journal.specs.Entries.{page_at, with_digit, decimal_of, hex_bytes_of, id_of};
+ghost use Rattle.stm_journal.specs.Entries.{unique_id_of, board_at, board_header_of};
+ghost use Rattle.stm_journal.specs.Entries.{header_of, kept_entry_of, numbered_entry_of, entry_of};
 ghost use Rattle.stm_journal.specs.Summary.{page_with, long_at, long_page};
 
 use crate::{Entry, PageBytes};
@@ -37,8 +37,8 @@ fn with_digit(number: Option<u16>, c: u8) -> Option<u16>
 }
 
 /// A decimal number of at most 65,535.
-fn number_of(digits: &[u8]) -> Option<u16>
-    ensures { result ≡ number_of digits.now }
+fn decimal_of(digits: &[u8]) -> Option<u16>
+    ensures { result ≡ decimal_of digits.now }
 {
     if digits.is_empty() || (digits.len() > 1 && digits[0] == b'0') {
         None
@@ -119,7 +119,7 @@ fn header_of(version: u8, rest: &[u8]) -> Option<Entry>
 fn unique_in(digits: &[u8], room: &mut [u8]) -> Option<UniqueId>
     requires { option_map (λ bytes. length bytes) (hex_bytes_of digits.now)
         ≡ Some (length room.old) }
-    ensures { result ≡ unique_of digits.now }
+    ensures { result ≡ unique_id_of digits.now }
 {
     if decode_upper(digits, room) {
         UniqueId::of(room)
@@ -129,8 +129,8 @@ fn unique_in(digits: &[u8], room: &mut [u8]) -> Option<UniqueId>
 }
 
 /// A unique id: the upper-case digits of 8 to 32 bytes.
-fn unique_of(digits: &[u8]) -> Option<UniqueId>
-    ensures { result ≡ unique_of digits.now }
+fn unique_id_of(digits: &[u8]) -> Option<UniqueId>
+    ensures { result ≡ unique_id_of digits.now }
 {
     match hex_length(digits) {
         Some(count) => {
@@ -151,7 +151,7 @@ fn board_header_of(rest: &[u8]) -> Option<Entry>
 {
     match first_space(rest) {
         Some(space) => match id_of(&rest[..space]) {
-            Some(id) => match unique_of(&rest[space + 1..]) {
+            Some(id) => match unique_id_of(&rest[space + 1..]) {
                 Some(unique) => Some(Entry::Names(3, id, unique)),
                 None => None,
             },
@@ -169,11 +169,11 @@ fn first_space(bytes: &[u8]) -> Option<usize>
 }
 
 /// What follows the word `page ` of a line.
-fn page_of(rest: &[u8]) -> Option<Entry>
-    ensures { result ≡ option_map forget_entry (page_of rest.now) }
+fn kept_entry_of(rest: &[u8]) -> Option<Entry>
+    ensures { result ≡ option_map forget_entry (kept_entry_of rest.now) }
 {
     match first_space(rest) {
-        Some(space) => match number_of(&rest[..space]) {
+        Some(space) => match decimal_of(&rest[..space]) {
             Some(n) => match hex_length(&rest[space + 1..]) {
                 Some(length) => Some(Entry::Keeps(n, PageBytes::new(length))),
                 None => None,
@@ -188,19 +188,19 @@ fn numbered_entry_of(line: &[u8]) -> Option<Entry>
     ensures { result ≡ option_map forget_entry (numbered_entry_of line.now) }
 {
     if let Some(rest) = line.strip_prefix(b"open ") {
-        return number_of(rest).map(|n| Entry::Opens(n));
+        return decimal_of(rest).map(|n| Entry::Opens(n));
     }
     if let Some(rest) = line.strip_prefix(b"erase ") {
-        return number_of(rest).map(|n| Entry::Erases(n));
+        return decimal_of(rest).map(|n| Entry::Erases(n));
     }
     if let Some(rest) = line.strip_prefix(b"program ") {
-        return number_of(rest).map(|n| Entry::Programs(n));
+        return decimal_of(rest).map(|n| Entry::Programs(n));
     }
     if let Some(rest) = line.strip_prefix(b"end ") {
-        return number_of(rest).map(|n| Entry::Ends(n));
+        return decimal_of(rest).map(|n| Entry::Ends(n));
     }
     if let Some(rest) = line.strip_prefix(b"undone ") {
-        return number_of(rest).map(|n| Entry::Undoes(n));
+        return decimal_of(rest).map(|n| Entry::Undoes(n));
     }
     None
 }
@@ -210,7 +210,7 @@ pub(crate) fn entry_of(line: &[u8]) -> Option<Entry>
     ensures { result ≡ option_map forget_entry (entry_of line.now) }
 {
     if let Some(rest) = line.strip_prefix(b"page ") {
-        return page_of(rest);
+        return kept_entry_of(rest);
     }
     if let Some(rest) = line.strip_prefix(b"stmjournal 1 ") {
         return header_of(1, rest);
@@ -249,7 +249,7 @@ fn long_page_at(rest: &[u8], more: u64) -> Option<Entry>
         Some(space) => {
             let digits = &rest[space + 1..];
             if are_all_upper(digits) {
-                page_with(number_of(&rest[..space]), digits.len() as u64 + more)
+                page_with(decimal_of(&rest[..space]), digits.len() as u64 + more)
             } else {
                 None
             }

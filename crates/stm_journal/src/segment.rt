@@ -54,7 +54,7 @@ fn marks_of(alloc: Global, pages: &[Kept]) -> Result<Vec<bool>, AllocError>
 }
 
 impl Segment {
-    ghost use Rattle.stm_journal.specs.States.{keeps, fresh_segment, stage_with, intending, ending};
+    ghost use Rattle.stm_journal.specs.States.{keeps, fresh_segment, stage_with, intending, ended_segment};
 
     /// A segment that has just begun.
     pub(crate) fn new(alloc: Global) -> Self
@@ -129,7 +129,7 @@ impl Segment {
     }
 
     pub(crate) fn end(&mut self)
-        ensures { self.new ≡ ending self.old }
+        ensures { self.new ≡ ended_segment self.old }
     {
         self.stage = Stage::Ended;
     }

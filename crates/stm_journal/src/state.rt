@@ -5,7 +5,7 @@ ghost use Rattle.std.specs.Prelude.{option_map, List, ℕ, true, false};
 ghost use Rattle.stm_journal.specs.States.{stack_of, empty_state, is_unfinished, intent_of, allows};
 ghost use Rattle.stm_journal.specs.States.{newest_has, newest_intent, may_keep, keeps};
 ghost use Rattle.stm_journal.specs.States.{is_open_stage, is_ended_stage, on_newest, keeping};
-ghost use Rattle.stm_journal.specs.States.{intending, ending, fresh_segment, after_entry, kept_at};
+ghost use Rattle.stm_journal.specs.States.{intending, ended_segment, fresh_segment, after_entry, kept_at};
 ghost use Rattle.stm_journal.specs.States.{segment_of, intent_page, IsSound};
 ghost use Rattle.stm_journal.specs.KeptPlaces.{page_place, kept_place, kept_count, entries_of};
 ghost use Rattle.stm_journal.specs.Journals.{capped};
@@ -206,7 +206,7 @@ impl State {
     }
 
     fn end(&mut self)
-        ensures { self.new ≡ record self.old { stack = on_newest ending self.old.stack } }
+        ensures { self.new ≡ record self.old { stack = on_newest ended_segment self.old.stack } }
     {
         if let Some(newest) = &mut self.newest {
             newest.end();

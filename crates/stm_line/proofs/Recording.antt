@@ -11,7 +11,7 @@ use Rattle.stm_line.specs.declared.answered.Answered.TheVariants.{Put, PutFailed
 use Rattle.stm_line.specs.declared.answered.Answered.TheVariants.{Appended, AppendFailed}
 use Rattle.stm_line.specs.declared.answered.Answered.TheVariants.{Fetched, FetchFailed}
 use Rattle.stm_line.specs.Standing.{Standing, rig_at}
-use Rattle.stm_line.specs.Vouched.{Vouched, Leads, call_at}
+use Rattle.stm_line.specs.Vouched.{Vouched, CallLeads, call_at}
 use Rattle.stm_line.specs.Recorded.{IsRecordOf, recorded, stands}
 use Rattle.stm_sim.specs.SimulatedDevice.{le-or-gt}
 use Rattle.stm_wire.specs.declared.fault.RigFault.{RigFault}
@@ -52,15 +52,15 @@ call-last [] call = refl
 call-last (x ∷ calls) call = call-last calls call
 
 leads-by : (call call2 : Answered) (s s2 t t2 : Standing) → call2 ≡ call → s2 ≡ s → t2 ≡ t
-    → Leads call s t → Leads call2 s2 t2
+    → CallLeads call s t → CallLeads call2 s2 t2
 leads-by call call2 s s2 t t2 a b c leads =
-    subst (λ (x : Answered). Leads x s2 t2) (sym a)
-    (subst (λ (x : Standing). Leads call x t2) (sym b)
-    (subst (λ (x : Standing). Leads call s x) (sym c) leads))
+    subst (λ (x : Answered). CallLeads x s2 t2) (sym a)
+    (subst (λ (x : Standing). CallLeads call x t2) (sym b)
+    (subst (λ (x : Standing). CallLeads call s x) (sym c) leads))
 
 -- a record that vouches for a course vouches for it with one call more
 pub extends : (calls : List Answered) (call : Answered) (s t : Standing) → IsRecordOf calls s
-    → Leads call s t → IsDevice t.device → length t.journal ≤ 2 ^ 63 - 1
+    → CallLeads call s t → IsDevice t.device → length t.journal ≤ 2 ^ 63 - 1
     → IsRecordOf (calls ++ call ∷ []) t
 extends calls call s t is leads device limit =
     let course = is.0 in
@@ -120,7 +120,7 @@ starts rig model honest =
 -- one call more of a Rig that follows the model
 grows : (calls : List Answered) (call : Answered) (old new : RigState)
     → (new.is_honest → IsModel new) → new.is_honest → IsRecordOf calls (stands old)
-    → Leads call (stands old) (stands new) → IsRecordOf (calls ++ call ∷ []) (stands new)
+    → CallLeads call (stands old) (stands new) → IsRecordOf (calls ++ call ∷ []) (stands new)
 grows calls call old new model honest is leads =
     let m = model honest in
     extends calls call (stands old) (stands new) is leads m.device m.journal

@@ -8,8 +8,8 @@ use Rattle.stm_line.specs.declared.answered.Answered.TheVariants.{Put, PutFailed
 use Rattle.stm_line.specs.declared.answered.Answered.TheVariants.{Appended, AppendFailed}
 use Rattle.stm_line.specs.declared.answered.Answered.TheVariants.{Fetched, FetchFailed}
 use Rattle.stm_line.specs.Standing.{Standing, rig_at}
-use Rattle.stm_line.specs.Vouched.{Vouched, Leads, call_at}
-use Rattle.stm_line.specs.Replayed.{LeftBy, StandsAt, LeftSince, replayed, IsNext, IsPut}
+use Rattle.stm_line.specs.Vouched.{Vouched, CallLeads, call_at}
+use Rattle.stm_line.specs.Replayed.{LeftBy, StandsAt, StopLeftSince, replayed, IsNextCall, IsPut}
 use Rattle.stm_line.specs.Replayed.{IsPutFailed, IsGot, IsGetFailed, IsAppended, IsAppendFailed}
 use Rattle.stm_line.specs.Replayed.{IsFetched, IsFetchFailed, MatchSaid}
 use Rattle.stm_line.specs.declared.said.Said.{Said}
@@ -54,7 +54,7 @@ stays_by FetchFailed s d journal at = (at.1, at.0)
 
 -- and where it leads
 goes_by : (call : Answered) (s t : Standing) (d : Device) (journal : List ℕ)
-    → Leads call s t → StandsAt t d journal → LeftBy call s d journal
+    → CallLeads call s t → StandsAt t d journal → LeftBy call s d journal
 goes_by (Put byte) s t d journal leads at =
     (at.1 ∙ leads.1, (t.device, inr leads.0, at.0))
 goes_by (PutFailed byte) s t d journal (same, (mid, is, lost)) at =
@@ -92,7 +92,7 @@ module _ (calls : List Answered) (course : ℕ → Standing) (now a b a2 b2 : �
   Old : Device → List ℕ → Type 0
   Old d journal = LeftBy (call_at calls now) (course now) d journal
 
-  pub moves : Leads (call_at calls now) (course now) (course (now + 1))
+  pub moves : CallLeads (call_at calls now) (course now) (course (now + 1))
       → Elapses (λ d journal. LeftBy (call_at calls now) (course now) d journal)
       (replayed calls course now a b) (replayed calls course (now + 1) a2 b2)
   moves leads = record {
@@ -128,9 +128,9 @@ weaker P Q calls course now next a b a2 b2 weaken time = record {
 
 -- a call of the record was made
 module _ (calls : List Answered) (course : ℕ → Standing) (now a b a2 b2 : ℕ) (call : Answered)
-    (next : IsNext calls now (λ e. e ≡ call)) (honest : (replayed calls course now a b).is_honest) where
-  led : Leads call (course now) (course (now + 1))
-  led = subst (λ (e : Answered). Leads e (course now) (course (now + 1))) next.1
+    (next : IsNextCall calls now (λ e. e ≡ call)) (honest : (replayed calls course now a b).is_honest) where
+  led : CallLeads call (course now) (course (now + 1))
+  led = subst (λ (e : Answered). CallLeads e (course now) (course (now + 1))) next.1
       (honest.0.leads now next.0)
 
   pub timed : Elapses (λ d journal. LeftBy call (course now) d journal)
@@ -144,7 +144,7 @@ module _ (calls : List Answered) (course : ℕ → Standing) (now a b a2 b2 : �
   stays_honest = (honest.0, omega (arith, next.0))
 
 pub put_done : (calls : List Answered) (course : ℕ → Standing) (now a b a2 b2 byte : ℕ)
-    → IsNext calls now (IsPut byte)
+    → IsNextCall calls now (IsPut byte)
     → (replayed calls course now a b).is_honest
     → PutsHonestly {T = Unit {0}} byte (Ok tt) (replayed calls course now a b)
     (replayed calls course (now + 1) a2 b2)
@@ -156,7 +156,7 @@ put_done calls course now a b a2 b2 byte next honest = record {
 }
 
 pub put_failed : (calls : List Answered) (course : ℕ → Standing) (now a b a2 b2 byte : ℕ)
-    (fault : RigFault) → IsNext calls now (IsPutFailed byte)
+    (fault : RigFault) → IsNextCall calls now (IsPutFailed byte)
     → (replayed calls course now a b).is_honest
     → PutsHonestly {T = Unit {0}} byte (Err fault) (replayed calls course now a b)
     (replayed calls course (now + 1) a2 b2)
@@ -179,7 +179,7 @@ put_strayed calls course now a b a2 b2 byte fault honest = record {
 }
 
 pub got : (calls : List Answered) (course : ℕ → Standing) (now a b a2 b2 : ℕ) (answer : Option ℕ)
-    → IsNext calls now (IsGot answer)
+    → IsNextCall calls now (IsGot answer)
     → (replayed calls course now a b).is_honest
     → GetsHonestly (Ok answer) (replayed calls course now a b)
     (replayed calls course (now + 1) a2 b2)
@@ -194,7 +194,7 @@ got calls course now a b a2 b2 answer next honest =
     }
 
 pub get_failed : (calls : List Answered) (course : ℕ → Standing) (now a b a2 b2 : ℕ)
-    (fault : RigFault) → IsNext calls now IsGetFailed
+    (fault : RigFault) → IsNextCall calls now IsGetFailed
     → (replayed calls course now a b).is_honest
     → GetsHonestly (Err fault) (replayed calls course now a b)
     (replayed calls course (now + 1) a2 b2)
@@ -294,7 +294,7 @@ begun_part n m old bytes le = ⊎_elim
     (le-or-gt (n - length old) m)
 
 pub appended : (calls : List Answered) (course : ℕ → Standing) (now a b a2 b2 : ℕ)
-    (bytes : List ℕ) → IsNext calls now (IsAppended bytes)
+    (bytes : List ℕ) → IsNextCall calls now (IsAppended bytes)
     → (replayed calls course now a b).is_honest
     → AppendsHonestly {T = Unit {0}} bytes (Ok tt) (replayed calls course now a b)
     (replayed calls course (now + 1) a2 b2)
@@ -303,7 +303,7 @@ appended calls course now a b a2 b2 bytes said honest =
     let added = an.0 in
     let is = an.1 in
     let same = an.2 in
-    let next : IsNext calls now (λ e. e ≡ Appended added) = (said.0, is) in
+    let next : IsNextCall calls now (λ e. e ≡ Appended added) = (said.0, is) in
     let leads = led calls course now a b a2 b2 (Appended added) next honest in
     let grown : (course (now + 1)).journal ≡ (course now).journal ++ bytes =
     leads.1 ∙ ap (λ (xs : List ℕ). (course now).journal ++ xs) same in
@@ -331,7 +331,7 @@ appended calls course now a b a2 b2 bytes said honest =
     }
 
 pub append_failed : (calls : List Answered) (course : ℕ → Standing) (now a b a2 b2 : ℕ)
-    (bytes : List ℕ) (fault : RigFault) → IsNext calls now (IsAppendFailed bytes)
+    (bytes : List ℕ) (fault : RigFault) → IsNextCall calls now (IsAppendFailed bytes)
     → (replayed calls course now a b).is_honest
     → AppendsHonestly {T = Unit {0}} bytes (Err fault) (replayed calls course now a b)
     (replayed calls course (now + 1) a2 b2)
@@ -340,7 +340,7 @@ append_failed calls course now a b a2 b2 bytes fault said honest =
     let added = an.0 in
     let is = an.1 in
     let same = an.2 in
-    let next : IsNext calls now (λ e. e ≡ AppendFailed added) = (said.0, is) in
+    let next : IsNextCall calls now (λ e. e ≡ AppendFailed added) = (said.0, is) in
     let leads = led calls course now a b a2 b2 (AppendFailed added) next honest in
     let J = (course now).journal in
     record {
@@ -378,7 +378,7 @@ append_strayed calls course now a b a2 b2 bytes fault honest = record {
 }
 
 pub fetched : (calls : List Answered) (course : ℕ → Standing) (now a b a2 b2 place n : ℕ)
-    (before after : List ℕ) → IsNext calls now (IsFetched place (length before) (take n after))
+    (before after : List ℕ) → IsNextCall calls now (IsFetched place (length before) (take n after))
     → length after ≡ length before → n ≤ length before
     → (replayed calls course now a b).is_honest
     → FetchesHonestly place before after (Ok n) (replayed calls course now a b)
@@ -388,7 +388,7 @@ fetched calls course now a b a2 b2 place n before after said long le honest =
     let came = an.0 in
     let is = an.1 in
     let same = an.2 in
-    let next : IsNext calls now (λ e. e ≡ Fetched place (length before) came) = (said.0, is) in
+    let next : IsNextCall calls now (λ e. e ≡ Fetched place (length before) came) = (said.0, is) in
     let leads = led calls course now a b a2 b2 (Fetched place (length before) came) next honest in
     let count : length came.items ≡ n =
     ap length same ∙ length-take-le n after (omega (arith, long, le)) in
@@ -403,7 +403,7 @@ fetched calls course now a b a2 b2 place n before after said long le honest =
     }
 
 pub fetch_failed : (calls : List Answered) (course : ℕ → Standing) (now a b a2 b2 place : ℕ)
-    (before after : List ℕ) (fault : RigFault) → IsNext calls now IsFetchFailed
+    (before after : List ℕ) (fault : RigFault) → IsNextCall calls now IsFetchFailed
     → (replayed calls course now a b).is_honest
     → FetchesHonestly place before after (Err fault) (replayed calls course now a b)
     (replayed calls course (now + 1) a2 b2)
@@ -431,7 +431,7 @@ fetch_strayed calls course now a b a2 b2 place before after fault honest = recor
 
 pub put_failed-so : (calls : List Answered) (course : ℕ → Standing) (now a b a2 b2 : ℕ) (byte : ℕ)
     (fault : RigFault) (result : Result (Unit {0}) RigFault) → result ≡ Err fault
-    → IsNext calls now (IsPutFailed byte) → (replayed calls course now a b).is_honest
+    → IsNextCall calls now (IsPutFailed byte) → (replayed calls course now a b).is_honest
     → PutsHonestly {T = Unit {0}} byte result (replayed calls course now a b) (replayed calls course (now + 1) a2 b2)
 put_failed-so calls course now a b a2 b2 byte fault result is next honest =
     subst
@@ -451,7 +451,7 @@ put_strayed-so calls course now a b a2 b2 byte fault result is honest =
 
 pub get_failed-so : (calls : List Answered) (course : ℕ → Standing) (now a b a2 b2 : ℕ)
     (fault : RigFault) (result : Result (Option ℕ) RigFault) → result ≡ Err fault
-    → IsNext calls now IsGetFailed → (replayed calls course now a b).is_honest
+    → IsNextCall calls now IsGetFailed → (replayed calls course now a b).is_honest
     → GetsHonestly result (replayed calls course now a b) (replayed calls course (now + 1) a2 b2)
 get_failed-so calls course now a b a2 b2 fault result is next honest =
     subst
@@ -471,7 +471,7 @@ get_strayed-so calls course now a b a2 b2 fault result is honest =
 
 pub append_failed-so : (calls : List Answered) (course : ℕ → Standing) (now a b a2 b2 : ℕ) (bytes : List ℕ)
     (fault : RigFault) (result : Result (Unit {0}) RigFault) → result ≡ Err fault
-    → IsNext calls now (IsAppendFailed bytes) → (replayed calls course now a b).is_honest
+    → IsNextCall calls now (IsAppendFailed bytes) → (replayed calls course now a b).is_honest
     → AppendsHonestly {T = Unit {0}} bytes result (replayed calls course now a b) (replayed calls course (now + 1) a2 b2)
 append_failed-so calls course now a b a2 b2 bytes fault result is next honest =
     subst
@@ -491,7 +491,7 @@ append_strayed-so calls course now a b a2 b2 bytes fault result is honest =
 
 pub fetch_failed-so : (calls : List Answered) (course : ℕ → Standing) (now a b a2 b2 : ℕ) (place : ℕ) (before after : List ℕ)
     (fault : RigFault) (result : Result (ℕ) RigFault) → result ≡ Err fault
-    → IsNext calls now IsFetchFailed → (replayed calls course now a b).is_honest
+    → IsNextCall calls now IsFetchFailed → (replayed calls course now a b).is_honest
     → FetchesHonestly place before after result (replayed calls course now a b) (replayed calls course (now + 1) a2 b2)
 fetch_failed-so calls course now a b a2 b2 place before after fault result is next honest =
     subst

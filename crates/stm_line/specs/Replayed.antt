@@ -27,8 +27,8 @@ abbrev pub StandsAt : Standing → Device → List ℕ → Type 0
 StandsAt s d journal = LosesOwed s.device d × (journal ≡ s.journal)
 
 -- a stop now, or in a call since that moment, may have left it
-abbrev pub LeftSince : List Answered → (ℕ → Standing) → ℕ → ℕ → Device → List ℕ → Type 0
-LeftSince calls course now t d journal =
+abbrev pub StopLeftSince : List Answered → (ℕ → Standing) → ℕ → ℕ → Device → List ℕ → Type 0
+StopLeftSince calls course now t d journal =
     ((t ≤ now) × StandsAt (course now) d journal)
     ⊎ ((place : ℕ) × (t ≤ place) × (place < now)
     × LeftBy (call_at calls place) (course place) d journal)
@@ -43,7 +43,7 @@ replayed calls course now line_failures journal_failures = record {
   line_failures = line_failures;
   journal_failures = journal_failures;
   moment = now;
-  left_since = LeftSince calls course now;
+  left_since = StopLeftSince calls course now;
   calls = None;
   has_room = ⊥;
   long_gets = None;
@@ -51,8 +51,8 @@ replayed calls course now line_failures journal_failures = record {
 }
 
 -- the next call of the record is of this kind
-abbrev pub IsNext : List Answered → ℕ → (Answered → Type 0) → Type 0
-IsNext calls now P = (now < length calls) × P (call_at calls now)
+abbrev pub IsNextCall : List Answered → ℕ → (Answered → Type 0) → Type 0
+IsNextCall calls now P = (now < length calls) × P (call_at calls now)
 
 abbrev pub IsPut : ℕ → Answered → Type 0
 IsPut byte call = call ≡ Put byte

@@ -1,7 +1,7 @@
 // A Rig that answers from a record.
 ghost use Rattle.std.specs.Prelude.{◌≡◌, ◌+◌, ◌-◌, ◌^◌, ◌≤◌, length, take, drop, true, false};
 ghost use Rattle.std.specs.Prelude.{MatchOption};
-ghost use Rattle.stm_line.specs.Replayed.{IsNext, IsPut, IsPutFailed, IsGot, IsGetFailed};
+ghost use Rattle.stm_line.specs.Replayed.{IsNextCall, IsPut, IsPutFailed, IsGot, IsGetFailed};
 ghost use Rattle.stm_line.specs.Replayed.{IsAppended, IsAppendFailed, IsFetched, IsFetchFailed};
 ghost use Rattle.stm_line.specs.Replayed.{MatchSaid, replayed};
 ghost use Rattle.stm_line.specs.ReplayedLaws.{follows};
@@ -67,7 +67,7 @@ impl<W: Course> ReplayedRig<W> {
     /// The next call of the record, where no other was made before.
     fn next_call(&self) -> Option<&Answered>
         ensures { MatchOption result (Unit {0})
-            (λ call. IsNext self.now.calls.items self.now.next (λ next. call.now ≡ next)) }
+            (λ call. IsNextCall self.now.calls.items self.now.next (λ next. call.now ≡ next)) }
     {
         if self.has_strayed || self.next >= self.calls.len() {
             return None;
@@ -78,8 +78,8 @@ impl<W: Course> ReplayedRig<W> {
     /// What the record says of a put of this byte.
     fn said_of_put(&self, byte: u8) -> Said<()>
         ensures { MatchSaid result
-            (λ done. IsNext self.now.calls.items self.now.next (IsPut byte))
-            (IsNext self.now.calls.items self.now.next (IsPutFailed byte)) }
+            (λ done. IsNextCall self.now.calls.items self.now.next (IsPut byte))
+            (IsNextCall self.now.calls.items self.now.next (IsPutFailed byte)) }
     {
         match self.next_call() {
             Some(Answered::Put(sent)) if *sent == byte => Said::Done(()),
@@ -91,8 +91,8 @@ impl<W: Course> ReplayedRig<W> {
     /// What the record says of a get.
     fn said_of_get(&self) -> Said<Option<u8>>
         ensures { MatchSaid result
-            (λ answer. IsNext self.now.calls.items self.now.next (IsGot answer))
-            (IsNext self.now.calls.items self.now.next IsGetFailed) }
+            (λ answer. IsNextCall self.now.calls.items self.now.next (IsGot answer))
+            (IsNextCall self.now.calls.items self.now.next IsGetFailed) }
     {
         match self.next_call() {
             Some(Answered::Got(answer)) => Said::Done(*answer),
@@ -104,8 +104,8 @@ impl<W: Course> ReplayedRig<W> {
     /// What the record says of an append of these bytes.
     fn said_of_append(&self, bytes: &[u8]) -> Said<()>
         ensures { MatchSaid result
-            (λ done. IsNext self.now.calls.items self.now.next (IsAppended bytes.now))
-            (IsNext self.now.calls.items self.now.next (IsAppendFailed bytes.now)) }
+            (λ done. IsNextCall self.now.calls.items self.now.next (IsAppended bytes.now))
+            (IsNextCall self.now.calls.items self.now.next (IsAppendFailed bytes.now)) }
     {
         match self.next_call() {
             Some(Answered::Appended(added)) if are_same(added, bytes) => Said::Done(()),
@@ -119,9 +119,9 @@ impl<W: Course> ReplayedRig<W> {
         ensures same_length { length buf.new ≡ length buf.old }
         ensures said { MatchSaid result
             (λ n. (n ≤ length buf.old) × (2 ^ 63 - 1 ≤ at → n ≡ 0)
-            × IsNext self.now.calls.items self.now.next
+            × IsNextCall self.now.calls.items self.now.next
             (IsFetched at (length buf.old) (take n buf.new)))
-            (IsNext self.now.calls.items self.now.next IsFetchFailed) }
+            (IsNextCall self.now.calls.items self.now.next IsFetchFailed) }
     {
         match self.next_call() {
             Some(Answered::Fetched(place, room, came)) => {

@@ -14,7 +14,7 @@ use Rattle.stm_session.specs.declared.fault.Fault.TheVariants as fault
 use Rattle.stm_session.specs.Fault.{IsRefusal, cause_of}
 use Rattle.stm_session.specs.Came.{AgreeInBlocks, ComeInBlocks, FaultTells}
 use Rattle.stm_session.specs.Meaning.{CommandData, writes, erases, verifies, reads, is_change}
-use Rattle.stm_session.specs.Order.{Step, Adds, Sends, Stops, StopsBy}
+use Rattle.stm_session.specs.Order.{Step, Adds, Sends, FaultEnds, StopsBy}
 use Rattle.stm_session.specs.RunOrder.{IsBegunBy, IsBegunIf, IsBegunTelling, IsReading, StopsTelling}
 use Rattle.stm_session.proofs.CutShort.{stop_as}
 use Rattle.stm_session.proofs.Reaching.{at_fault}
@@ -77,7 +77,7 @@ change_tells fault.BoardChanged chip c steps change = tt
 change_tells (fault.NotHeld n) chip c steps change = tt
 change_tells fault.Full chip c steps change = tt
 
-pub change_stops : {T : Type 0} (chip : ChipData) (c : CommandData) (s : StateData) (torn : Bool) (a b : RigState) (result : Result T Fault) → is_change c ≡ true → Stops (IsBegunBy chip c s) torn a b result
+pub change_stops : {T : Type 0} (chip : ChipData) (c : CommandData) (s : StateData) (torn : Bool) (a b : RigState) (result : Result T Fault) → is_change c ≡ true → FaultEnds (IsBegunBy chip c s) torn a b result
     → StopsTelling (IsBegunTelling chip c s) torn a b result
 change_stops chip c s torn a b (Ok x) change stops = tt
 change_stops chip c s torn a b (Err e) change stops = stop_as (IsBegunBy chip c s) (IsBegunTelling chip c s e) (cause_of e) torn a b (λ xs begun. (begun, change_tells e chip c xs change)) stops

@@ -8,7 +8,7 @@ use Rattle.stm_wire.specs.Frames.{command}
 use Rattle.stm_wire.specs.Moments.{LeftBySending}
 use Rattle.stm_wire.specs.MomentLaws.{joined, started, weaker}
 use Rattle.stm_wire.specs.Rig.{RigState, IsModel}
-use Rattle.stm_wire.specs.Sending.{Holds, BreaksOff}
+use Rattle.stm_wire.specs.Sending.{IsHeldToEnd, BreaksOff}
 use Rattle.stm_wire.specs.Stopped.{AskingChangesNothing, IsQuestion, get}
 use Rattle.stm_session.specs.declared.fault.Fault.{Fault}
 use Rattle.stm_session.specs.declared.fault.Fault.TheVariants.{Memory}
@@ -33,7 +33,7 @@ left_by_asking law old frame is settled question d journal left =
 
 -- a question that was answered
 pub asked : {T : Type 0} {frame : List ℕ} {turns : List Turn} (law : AskingChangesNothing) (old new : RigState) (x : T) (Done : T → Type 0) → old.is_honest
-    → IsDevice old.device → IsSettled old.device → IsQuestion old.device.chip frame → Holds frame turns old new → new.device ≡ old.device → Done x → Asks old new (Ok x) Done
+    → IsDevice old.device → IsSettled old.device → IsQuestion old.device.chip frame → IsHeldToEnd frame turns old new → new.device ≡ old.device → Done x → Asks old new (Ok x) Done
 asked {frame = frame} law old new x Done honest is settled question holds same done =
     let sent = holds.honestly honest in
     record {

@@ -20,7 +20,7 @@ use Rattle.stm_session.specs.declared.fault.Fault.{Fault}
 use Rattle.stm_session.specs.Asking.{Asks, IsStill}
 use Rattle.stm_session.specs.AskingBoard.{AsksBoard, AsksSize, AsksUnique, IsAnswered, came_in, places_in, size_told, unique_told}
 use Rattle.stm_session.specs.Fault.{Cause, IsOutsideFault, cause_of, fault_of}
-use Rattle.stm_session.specs.Order.{Step, Begin, IsInOrder, Sends, Stops, StopsBy, torn_behind, AreCutShort, acts_of}
+use Rattle.stm_session.specs.Order.{Step, Begin, IsInOrder, Sends, FaultEnds, StopsBy, torn_behind, AreCutShort, acts_of}
 use Rattle.stm_session.specs.Reaching.{IsAsked, IsAsking, asking_steps, SettlesThen}
 use Rattle.stm_session.specs.Unwritten.{AppendsNothing}
 use Rattle.stm_wire.specs.declared.chip.EraseKind.{EraseKind}
@@ -35,7 +35,7 @@ use Rattle.stm_journal.specs.Journals.{JournalData, Loaded, bad, good, journal_o
 use Rattle.stm_session.specs.declared.fault.Fault.TheVariants.{BadJournal}
 use Rattle.stm_session.specs.AskingBoard.{AsksInPart}
 use Rattle.stm_session.specs.ToldBoard.{AsksFinished, AsksUnfinished, IsBoardOf, size_of, unique_of}
-use Rattle.stm_session.specs.Fault.{IsHeard, IsOutside, IsUnheard, fault_of_journal, of_file, of_line, of_memory, of_protocol, of_refusal, of_session}
+use Rattle.stm_session.specs.Fault.{IsOfTalking, IsOutside, IsUnheard, fault_of_journal, of_file, of_line, of_memory, of_protocol, of_refusal, of_session}
 use Rattle.stm_session.specs.Fresh.{EndsWell, Way, byte_of, limit_of, undo_way}
 use Rattle.stm_session.proofs.Freshness.{limit_most}
 use Rattle.stm_session.specs.Moments.{BeginsNothing, IsSafe, IsUnbegun, SameMake}
@@ -142,11 +142,11 @@ module _ (place : Option ℕ) (address : ℕ) (known : place ≡ Some address) (
       (steps, subst A (sym known) (came, asked, told), goes)
 
   pub size_unasked : {U : Type 0} (e : Fault) (result : Result U Fault) → IsErrAnd result (λ x. x ≡ e) → StopsBy (Begin (λ steps. (came : Option (List ℕ)) × IsAsked address 2 came steps)) (cause_of e) torn a b
-      → Stops (Begin (λ steps. (size : Option ℕ) × AsksSize place size steps)) torn a b result
+      → FaultEnds (Begin (λ steps. (size : Option ℕ) × AsksSize place size steps)) torn a b result
   size_unasked e result is stops =
       let P : List Step → Type 0 = λ steps. (came : Option (List ℕ)) × IsAsked address 2 came steps in
       let Q : List Step → Type 0 = λ steps. (size : Option ℕ) × AsksSize (Some address) size steps in
-      let G : Option ℕ → Type 0 = λ p. Stops (Begin (λ steps. (size : Option ℕ) × AsksSize p size steps)) torn a b result in
+      let G : Option ℕ → Type 0 = λ p. FaultEnds (Begin (λ steps. (size : Option ℕ) × AsksSize p size steps)) torn a b result in
       subst G (sym known) (part_stops (Begin P) (Begin Q) torn a b e result is (begin_as P Q (λ xs x. (size_told x.0, (x.0, x.1, refl)))) stops)
 
 module _ (place : Option UniquePlace) (here : UniquePlace) (known : place ≡ Some here) (torn : Bool) (a b : RigState) (count : ℕ) (long : count ≡ here.length) where
@@ -158,12 +158,12 @@ module _ (place : Option UniquePlace) (here : UniquePlace) (known : place ≡ So
       (steps, subst A (sym known) (came, subst C long asked, told), goes)
 
   pub unique_unasked : {U : Type 0} (e : Fault) (result : Result U Fault) → IsErrAnd result (λ x. x ≡ e) → StopsBy (Begin (λ steps. (came : Option (List ℕ)) × IsAsked here.address count came steps)) (cause_of e) torn a b
-      → Stops (Begin (λ steps. (unique : List ℕ) × AsksUnique place unique steps)) torn a b result
+      → FaultEnds (Begin (λ steps. (unique : List ℕ) × AsksUnique place unique steps)) torn a b result
   unique_unasked e result is stops =
       let P : List Step → Type 0 = λ steps. (came : Option (List ℕ)) × IsAsked here.address count came steps in
       let Q : List Step → Type 0 = λ steps. (unique : List ℕ) × AsksUnique (Some here) unique steps in
       let C : (xs : List Step) → (came : Option (List ℕ)) → IsAsked here.address count came xs → IsAsked here.address here.length came xs = λ xs came asked. subst (λ (n : ℕ). IsAsked here.address n came xs) long asked in
-      let G : Option UniquePlace → Type 0 = λ p. Stops (Begin (λ steps. (unique : List ℕ) × AsksUnique p unique steps)) torn a b result in
+      let G : Option UniquePlace → Type 0 = λ p. FaultEnds (Begin (λ steps. (unique : List ℕ) × AsksUnique p unique steps)) torn a b result in
       subst G (sym known) (part_stops (Begin P) (Begin Q) torn a b e result is (begin_as P Q (λ xs x. (unique_told x.0, (x.0, C xs x.0 x.1, refl)))) stops)
 
 -- no line is added by them
@@ -249,7 +249,7 @@ asking_begins table steps asking =
 
 -- Get or Get ID is cut short
 pub asking_stops : {U : Type 0} (table : List ChipData) (torn : Bool) (a b : RigState) (e : Fault) (result : Result U Fault) → IsErrAnd result (λ x. x ≡ e) → StopsBy (Begin IsAsking) (cause_of e) torn a b
-    → Stops (Begin (AsksBoard table)) torn a b result
+    → FaultEnds (Begin (AsksBoard table)) torn a b result
 asking_stops table torn a b e result is stops = part_stops (Begin IsAsking) (Begin (AsksBoard table)) torn a b e result is (begin_on IsAsking (AsksBoard table) (asking_begins table)) stops
 
 module _ (table : List ChipData) (torn : Bool) (version : ℕ) (codes : List ℕ) (id : ℕ) (places : BoardPlaces) (same : places ≡ places_in table id) (a b : RigState) (asked : GoesOn (IsInOrder torn (asking_steps version codes id)) a.calls b.calls) where
@@ -261,7 +261,7 @@ module _ (table : List ChipData) (torn : Bool) (version : ℕ) (codes : List ℕ
 
   -- the read of the unique id is
   pub unique_stops : {U : Type 0} (c : RigState) (e : Fault) (result : Result U Fault) → IsErrAnd result (λ x. x ≡ e) → StopsBy (Begin (λ steps. (unique : List ℕ) × AsksUnique places.unique unique steps)) (cause_of e) torn b c
-      → Stops (Begin (AsksBoard table)) torn a c result
+      → FaultEnds (Begin (AsksBoard table)) torn a c result
   unique_stops c e result is stops =
       let P : List Step → Type 0 = λ steps. (unique : List ℕ) × AsksUnique places.unique unique steps in
       let longer : (ys : List Step) → Begin P ys → Begin (AsksBoard table) (asking ++ ys) =
@@ -277,7 +277,7 @@ module _ (table : List ChipData) (torn : Bool) (version : ℕ) (codes : List ℕ
 
     -- the read of the size is
     pub size_stops : {U : Type 0} (d : RigState) (e : Fault) (result : Result U Fault) → IsErrAnd result (λ x. x ≡ e) → StopsBy (Begin (λ steps. (size : Option ℕ) × AsksSize places.size size steps)) (cause_of e) torn c d
-        → Stops (Begin (AsksBoard table)) torn a d result
+        → FaultEnds (Begin (AsksBoard table)) torn a d result
     size_stops d e result is stops =
         let P : List Step → Type 0 = λ steps. (size : Option ℕ) × AsksSize places.size size steps in
         let S : Bool → Type 0 = λ t. StopsBy (Begin P) (cause_of e) t c d in
@@ -344,7 +344,7 @@ fetch_few a b p = GoesOn-weaker AreFetches (AreFew 0) a b p (λ xs x. omega (ari
 
 module _ (table : List ChipData) (way : Way) (cause : Cause) (torn : Bool) where
   -- settling ends
-  pub part_settled : (a b : Option (List Call)) → IsHeard cause → GoesOn (SettlesWithin (byte_of way) (limit_of way)) a b → GoesOn (AsksInPart table way cause torn) a b
+  pub part_settled : (a b : Option (List Call)) → IsOfTalking cause → GoesOn (SettlesWithin (byte_of way) (limit_of way)) a b → GoesOn (AsksInPart table way cause torn) a b
   part_settled a b heard settles =
       GoesOn-weaker (SettlesWithin (byte_of way) (limit_of way)) (AsksInPart table way cause torn) a b settles
       (λ xs s. inl (heard, subst (λ (l : List Call). SettlesWithin (byte_of way) (limit_of way) l) (sym (acts-line xs s.line)) s))

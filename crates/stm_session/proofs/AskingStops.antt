@@ -5,7 +5,7 @@ use Rattle.stm_wire.specs.Frames.{get_turns}
 use Rattle.stm_wire.specs.Rig.{RigState}
 use Rattle.stm_session.specs.declared.fault.Fault.{Fault}
 use Rattle.stm_session.specs.Fault.{Cause, cause_of}
-use Rattle.stm_session.specs.Order.{Step, Begin, IsInOrder, Sends, Stops, StopsBy}
+use Rattle.stm_session.specs.Order.{Step, Begin, IsInOrder, Sends, FaultEnds, StopsBy}
 use Rattle.stm_session.specs.Reaching.{IsAsking, IsGet, IsGetId, id_turns}
 use Rattle.stm_session.proofs.CutShort.{begin_after, begin_on, by_fault, order_stops, part_stops}
 
@@ -19,7 +19,7 @@ get_begins xs get =
 -- Get is cut short
 pub get_stops : {U : Type 0} (torn : Bool) (a b : RigState) (e : Fault) (result : Result U Fault)
     → IsErrAnd result (λ x. x ≡ e) → StopsBy (Begin IsGet) (cause_of e) torn a b
-    → Stops (Begin IsAsking) torn a b result
+    → FaultEnds (Begin IsAsking) torn a b result
 get_stops torn a b e result is stops =
     part_stops (Begin IsGet) (Begin IsAsking) torn a b e result is
     (begin_on IsGet IsAsking get_begins) stops
@@ -28,7 +28,7 @@ get_stops torn a b e result is stops =
 pub get_id_stops : {U : Type 0} (torn : Bool) (version : ℕ) (codes : List ℕ) (a b c : RigState)
     (e : Fault) (result : Result U Fault) → IsErrAnd result (λ x. x ≡ e)
     → GoesOn (IsInOrder torn (Sends (get_turns version codes) ∷ [])) a.calls b.calls
-    → StopsBy (Begin IsGetId) (cause_of e) torn b c → Stops (Begin IsAsking) torn a c result
+    → StopsBy (Begin IsGetId) (cause_of e) torn b c → FaultEnds (Begin IsAsking) torn a c result
 get_id_stops torn version codes a b c e result is got stops =
     let before : List Step = Sends (get_turns version codes) ∷ [] in
     let get : IsGet before = record { version = version; codes = codes; is = refl } in

@@ -12,7 +12,7 @@ use Rattle.stm_journal.specs.declared.entry.Entry.{Entry}
 use Rattle.stm_journal.specs.declared.fault.JournalFault.{JournalFault}
 use Rattle.stm_journal.specs.declared.fault.JournalFault.TheVariants.{File, Bad, OtherDevice, OtherBoard, Memory}
 use Rattle.stm_journal.specs.declared.header.JournalHeader.{JournalHeader}
-use Rattle.stm_journal.specs.Beginnings.{BeginningsAreGood, LeadsTo}
+use Rattle.stm_journal.specs.Beginnings.{BeginningsAreGood, EntriesLead}
 use Rattle.stm_journal.specs.CallEntries.{allowed-begin, board-begin, printable-begin, stack-begin, names-begin}
 use Rattle.stm_journal.specs.Calls.{Appends}
 use Rattle.stm_journal.specs.Fits.{AllFit}
@@ -58,7 +58,7 @@ new_version unique = by_test (length unique == 0)
     by_test false = omega arith
 
 versioned_at : (chip : ChipData) (id : ℕ) (unique : List ℕ) (header : Option JournalHeader) (stack : List SegmentData) (s2 : StateData) → HasVersion chip header
-    → LeadsTo (begin_entries id unique (record { header = header; stack = stack })) (record { header = header; stack = stack }) s2 → HasVersion chip s2.header
+    → EntriesLead (begin_entries id unique (record { header = header; stack = stack })) (record { header = header; stack = stack }) s2 → HasVersion chip s2.header
 versioned_at chip id unique None stack s2 version leads =
     let H : StateData → Type 0 = λ s. HasVersion chip s.header in
     ⊎_elim
@@ -69,7 +69,7 @@ versioned_at chip id unique (Some h) stack s2 version leads =
     let H : StateData → Type 0 = λ s. HasVersion chip s.header in
     ⊎_elim (λ none. subst H (sym none) version) (λ begun. subst H (sym begun.2) version) leads
 
-versioned : (chip : ChipData) (id : ℕ) (unique : List ℕ) (s s2 : StateData) → HasVersion chip s.header → LeadsTo (begin_entries id unique s) s s2 → HasVersion chip s2.header
+versioned : (chip : ChipData) (id : ℕ) (unique : List ℕ) (s s2 : StateData) → HasVersion chip s.header → EntriesLead (begin_entries id unique s) s s2 → HasVersion chip s2.header
 versioned chip id unique s s2 version leads = versioned_at chip id unique s.header s.stack s2 version leads
 
 -- a state with these segments
@@ -122,7 +122,7 @@ module _ (laws : StepLaws) (stopped_is_good : BeginningsAreGood) (flashes : List
       ∙ text_begins id unique (is_torn_at old.journal) (state_at old.journal)
 
   -- what a beginning of them leaves
-  reached : (n : ℕ) → (s2 : StateData) × (journal_of (old.journal ++ take n (text_added (is_torn_at old.journal) Lines)) ≡ good s2) × LeadsTo (begin_entries id unique (state_at old.journal)) (state_at old.journal) s2
+  reached : (n : ℕ) → (s2 : StateData) × (journal_of (old.journal ++ take n (text_added (is_torn_at old.journal) Lines)) ≡ good s2) × EntriesLead (begin_entries id unique (state_at old.journal)) (state_at old.journal) s2
   reached n =
       let fewer : length (state_at old.journal).stack < 65535 = let e = depth_text l old.journal steady.loaded in omega (arith, e, room) in
       let got = stopped_is_good l old.journal (state_at old.journal) (begin_entries id unique (state_at old.journal)) n steady.loaded (good_at l old.journal steady.loaded)
@@ -132,13 +132,13 @@ module _ (laws : StepLaws) (stopped_is_good : BeginningsAreGood) (flashes : List
       let J : List ℕ → Type 0 = λ bytes. journal_of (old.journal ++ take n bytes) ≡ good got.0 in
       (got.0, subst J same got.1, got.2)
 
-  owned : (s : StateData) → LeadsTo (begin_entries id unique (state_at old.journal)) (state_at old.journal) s → names_other old.device.chip.id s ≡ false
+  owned : (s : StateData) → EntriesLead (begin_entries id unique (state_at old.journal)) (state_at old.journal) s → names_other old.device.chip.id s ≡ false
   owned s leads = ap (λ (i : ℕ). names_other i s) (sym own) ∙ names-begin id unique (state_at old.journal) s mine leads
 
-  boarded : (s : StateData) → LeadsTo (begin_entries id unique (state_at old.journal)) (state_at old.journal) s → names_other_board old.device.chip.unique s ≡ false
+  boarded : (s : StateData) → EntriesLead (begin_entries id unique (state_at old.journal)) (state_at old.journal) s → names_other_board old.device.chip.unique s ≡ false
   boarded s leads = ap (λ (u : List ℕ). names_other_board u s) (sym board) ∙ board-begin id unique (state_at old.journal) s mine_board leads
 
-  aged : (s : StateData) → LeadsTo (begin_entries id unique (state_at old.journal)) (state_at old.journal) s → HasVersion old.device.chip s.header
+  aged : (s : StateData) → EntriesLead (begin_entries id unique (state_at old.journal)) (state_at old.journal) s → HasVersion old.device.chip s.header
   aged s leads = versioned old.device.chip id unique (state_at old.journal) s steady.keeps.fits.version leads
 
   begin_moment : (d : Device) (journal : List ℕ) → LeftByAppend (added_bytes l.is_torn (begin_entries id unique l.state)) old d journal → AmidCommand Lines flashes after old d journal
@@ -152,7 +152,7 @@ module _ (laws : StepLaws) (stopped_is_good : BeginningsAreGood) (flashes : List
       (⊎_elim (before got.0 line at got.2) (opened got.0 line at got.2) (stack-begin id unique (state_at old.journal) got.0 got.2))
     where
       before : (s : StateData) → journal ≡ old.journal ++ take left.0.0 (text_added (is_torn_at old.journal) Lines) → journal_of journal ≡ good s
-          → LeadsTo (begin_entries id unique (state_at old.journal)) (state_at old.journal) s → s.stack ≡ (state_at old.journal).stack → AmidCommand Lines flashes after old old.device journal
+          → EntriesLead (begin_entries id unique (state_at old.journal)) (state_at old.journal) s → s.stack ≡ (state_at old.journal).stack → AmidCommand Lines flashes after old old.device journal
       before s line at leads same =
           inl (record {
             undoable = settled_undoable laws flashes old.device journal s model.device steady.settled at
@@ -164,7 +164,7 @@ module _ (laws : StepLaws) (stopped_is_good : BeginningsAreGood) (flashes : List
           })
 
       opened : (s : StateData) → journal ≡ old.journal ++ take left.0.0 (text_added (is_torn_at old.journal) Lines) → journal_of journal ≡ good s
-          → LeadsTo (begin_entries id unique (state_at old.journal)) (state_at old.journal) s → s.stack ≡ fresh_segment ∷ (state_at old.journal).stack → AmidCommand Lines flashes after old old.device journal
+          → EntriesLead (begin_entries id unique (state_at old.journal)) (state_at old.journal) s → s.stack ≡ fresh_segment ∷ (state_at old.journal).stack → AmidCommand Lines flashes after old old.device journal
       opened s line at leads begun =
           inr (record {
             undoable = settled_undoable laws (old.device.flash ∷ flashes) old.device journal s model.device steady.settled at (keeps_opened flashes old.device (state_at old.journal) s steady.keeps begun (owned s leads) (boarded s leads) (aged s leads));

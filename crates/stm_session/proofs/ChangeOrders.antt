@@ -9,7 +9,7 @@ use Rattle.stm_wire.specs.Chip.{ChipData, erased_byte, page_size}
 use Rattle.stm_chip.specs.declared.plan.Frame.{Frame}
 use Rattle.stm_chip.specs.Plan.{frames_of}
 use Rattle.stm_session.specs.declared.change.Change.{Change}
-use Rattle.stm_session.specs.ChangeOrder.{AreTurned, more, AreBothSaved, IsChanged, IsChangedUnless, IsCompanionSaved, IsRewritten, IsSaved, IsSavedWith, IsTurn, IsTurnOf}
+use Rattle.stm_session.specs.ChangeOrder.{AreTurned, more, AreBothSaved, IsChanged, IsChangedUnless, IsCompanionSaved, IsPageChanged, IsSaved, IsSavedWith, IsPageTurn, IsTurnOf}
 use Rattle.stm_session.specs.Contents.{MayTouch, content}
 use Rattle.stm_session.specs.Order.{Step, Adds, page_reads, rewrite_steps}
 use Rattle.stm_session.specs.Undoable.{has_companion}
@@ -42,7 +42,7 @@ changed_some kept chip n held page frames saved other is is_saved =
     let steps = saved ++ rewrite_steps chip n page frames in
     let P : Bool → Type 0 = λ b. IsChangedUnless b kept chip n held page steps in
     let differs : bytes_eq held page ≡ false = ⊎_elim (λ yes. absurd (other ((bytes_eq-Decides held page).0 yes))) (λ none. none) (cases_Bool (bytes_eq held page)) in
-    let rewritten : IsRewritten kept chip n held page steps = record { saved = saved; is_saved = is_saved; is = ap (λ (fs : List Frame). saved ++ rewrite_steps chip n page fs) is } in
+    let rewritten : IsPageChanged kept chip n held page steps = record { saved = saved; is_saved = is_saved; is = ap (λ (fs : List Frame). saved ++ rewrite_steps chip n page fs) is } in
     subst P (sym differs) rewritten
 
 -- Beginnings: there is always something left to do, or nothing is.
@@ -73,12 +73,12 @@ some_changed kept chip n held page = by_same (bytes_eq held page)
 
 -- a page that was read, and what is made of it
 pub turn_of : (kept : Bool) (chip : ChipData) (c : Change) (n : ℕ) (held page : List ℕ) (later : List Step) → MayTouch chip c n → length held ≡ page_size chip n → page ≡ content chip c n held → IsChanged kept chip n held page later
-    → IsTurn kept chip c n (page_reads chip n held ++ later)
+    → IsPageTurn kept chip c n (page_reads chip n held ++ later)
 turn_of kept chip c n held page later may size made changed =
     let P : List ℕ → Type 0 = λ xs. IsChanged kept chip n held xs later in
     (not (bytes_eq held (content chip c n held)), inr (record { may = may; held = held; size = size; counts = refl; later = later; is_changed = subst P made changed; is = refl }))
 
-pub some_turn : (kept : Bool) (chip : ChipData) (c : Change) (n : ℕ) → MayTouch chip c n → (held : List ℕ) → length held ≡ page_size chip n → (more : List Step) × IsTurn kept chip c n (page_reads chip n held ++ more)
+pub some_turn : (kept : Bool) (chip : ChipData) (c : Change) (n : ℕ) → MayTouch chip c n → (held : List ℕ) → length held ≡ page_size chip n → (more : List Step) × IsPageTurn kept chip c n (page_reads chip n held ++ more)
 some_turn kept chip c n may held size =
     let later = some_changed kept chip n held (content chip c n held) in
     (later.0, turn_of kept chip c n held (content chip c n held) later.0 may size refl later.1)

@@ -6,7 +6,7 @@ use Rattle.std.proofs.lemmas.List.Elements.{filter-append}
 use Rattle.std.proofs.lemmas.List.Sums.{fold_push}
 use Rattle.stm_wire.specs.Chip.{ChipData}
 use Rattle.stm_journal.specs.declared.entry.Entry.{Entry}
-use Rattle.stm_session.specs.Answers.{OutcomeData, agrees, agreeing, answers_of, first_difference, in_front_of, outcome_of, segments_of, verified_or}
+use Rattle.stm_session.specs.Answers.{OutcomeData, agrees, agreeing, answers_of, first_difference, in_front_of, outcome_of, segments_of_command, verified_or}
 use Rattle.stm_session.specs.OneCommand.{lines_if}
 use Rattle.stm_session.specs.Lines.{run_entries, segment_entries}
 use Rattle.stm_session.specs.Meaning.{CommandData, writes, erases, verifies, reads, before_if, changes_of, flash_after, flash_after_all, flashes_before, is_change}
@@ -16,14 +16,14 @@ use Rattle.stm_session.proofs.Whole.{same-after}
 pub changes-append : (xs ys : List CommandData) → changes_of (xs ++ ys) ≡ changes_of xs ++ changes_of ys
 changes-append xs ys = filter-append is_change xs ys
 
-pub changes-one : (c : CommandData) → length (changes_of (c ∷ [])) ≡ segments_of c
+pub changes-one : (c : CommandData) → length (changes_of (c ∷ [])) ≡ segments_of_command c
 changes-one c = at (is_change c)
   where
     at : (b : Bool) → length (if b then c ∷ [] else []) ≡ (if b then 1 else 0)
     at true = refl
     at false = refl
 
-pub changes-push : (xs : List CommandData) (c : CommandData) → length (changes_of (xs ++ c ∷ [])) ≡ length (changes_of xs) + segments_of c
+pub changes-push : (xs : List CommandData) (c : CommandData) → length (changes_of (xs ++ c ∷ [])) ≡ length (changes_of xs) + segments_of_command c
 changes-push xs c = ap length (changes-append xs (c ∷ [])) ∙ length-append (changes_of xs) (changes_of (c ∷ [])) ∙ ap (λ (n : ℕ). length (changes_of xs) + n) (changes-one c)
 
 -- alone they leave the same flash
@@ -201,10 +201,10 @@ answers-push chip below flash [] c all said first next =
     given : answers_of chip below flash [] ≡ Ok all → [] ≡ all
     given e = cc
 answers-push chip below flash (x ∷ xs) c all said first next =
-    let split = in_front (outcome_of chip (below + 1) flash x) (answers_of chip (below + segments_of x) (flash_after chip flash x) xs) all first in
-    let n : below + length (changes_of (x ∷ xs)) + 1 ≡ below + segments_of x + length (changes_of xs) + 1 = count (is_change x) in
+    let split = in_front (outcome_of chip (below + 1) flash x) (answers_of chip (below + segments_of_command x) (flash_after chip flash x) xs) all first in
+    let n : below + length (changes_of (x ∷ xs)) + 1 ≡ below + segments_of_command x + length (changes_of xs) + 1 = count (is_change x) in
     let now = flash_after_all chip flash (x ∷ xs) in
-    let rest = answers-push chip (below + segments_of x) (flash_after chip flash x) xs c split.later said split.is_rest (ap (λ (k : ℕ). outcome_of chip k now c) (sym n) ∙ next) in
+    let rest = answers-push chip (below + segments_of_command x) (flash_after chip flash x) xs c split.later said split.is_rest (ap (λ (k : ℕ). outcome_of chip k now c) (sym n) ∙ next) in
     ap₂ (λ a b. in_front_of a b) split.is_first rest ∙ ap (λ (ys : List OutcomeData). let r : Result (List OutcomeData) ℕ = Ok (ys ++ said ∷ []) in r) (sym split.is_all)
   where
     count : (b : Bool) → below + length (if b then x ∷ changes_of xs else changes_of xs) + 1 ≡ below + (if b then 1 else 0) + length (changes_of xs) + 1
@@ -216,12 +216,12 @@ pub answers-differ : (chip : ChipData) (below : ℕ) (flash : List ℕ) (xs : Li
 answers-differ chip below flash [] c ys all address first next =
     let n : below + 0 + 1 ≡ below + 1 = omega arith in
     let o : outcome_of chip (below + 1) flash c ≡ Err address = ap (λ (k : ℕ). outcome_of chip k flash c) (sym n) ∙ next in
-    ap (λ r. in_front_of r (answers_of chip (below + segments_of c) (flash_after chip flash c) ys)) o
+    ap (λ r. in_front_of r (answers_of chip (below + segments_of_command c) (flash_after chip flash c) ys)) o
 answers-differ chip below flash (x ∷ xs) c ys all address first next =
-    let split = in_front (outcome_of chip (below + 1) flash x) (answers_of chip (below + segments_of x) (flash_after chip flash x) xs) all first in
-    let n : below + length (changes_of (x ∷ xs)) + 1 ≡ below + segments_of x + length (changes_of xs) + 1 = count (is_change x) in
+    let split = in_front (outcome_of chip (below + 1) flash x) (answers_of chip (below + segments_of_command x) (flash_after chip flash x) xs) all first in
+    let n : below + length (changes_of (x ∷ xs)) + 1 ≡ below + segments_of_command x + length (changes_of xs) + 1 = count (is_change x) in
     let now = flash_after_all chip flash (x ∷ xs) in
-    let rest = answers-differ chip (below + segments_of x) (flash_after chip flash x) xs c ys split.later address split.is_rest (ap (λ (k : ℕ). outcome_of chip k now c) (sym n) ∙ next) in
+    let rest = answers-differ chip (below + segments_of_command x) (flash_after chip flash x) xs c ys split.later address split.is_rest (ap (λ (k : ℕ). outcome_of chip k now c) (sym n) ∙ next) in
     ap₂ (λ a b. in_front_of a b) split.is_first rest
   where
     count : (b : Bool) → below + length (if b then x ∷ changes_of xs else changes_of xs) + 1 ≡ below + (if b then 1 else 0) + length (changes_of xs) + 1
@@ -233,7 +233,7 @@ pub agreeing-append : (chip : ChipData) (below : ℕ) (flash : List ℕ) (xs ys 
     → agreeing chip flash (xs ++ ys) ≡ xs ++ agreeing chip (flash_after_all chip flash xs) ys
 agreeing-append chip below flash [] ys all first = refl
 agreeing-append chip below flash (x ∷ xs) ys all first =
-    let split = in_front (outcome_of chip (below + 1) flash x) (answers_of chip (below + segments_of x) (flash_after chip flash x) xs) all first in
+    let split = in_front (outcome_of chip (below + 1) flash x) (answers_of chip (below + segments_of_command x) (flash_after chip flash x) xs) all first in
     let next = flash_after chip flash x in
     ap (λ (b : Bool). if b then x ∷ agreeing chip next (xs ++ ys) else []) (answer-agrees chip (below + 1) flash x split.said split.is_first)
-    ∙ ap (λ (cs : List CommandData). x ∷ cs) (agreeing-append chip (below + segments_of x) next xs ys split.later split.is_rest)
+    ∙ ap (λ (cs : List CommandData). x ∷ cs) (agreeing-append chip (below + segments_of_command x) next xs ys split.later split.is_rest)

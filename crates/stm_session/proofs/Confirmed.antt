@@ -14,12 +14,12 @@ use Rattle.stm_session.specs.Asking.{Asks, IsStill}
 use Rattle.stm_session.specs.Lines.{is_torn_at, text_added, undo_entries}
 use Rattle.stm_session.specs.Meaning.{CommandData}
 use Rattle.stm_session.specs.Moments.{IsUnbegun, SameMake}
-use Rattle.stm_session.specs.Runs.{AmidRun, RunFails, Runs, standing}
-use Rattle.stm_session.specs.SegmentsBack.{AmidBackBy, GoesBackBy, undo_lines}
+use Rattle.stm_session.specs.Runs.{AmidRun, RunFails, Runs, standing_commands}
+use Rattle.stm_session.specs.SegmentsUndo.{AmidNewestBy, UndoesBy, undo_lines}
 use Rattle.stm_session.specs.StepLaws.{StepLaws}
 use Rattle.stm_session.specs.Steps.{AddsLines, IsSteady, Stands}
 use Rattle.stm_session.specs.Undoable.{Undoable, is_unfinished_at, state_at}
-use Rattle.stm_session.specs.Undoes.{flash_taken_back}
+use Rattle.stm_session.specs.Undoes.{flash_undone}
 use Rattle.stm_session.proofs.Going.{asks_fail, asks_on}
 use Rattle.stm_session.proofs.GoingAll.{work_failed}
 use Rattle.stm_session.proofs.Keeping.{good_at, unfinished_text}
@@ -50,7 +50,7 @@ module _ (laws : StepLaws) (flashes : List (List ℕ)) (l : Loaded) (a b : RigSt
         → Runs commands flashes a b result outcomes_of
     run_unconfirmed commands e (Ok x) outcomes_of asks is = absurd is
     run_unconfirmed commands e (Err y) outcomes_of asks is =
-        let all = standing a commands in
+        let all = standing_commands a commands in
         let amid : (d : Device) (journal : List ℕ) → IsStill a d journal → AmidRun all flashes a d journal = λ d journal s. unbegun_amid all flashes a undoable over d journal (still_unbegun d journal s) in
         record {
           moments = weaker (IsStill a) (AmidRun all flashes a) a b asks.moments amid;
@@ -69,7 +69,7 @@ module _ (laws : StepLaws) (flashes : List (List ℕ)) (l : Loaded) (a b : RigSt
 
   -- and then segments are taken back
   module _ (taken : ℕ) (one : 1 ≤ taken) (chip : ChipData) (chip_is : a.device.chip ≡ chip) where
-    pub back_unconfirmed : {T : Type 0} (l2 : Loaded) (e : Fault) (result : Result T Fault) → Asks {T = Unit {0}} a b (Err e) (λ _. Unit {0}) → IsErrAnd result (λ x. x ≡ e) → GoesBackBy (undo_lines taken a) taken flashes l2 a b result
+    pub back_unconfirmed : {T : Type 0} (l2 : Loaded) (e : Fault) (result : Result T Fault) → Asks {T = Unit {0}} a b (Err e) (λ _. Unit {0}) → IsErrAnd result (λ x. x ≡ e) → UndoesBy (undo_lines taken a) taken flashes l2 a b result
     back_unconfirmed l2 e result asks is =
         let fails = asks_fail laws flashes l a b steady {T = Unit {0}} {U = Unit {0}} {Done = λ _. Unit {0}} _ l2 e (Err e) asks refl in
         work_failed taken flashes a b one chip chip_is l2 l2 e result fails is
@@ -78,7 +78,7 @@ module _ (laws : StepLaws) (flashes : List (List ℕ)) (l : Loaded) (a b : RigSt
       lines_are : undo_lines taken b ≡ undo_lines taken a
       lines_are = ap₂ (λ (d : Device) (j : List ℕ). undo_entries d.chip taken (state_at j).stack d.flash) asks.same asks.left.journal_same
 
-      before : (d : Device) (journal : List ℕ) → Stands [] flashes a d journal → AmidBackBy (undo_lines taken a) taken flashes a d journal
+      before : (d : Device) (journal : List ℕ) → Stands [] flashes a d journal → AmidNewestBy (undo_lines taken a) taken flashes a d journal
       before d journal s =
           record {
             undone = 0;
@@ -90,14 +90,14 @@ module _ (laws : StepLaws) (flashes : List (List ℕ)) (l : Loaded) (a b : RigSt
             lines = s.lines ∙ ap (λ (t : List ℕ). a.journal ++ t) (take-nil s.written);
           }
 
-      further : (d : Device) (journal : List ℕ) → AmidBackBy (undo_lines taken b) taken flashes b d journal → AmidBackBy (undo_lines taken a) taken flashes a d journal
+      further : (d : Device) (journal : List ℕ) → AmidNewestBy (undo_lines taken b) taken flashes b d journal → AmidNewestBy (undo_lines taken a) taken flashes a d journal
       further d journal amid =
           record {
             undone = amid.undone;
             within = amid.within;
             make = subst (λ (x : Device). SameMake x d) asks.same amid.make;
             undoable = amid.undoable;
-            finished = λ f. let p = amid.finished f in ((λ z. ap is_unfinished_at (sym asks.left.journal_same) ∙ p.0 z), p.1 ∙ ap (λ (x : Device). flash_taken_back amid.undone x.flash flashes) asks.same);
+            finished = λ f. let p = amid.finished f in ((λ z. ap is_unfinished_at (sym asks.left.journal_same) ∙ p.0 z), p.1 ∙ ap (λ (x : Device). flash_undone amid.undone x.flash flashes) asks.same);
             written = amid.written;
             lines = amid.lines ∙ ap₂ (λ (j : List ℕ) (es : List Entry). j ++ take amid.written (text_added (is_torn_at j) es)) asks.left.journal_same lines_are;
           }
@@ -106,25 +106,25 @@ module _ (laws : StepLaws) (flashes : List (List ℕ)) (l : Loaded) (a b : RigSt
       on_ok (Ok x) f p = f p
       on_ok (Err e) f p = tt
 
-      pub back_confirmed : {T : Type 0} (result : Result T Fault) → GoesBackBy (undo_lines taken b) taken flashes l2 b new result → GoesBackBy (undo_lines taken a) taken flashes l2 a new result
+      pub back_confirmed : {T : Type 0} (result : Result T Fault) → UndoesBy (undo_lines taken b) taken flashes l2 b new result → UndoesBy (undo_lines taken a) taken flashes l2 a new result
       back_confirmed result goes =
           let asked = asks_on laws flashes l a b steady tt asks in
           let L : List ℕ → List Entry → Type 0 = λ j es. AddsLines es j new.journal in
           record {
-            moments = joined (Stands [] flashes a) (AmidBackBy (undo_lines taken b) taken flashes b) (AmidBackBy (undo_lines taken a) taken flashes a) a b new asked.moments goes.moments before further;
+            moments = joined (Stands [] flashes a) (AmidNewestBy (undo_lines taken b) taken flashes b) (AmidNewestBy (undo_lines taken a) taken flashes a) a b new asked.moments goes.moments before further;
             fails = goes.fails;
             honest = goes.honest;
             steady = goes.steady;
             lines = on_ok result (λ adds. subst (λ (es : List Entry). L a.journal es) lines_are (subst (λ (j : List ℕ). L j (undo_lines taken b)) asks.left.journal_same adds)) goes.lines;
-            restored = on_ok result (λ is. is ∙ ap (λ (x : Device). flash_taken_back taken x.flash flashes) asks.same) goes.restored;
+            restored = on_ok result (λ is. is ∙ ap (λ (x : Device). flash_undone taken x.flash flashes) asks.same) goes.restored;
             below = on_ok result (λ is. is ∙ ap (λ (j : List ℕ). drop taken (state_at j).stack) asks.left.journal_same) goes.below;
             finished = goes.finished;
           }
 
 -- the same fault, with another value beside it
-pub back_failed : {T U : Type 0} (entries : List Entry) (taken : ℕ) (flashes : List (List ℕ)) (l2 : Loaded) (old new : RigState) (e : Fault) (result : Result U Fault) → IsErrAnd result (λ x. x ≡ e) → GoesBackBy {T = T} entries taken flashes l2 old new (Err e)
-    → GoesBackBy entries taken flashes l2 old new result
+pub back_failed : {T U : Type 0} (entries : List Entry) (taken : ℕ) (flashes : List (List ℕ)) (l2 : Loaded) (old new : RigState) (e : Fault) (result : Result U Fault) → IsErrAnd result (λ x. x ≡ e) → UndoesBy {T = T} entries taken flashes l2 old new (Err e)
+    → UndoesBy entries taken flashes l2 old new result
 back_failed entries taken flashes l2 old new e (Ok x) is goes = absurd is
 back_failed {U = U} entries taken flashes l2 old new e (Err y) is goes =
-    let G : Fault → Type 0 = λ x. GoesBackBy {T = U} entries taken flashes l2 old new (Err x) in
+    let G : Fault → Type 0 = λ x. UndoesBy {T = U} entries taken flashes l2 old new (Err x) in
     subst G (sym is) (record { moments = goes.moments; fails = goes.fails; honest = goes.honest; steady = tt; lines = tt; restored = tt; below = tt; finished = tt })

@@ -23,8 +23,8 @@ use Rattle.stm_session.specs.declared.fault.Fault.TheVariants.{Memory, BoardChan
 use Rattle.stm_session.specs.AskingBoard.{came_in}
 use Rattle.stm_session.specs.Confirming.{HasAgain, TellsAgain}
 use Rattle.stm_session.specs.Fault.{IsOfLine, cause_of}
-use Rattle.stm_session.specs.Order.{Step, Begin, DoesSteps, IsInOrder, Sends, Stops, StopsBy, torn_behind}
-use Rattle.stm_session.specs.Reaching.{IsAsked, IsConfirming, confirm_steps, confirming, confirmed_at, place_of}
+use Rattle.stm_session.specs.Order.{Step, Begin, DoesSteps, IsInOrder, Sends, FaultEnds, StopsBy, torn_behind}
+use Rattle.stm_session.specs.Reaching.{IsAsked, IsConfirming, confirm_steps, confirming, confirmed_at, place_of_bytes}
 use Rattle.stm_session.specs.Sending.{most_of_confirming}
 use Rattle.stm_session.proofs.AskingBoards.{read_broken_length, refused_length}
 use Rattle.stm_session.proofs.CutShort.{begin_as, part_stops}
@@ -79,7 +79,7 @@ module _ (place : UniquePlace) (unique : List ℕ) (torn : Bool) (a b : RigState
 
   -- it is asked in part
   pub confirm_unasked : {U : Type 0} (e : Fault) (result : Result U Fault) → IsErrAnd result (λ x. x ≡ e) → StopsBy (Begin (λ steps. (came : Option (List ℕ)) × IsAsked place.address count came steps)) (cause_of e) torn a b
-      → Stops (Begin (IsConfirming (Some place))) torn a b result
+      → FaultEnds (Begin (IsConfirming (Some place))) torn a b result
   confirm_unasked e result is stops =
       let P : List Step → Type 0 = λ steps. (came : Option (List ℕ)) × IsAsked place.address count came steps in
       let C : (xs : List Step) → (came : Option (List ℕ)) → IsAsked place.address count came xs → IsAsked place.address place.length came xs = λ xs came asked. subst (λ (n : ℕ). IsAsked place.address n came xs) long asked in
@@ -110,7 +110,7 @@ again_read d is place unique bytes told same count long eq told_is has =
     eq ∙ ap₂ (λ (t : Bool) (xs : List ℕ). t && bytes_eq xs unique) both.0 (both.1 ∙ has.has) ∙ (bytes_eq-Decides unique unique).1 refl
 
 -- where a chip's device is asked
-pub place_known : (p : Option UniquePlace) (unique : List ℕ) (place : UniquePlace) → place_of p unique ≡ Some place → (p ≡ Some place) × ((length unique == place.length) ≡ true)
+pub place_known : (p : Option UniquePlace) (unique : List ℕ) (place : UniquePlace) → place_of_bytes p unique ≡ Some place → (p ≡ Some place) × ((length unique == place.length) ≡ true)
 place_known None unique place is = absurd (let h : None ≡ Some place = is in cc)
 place_known (Some here) unique place is = by (length unique == here.length) refl is
   where

@@ -19,7 +19,7 @@ use Rattle.stm_journal.specs.Journals.{Loaded, added_bytes}
 use Rattle.stm_session.specs.declared.fault.Fault.{Fault}
 use Rattle.stm_session.specs.declared.fault.Fault.TheVariants as faults
 use Rattle.stm_session.specs.Fault.{Cause, of_memory, cause_of, fault_of, fault_of_journal}
-use Rattle.stm_session.specs.Order.{Step, Stops, Adds, Are, Sends, AreCutShort, AreReadsOf, Begin, DoesSteps, FailsBy, IsInOrder, IsReadOf, StopsBy, acts_of, acts_of_steps, read_steps, step_in, page_address, page_reads, torn_behind, write_step, write_steps}
+use Rattle.stm_session.specs.Order.{Step, FaultEnds, Adds, Are, Sends, AreCutShort, AreReadsOf, Begin, DoesSteps, StepFailsBy, IsInOrder, IsReadOf, StopsBy, acts_of, acts_of_steps, read_steps, step_in, page_address, page_reads, torn_behind, write_step, write_steps}
 use Rattle.stm_session.proofs.Orders.{acts-append, acts-line, does_reads, reads_next, reads_before, steps-append, torn-append, torn-writes}
 
 -- the fault that is answered
@@ -37,7 +37,7 @@ stop_as P Q cause torn a b weaker stops =
 module _ (P Q : List Step → Type 0) (cause : Cause) (torn : Bool) (xs : List Step) (longer : (ys : List Step) → P ys → Q (xs ++ ys)) where
   pub cut_after : (before later : List Call) → before ≡ acts_of_steps torn xs → AreCutShort P cause (torn_behind torn xs) later → AreCutShort Q cause torn (before ++ later)
   cut_after before later is cut =
-      let F : Bool → Type 0 = λ t. FailsBy cause t cut.failed cut.last in
+      let F : Bool → Type 0 = λ t. StepFailsBy cause t cut.failed cut.last in
       record {
         done = xs ++ cut.done;
         failed = cut.failed;
@@ -60,16 +60,16 @@ stop_after P Q cause xs l l2 a b c does stops longer =
     order_stops P Q cause l.is_torn xs longer a b c does.acts (subst S does.torn stops)
 
 -- between two steps
-pub halts : (Q : List Step → Type 0) (cause : Cause) (torn : Bool) (xs : List Step) (a b : RigState) → Q xs → FailsBy cause (torn_behind torn xs) None [] → GoesOn (IsInOrder torn xs) a.calls b.calls → StopsBy Q cause torn a b
+pub halts : (Q : List Step → Type 0) (cause : Cause) (torn : Bool) (xs : List Step) (a b : RigState) → Q xs → StepFailsBy cause (torn_behind torn xs) None [] → GoesOn (IsInOrder torn xs) a.calls b.calls → StopsBy Q cause torn a b
 halts Q cause torn xs a b allowed idle done =
     GoesOn-weaker (IsInOrder torn xs) (λ calls. AreCutShort Q cause torn (acts_of calls)) a.calls b.calls done
     (λ calls is. record { done = xs; failed = None; allowed = subst Q (sym (append-nil xs)) allowed; last = []; fails = idle; is = is ∙ sym (append-nil (acts_of_steps torn xs)) })
 
-pub halts_first : (Q : List Step → Type 0) (cause : Cause) (torn : Bool) (a : RigState) → Q [] → FailsBy cause torn None [] → StopsBy Q cause torn a a
+pub halts_first : (Q : List Step → Type 0) (cause : Cause) (torn : Bool) (a : RigState) → Q [] → StepFailsBy cause torn None [] → StopsBy Q cause torn a a
 halts_first Q cause torn a allowed idle = halts Q cause torn [] a a allowed idle (GoesOn-nothing (IsInOrder torn []) a.calls refl)
 
 -- a dialogue is broken off
-broken_fails : (torn : Bool) (e : WireFault) (turns : List Turn) (calls : List Call) → IsBrokenOff e turns calls → FailsBy (cause_of (fault_of e)) torn (Some (Sends turns)) calls
+broken_fails : (torn : Bool) (e : WireFault) (turns : List Turn) (calls : List Call) → IsBrokenOff e turns calls → StepFailsBy (cause_of (fault_of e)) torn (Some (Sends turns)) calls
 broken_fails torn Line turns calls broken = broken
 broken_fails torn Nack turns calls broken = (Nack, (λ (is : Nack ≡ Line). cc), broken)
 broken_fails torn Quiet turns calls broken = (Quiet, (λ (is : Quiet ≡ Line). cc), broken)
@@ -103,23 +103,23 @@ line_stops T Q torn entries e a b none one once =
 
 -- Exits, by the fault of a command, of a line, of memory, of a part, and of a part behind others.
 pub command_stops : {U : Type 0} (Q : List Step → Type 0) (torn : Bool) (e : WireFault) (turns : List Turn) (a b : RigState) (result : Result U Fault) → IsErrAnd result (λ x. x ≡ fault_of e) → Q (Sends turns ∷ [])
-    → GoesOn (IsBrokenOff e turns) a.calls b.calls → Stops Q torn a b result
+    → GoesOn (IsBrokenOff e turns) a.calls b.calls → FaultEnds Q torn a b result
 command_stops Q torn e turns a b result is allowed broken = by_fault (λ k. StopsBy Q k torn a b) (fault_of e) result is (sent_stops Q torn e turns a b allowed broken)
 
 pub append_stops : {U : Type 0} (T : Type 0) (Q : List Step → Type 0) (torn : Bool) (entries : List Entry) (e : JournalFault) (a b : RigState) (result : Result U Fault) → IsErrAnd result (λ x. x ≡ fault_of_journal e) → Q [] → Q (Adds entries ∷ [])
-    → GoesOn (AppendsOnce {T = T} (added_bytes torn entries) (Err e)) a.calls b.calls → Stops Q torn a b result
+    → GoesOn (AppendsOnce {T = T} (added_bytes torn entries) (Err e)) a.calls b.calls → FaultEnds Q torn a b result
 append_stops T Q torn entries e a b result is none one once = by_fault (λ k. StopsBy Q k torn a b) (fault_of_journal e) result is (line_stops T Q torn entries e a b none one once)
 
 pub memory_stops : {U : Type 0} (Q : List Step → Type 0) (torn : Bool) (xs : List Step) (a b : RigState) (result : Result U Fault) → IsErrAnd result (λ x. x ≡ faults.Memory) → Q xs → GoesOn (IsInOrder torn xs) a.calls b.calls
-    → Stops Q torn a b result
+    → FaultEnds Q torn a b result
 memory_stops Q torn xs a b result is allowed done = by_fault (λ k. StopsBy Q k torn a b) faults.Memory result is (halts Q of_memory torn xs a b allowed refl done)
 
 pub part_stops : {U : Type 0} (P Q : List Step → Type 0) (torn : Bool) (a b : RigState) (e : Fault) (result : Result U Fault) → IsErrAnd result (λ x. x ≡ e) → ((xs : List Step) → P xs → Q xs) → StopsBy P (cause_of e) torn a b
-    → Stops Q torn a b result
+    → FaultEnds Q torn a b result
 part_stops P Q torn a b e result is weaker stops = by_fault (λ k. StopsBy Q k torn a b) e result is (stop_as P Q (cause_of e) torn a b weaker stops)
 
 pub then_stops : {U : Type 0} (P Q : List Step → Type 0) (xs : List Step) (l l2 : Loaded) (a b c : RigState) (e : Fault) (result : Result U Fault) → IsErrAnd result (λ x. x ≡ e) → DoesSteps xs l l2 a b
-    → StopsBy P (cause_of e) l2.is_torn b c → ((ys : List Step) → P ys → Q (xs ++ ys)) → Stops Q l.is_torn a c result
+    → StopsBy P (cause_of e) l2.is_torn b c → ((ys : List Step) → P ys → Q (xs ++ ys)) → FaultEnds Q l.is_torn a c result
 then_stops P Q xs l l2 a b c e result is does stops longer = by_fault (λ k. StopsBy Q k l.is_torn a c) e result is (stop_after P Q (cause_of e) xs l l2 a b c does stops longer)
 
 -- Beginnings.
@@ -201,7 +201,7 @@ page_stops Q chip n start size cause torn a b at whole finish stops = stop_as (B
 
 -- one is broken off
 pub writing_stops : {U : Type 0} (chip : ChipData) (n : ℕ) (page : List ℕ) (f : Frame) (torn : Bool) (address : ℕ) → address ≡ page_address chip n + f.offset → (bytes : List ℕ) → bytes ≡ take f.length (drop f.offset page)
-    → (e : WireFault) (a b : RigState) (result : Result U Fault) → IsErrAnd result (λ x. x ≡ fault_of e) → GoesOn (IsBrokenOff e (write_turns address bytes)) a.calls b.calls → Stops (Begin (Are (write_step chip n page f ∷ []))) torn a b result
+    → (e : WireFault) (a b : RigState) (result : Result U Fault) → IsErrAnd result (λ x. x ≡ fault_of e) → GoesOn (IsBrokenOff e (write_turns address bytes)) a.calls b.calls → FaultEnds (Begin (Are (write_step chip n page f ∷ []))) torn a b result
 writing_stops chip n page f torn address at bytes part e a b result is broken =
     command_stops (Begin (Are (write_step chip n page f ∷ []))) torn e (write_turns address bytes) a b result is ([], ap₂ (λ (k : ℕ) (xs : List ℕ). Sends (write_turns k xs) ∷ []) at part) broken
 
@@ -221,7 +221,7 @@ writes_begun chip n page frames d i lt ys (rest, is) =
 
 pub writes_stop : {U : Type 0} (chip : ChipData) (n : ℕ) (page : List ℕ) (frames : List Frame) (d : Frame) (i : ℕ) (torn : Bool) (a b c : RigState) (e : Fault) (result : Result U Fault) → i < length frames → IsErrAnd result (λ x. x ≡ e)
     → GoesOn (IsInOrder torn (write_steps chip n page (take i frames))) a.calls b.calls → StopsBy (Begin (Are (write_step chip n page (get_or frames i d) ∷ []))) (cause_of e) torn b c
-    → Stops (Begin (Are (write_steps chip n page frames))) torn a c result
+    → FaultEnds (Begin (Are (write_steps chip n page frames))) torn a c result
 writes_stop chip n page frames d i torn a b c e result lt is before stops =
     let One = Begin (Are (write_step chip n page (get_or frames i d) ∷ [])) in
     let All = Begin (Are (write_steps chip n page frames)) in

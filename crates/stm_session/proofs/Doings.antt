@@ -11,7 +11,7 @@ use Rattle.stm_session.specs.declared.fault.Fault.{Fault}
 use Rattle.stm_session.specs.declared.fault.Fault.TheVariants as faults
 use Rattle.stm_session.specs.Answers.{OutcomeData}
 use Rattle.stm_session.specs.Asking.{Asks, IsStill}
-use Rattle.stm_session.specs.OneCommand.{AmidOne, Does, answer_on, command_lines, flash_left, lines_if}
+use Rattle.stm_session.specs.OneCommand.{AmidOne, DoesCommand, answer_on, command_lines, flash_left, lines_if}
 use Rattle.stm_session.specs.Fault.{IsOutsideFault}
 use Rattle.stm_session.specs.Lines.{depth_at, is_named_at, segment_entries}
 use Rattle.stm_session.specs.Meaning.{CommandData, before_if, flash_after, is_change}
@@ -45,7 +45,7 @@ module _ (flashes : List (List ℕ)) (c : CommandData) (l2 : Loaded) (old new : 
   amid_change d journal m = let A : Bool → Type 0 = λ b. AmidOne b (command_lines old c) flashes (flash_left old c) old d journal in subst A (sym change) m
 
   pub change_does : {T U : Type 0} {Done : T → Type 0} (outcome_in : U → OutcomeData) (x : T) (y : U) → Changes flashes (command_lines old c) (flash_left old c) l2 old new (Ok x) Done → new.device.flash ≡ flash_left old c → answer_on old c ≡ Ok (outcome_in y)
-      → Does flashes c l2 old new (Ok y) outcome_in
+      → DoesCommand flashes c l2 old new (Ok y) outcome_in
   change_does outcome_in x y changes flash answer =
       let S : Bool → Type 0 = λ b. IsSteady (before_if b old.device.flash flashes) l2 new in
       record {
@@ -58,7 +58,7 @@ module _ (flashes : List (List ℕ)) (c : CommandData) (l2 : Loaded) (old new : 
         answer = answer;
       }
 
-  pub change_fails : {T U : Type 0} {Done : T → Type 0} (outcome_in : U → OutcomeData) (l3 : Loaded) (e : Fault) (result : Result U Fault) → Changes flashes (command_lines old c) (flash_left old c) l2 old new (Err e) Done → IsErrAnd result (λ z. z ≡ e) → Does flashes c l3 old new result outcome_in
+  pub change_fails : {T U : Type 0} {Done : T → Type 0} (outcome_in : U → OutcomeData) (l3 : Loaded) (e : Fault) (result : Result U Fault) → Changes flashes (command_lines old c) (flash_left old c) l2 old new (Err e) Done → IsErrAnd result (λ z. z ≡ e) → DoesCommand flashes c l3 old new result outcome_in
   change_fails outcome_in l3 e (Ok y) changes is = absurd is
   change_fails outcome_in l3 e (Err y) changes is =
       record {
@@ -97,7 +97,7 @@ module _ (laws : StepLaws) (flashes : List (List ℕ)) (c : CommandData) (l : Lo
   moments_still : LeavesOnly (IsStill old) old new → LeavesOnly (AmidOne (is_change c) (command_lines old c) flashes (flash_left old c) old) old new
   moments_still moments = weaker (IsStill old) (AmidOne (is_change c) (command_lines old c) flashes (flash_left old c) old) old new moments amid_still
 
-  pub asks_does : {T U : Type 0} {Done : T → Type 0} (outcome_in : U → OutcomeData) (x : T) (y : U) → Asks old new (Ok x) Done → answer_on old c ≡ Ok (outcome_in y) → Does flashes c l old new (Ok y) outcome_in
+  pub asks_does : {T U : Type 0} {Done : T → Type 0} (outcome_in : U → OutcomeData) (x : T) (y : U) → Asks old new (Ok x) Done → answer_on old c ≡ Ok (outcome_in y) → DoesCommand flashes c l old new (Ok y) outcome_in
   asks_does outcome_in x y asks answer =
       let S : Bool → Type 0 = λ b. IsSteady (before_if b old.device.flash flashes) l new in
       let A : List Entry → Type 0 = λ es. AddsLines es old.journal new.journal in
@@ -112,13 +112,13 @@ module _ (laws : StepLaws) (flashes : List (List ℕ)) (c : CommandData) (l : Lo
         answer = answer;
       }
 
-  pub asks_fails : {T U : Type 0} {Done : T → Type 0} (outcome_in : U → OutcomeData) (l3 : Loaded) (e : Fault) (result : Result U Fault) → Asks old new (Err e) Done → IsErrAnd result (λ z. z ≡ e) → Does flashes c l3 old new result outcome_in
+  pub asks_fails : {T U : Type 0} {Done : T → Type 0} (outcome_in : U → OutcomeData) (l3 : Loaded) (e : Fault) (result : Result U Fault) → Asks old new (Err e) Done → IsErrAnd result (λ z. z ≡ e) → DoesCommand flashes c l3 old new result outcome_in
   asks_fails outcome_in l3 e (Ok y) asks is = absurd is
   asks_fails outcome_in l3 e (Err y) asks is =
       record { moments = moments_still asks.moments; honest = asks.honest; fails = inl (subst IsOutsideFault (sym is) asks.fails); steady = tt; lines = tt; flash = tt; answer = tt }
 
   -- a verify whose image differs
-  pub asks_differs : {T U : Type 0} {Done : T → Type 0} (outcome_in : U → OutcomeData) (l3 : Loaded) (x : T) (address : ℕ) → Asks old new (Ok x) Done → answer_on old c ≡ Err address → Does flashes c l3 old new (Err (faults.Differs address)) outcome_in
+  pub asks_differs : {T U : Type 0} {Done : T → Type 0} (outcome_in : U → OutcomeData) (l3 : Loaded) (x : T) (address : ℕ) → Asks old new (Ok x) Done → answer_on old c ≡ Err address → DoesCommand flashes c l3 old new (Err (faults.Differs address)) outcome_in
   asks_differs outcome_in l3 x address asks answer =
       record {
         moments = moments_still asks.moments;

@@ -13,7 +13,7 @@ use Rattle.stm_wire.specs.Device.{Device, IsSettled}
 use Rattle.stm_wire.specs.Dialogue.{Turn, GoesOn, IsBrokenOff}
 use Rattle.stm_wire.specs.Frames.{erase_frame, erase_turns}
 use Rattle.stm_wire.specs.Rig.{RigState, IsModel}
-use Rattle.stm_wire.specs.Sending.{Holds, BreaksOff}
+use Rattle.stm_wire.specs.Sending.{IsHeldToEnd, BreaksOff}
 use Rattle.stm_wire.specs.Stopped.{IsFrameUnder, erases}
 use Rattle.stm_journal.specs.declared.entry.Entry.{Entry}
 use Rattle.stm_journal.specs.declared.entry.Entry.TheVariants.{Erases, Programs}
@@ -78,7 +78,7 @@ module _ (laws : StepLaws) (flashes : List (List ℕ)) (l : Loaded) (n : ℕ) (c
   frames : IsFrameUnder old.device.chip (Some (Erase n)) (erase_frame kind n)
   frames = erases n refl here (ap (λ (k : EraseKind). erase_frame k n) its_kind)
 
-  pub erase_goes : {T : Type 0} {turns : List Turn} (y : T) → Holds (erase_frame kind n) turns old new → (new.is_honest → IsModel new) → new.device ≡ with_pages_erased (n ∷ []) old.device
+  pub erase_goes : {T : Type 0} {turns : List Turn} (y : T) → IsHeldToEnd (erase_frame kind n) turns old new → (new.is_honest → IsModel new) → new.device ≡ with_pages_erased (n ∷ []) old.device
       → Goes flashes [] l old new (Ok y) (λ x. new.device.flash ≡ with_page chip n (erased_page chip n) old.device.flash)
   erase_goes y holds model_then erased =
       let S : Device → Type 0 = λ d. IsSettled d in
@@ -160,7 +160,7 @@ module _ (laws : StepLaws) (l : Loaded) (n : ℕ) (chip : ChipData) (kind : Eras
     (a b : RigState) where
   pub erase_performs : (r : Result (Unit {0}) WireFault) → kind ≡ chip.kind → n < page_count chip
       → (a.is_honest → IsModel a) → (b.is_honest → IsModel b)
-      → OnOk r (Holds (erase_frame kind n) (erase_turns kind n) a b)
+      → OnOk r (IsHeldToEnd (erase_frame kind n) (erase_turns kind n) a b)
       → IfErr r (λ fault. BreaksOff fault (erase_frame kind n) (erase_turns kind n) a b)
       → (a.is_honest → CanErase kind n a.device
       → Does r (λ y. b.device ≡ with_pages_erased (n ∷ []) a.device))

@@ -10,7 +10,7 @@ use Rattle.stm_journal.specs.declared.entry.Entry.{Entry}
 use Rattle.stm_journal.specs.Journals.{Loaded}
 use Rattle.stm_session.specs.declared.fault.Fault.{Fault}
 use Rattle.stm_session.specs.Fault.{Cause, cause_of}
-use Rattle.stm_session.specs.Order.{Step, AreReadsOf, Begin, DoesSteps, IsInOrder, Stops, StopsBy, page_address, page_reads, read_steps}
+use Rattle.stm_session.specs.Order.{Step, AreReadsOf, Begin, DoesSteps, IsInOrder, FaultEnds, StopsBy, page_address, page_reads, read_steps}
 use Rattle.stm_session.specs.Steps.{Goes}
 use Rattle.stm_session.proofs.CutShort.{by_fault, page_stops, page_was_read}
 use Rattle.stm_session.proofs.Going.{goes_as, goes_failed, goes_ok}
@@ -68,7 +68,7 @@ module _ (chip : ChipData) (n start size : ℕ) (exists : n < page_count chip)
       → (more : List Step) × Q (page_reads chip n held ++ more))
       → ((page : ℕ) → InPage chip page start size → size % 256 ≡ 0 → (torn : Bool)
       → StopsBy (Begin (AreReadsOf start size)) (cause_of e) torn a b)
-      → Stops (Begin Q) torn a b result
+      → FaultEnds (Begin Q) torn a b result
   read_stops Q torn a b e result is even finish stops =
       by_fault (λ (k : Cause). StopsBy (Begin Q) k torn a b) e result is
       (page_stops Q chip n start size (cause_of e) torn a b at whole finish

@@ -12,7 +12,7 @@ use Rattle.stm_session.specs.declared.returned.Returned.{Returned}
 use Rattle.stm_session.specs.Boards.{IsForeign, IsOfItsBoard, OnlyAsks}
 use Rattle.stm_session.specs.Meaning.{CommandData}
 use Rattle.stm_session.specs.Reaching.{Session}
-use Rattle.stm_session.specs.UndoOrder.{ReturnsInOrder, UndoStopsAs, UndoesInOrderFrom}
+use Rattle.stm_session.specs.UndoOrder.{GivesBackInOrder, UndoStopsAs, UndoesInOrderFrom}
 use Rattle.stm_session.specs.RunOrder.{RunStops, RunsInOrder}
 use Rattle.stm_session.specs.Undoable.{good_state}
 
@@ -29,7 +29,7 @@ run_stops_own table commands old new fault (inr does) = inr (own_session table o
 pub undo_own : (is_fresh : Bool) (table : List ChipData) (taken : ℕ) (old new : RigState) → UndoesInOrderFrom is_fresh table taken old new → IsOfItsBoard table old
 undo_own is_fresh table taken old new does = own_session table old _ does
 
-pub return_own : (is_fresh again : Bool) (table : List ChipData) (returned : Returned) (old new : RigState) → ReturnsInOrder is_fresh again table returned old new → IsOfItsBoard table old
+pub return_own : (is_fresh again : Bool) (table : List ChipData) (returned : Returned) (old new : RigState) → GivesBackInOrder is_fresh again table returned old new → IsOfItsBoard table old
 return_own is_fresh again table returned old new does = own_session table old _ does
 
 pub undo_stops_own : (is_fresh again : Bool) (table : List ChipData) (count : ℕ) (old new : RigState) (fault : Fault) → UndoStopsAs is_fresh again table count old new fault → GoesOn AreFetches old.calls new.calls ⊎ IsOfItsBoard table old

@@ -6,7 +6,7 @@ use Rattle.stm_wire.specs.PageLaws.{length-with_bytes}
 use Rattle.stm_chip.specs.declared.plan.Frame.{Frame}
 use Rattle.stm_journal.specs.declared.entry.Entry.TheVariants.{Programs}
 use Rattle.stm_session.specs.Lines.{program_entries}
-use Rattle.stm_chip.specs.Plan.{IsFrame, AreFrames, written}
+use Rattle.stm_chip.specs.Plan.{IsFrameOfPlan, AreFrames, written}
 
 -- a part of a page is erased
 abbrev pub IsErasedPart : ℕ → ℕ → ℕ → List ℕ → Type 0
@@ -18,7 +18,7 @@ framed new f held = with_bytes f.offset (take f.length (drop f.offset new)) held
 pub length-part : (new : List ℕ) (f : Frame) → f.offset + f.length ≤ length new → length (take f.length (drop f.offset new)) ≡ f.length
 length-part new f h = search (rules, places)
 
-length-framed : (new held : List ℕ) (f : Frame) → length held ≡ length new → IsFrame 0 (length new) f → length (framed new f held) ≡ length new
+length-framed : (new held : List ℕ) (f : Frame) → length held ≡ length new → IsFrameOfPlan 0 (length new) f → length (framed new f held) ≡ length new
 length-framed new held f same is =
     let part = length-part new f (omega (arith, is.inside, is.limit)) in
     length-with_bytes f.offset (take f.length (drop f.offset new)) held (omega (arith, part, same, is.inside, is.limit)) ∙ same
@@ -32,7 +32,7 @@ unfolding IsErasedFrom
 part_erased b from o z held erased le fits = same_lists _ _ (search (rules, places)) (λ k e l. let h = erased (o + k) in grind (arith, places, h))
 
 -- a frame leaves what lies behind its block
-erased_behind : (e from : ℕ) (new held : List ℕ) (f : Frame) → length held ≡ length new → IsFrame from (length new) f → IsErasedFrom e from held → IsErasedFrom e (f.offset + 256) (framed new f held)
+erased_behind : (e from : ℕ) (new held : List ℕ) (f : Frame) → length held ≡ length new → IsFrameOfPlan from (length new) f → IsErasedFrom e from held → IsErasedFrom e (f.offset + 256) (framed new f held)
 unfolding IsErasedFrom
 erased_behind e from new held f same is erased k le lt =
     let part = length-part new f (omega (arith, is.inside, is.limit)) in
@@ -42,7 +42,7 @@ erased_behind e from new held f same is erased k le lt =
     behind : (at : ℕ) (bytes xs : List ℕ) (k : ℕ) → at + length bytes ≤ k → at + length bytes ≤ length xs → get_or (with_bytes at bytes xs) k 0 ≡ get_or xs k 0
     behind at bytes xs k h g = grind (arith, places)
 
-from_zero : (from size : ℕ) (f : Frame) → IsFrame from size f → IsFrame 0 size f
+from_zero : (from size : ℕ) (f : Frame) → IsFrameOfPlan from size f → IsFrameOfPlan 0 size f
 from_zero from size f is = record { aligned = is.aligned; after = omega arith; inside = is.inside; some = is.some; limit = is.limit; words = is.words }
 
 -- each of the frames has its place still erased, once those before it are written
@@ -63,7 +63,7 @@ pub next_erased : (e : ℕ) (new : List ℕ) (d : Frame) (frames : List Frame) �
     → (length (written new (take i frames) (replicate (length new) e)) ≡ length new) × IsErasedPart e (get_or frames i d).offset (get_or frames i d).length (written new (take i frames) (replicate (length new) e))
 next_erased e new d frames are i lt = erased_at e new d frames 0 (replicate (length new) e) (search (rules, places)) are (all_erased e (length new)) i lt
 
-pub next_frame : (d : Frame) (size : ℕ) (frames : List Frame) (from : ℕ) → AreFrames from size frames → (i : ℕ) → i < length frames → IsFrame 0 size (get_or frames i d)
+pub next_frame : (d : Frame) (size : ℕ) (frames : List Frame) (from : ℕ) → AreFrames from size frames → (i : ℕ) → i < length frames → IsFrameOfPlan 0 size (get_or frames i d)
 next_frame d size [] from are i lt = absurd (omega (arith, lt))
 next_frame d size (f ∷ frames) from are zero lt = from_zero from size f are.0
 next_frame d size (f ∷ frames) from are (suc i) lt = next_frame d size frames (f.offset + 256) are.1 i (omega (arith, lt))

@@ -11,7 +11,7 @@ use Rattle.stm_wire.specs.Moments.{LeavesOnly, LeftBySending}
 use Rattle.stm_wire.specs.MomentLaws.{joined, weaker}
 use Rattle.stm_wire.specs.PageLaws.{put_page}
 use Rattle.stm_wire.specs.Rig.{RigState, IsModel, LeftByAppend}
-use Rattle.stm_wire.specs.Sending.{Holds, BreaksOff}
+use Rattle.stm_wire.specs.Sending.{IsHeldToEnd, BreaksOff}
 use Rattle.stm_wire.specs.Stopped.{IsFrameUnder}
 use Rattle.stm_journal.specs.declared.entry.Entry.{Entry}
 use Rattle.stm_journal.specs.declared.fault.JournalFault.{JournalFault}
@@ -200,7 +200,7 @@ module _ (laws : StepLaws) (flashes : List (List ℕ)) (l : Loaded) (n : ℕ) (i
   stands : LeavesOnly Both old new → LeavesOnly (Stands [] flashes old) old new
   stands moments = weaker Both (Stands [] flashes old) old new moments (λ d journal p. p.0)
 
-  pub frame_goes : {T : Type 0} {turns : List Turn} (y : T) (Done : T → Type 0) → Holds frame turns old new → (new.is_honest → IsModel new) → IsSettled new.device → Done y → Goes flashes [] l old new (Ok y) Done
+  pub frame_goes : {T : Type 0} {turns : List Turn} (y : T) (Done : T → Type 0) → IsHeldToEnd frame turns old new → (new.is_honest → IsModel new) → IsSettled new.device → Done y → Goes flashes [] l old new (Ok y) Done
   frame_goes y Done holds model_then settled done =
       let sent = holds.honestly steady.honest in
       let moments = both sent.moments in

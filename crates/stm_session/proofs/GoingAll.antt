@@ -18,19 +18,19 @@ use Rattle.stm_journal.specs.Newest.{KeepsSame, pages_of_segments}
 use Rattle.stm_journal.specs.States.{SegmentData}
 use Rattle.stm_session.specs.declared.fault.Fault.{Fault}
 use Rattle.stm_session.specs.Fault.{IsOutsideFault}
-use Rattle.stm_session.specs.SegmentsBack.{AmidBack, AmidBackBy, GoesBack, GoesBackBy, going_lines, undo_lines}
+use Rattle.stm_session.specs.SegmentsUndo.{AmidNewest, AmidNewestBy, UndoesNewest, UndoesBy, going_lines, undo_lines}
 use Rattle.stm_session.specs.Lines.{is_torn_at, program_entries, return_entries, taken_entries, text_added, undo_entries, work_entries}
 use Rattle.stm_session.specs.Steps.{AddsLines, AreIntents, Goes, Stands}
 use Rattle.stm_session.specs.Undoable.{state_at}
-use Rattle.stm_session.specs.Undoes.{flash_taken_back}
+use Rattle.stm_session.specs.Undoes.{flash_undone}
 use Rattle.stm_session.specs.Work.{kept_at_work, with_work}
 use Rattle.stm_session.proofs.Going.{at_exit}
-use Rattle.stm_session.proofs.GoingBack.{lines_more}
+use Rattle.stm_session.proofs.UndoesOfSegments.{lines_more}
 use Rattle.stm_session.proofs.Standing.{makes_then}
 use Rattle.stm_session.proofs.Texts.{adds_then, lines_later}
 
 -- once a segment is off, the flash at the start doesn't count
-pub flash_at : (n : ℕ) (x y : List ℕ) (flashes : List (List ℕ)) → (n ≡ 0 → x ≡ y) → flash_taken_back n x flashes ≡ flash_taken_back n y flashes
+pub flash_at : (n : ℕ) (x y : List ℕ) (flashes : List (List ℕ)) → (n ≡ 0 → x ≡ y) → flash_undone n x flashes ≡ flash_undone n y flashes
 flash_at zero x y flashes h = h refl
 flash_at (suc n) x y flashes h = refl
 
@@ -81,13 +81,13 @@ module _ (taken : ℕ) (flashes : List (List ℕ)) (a b : RigState) (one : 1 ≤
   rest = taken_entries chip taken (state_at a.journal).stack (with_work chip work a.device.flash)
 
   -- in the words of the device
-  as_undone : {T : Type 0} (l3 : Loaded) (c : RigState) (result : Result T Fault) → GoesBackBy (front ++ rest) taken flashes l3 a c result → GoesBackBy (undo_lines taken a) taken flashes l3 a c result
+  as_undone : {T : Type 0} (l3 : Loaded) (c : RigState) (result : Result T Fault) → UndoesBy (front ++ rest) taken flashes l3 a c result → UndoesBy (undo_lines taken a) taken flashes l3 a c result
   as_undone {T} l3 c result goes =
-      let G : ChipData → Type 0 = λ p. GoesBackBy {T = T} (undo_entries p taken (state_at a.journal).stack a.device.flash) taken flashes l3 a c result in
+      let G : ChipData → Type 0 = λ p. UndoesBy {T = T} (undo_entries p taken (state_at a.journal).stack a.device.flash) taken flashes l3 a c result in
       subst G (sym chip_is) goes
 
   -- while they are put back
-  before : (d : Device) (journal : List ℕ) → Stands front flashes a d journal → AmidBackBy (front ++ rest) taken flashes a d journal
+  before : (d : Device) (journal : List ℕ) → Stands front flashes a d journal → AmidNewestBy (front ++ rest) taken flashes a d journal
   before d journal s =
       let part = lines_more front rest a.journal journal s.written s.lines in
       record {
@@ -101,11 +101,11 @@ module _ (taken : ℕ) (flashes : List (List ℕ)) (a b : RigState) (one : 1 ≤
       }
 
   pub work_failed : {T U : Type 0} {Done : U → Type 0} (l2 l3 : Loaded) (e : Fault) (result : Result T Fault) → Goes {T = U} flashes front l2 a b (Err e) Done → IsErrAnd result (λ x. x ≡ e)
-      → GoesBackBy (undo_lines taken a) taken flashes l3 a b result
+      → UndoesBy (undo_lines taken a) taken flashes l3 a b result
   work_failed l2 l3 e (Ok y) goes is = absurd is
   work_failed {T} l2 l3 e (Err y) goes is =
       as_undone {T = T} l3 b (Err y) (record {
-        moments = weaker (Stands front flashes a) (AmidBackBy (front ++ rest) taken flashes a) a b goes.moments before;
+        moments = weaker (Stands front flashes a) (AmidNewestBy (front ++ rest) taken flashes a) a b goes.moments before;
         fails = subst IsOutsideFault (sym is) goes.fails;
         honest = goes.honest;
         steady = tt;
@@ -128,7 +128,7 @@ module _ (taken : ℕ) (flashes : List (List ℕ)) (a b : RigState) (one : 1 ≤
         ∙ ap (λ (f : List ℕ). taken_entries chip taken (state_at b.journal).stack f) first.done
         ∙ same_taken chip taken (state_at b.journal).stack (state_at a.journal).stack (with_work chip work a.device.flash) same.same
 
-    after : (d : Device) (journal : List ℕ) → AmidBack taken flashes b d journal → AmidBackBy (front ++ rest) taken flashes a d journal
+    after : (d : Device) (journal : List ℕ) → AmidNewest taken flashes b d journal → AmidNewestBy (front ++ rest) taken flashes a d journal
     after d journal amid =
         record {
           undone = amid.undone;
@@ -143,10 +143,10 @@ module _ (taken : ℕ) (flashes : List (List ℕ)) (a b : RigState) (one : 1 ≤
               ∙ ap (λ (es : List Entry). a.journal ++ take (length (text_added (is_torn_at a.journal) front) + amid.written) (text_added (is_torn_at a.journal) (front ++ es))) lines_are;
         }
 
-    moments_all : LeavesOnly (AmidBack taken flashes b) b c → LeavesOnly (AmidBackBy (front ++ rest) taken flashes a) a c
-    moments_all moments = joined (Stands front flashes a) (AmidBack taken flashes b) (AmidBackBy (front ++ rest) taken flashes a) a b c first.moments moments before after
+    moments_all : LeavesOnly (AmidNewest taken flashes b) b c → LeavesOnly (AmidNewestBy (front ++ rest) taken flashes a) a c
+    moments_all moments = joined (Stands front flashes a) (AmidNewest taken flashes b) (AmidNewestBy (front ++ rest) taken flashes a) a b c first.moments moments before after
 
-    pub all_failed : {T U : Type 0} (e : Fault) (result : Result T Fault) → GoesBack {T = U} taken flashes l3 b c (Err e) → IsErrAnd result (λ x. x ≡ e) → GoesBackBy (undo_lines taken a) taken flashes l3 a c result
+    pub all_failed : {T U : Type 0} (e : Fault) (result : Result T Fault) → UndoesNewest {T = U} taken flashes l3 b c (Err e) → IsErrAnd result (λ x. x ≡ e) → UndoesBy (undo_lines taken a) taken flashes l3 a c result
     all_failed e (Ok y) next is = absurd is
     all_failed {T} e (Err y) next is =
         as_undone {T = T} l3 c (Err y) (record {
@@ -160,7 +160,7 @@ module _ (taken : ℕ) (flashes : List (List ℕ)) (a b : RigState) (one : 1 ≤
           finished = tt;
         })
 
-    pub all_back : GoesBack {T = Unit {0}} taken flashes l3 b c (Ok tt) → GoesBackBy {T = Unit {0}} (undo_lines taken a) taken flashes l3 a c (Ok tt)
+    pub all_back : UndoesNewest {T = Unit {0}} taken flashes l3 b c (Ok tt) → UndoesBy {T = Unit {0}} (undo_lines taken a) taken flashes l3 a c (Ok tt)
     all_back next =
         let A : List Entry → Type 0 = λ es. AddsLines (front ++ es) a.journal c.journal in
         as_undone {T = Unit {0}} l3 c (Ok tt) (record {

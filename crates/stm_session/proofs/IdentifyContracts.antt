@@ -10,7 +10,7 @@ use Rattle.stm_session.specs.declared.fault.Fault.{Fault}
 use Rattle.stm_session.specs.declared.fault.Fault.TheVariants as fault
 use Rattle.stm_session.specs.Fault.{IsOfLine}
 use Rattle.stm_session.specs.Moments.{BeginsNothing, IsSafe}
-use Rattle.stm_session.specs.Opening.{LoadsUnless, Tells}
+use Rattle.stm_session.specs.Opening.{LoadsUnless, TellsItself}
 use Rattle.stm_session.specs.Promises.{IdentifyContract}
 use Rattle.stm_session.specs.Refusal.{unsent_refusal}
 use Rattle.stm_session.proofs.Openings.{left_by_loading, line_is_no_memory, moments_of_asking, moments_of_loading, refused_nothing, tells_first, unsent_outside, untouched_is_unbegun}
@@ -53,7 +53,7 @@ identify_unread law old mid e (Err y) loads calls memory is =
 
 -- it was read, and the device was asked
 pub identify_asked : {T : Type 0} (law : LossStaysHarmless) (old mid new : RigState) (journal : T) (result : Result Told Fault) → (old.is_honest → LoadsUnless (unsent_refusal (journal_of old.journal)) old mid (Ok journal))
-    → (mid.is_honest → IsSafe mid.device → BeginsNothing mid new result (Tells mid.device)) → IfErr result IsOfLine
+    → (mid.is_honest → IsSafe mid.device → BeginsNothing mid new result (TellsItself mid.device)) → IfErr result IsOfLine
     → IdentifyContract old new result
 identify_asked law old mid new journal result loads asks heard =
     record {
@@ -69,7 +69,7 @@ identify_asked law old mid new journal result loads asks heard =
             left = further old mid left new.device new.journal asked.left;
             honest = asked.honest;
             settled = asked.settled;
-            done = told_then result (Tells mid.device) (Tells old.device) (λ told tells. tells_first old mid left told tells) asked.done;
+            done = told_then result (TellsItself mid.device) (TellsItself old.device) (λ told tells. tells_first old mid left told tells) asked.done;
           };
       spared = λ h empty. err_then result IsOfLine (λ e. e ≢ fault.Memory) line_is_no_memory heard;
     }

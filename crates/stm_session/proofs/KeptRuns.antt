@@ -25,7 +25,7 @@ use Rattle.stm_session.specs.Answers.{OutcomeData}
 use Rattle.stm_session.specs.Meaning.{CommandData, is_change}
 use Rattle.stm_session.specs.Order.{Step, Adds, AreCutShort, IsAfter, page_reads, page_address}
 use Rattle.stm_session.specs.Reaching.{IsConfirmedInPart, ReachesAndDoes, ReachesAndStops, Session, SettlesThen, asking_steps}
-use Rattle.stm_session.specs.RunOrder.{AreBegun, AreDone, none as nothing_done, more as more_done, IsBegunIf, IsDoneIf, IsReading, RunsInOrder, RunStops}
+use Rattle.stm_session.specs.RunOrder.{AreBegun, AreDoneInOrder, none as nothing_done, more as more_done, IsBegunIf, IsDoneIf, IsReading, RunsInOrder, RunStops}
 use Rattle.stm_session.specs.Kept.{KeepsFirst, RunKeeps, RunStopsKept, reads}
 use Rattle.stm_session.specs.Undoable.{has_companion}
 use Rattle.stm_session.proofs.KeptSteps.{Leads, here, later as further, keeps_front, keeps_then, leads_nothing, leads_reads, leads_rewrite, leads_then}
@@ -219,7 +219,7 @@ module _ (lengths : (set : Pairs) (address : ℕ) (bytes : List ℕ) → length 
   done_by true chip c s steps (change, is, segment) = one_segment chip change s steps segment
   done_by false chip c s steps are = readings_lead chip None steps are
 
-  done_leads : (chip : ChipData) (commands : List CommandData) (outcomes : List OutcomeData) (s last : StateData) (steps : List Step) → AreDone chip commands outcomes s last steps → Leads chip None steps None
+  done_leads : (chip : ChipData) (commands : List CommandData) (outcomes : List OutcomeData) (s last : StateData) (steps : List Step) → AreDoneInOrder chip commands outcomes s last steps → Leads chip None steps None
   done_leads chip _ _ _ _ _ (nothing_done s) = leads_nothing chip None
   done_leads chip _ _ _ _ _ (more_done commands c outcomes said s mid last before own are is depth) =
       leads_then chip None None None before own (done_leads chip commands outcomes s mid before are) (done_by (is_change c) chip c mid own is.0)

@@ -16,8 +16,8 @@ use Rattle.stm_session.specs.declared.returned.Returned.{Returned}
 use Rattle.stm_session.specs.Fault.{cause_of}
 use Rattle.stm_session.specs.Fresh.{undo_way}
 use Rattle.stm_session.specs.Kept.{IsOfNewest, PutsBack, PutsBackFrom, UndoPutsBack, UndoStopsBack, erases, erasing, programming, reads, undoing, writes}
-use Rattle.stm_session.specs.Order.{Step, Adds, Sends, Tells, AreAllTakenBack, AreReturned, AreRewritten, AreTakenBack, IsReturned, IsTakenBack, behind, Begin, OrMisread, page_address, page_reads, read_steps, restore_steps, return_steps, rewrite_steps, untold, write_steps}
-use Rattle.stm_session.specs.UndoOrder.{AreTaken, BeginTaking, ReturnsInOrder, UndoDoes, UndoStopsAs, UndoesInOrderFrom}
+use Rattle.stm_session.specs.Order.{Step, Adds, Sends, Tells, AreAllUndone, AreGivenBack, AreRewritten, AreSegmentsUndone, IsGivenBack, IsSegmentUndone, tells_behind, Begin, OrMisread, page_address, page_reads, read_steps, give_back_steps, return_steps, rewrite_steps, untold, write_steps}
+use Rattle.stm_session.specs.UndoOrder.{AreUndoneInOrder, BeginTaking, GivesBackInOrder, UndoDoes, UndoStopsAs, UndoesInOrderFrom}
 use Rattle.stm_session.specs.Reaching.{StepsOf}
 use Rattle.stm_session.specs.Work.{beside, pages_at_work, pages_of_intent}
 use Rattle.stm_session.proofs.Keeping.{newest-listed}
@@ -67,7 +67,7 @@ module _ (chip : ChipData) (pages : List Kept) (below : List (List Kept)) where
       with_frames (f ∷ frames) inside ys p =
           (pages ∷ below, erasing n (pages ∷ below) is, (erases n is refl, (pages ∷ below, programming n (pages ∷ below) is, writes_within n page (f ∷ frames) is size inside ys p)))
 
-  restore_within : (n : ℕ) (held page : List ℕ) → Contains (numbers pages) n → length page ≡ page_size chip n → Within chip (pages ∷ below) (restore_steps chip n held page)
+  restore_within : (n : ℕ) (held page : List ℕ) → Contains (numbers pages) n → length page ≡ page_size chip n → Within chip (pages ∷ below) (give_back_steps chip n held page)
   restore_within n held page is size = by_same (bytes_eq held page)
     where
       by_same : (same : Bool) → Within chip (pages ∷ below) (if same then [] else rewrite_steps chip n page (frames_of (erased_byte chip) page (length page / 256)))
@@ -79,23 +79,23 @@ module _ (chip : ChipData) (pages : List Kept) (below : List (List Kept)) where
   return_within false n held page is size = restore_within n held page is size
   return_within true n held page is size =
       let segments : List (List Kept) = pages ∷ below in
-      within_then chip segments (restore_steps chip n held page) (page_reads chip n page) (restore_within n held page is size) (reads_within chip segments (page_address chip n) (page_size chip n / 256) page)
+      within_then chip segments (give_back_steps chip n held page) (page_reads chip n page) (restore_within n held page is size) (reads_within chip segments (page_address chip n) (page_size chip n / 256) page)
 
-  returned_within : (again : Bool) (Told : Tells) (n : ℕ) (steps : List Step) → Contains (numbers pages) n → IsReturned again chip Told n steps → Within chip (pages ∷ below) steps
+  returned_within : (again : Bool) (Told : Tells) (n : ℕ) (steps : List Step) → Contains (numbers pages) n → IsGivenBack again chip Told n steps → Within chip (pages ∷ below) steps
   returned_within again Told n steps is returned =
       let read = read_steps (page_address chip n) (page_size chip n / 256) returned.held in
       let restored = return_steps again chip n returned.held returned.page in
       within_as chip (pages ∷ below) (read ++ restored) steps returned.is
       (within_then chip (pages ∷ below) read restored (reads_within chip (pages ∷ below) (page_address chip n) (page_size chip n / 256) returned.held) (return_within again n returned.held returned.page is returned.size))
 
-  all_within : (again : Bool) (Told : Tells) (kept : List Kept) (steps : List Step) → ((m : ℕ) → Contains (numbers kept) m → Contains (numbers pages) m) → AreReturned again chip Told kept steps → Within chip (pages ∷ below) steps
+  all_within : (again : Bool) (Told : Tells) (kept : List Kept) (steps : List Step) → ((m : ℕ) → Contains (numbers kept) m → Contains (numbers pages) m) → AreGivenBack again chip Told kept steps → Within chip (pages ∷ below) steps
   all_within again Told [] steps among is = within_as chip (pages ∷ below) [] steps is (λ ys p. p)
   all_within again Told (k ∷ kept) steps among (first, rest, is, one, others) =
       within_as chip (pages ∷ below) (first ++ rest) steps is
-      (within_then chip (pages ∷ below) first rest (returned_within again Told k.page first (among k.page (here k.page (numbers kept))) one) (all_within again (behind first Told) kept rest (λ m is_one. among m (further m k.page (numbers kept) is_one)) others))
+      (within_then chip (pages ∷ below) first rest (returned_within again Told k.page first (among k.page (here k.page (numbers kept))) one) (all_within again (tells_behind first Told) kept rest (λ m is_one. among m (further m k.page (numbers kept) is_one)) others))
 
   -- the segment is taken back
-  taken_within : (again : Bool) (Told : Tells) (steps : List Step) → IsTakenBack again chip Told pages (length below + 1) steps → (ys : List Step) → PutsBack chip below ys → PutsBack chip (pages ∷ below) (steps ++ ys)
+  taken_within : (again : Bool) (Told : Tells) (steps : List Step) → IsSegmentUndone again chip Told pages (length below + 1) steps → (ys : List Step) → PutsBack chip below ys → PutsBack chip (pages ∷ below) (steps ++ ys)
   taken_within again Told steps taken ys p =
       let P : List Step → Type 0 = λ l. PutsBack chip (pages ∷ below) (l ++ ys) in
       let Q : List Step → Type 0 = λ l. PutsBack chip (pages ∷ below) l in
@@ -103,12 +103,12 @@ module _ (chip : ChipData) (pages : List Kept) (below : List (List Kept)) where
       subst P (sym taken.is) (subst Q (sym (append_assoc taken.returns last ys)) (all_within again Told pages taken.returns (λ m is_one. is_one) taken.are_returns (last ++ ys) (below, undoing pages below, p)))
 
 -- and one after another
-taken_puts : (again : Bool) (chip : ChipData) (Told : Tells) (count : ℕ) (segments : List (List Kept)) (steps : List Step) → AreTakenBack again chip Told count segments steps → PutsBack chip segments steps
+taken_puts : (again : Bool) (chip : ChipData) (Told : Tells) (count : ℕ) (segments : List (List Kept)) (steps : List Step) → AreSegmentsUndone again chip Told count segments steps → PutsBack chip segments steps
 taken_puts again chip Told zero segments steps is = let P : List Step → Type 0 = λ l. PutsBack chip segments l in subst P (sym is) tt
 taken_puts again chip Told (suc count) [] steps is = absurd is
 taken_puts again chip Told (suc count) (pages ∷ below) steps (first, rest, is, one, others) =
     let P : List Step → Type 0 = λ l. PutsBack chip (pages ∷ below) l in
-    subst P (sym is) (taken_within chip pages below again Told first one rest (taken_puts again chip (behind first Told) count below rest others))
+    subst P (sym is) (taken_within chip pages below again Told first one rest (taken_puts again chip (tells_behind first Told) count below rest others))
 
 -- pages that the newest segment keeps
 abbrev AreOfNewest : List (List Kept) → List ℕ → Type 0
@@ -120,18 +120,18 @@ work_within chip pages below Told [] steps own is = within_as chip (pages ∷ be
 work_within chip pages below Told (n ∷ work) steps (kept, own) (first, rest, is, one, others) =
     let segments : List (List Kept) = pages ∷ below in
     let page = within_as chip segments _ first one.is (rewrite_within chip pages below n one.page kept one.size) in
-    within_as chip segments (first ++ rest) steps is (within_then chip segments first rest page (work_within chip pages below (behind first Told) work rest own others))
+    within_as chip segments (first ++ rest) steps is (within_then chip segments first rest page (work_within chip pages below (tells_behind first Told) work rest own others))
 
 -- the pages at work first
-all_puts : (again : Bool) (chip : ChipData) (Told : Tells) (work : List ℕ) (count : ℕ) (segments : List (List Kept)) (steps : List Step) → AreOfNewest segments work → AreAllTakenBack again chip Told work count segments steps → PutsBack chip segments steps
+all_puts : (again : Bool) (chip : ChipData) (Told : Tells) (work : List ℕ) (count : ℕ) (segments : List (List Kept)) (steps : List Step) → AreOfNewest segments work → AreAllUndone again chip Told work count segments steps → PutsBack chip segments steps
 all_puts again chip Told [] count segments steps own taken =
     let P : List Step → Type 0 = λ l. PutsBack chip segments l in
-    subst P (sym (taken.is ∙ ap (λ (l : List Step). l ++ taken.back) taken.is_first)) (taken_puts again chip (behind taken.first Told) count segments taken.back taken.are_back)
+    subst P (sym (taken.is ∙ ap (λ (l : List Step). l ++ taken.back) taken.is_first)) (taken_puts again chip (tells_behind taken.first Told) count segments taken.back taken.are_back)
 all_puts again chip Told (n ∷ work) count [] steps own taken = absurd own.0
 all_puts again chip Told (n ∷ work) count (pages ∷ below) steps own taken =
     let segments : List (List Kept) = pages ∷ below in
     let P : List Step → Type 0 = λ l. PutsBack chip segments l in
-    subst P (sym taken.is) (work_within chip pages below Told (n ∷ work) taken.first own taken.is_first taken.back (taken_puts again chip (behind taken.first Told) count segments taken.back taken.are_back))
+    subst P (sym taken.is) (work_within chip pages below Told (n ∷ work) taken.first own taken.is_first taken.back (taken_puts again chip (tells_behind taken.first Told) count segments taken.back taken.are_back))
 
 -- it keeps that of its intent in each journal without a bad line, and page 257 where that is at work
 of_newest : (stack : List SegmentData) (n : ℕ) → newest_has (λ segment. keeps segment n) stack ≡ true → IsOfNewest n (pages_of_segments stack)
@@ -159,7 +159,7 @@ work_own s sound = by_intent (intent_of s) sound.intended
     by_intent None own = tt
     by_intent (Some i) own = (of_newest s.stack (intent_page i) (own i refl), beside_own s.stack (intent_page i))
 
-taken_puts_back : (again : Bool) (taken : ℕ) (chip : ChipData) (s : StateData) (steps : List Step) → IsSound s → AreTaken again taken chip s steps → PutsBackFrom chip s steps
+taken_puts_back : (again : Bool) (taken : ℕ) (chip : ChipData) (s : StateData) (steps : List Step) → IsSound s → AreUndoneInOrder again taken chip s steps → PutsBackFrom chip s steps
 taken_puts_back again taken chip s steps sound = all_puts again chip untold (pages_at_work s.stack) taken (pages_of_segments s.stack) steps (work_own s sound)
 
 -- such steps, and behind them reads, whatever comes
@@ -169,7 +169,7 @@ puts_reads chip segments (Adds entries ∷ xs) zs ys (later, may, p) more = (lat
 puts_reads chip segments (Sends turns ∷ xs) zs ys (may, p) more = (may, puts_reads chip segments xs zs ys p more)
 
 -- or a beginning of them, or one whose last reads brought other bytes
-begun_puts_back : (again : Bool) (taken : ℕ) (chip : ChipData) (s : StateData) (steps : List Step) → IsSound s → OrMisread again chip (Begin (AreTaken again taken chip s)) steps → PutsBackFrom chip s steps
+begun_puts_back : (again : Bool) (taken : ℕ) (chip : ChipData) (s : StateData) (steps : List Step) → IsSound s → OrMisread again chip (Begin (AreUndoneInOrder again taken chip s)) steps → PutsBackFrom chip s steps
 begun_puts_back false taken chip s steps sound (rest, are) = puts_front chip (pages_of_segments s.stack) steps rest (taken_puts_back false taken chip s (steps ++ rest) sound are)
 begun_puts_back true taken chip s steps sound (inl (rest, are)) = puts_front chip (pages_of_segments s.stack) steps rest (taken_puts_back true taken chip s (steps ++ rest) sound are)
 begun_puts_back true taken chip s steps sound (inr misread) =
@@ -195,7 +195,7 @@ undo_puts_back is_fresh table taken old new =
     as_session table old _ _ (λ chip l sound. does_as (undo_way is_fresh chip.kind (intent_of l.state)) chip.id l.is_torn _ _ old new (after_as _ _ _ (λ steps are. taken_puts_back false taken chip l.state steps sound are)))
 
 -- and one that tells what it returned
-pub return_puts_back : (is_fresh again : Bool) (table : List ChipData) (returned : Returned) (old new : RigState) → ReturnsInOrder is_fresh again table returned old new → UndoPutsBack is_fresh table old new
+pub return_puts_back : (is_fresh again : Bool) (table : List ChipData) (returned : Returned) (old new : RigState) → GivesBackInOrder is_fresh again table returned old new → UndoPutsBack is_fresh table old new
 return_puts_back is_fresh again table returned old new =
     as_session table old _ _ (λ chip l sound. does_as (undo_way is_fresh chip.kind (intent_of l.state)) chip.id l.is_torn _ _ old new (after_as _ _ _ (λ steps are. taken_puts_back again returned.segments chip l.state steps sound are.0)))
 

@@ -12,14 +12,14 @@ use Rattle.stm_wire.specs.Exchange.{is_listed}
 use Rattle.stm_wire.specs.Moments.{FedAndTaken, LeavesOnly, LeftBySending, PartlyFed}
 use Rattle.stm_wire.specs.MomentLaws.{joined, weaker}
 use Rattle.stm_wire.specs.Rig.{RigState}
-use Rattle.stm_wire.specs.Sending.{BreaksOff, Holds}
+use Rattle.stm_wire.specs.Sending.{BreaksOff, IsHeldToEnd}
 use Rattle.stm_wire.specs.DialogueLaws.{GoesOn-adds, GoesOn-append}
 use Rattle.stm_wire.specs.Settling.{SettlesWithin}
 use Rattle.stm_wire.specs.SettlingCalls.{EndsSettled}
 use Rattle.stm_wire.specs.Stopped.{LossStaysHarmless}
 use Rattle.stm_journal.specs.Calls.{AreFetches}
 use Rattle.stm_session.specs.declared.fault.Fault.{Fault}
-use Rattle.stm_session.specs.Fault.{Cause, IsHeard, IsJournalOrMemory, IsOfLine, IsOutsideFault, IsUnheard, cause_of, fault_of, of_file, of_line, of_memory, of_protocol, of_refusal, of_session}
+use Rattle.stm_session.specs.Fault.{Cause, IsOfTalking, IsJournalOrMemory, IsOfLine, IsOutsideFault, IsUnheard, cause_of, fault_of, of_file, of_line, of_memory, of_protocol, of_refusal, of_session}
 use Rattle.stm_session.specs.Leaving.{CanLeave, IsSettledSame, IsSettledThen, Leaves, LeftByFrame, LeftByLeaving}
 use Rattle.stm_session.specs.Moments.{BeginsNothing, IsSafe, IsUnbegun}
 use Rattle.stm_session.specs.Opening.{LoadsUnless}
@@ -44,7 +44,7 @@ settled_then turns a b c d fetched settles settled said =
     Then xs = (settling : List Call) × (xs ≡ settling ++ calls_of turns) × Both settling
 
 -- a fault of talking to a device is none of the journal or of memory
-heard_or_not : (cause : Cause) → IsHeard cause → IsUnheard cause → ⊥
+heard_or_not : (cause : Cause) → IsOfTalking cause → IsUnheard cause → ⊥
 heard_or_not of_line heard unheard = unheard
 heard_or_not of_protocol heard unheard = unheard
 heard_or_not of_file heard unheard = heard
@@ -131,7 +131,7 @@ module _ (lost : LossStaysHarmless) (frame : List ℕ) (refusal : Option Fault) 
             fed = tt;
           }
 
-      pub leaves_fed : {U : Type 0} {turns : List Turn} (new : RigState) (x : U) → Holds frame turns settled new → Leaves frame old new (Ok x)
+      pub leaves_fed : {U : Type 0} {turns : List Turn} (new : RigState) (x : U) → IsHeldToEnd frame turns settled new → Leaves frame old new (Ok x)
       leaves_fed new x holds =
           let sent = holds.honestly begins.honest in
           let whole : PartlyFed frame settled.device new.device = (length frame, let F : List ℕ → Type 0 = λ bytes. FedAndTaken bytes settled.device new.device in subst F (sym (take-length frame)) sent.fed) in

@@ -50,8 +50,8 @@ pub mod Freshness
 pub mod Restorings
 pub mod Fetchings
 pub mod Returns
-pub mod TakingBack
-pub mod GoingBack
+pub mod UndoPuts
+pub mod UndoesOfSegments
 pub mod GoingAll
 pub mod Work
 pub mod Straying

@@ -12,7 +12,7 @@ use Rattle.stm_session.specs.declared.outcome.Outcome.TheVariants as outcome
 use Rattle.stm_session.specs.Answers.{OutcomeData, first_difference, outcome_data, pages_that_differ, verified_or}
 use Rattle.stm_session.specs.Asking.{Asks}
 use Rattle.stm_session.specs.Contents.{IsMade, command_of}
-use Rattle.stm_session.specs.OneCommand.{Does, answer_on, flash_left}
+use Rattle.stm_session.specs.OneCommand.{DoesCommand, answer_on, flash_left}
 use Rattle.stm_session.specs.Lines.{depth_at, is_named_at, segment_entries}
 use Rattle.stm_session.specs.Meaning.{flash_after, is_change, verifies}
 use Rattle.stm_session.specs.Segments.{Changes}
@@ -31,7 +31,7 @@ module _ (flashes : List (List ℕ)) (k : Change) (chip : ChipData) (l l2 : Load
   pub change_made : (segment pages : ℕ) (y : Outcome) (said : ℕ → ℕ → OutcomeData) → IsSteady flashes l old → segment ≡ length l.state.stack + 1
       → ChangesBy {T = ℕ × ℕ} flashes k chip l2 old new (Ok (segment, pages)) (λ answer. IsMade chip k old.device.flash new.device.flash answer.1)
       → answer_on old (command_of k) ≡ Ok (said (depth_at old.journal + 1) (pages_that_differ old.device.chip old.device.flash (flash_left old (command_of k))))
-      → outcome_data y ≡ said segment pages → Does flashes (command_of k) l2 old new (Ok y) outcome_data
+      → outcome_data y ≡ said segment pages → DoesCommand flashes (command_of k) l2 old new (Ok y) outcome_data
   change_made segment pages y said steady number changes told is =
       let c = command_of k in
       let made = changes.done in
@@ -42,7 +42,7 @@ module _ (flashes : List (List ℕ)) (k : Change) (chip : ChipData) (l l2 : Load
       (told ∙ ap₂ (λ (s p : ℕ). Ok (said s p)) (sym depth) (ap of_chip chip_is ∙ sym made.counts) ∙ ap (λ (o : OutcomeData). Ok o) (sym is))
 
   pub change_broken : {U : Type 0} {Done : ℕ × ℕ → Type 0} (outcome_in : U → OutcomeData) (e : Fault) (result : Result U Fault) → ChangesBy {T = ℕ × ℕ} flashes k chip l2 old new (Err e) Done → IsErrAnd result (λ z. z ≡ e)
-      → Does flashes (command_of k) l2 old new result outcome_in
+      → DoesCommand flashes (command_of k) l2 old new result outcome_in
   change_broken outcome_in e result changes is = change_fails flashes (command_of k) l2 old new change outcome_in l2 e result (change_of_chip flashes (command_of k) chip l2 old new (Err e) change chip_is changes) is
 
 -- a verify
@@ -50,9 +50,9 @@ module _ (laws : StepLaws) (flashes : List (List ℕ)) (image : Pairs) (chip : C
   told_on : (found : Option ℕ) → found ≡ first_difference image chip.base old.device.flash → answer_on old (verifies image) ≡ verified_or found
   told_on found told = ap (λ (p : ChipData). verified_or (first_difference image p.base old.device.flash)) chip_is ∙ ap verified_or (sym told)
 
-  pub verify_agrees : Asks old new (Ok None) (λ found. found ≡ first_difference image chip.base old.device.flash) → Does flashes (verifies image) l old new (Ok outcome.Verified) outcome_data
+  pub verify_agrees : Asks old new (Ok None) (λ found. found ≡ first_difference image chip.base old.device.flash) → DoesCommand flashes (verifies image) l old new (Ok outcome.Verified) outcome_data
   verify_agrees asks = asks_does laws flashes (verifies image) l old new refl steady outcome_data None outcome.Verified asks (told_on None asks.done)
 
   pub verify_differs : {U : Type 0} (outcome_in : U → OutcomeData) (address : ℕ) → Asks old new (Ok (Some address)) (λ found. found ≡ first_difference image chip.base old.device.flash)
-      → Does flashes (verifies image) l old new (Err (faults.Differs address)) outcome_in
+      → DoesCommand flashes (verifies image) l old new (Err (faults.Differs address)) outcome_in
   verify_differs outcome_in address asks = asks_differs laws flashes (verifies image) l old new refl steady outcome_in l (Some address) address asks (told_on (Some address) asks.done)

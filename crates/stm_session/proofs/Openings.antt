@@ -26,12 +26,12 @@ use Rattle.stm_session.specs.declared.fault.Fault.{Fault}
 use Rattle.stm_session.specs.declared.fault.Fault.TheVariants.{BadJournal, InSession, Memory, Unfinished}
 use Rattle.stm_session.specs.Fault.{Cause, IsJournalOrMemory, IsOfLine, IsOutside, IsOutsideFault, IsLaterRefusal, IsUnheard, cause_of, fault_of_journal, of_file, of_line, of_memory, of_protocol, of_refusal, of_session}
 use Rattle.stm_session.specs.Moments.{BeginsNothing, IsSafe, IsUnbegun}
-use Rattle.stm_session.specs.Opening.{AreCommandsOf, LoadsUnless, Opens, Tells}
+use Rattle.stm_session.specs.Opening.{AreCommandsOf, LoadsUnless, Opens, TellsItself}
 use Rattle.stm_session.specs.Refusal.{chip_with, device_refusals, first_refusal, table_refusal, unsent_refusal, open_refusal, opening_refusal}
 use Rattle.stm_session.proofs.Unbegun.{further}
 
 -- what a device tells of itself is what it would have told before
-pub tells_first : (a b : RigState) → IsUnbegun a b.device b.journal → (told : Told) → Tells b.device told → Tells a.device told
+pub tells_first : (a b : RigState) → IsUnbegun a b.device b.journal → (told : Told) → TellsItself b.device told → TellsItself a.device told
 tells_first a b left told tells =
     record {
       commands = record { version = tells.commands.version ∙ left.make.version; codes = tells.commands.codes ∙ left.make.codes };
@@ -220,8 +220,8 @@ module _ (law : LossStaysHarmless) (old mid : RigState) (safe : IsSafe old.devic
 
   -- the device told who it is
   module _ (l : Loaded) (loaded : IsLoaded l old.journal) (finished : is_unfinished l.state ≡ false) (new : RigState) (table : List ChipData) (told : Told)
-      (loads : LoadsUnless (unsent_refusal (journal_of old.journal)) old mid (Ok l)) (asks : BeginsNothing mid new (Ok told) (Tells mid.device)) where
-    tells : Tells old.device told
+      (loads : LoadsUnless (unsent_refusal (journal_of old.journal)) old mid (Ok l)) (asks : BeginsNothing mid new (Ok told) (TellsItself mid.device)) where
+    tells : TellsItself old.device told
     tells = tells_first old mid (left_by_loading (unsent_refusal (journal_of old.journal)) l loads) told asks.done
 
     refusal_is : (x : Option Fault) → first_refusal (device_refusals l.state told.id table) ≡ x → opening_refusal (journal_of old.journal) old.device table ≡ x

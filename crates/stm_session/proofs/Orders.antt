@@ -20,7 +20,7 @@ use Rattle.stm_journal.specs.Calls.{AppendsOnce, AreFetches}
 use Rattle.stm_journal.specs.Journals.{Loaded, added_bytes}
 use Rattle.stm_journal.specs.Newest.{pages_of_segments}
 use Rattle.stm_journal.specs.States.{SegmentData}
-use Rattle.stm_session.specs.Order.{Step, Adds, Sends, Tells, AreReturned, AreTakenBack, DoesSteps, IsInOrder, IsReturned, IsTakenBack, acts_of, acts_of_steps, behind, page_address, program_steps, read_steps, torn_behind, write_step, write_steps}
+use Rattle.stm_session.specs.Order.{Step, Adds, Sends, Tells, AreGivenBack, AreSegmentsUndone, DoesSteps, IsInOrder, IsGivenBack, IsSegmentUndone, acts_of, acts_of_steps, tells_behind, page_address, program_steps, read_steps, torn_behind, write_step, write_steps}
 use Rattle.stm_session.specs.Reaching.{SettlesFirst, SettlesThen}
 use Rattle.stm_session.specs.Undoable.{newest_kept}
 use Rattle.stm_session.proofs.Tellings.{behind_both, returned_as, taken_as}
@@ -133,54 +133,54 @@ writes_next chip n page torn frames d i a b c lt p q =
     (order_then torn before own a b c p (subst Q (sym (torn-writes chip n page torn (take i frames))) q))
 
 -- pages are put back, one after another
-pub returned_next : (again : Bool) (chip : ChipData) (Told : Tells) (pages : List Kept) (i : ℕ) (kept : Kept) (xs ys : List Step) → slice_get pages i ≡ Some kept → AreReturned again chip Told (take i pages) xs → IsReturned again chip (behind xs Told) kept.page ys
-    → AreReturned again chip Told (take (i + 1) pages) (xs ++ ys)
+pub returned_next : (again : Bool) (chip : ChipData) (Told : Tells) (pages : List Kept) (i : ℕ) (kept : Kept) (xs ys : List Step) → slice_get pages i ≡ Some kept → AreGivenBack again chip Told (take i pages) xs → IsGivenBack again chip (tells_behind xs Told) kept.page ys
+    → AreGivenBack again chip Told (take (i + 1) pages) (xs ++ ys)
 returned_next again chip Told pages i kept xs ys at are is =
     let one : suc i ≡ i + 1 = omega arith in
-    let P : ℕ → Type 0 = λ m. AreReturned again chip Told (take m pages) (xs ++ ys) in
+    let P : ℕ → Type 0 = λ m. AreGivenBack again chip Told (take m pages) (xs ++ ys) in
     subst P one (next Told pages i xs at are is)
   where
-    next : (Told : Tells) (pages : List Kept) (i : ℕ) (xs : List Step) → slice_get pages i ≡ Some kept → AreReturned again chip Told (take i pages) xs → IsReturned again chip (behind xs Told) kept.page ys → AreReturned again chip Told (take (suc i) pages) (xs ++ ys)
+    next : (Told : Tells) (pages : List Kept) (i : ℕ) (xs : List Step) → slice_get pages i ≡ Some kept → AreGivenBack again chip Told (take i pages) xs → IsGivenBack again chip (tells_behind xs Told) kept.page ys → AreGivenBack again chip Told (take (suc i) pages) (xs ++ ys)
     next Told [] i xs at are is = absurd (let h : None ≡ Some kept = at in cc)
     next Told (x ∷ pages) zero xs at are is =
         let some : Some x ≡ Some kept = at in
         let same : x ≡ kept = cc in
-        let Q : Kept → Type 0 = λ k. IsReturned again chip Told k.page ys in
-        let R : List Step → Type 0 = λ l. IsReturned again chip (behind l Told) kept.page ys in
+        let Q : Kept → Type 0 = λ k. IsGivenBack again chip Told k.page ys in
+        let R : List Step → Type 0 = λ l. IsGivenBack again chip (tells_behind l Told) kept.page ys in
         (ys, [], ap (λ (zs : List Step). zs ++ ys) are ∙ sym (append-nil ys), subst Q (sym same) (subst R are is), refl)
     next Told (x ∷ pages) (suc i) xs at (first, rest, e, one, more) is = (
       first,
       rest ++ ys,
       ap (λ (zs : List Step). zs ++ ys) e ∙ append_assoc first rest ys,
       one,
-      next (behind first Told) pages i rest at more (returned_as again chip (behind xs Told) (behind rest (behind first Told)) kept.page ys (behind_both Told xs first rest e) is),
+      next (tells_behind first Told) pages i rest at more (returned_as again chip (tells_behind xs Told) (tells_behind rest (tells_behind first Told)) kept.page ys (behind_both Told xs first rest e) is),
     )
 
 -- segments are taken back, one after another
-pub taken_next : (again : Bool) (chip : ChipData) (Told : Tells) (segments : List (List Kept)) (i : ℕ) (pages : List Kept) (below : List (List Kept)) (xs ys : List Step) → drop i segments ≡ pages ∷ below → AreTakenBack again chip Told i segments xs
-    → IsTakenBack again chip (behind xs Told) pages (length below + 1) ys → AreTakenBack again chip Told (i + 1) segments (xs ++ ys)
+pub taken_next : (again : Bool) (chip : ChipData) (Told : Tells) (segments : List (List Kept)) (i : ℕ) (pages : List Kept) (below : List (List Kept)) (xs ys : List Step) → drop i segments ≡ pages ∷ below → AreSegmentsUndone again chip Told i segments xs
+    → IsSegmentUndone again chip (tells_behind xs Told) pages (length below + 1) ys → AreSegmentsUndone again chip Told (i + 1) segments (xs ++ ys)
 taken_next again chip Told segments i pages below xs ys at are is =
     let one : suc i ≡ i + 1 = omega arith in
-    let P : ℕ → Type 0 = λ m. AreTakenBack again chip Told m segments (xs ++ ys) in
+    let P : ℕ → Type 0 = λ m. AreSegmentsUndone again chip Told m segments (xs ++ ys) in
     subst P one (next Told segments i xs at are is)
   where
-    next : (Told : Tells) (segments : List (List Kept)) (i : ℕ) (xs : List Step) → drop i segments ≡ pages ∷ below → AreTakenBack again chip Told i segments xs → IsTakenBack again chip (behind xs Told) pages (length below + 1) ys
-        → AreTakenBack again chip Told (suc i) segments (xs ++ ys)
+    next : (Told : Tells) (segments : List (List Kept)) (i : ℕ) (xs : List Step) → drop i segments ≡ pages ∷ below → AreSegmentsUndone again chip Told i segments xs → IsSegmentUndone again chip (tells_behind xs Told) pages (length below + 1) ys
+        → AreSegmentsUndone again chip Told (suc i) segments (xs ++ ys)
     next Told [] zero xs at are is = absurd (let h : [] ≡ pages ∷ below = at in cc)
     next Told [] (suc i) xs at are is = absurd are
     next Told (x ∷ segments) zero xs at are is =
         let first : x ≡ pages = ap (λ (zs : List (List Kept)). get_or zs 0 []) at in
         let rest : segments ≡ below = ap (λ (zs : List (List Kept)). drop 1 zs) at in
-        let Q : List Kept → Type 0 = λ ps. IsTakenBack again chip Told ps (length below + 1) ys in
-        let R : List (List Kept) → Type 0 = λ zs. IsTakenBack again chip Told x (length zs + 1) ys in
-        let S : List Step → Type 0 = λ l. IsTakenBack again chip (behind l Told) pages (length below + 1) ys in
+        let Q : List Kept → Type 0 = λ ps. IsSegmentUndone again chip Told ps (length below + 1) ys in
+        let R : List (List Kept) → Type 0 = λ zs. IsSegmentUndone again chip Told x (length zs + 1) ys in
+        let S : List Step → Type 0 = λ l. IsSegmentUndone again chip (tells_behind l Told) pages (length below + 1) ys in
         (ys, [], ap (λ (zs : List Step). zs ++ ys) are ∙ sym (append-nil ys), subst R (sym rest) (subst Q (sym first) (subst S are is)), refl)
     next Told (x ∷ segments) (suc i) xs at (first, rest, e, one, more) is = (
       first,
       rest ++ ys,
       ap (λ (zs : List Step). zs ++ ys) e ∙ append_assoc first rest ys,
       one,
-      next (behind first Told) segments i rest at more (taken_as again chip (behind xs Told) (behind rest (behind first Told)) pages (length below + 1) ys (behind_both Told xs first rest e) is),
+      next (tells_behind first Told) segments i rest at more (taken_as again chip (tells_behind xs Told) (tells_behind rest (tells_behind first Told)) pages (length below + 1) ys (behind_both Told xs first rest e) is),
     )
 
 -- settling, and then steps

@@ -11,7 +11,7 @@ use Rattle.stm_session.specs.declared.fault.Fault.{Fault}
 use Rattle.stm_session.specs.declared.fault.Fault.TheVariants.{Memory}
 use Rattle.stm_session.specs.Fault.{cause_of, fault_of, fault_of_journal, of_memory}
 use Rattle.stm_session.specs.Moments.{SameMake}
-use Rattle.stm_session.specs.Order.{Step, Are, Begin, DoesSteps, Follows, Stops, StopsBy}
+use Rattle.stm_session.specs.Order.{Step, Are, Begin, DoesSteps, Follows, FaultEnds, StopsBy}
 use Rattle.stm_session.specs.Performs.{Performs}
 use Rattle.stm_session.specs.StepLaws.{StepLaws}
 use Rattle.stm_session.specs.Steps.{Goes, IsSteady}
@@ -75,8 +75,8 @@ module _ {T U : Type 0} {P : List Step → Type 0} {xs : List Entry} {M : Type 0
       )
       order_then (Err e) order = tt
 
-      stops_then : (r : Result U Fault) → Stops (Begin Q) l2.is_torn b c r
-          → Stops (Begin R) l.is_torn a c r
+      stops_then : (r : Result U Fault) → FaultEnds (Begin Q) l2.is_torn b c r
+          → FaultEnds (Begin R) l.is_torn a c r
       stops_then (Ok y) stops = tt
       stops_then (Err e) stops =
           stop_after (Begin Q) (Begin R) (cause_of e) first.order.0 l l2 a b c first.order.2 stops
@@ -126,13 +126,13 @@ module _ {T U : Type 0} {P : List Step → Type 0} {xs : List Entry} {M : Type 0
 module _ {T : Type 0} {xs : List Entry} {M : Type 0} {D : T → Type 0} {l l2 : Loaded}
     {a b : RigState} {result : Result T Fault} where
   pub performs_of : {P : List Step → Type 0} → OnOk result (Follows P l l2 a b)
-      → Stops (Begin P) l.is_torn a b result
+      → FaultEnds (Begin P) l.is_torn a b result
       → ((flashes : List (List ℕ)) → IsSteady flashes l a → M → Goes flashes xs l2 a b result D)
       → Performs P xs M D l l2 a b result
   performs_of order stops honest = record { order = order; stops = stops; honest = honest }
 
   pub performs_are : {steps : List Step} → OnOk result (DoesSteps steps l l2 a b)
-      → Stops (Begin (Are steps)) l.is_torn a b result
+      → FaultEnds (Begin (Are steps)) l.is_torn a b result
       → ((flashes : List (List ℕ)) → IsSteady flashes l a → M → Goes flashes xs l2 a b result D)
       → Performs (Are steps) xs M D l l2 a b result
   performs_are {steps} order stops honest = performs_of (done result order) stops honest

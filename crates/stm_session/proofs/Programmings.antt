@@ -15,15 +15,15 @@ use Rattle.stm_wire.specs.Intents.{InPage}
 use Rattle.stm_wire.specs.PageLaws.{page_within, put_in}
 use Rattle.stm_wire.specs.FlashLaws.{IsErasedAt, writes_erased}
 use Rattle.stm_wire.specs.Rig.{RigState, IsModel}
-use Rattle.stm_wire.specs.Sending.{Holds, BreaksOff}
+use Rattle.stm_wire.specs.Sending.{IsHeldToEnd, BreaksOff}
 use Rattle.stm_wire.specs.Stopped.{IsFrameUnder, writes}
 use Rattle.stm_chip.specs.declared.plan.Frame.{Frame}
-use Rattle.stm_chip.specs.Plan.{IsFrame, AreFrames, written}
+use Rattle.stm_chip.specs.Plan.{IsFrameOfPlan, AreFrames, written}
 use Rattle.stm_journal.specs.declared.entry.Entry.{Entry}
 use Rattle.stm_journal.specs.Journals.{Loaded}
 use Rattle.stm_session.specs.declared.fault.Fault.{Fault}
 use Rattle.stm_session.specs.Fault.{fault_of}
-use Rattle.stm_session.specs.Order.{Step, Are, Begin, Follows, IsInOrder, Stops, write_steps}
+use Rattle.stm_session.specs.Order.{Step, Are, Begin, Follows, IsInOrder, FaultEnds, write_steps}
 use Rattle.stm_session.specs.Performs.{Performs}
 use Rattle.stm_session.specs.StepLaws.{StepLaws}
 use Rattle.stm_session.specs.Steps.{IsSteady, Goes, IsUnder}
@@ -37,7 +37,7 @@ fits_at chip address size low high = grind (arith, nat_tests)
 
 module _ (laws : StepLaws) (flashes : List (List ℕ)) (l : Loaded) (n : ℕ) (chip : ChipData) (page : List ℕ) (f : Frame) (old new : RigState)
     (model : IsModel old) (steady : IsSteady flashes l old) (under : IsUnder n (Program n) (state_at old.journal)) (chip_is : old.device.chip ≡ chip) (exists : n < page_count chip) (size : length page ≡ page_size chip n)
-    (is : IsFrame 0 (length page) f) (address : ℕ) (at : address ≡ (chip.base + page_offset chip n) + f.offset) (bytes : List ℕ) (part : bytes ≡ take f.length (drop f.offset page)) where
+    (is : IsFrameOfPlan 0 (length page) f) (address : ℕ) (at : address ≡ (chip.base + page_offset chip n) + f.offset) (bytes : List ℕ) (part : bytes ≡ take f.length (drop f.offset page)) where
   as_many : length bytes ≡ f.length
   as_many = ap (λ (xs : List ℕ). length xs) part ∙ length-part page f (omega (arith, is.inside, is.limit))
 
@@ -66,7 +66,7 @@ module _ (laws : StepLaws) (flashes : List (List ℕ)) (l : Loaded) (n : ℕ) (c
       writes_erased old.device.chip address bytes old.device.flash new.device.flash here has.written
       ∙ ap (λ (k : ℕ). with_bytes k bytes old.device.flash) from ∙ ap (λ (xs : List ℕ). with_bytes (page_offset chip n + f.offset) xs old.device.flash) part
 
-  pub write_goes : {T : Type 0} {turns : List Turn} (y : T) → Holds (write_frame address bytes) turns old new → (new.is_honest → IsModel new) → HasWritten address bytes old.device new.device
+  pub write_goes : {T : Type 0} {turns : List Turn} (y : T) → IsHeldToEnd (write_frame address bytes) turns old new → (new.is_honest → IsModel new) → HasWritten address bytes old.device new.device
       → IsErasedAt chip (page_offset chip n + f.offset) f.length old.device.flash
       → Goes flashes [] l old new (Ok y) (λ x. new.device.flash ≡ with_bytes (page_offset chip n + f.offset) (take f.length (drop f.offset page)) old.device.flash)
   write_goes y holds model_then has erased =
@@ -159,7 +159,7 @@ module _ (chip : ChipData) (n : ℕ) (page : List ℕ) (frames : List Frame) (l 
 
   pub frames_perform : (base : List ℕ) (result : Result (Unit {0}) Fault)
       → ((torn : Bool) → OnOk result (GoesOn (IsInOrder torn Sent) a.calls b.calls))
-      → ((torn : Bool) → Stops (Begin (Are Sent)) torn a b result)
+      → ((torn : Bool) → FaultEnds (Begin (Are Sent)) torn a b result)
       → ((flashes : List (List ℕ)) (l : Loaded) (base : List ℕ) → IsSteady flashes l a
       → a.device.chip ≡ chip → IsUnder n (Program n) (state_at a.journal)
       → length base ≡ flash_size chip

@@ -9,8 +9,8 @@ use Rattle.stm_wire.specs.Settling.{SettlesWithin}
 use Rattle.stm_session.specs.Fresh.{EndsWell, Way, byte_of, limit_of}
 use Rattle.stm_journal.specs.Calls.{AreFetches}
 use Rattle.stm_session.specs.declared.fault.Fault.{Fault}
-use Rattle.stm_session.specs.Fault.{Cause, IsHeard, IsRefusedLater, of_file, of_line, of_memory, of_protocol, of_refusal, of_session}
-use Rattle.stm_session.specs.Order.{Step, AreCutShort, Begin, FailsBy, IsAfter, Sends, StopsBy, acts_of, acts_of_steps}
+use Rattle.stm_session.specs.Fault.{Cause, IsOfTalking, IsRefusedLater, of_file, of_line, of_memory, of_protocol, of_refusal, of_session}
+use Rattle.stm_session.specs.Order.{Step, AreCutShort, Begin, StepFailsBy, IsAfter, Sends, StopsBy, acts_of, acts_of_steps}
 use Rattle.stm_session.specs.Reaching.{IsAsking, ReachesInOrder, ReachesInPart, SettlesFirst, SettlesThen, asking_steps, id_turns}
 use Rattle.stm_session.proofs.CutShort.{begin_all, cut_after}
 use Rattle.stm_session.proofs.Orders.{acts-append, acts-line, fetches-act, settled_and, settles_and}
@@ -30,7 +30,7 @@ told_then (Err e) A B then p = tt
 
 module _ (way : Way) (cause : Cause) (torn : Bool) where
   -- settling ends
-  pub settle_stops : (a b : Option (List Call)) → IsHeard cause → GoesOn (SettlesWithin (byte_of way) (limit_of way)) a b → GoesOn (ReachesInPart way cause torn) a b
+  pub settle_stops : (a b : Option (List Call)) → IsOfTalking cause → GoesOn (SettlesWithin (byte_of way) (limit_of way)) a b → GoesOn (ReachesInPart way cause torn) a b
   settle_stops a b heard settles =
       GoesOn-weaker (SettlesWithin (byte_of way) (limit_of way)) (ReachesInPart way cause torn) a b settles
       (λ xs s. inr (inl (heard, subst (λ (l : List Call). SettlesWithin (byte_of way) (limit_of way) l) (sym (acts-line xs s.line)) s)))
@@ -54,7 +54,7 @@ module _ (way : Way) (cause : Cause) (torn : Bool) where
       ⊎_elim (λ none. inl (same ∙ none))
       (λ some. ⊎_elim (λ part. inr (inl (part.0, subst (λ (l : List Call). SettlesWithin (byte_of way) (limit_of way) l) (sym same) part.1))) (λ s. inr (inr (s.0, s.1, s.2, s.3, same ∙ s.4, s.5))) some) y)
 
-  idle_later : (k : Cause) (t : Bool) → IsRefusedLater k → FailsBy k t None []
+  idle_later : (k : Cause) (t : Bool) → IsRefusedLater k → StepFailsBy k t None []
   idle_later of_refusal t is = refl
   idle_later of_line t is = absurd is
   idle_later of_protocol t is = absurd is

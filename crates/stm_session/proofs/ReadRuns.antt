@@ -22,8 +22,8 @@ use Rattle.stm_session.specs.Meaning.{CommandData, reads, changes_of, commands_i
 use Rattle.stm_session.specs.Moments.{IsUnbegun}
 use Rattle.stm_session.specs.Refusal.{chip_with, first_refusal, opening_refusal}
 use Rattle.stm_session.specs.Refusals.{commands_refused, is_in_flash, lies_in_flash, run_refusal}
-use Rattle.stm_session.specs.Running.{AreRead, RunsReads, bytes_of, bytes_read, is_read}
-use Rattle.stm_session.specs.Runs.{AmidRun, RunFails, Runs, answers_from, flashes_with, run_text, standing}
+use Rattle.stm_session.specs.Running.{AreRead, RunsReads, bytes_of, bytes_read, is_reading}
+use Rattle.stm_session.specs.Runs.{AmidRun, RunFails, Runs, answers_from, flashes_with, run_text, standing_commands}
 use Rattle.stm_session.specs.Undoable.{is_unfinished_at}
 use Rattle.stm_session.proofs.CommandLists.{entries-none}
 use Rattle.stm_session.proofs.Openings.{alone}
@@ -37,14 +37,14 @@ none_read : {A : Type 0} → false ≡ true → A
 none_read e = absurd (true≢false (sym e))
 
 -- reads change nothing
-no_changes : (commands : List Command) → list_all is_read commands ≡ true → changes_of (commands_in commands) ≡ []
+no_changes : (commands : List Command) → list_all is_reading commands ≡ true → changes_of (commands_in commands) ≡ []
 no_changes [] all = refl
 no_changes (command.Write image ∷ commands) all = none_read all
 no_changes (command.Erase pages ∷ commands) all = none_read all
 no_changes (command.Verify image ∷ commands) all = none_read all
 no_changes (command.Read start size ∷ commands) all = no_changes commands all
 
-all_stand : (chip : ChipData) (flash : List ℕ) (commands : List Command) → list_all is_read commands ≡ true → agreeing chip flash (commands_in commands) ≡ commands_in commands
+all_stand : (chip : ChipData) (flash : List ℕ) (commands : List Command) → list_all is_reading commands ≡ true → agreeing chip flash (commands_in commands) ≡ commands_in commands
 all_stand chip flash [] all = refl
 all_stand chip flash (command.Write image ∷ commands) all = none_read all
 all_stand chip flash (command.Erase pages ∷ commands) all = none_read all
@@ -52,7 +52,7 @@ all_stand chip flash (command.Verify image ∷ commands) all = none_read all
 all_stand chip flash (command.Read start size ∷ commands) all = ap (λ (cs : List CommandData). reads start size ∷ cs) (all_stand chip flash commands all)
 
 -- and answer the flash's bytes
-reads_answer : (chip : ChipData) (below : ℕ) (flash : List ℕ) (commands : List Command) → list_all is_read commands ≡ true
+reads_answer : (chip : ChipData) (below : ℕ) (flash : List ℕ) (commands : List Command) → list_all is_reading commands ≡ true
     → answers_of chip below flash (commands_in commands) ≡ Ok (map (λ c. was_read (bytes_read chip flash c)) commands)
 reads_answer chip below flash [] all = refl
 reads_answer chip below flash (command.Write image ∷ commands) all = none_read all
@@ -81,7 +81,7 @@ unfolding bytes_told
 told_reads chip flash [] = refl
 told_reads chip flash (c ∷ commands) = ap (λ (xs : List (List ℕ)). bytes_read chip flash c ∷ xs) (told_reads chip flash commands)
 
-are_read : (old : RigState) (commands : List Command) (outcomes : List Outcome) → list_all is_read commands ≡ true → answers_from old (commands_in commands) ≡ Ok (map outcome_data outcomes) → AreRead old.device commands outcomes
+are_read : (old : RigState) (commands : List Command) (outcomes : List Outcome) → list_all is_reading commands ≡ true → answers_from old (commands_in commands) ≡ Ok (map outcome_data outcomes) → AreRead old.device commands outcomes
 are_read old commands outcomes all said =
     let chip = old.device.chip in
     let flash = old.device.flash in
@@ -92,8 +92,8 @@ are_read old commands outcomes all said =
     inside said xs ys p q = let h : Ok xs ≡ Ok ys = sym p ∙ q in cc
 
 -- no segment is begun
-reads_unbegun : (commands : List Command) (flashes : List (List ℕ)) (old : RigState) → list_all is_read commands ≡ true → is_unfinished_at old.journal ≡ false → (d : Device) (journal : List ℕ)
-    → AmidRun (standing old (commands_in commands)) flashes old d journal → IsUnbegun old d journal
+reads_unbegun : (commands : List Command) (flashes : List (List ℕ)) (old : RigState) → list_all is_reading commands ≡ true → is_unfinished_at old.journal ≡ false → (d : Device) (journal : List ℕ)
+    → AmidRun (standing_commands old (commands_in commands)) flashes old d journal → IsUnbegun old d journal
 reads_unbegun commands flashes old all finished d journal amid =
     let cs = commands_in commands in
     let A : List CommandData → Type 0 = λ xs. AmidRun xs flashes old d journal in
@@ -116,7 +116,7 @@ reads_unbegun commands flashes old all finished d journal amid =
     no_command zero = refl
     no_command (suc n) = refl
 
-reads_fail : (commands : List Command) (flashes : List (List ℕ)) (old new : RigState) → list_all is_read commands ≡ true → (e : Fault) → RunFails (commands_in commands) flashes old new e → IsOutsideFault e
+reads_fail : (commands : List Command) (flashes : List (List ℕ)) (old new : RigState) → list_all is_reading commands ≡ true → (e : Fault) → RunFails (commands_in commands) flashes old new e → IsOutsideFault e
 reads_fail commands flashes old new all fault.Line is = tt
 reads_fail commands flashes old new all fault.Journal is = tt
 reads_fail commands flashes old new all fault.Memory is = tt
@@ -137,11 +137,11 @@ reads_fail commands flashes old new all fault.BoardChanged is = is
 reads_fail commands flashes old new all (fault.NotHeld n) is = is
 reads_fail commands flashes old new all fault.Full is = is
 
-pub reads_only : {T : Type 0} (commands : List Command) (flashes : List (List ℕ)) (old new : RigState) (result : Result T Fault) (outcomes_of : T → List Outcome) → list_all is_read commands ≡ true → is_unfinished_at old.journal ≡ false
+pub reads_only : {T : Type 0} (commands : List Command) (flashes : List (List ℕ)) (old new : RigState) (result : Result T Fault) (outcomes_of : T → List Outcome) → list_all is_reading commands ≡ true → is_unfinished_at old.journal ≡ false
     → Runs (commands_in commands) flashes old new result (λ x. map outcome_data (outcomes_of x)) → RunsReads commands old new result outcomes_of
 reads_only {T} commands flashes old new result outcomes_of all finished runs =
     record {
-      moments = weaker (AmidRun (standing old (commands_in commands)) flashes old) (IsUnbegun old) old new runs.moments (reads_unbegun commands flashes old all finished);
+      moments = weaker (AmidRun (standing_commands old (commands_in commands)) flashes old) (IsUnbegun old) old new runs.moments (reads_unbegun commands flashes old all finished);
       honest = runs.honest;
       left = reads_unbegun commands flashes old all finished new.device new.journal runs.left;
       fails = failed result runs.fails;
@@ -162,14 +162,14 @@ reads_inside : (chip : ChipData) (commands : List Command) → list_all (is_in_f
 reads_inside chip [] inside = refl
 reads_inside chip (c ∷ commands) inside = let two = both (is_in_flash chip c) (list_all (is_in_flash chip) commands) inside in rw two.0 (reads_inside chip commands two.1)
 
-no_change : (commands : List Command) → list_all is_read commands ≡ true → list_any is_change (commands_in commands) ≡ false
+no_change : (commands : List Command) → list_all is_reading commands ≡ true → list_any is_change (commands_in commands) ≡ false
 no_change [] all = refl
 no_change (command.Write image ∷ commands) all = none_read all
 no_change (command.Erase pages ∷ commands) all = none_read all
 no_change (command.Verify image ∷ commands) all = none_read all
 no_change (command.Read start size ∷ commands) all = no_change commands all
 
-pub reads_unrefused : ((bytes : List ℕ) (s : StateData) → journal_of bytes ≡ good s → IsSound s) → (journal : List ℕ) (d : Device) (table : List ChipData) (chip : ChipData) (commands : List Command) → list_all is_read commands ≡ true
+pub reads_unrefused : ((bytes : List ℕ) (s : StateData) → journal_of bytes ≡ good s → IsSound s) → (journal : List ℕ) (d : Device) (table : List ChipData) (chip : ChipData) (commands : List Command) → list_all is_reading commands ≡ true
     → opening_refusal (journal_of journal) d table ≡ None → chip_with table d.chip.id ≡ Some chip → list_all (is_in_flash chip) commands ≡ true → run_refusal (journal_of journal) d table (commands_in commands) ≡ None
 reads_unrefused sound journal d table chip commands all opened held inside =
     ap (λ (o : Option Fault). first_refusal (o ∷ commands_refused (journal_of journal) d (chip_with table d.chip.id) (commands_in commands) ∷ [])) opened

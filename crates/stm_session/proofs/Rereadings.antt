@@ -4,24 +4,24 @@ use Rattle.stm_wire.specs.Chip.{ChipData, flash_size, page_of, page_size, with_p
 use Rattle.stm_wire.specs.Device.{Device, IsDevice}
 use Rattle.stm_wire.specs.PageLaws.{page_put}
 use Rattle.std.proofs.Common.{length}
-use Rattle.stm_session.specs.Order.{Step, Are, Begin, page_reads, restore_steps, return_steps}
+use Rattle.stm_session.specs.Order.{Step, Are, Begin, page_reads, give_back_steps, return_steps}
 
 -- its return is begun with giving it back
-pub restore_begun : (again : Bool) (chip : ChipData) (n : ℕ) (held page : List ℕ) (xs : List Step) → Begin (Are (restore_steps chip n held page)) xs → Begin (Are (return_steps again chip n held page)) xs
+pub restore_begun : (again : Bool) (chip : ChipData) (n : ℕ) (held page : List ℕ) (xs : List Step) → Begin (Are (give_back_steps chip n held page)) xs → Begin (Are (return_steps again chip n held page)) xs
 restore_begun false chip n held page xs begun = begun
 restore_begun true chip n held page xs (rest, is) =
     let reads = page_reads chip n page in
     (rest ++ reads, sym (append_assoc xs rest reads) ∙ ap (λ (l : List Step). l ++ reads) is)
 
 -- and is all of both
-pub return_is : (again : Bool) (chip : ChipData) (n : ℕ) (held page : List ℕ) → again ≡ true → restore_steps chip n held page ++ page_reads chip n page ≡ return_steps again chip n held page
+pub return_is : (again : Bool) (chip : ChipData) (n : ℕ) (held page : List ℕ) → again ≡ true → give_back_steps chip n held page ++ page_reads chip n page ≡ return_steps again chip n held page
 return_is again chip n held page is =
-    let own = restore_steps chip n held page ++ page_reads chip n page in
+    let own = give_back_steps chip n held page ++ page_reads chip n page in
     let P : Bool → Type 0 = λ b. own ≡ return_steps b chip n held page in
     subst P (sym is) refl
 
-pub return_whole : (again : Bool) (chip : ChipData) (n : ℕ) (held page : List ℕ) → again ≡ true → Begin (Are (return_steps again chip n held page)) (restore_steps chip n held page ++ page_reads chip n page)
-return_whole again chip n held page is = ([], append-nil (restore_steps chip n held page ++ page_reads chip n page) ∙ return_is again chip n held page is)
+pub return_whole : (again : Bool) (chip : ChipData) (n : ℕ) (held page : List ℕ) → again ≡ true → Begin (Are (return_steps again chip n held page)) (give_back_steps chip n held page ++ page_reads chip n page)
+return_whole again chip n held page is = ([], append-nil (give_back_steps chip n held page ++ page_reads chip n page) ∙ return_is again chip n held page is)
 
 -- a page that was put holds its bytes
 pub holds_put : (chip : ChipData) (n : ℕ) (page : List ℕ) (d : Device) (flash : List ℕ) → IsDevice d → d.chip ≡ chip → length page ≡ page_size chip n → flash ≡ with_page chip n page d.flash → page_of chip flash n ≡ page

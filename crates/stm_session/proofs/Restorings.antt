@@ -14,7 +14,7 @@ use Rattle.stm_session.specs.declared.fault.Fault.{Fault}
 use Rattle.stm_session.specs.ChangeOrder.{IsChanged, IsChangedUnless}
 use Rattle.stm_session.specs.Changing.{change_entries}
 use Rattle.stm_session.specs.Lines.{rewrite_entries, return_entries}
-use Rattle.stm_session.specs.Order.{Step, Are, Begin, DoesSteps, Follows, Stops, restore_steps}
+use Rattle.stm_session.specs.Order.{Step, Are, Begin, DoesSteps, Follows, FaultEnds, give_back_steps}
 use Rattle.stm_session.specs.Order.{rewrite_steps}
 use Rattle.stm_session.specs.Running.{bytes_at}
 use Rattle.stm_session.specs.Sending.{is_whole}
@@ -26,7 +26,7 @@ use Rattle.stm_session.proofs.SentSteps.{PutFew, put_as, put_front, put_none, st
 -- A page that is kept is changed by the steps that give it back,
 module _ (chip : ChipData) (n : ℕ) (held page : List ℕ) where
   kept_steps : (steps : List Step) → IsChanged true chip n held page steps
-      → steps ≡ restore_steps chip n held page
+      → steps ≡ give_back_steps chip n held page
   kept_steps steps = by_same (bytes_eq held page)
     where
       by_same : (same : Bool) → IsChangedUnless same true chip n held page steps
@@ -39,18 +39,18 @@ module _ (chip : ChipData) (n : ℕ) (held page : List ℕ) where
 
   pub kept_does : (l l2 : Loaded) (a b : RigState)
       → Follows (IsChanged true chip n held page) l l2 a b
-      → DoesSteps (restore_steps chip n held page) l l2 a b
+      → DoesSteps (give_back_steps chip n held page) l l2 a b
   kept_does l l2 a b made = does_as made.0 _ l l2 a b (kept_steps made.0 made.1) made.2
 
   pub kept_begun : (steps : List Step) → Begin (IsChanged true chip n held page) steps
-      → Begin (Are (restore_steps chip n held page)) steps
+      → Begin (Are (give_back_steps chip n held page)) steps
   kept_begun = begin_as (IsChanged true chip n held page) _ kept_steps
 
   -- which put few bytes,
   pub kept_puts : {T : Type 0} (l l2 : Loaded) (a b : RigState) (result : Result T Fault)
       → n < page_count chip → length page ≡ page_size chip n
       → OnOk result (Follows (IsChanged true chip n held page) l l2 a b)
-      → Stops (Begin (IsChanged true chip n held page)) l.is_torn a b result
+      → FaultEnds (Begin (IsChanged true chip n held page)) l.is_torn a b result
       → GoesOn (IsPart (Some chip) (is_whole result) (9 + 2 * length page)) a.calls b.calls
   kept_puts l l2 a b result exists size =
       let Made = IsChanged true chip n held page in

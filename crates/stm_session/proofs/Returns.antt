@@ -18,7 +18,7 @@ use Rattle.stm_journal.specs.Newest.{KeepsSame, pages_of_segments}
 use Rattle.stm_journal.specs.NewestLaws.{newest_keeps_kept, segment_of-newest}
 use Rattle.stm_journal.specs.States.{StateData, SegmentData, AllOnce, PagesOnce, kept_at, newest_keeps}
 use Rattle.stm_session.specs.Lines.{return_entries, rewrite_entries}
-use Rattle.stm_session.specs.SegmentBack.{newest_at, with_pages}
+use Rattle.stm_session.specs.SegmentUndo.{newest_at, with_pages}
 use Rattle.stm_session.specs.Undoable.{newest_kept, state_at}
 use Rattle.stm_session.proofs.Keeping.{depth_text, fits_pages, text_is}
 

@@ -23,7 +23,7 @@ use Rattle.stm_session.specs.Opening.{AreCommandsOf, IsCoherent, Opens}
 use Rattle.stm_session.specs.Promises.{RunContract}
 use Rattle.stm_session.specs.Refusal.{RefusesUnsent, chip_with, first_refusal, opening_refusal, refused_unless, unsent_refusal}
 use Rattle.stm_session.specs.Refusals.{can_erase, command_refusals, commands_refused, lies_in_flash, run_refusal}
-use Rattle.stm_session.specs.Runs.{AmidRun, RunFails, Runs, standing}
+use Rattle.stm_session.specs.Runs.{AmidRun, RunFails, Runs, standing_commands}
 use Rattle.stm_session.specs.Steps.{IsSteady}
 use Rattle.stm_session.specs.Undoable.{Undoable, is_unfinished_at, state_at}
 use Rattle.stm_session.proofs.Openings.{alone, device_is_no_memory, has_chip, refused_nothing, unfinished_refused, unsent_is_first}
@@ -77,8 +77,8 @@ contract_unopened {T} table commands old new e (Err y) outcomes_of unsent calls 
           let finished = finished_of table commands flashes old u none in
           let o = opens h (finished_is_safe flashes old.device old.journal u finished) in
           record {
-            moments = weaker (IsUnbegun old) (AmidRun (standing old commands) flashes old) old new o.moments (unbegun_amid (standing old commands) flashes old u finished);
-            left = unbegun_amid (standing old commands) flashes old u finished new.device new.journal o.left;
+            moments = weaker (IsUnbegun old) (AmidRun (standing_commands old commands) flashes old) old new o.moments (unbegun_amid (standing_commands old commands) flashes old u finished);
+            left = unbegun_amid (standing_commands old commands) flashes old u finished new.device new.journal o.left;
             honest = o.honest;
             outcomes = tt;
             done = tt;

@@ -10,11 +10,11 @@ use Rattle.stm_journal.specs.States.{is_unfinished}
 use Rattle.stm_session.specs.declared.fault.Fault.{Fault}
 use Rattle.stm_session.specs.declared.fault.Fault.TheVariants as fault
 use Rattle.stm_session.specs.Answers.{OutcomeData, agreeing}
-use Rattle.stm_session.specs.OneCommand.{AmidOne, Does, TellsDifference, command_lines, flash_left, lines_if}
+use Rattle.stm_session.specs.OneCommand.{AmidOne, DoesCommand, TellsDifference, command_lines, flash_left, lines_if}
 use Rattle.stm_session.specs.Fault.{IsOutsideFault}
 use Rattle.stm_session.specs.Lines.{depth_at, is_named_at, segment_entries}
 use Rattle.stm_session.specs.Meaning.{CommandData, flash_after, is_change}
-use Rattle.stm_session.specs.Runs.{AmidRun, AreDone, RunFails, Runs, standing}
+use Rattle.stm_session.specs.Runs.{AmidRun, AreDone, RunFails, Runs, standing_commands}
 use Rattle.stm_session.specs.StepLaws.{StepLaws}
 use Rattle.stm_session.specs.Steps.{IsSteady, Stands}
 use Rattle.stm_session.proofs.CommandLists.{agreeing-append, answers-differ, change-agrees, difference-disagrees}
@@ -56,14 +56,14 @@ module _ (laws : StepLaws) (xs : List CommandData) (flashes : List (List ℕ)) (
       }
 
   -- these are the first that stand
-  pub standing_more : (ys : List CommandData) → standing old (xs ++ ys) ≡ xs ++ agreeing old.device.chip (flash_with old xs) ys
+  pub standing_more : (ys : List CommandData) → standing_commands old (xs ++ ys) ≡ xs ++ agreeing old.device.chip (flash_with old xs) ys
   standing_more ys = agreeing-append old.device.chip (depth_at old.journal) old.device.flash xs ys outcomes first.answers
 
   -- all are done
   pub run_all : {T : Type 0} (y : T) (outcomes_of : T → List OutcomeData) → is_unfinished l2.state ≡ false → outcomes ≡ outcomes_of y → Runs xs flashes old mid (Ok y) outcomes_of
   run_all y outcomes_of finished same =
-      let all : xs ≡ standing old xs =
-      sym (ap (standing old) (sym (append-nil xs)) ∙ standing_more [] ∙ append-nil xs) in
+      let all : xs ≡ standing_commands old xs =
+      sym (ap (standing_commands old) (sym (append-nil xs)) ∙ standing_more [] ∙ append-nil xs) in
       let A : List CommandData → Type 0 = λ cs. LeavesOnly (AmidRun cs flashes old) old mid in
       let M : List CommandData → Type 0 = λ cs. AmidRun cs flashes old mid.device mid.journal in
       record {
@@ -98,7 +98,7 @@ module _ (laws : StepLaws) (xs : List CommandData) (flashes : List (List ℕ)) (
     abbrev rest : List CommandData
     rest = agreeing old.device.chip (flash_with old xs) (c ∷ ys)
 
-    stop_amid : (d : Device) (journal : List ℕ) → AmidOne (is_change c) (command_lines mid c) (flashes_after old xs flashes) (flash_left mid c) mid d journal → AmidRun (standing old (xs ++ c ∷ ys)) flashes old d journal
+    stop_amid : (d : Device) (journal : List ℕ) → AmidOne (is_change c) (command_lines mid c) (flashes_after old xs flashes) (flash_left mid c) mid d journal → AmidRun (standing_commands old (xs ++ c ∷ ys)) flashes old d journal
     stop_amid d journal amid =
         let A : List CommandData → Type 0 = λ cs. AmidRun cs flashes old d journal in
         subst A (sym (standing_more (c ∷ ys))) (by_kind (is_change c) refl amid)
@@ -125,7 +125,7 @@ module _ (laws : StepLaws) (xs : List CommandData) (flashes : List (List ℕ)) (
         let later = agreeing old.device.chip (flash_after old.device.chip (flash_with old xs) c) ys in
         let none : rest ≡ [] =
         ap (λ (b : Bool). if b then c ∷ later else []) (difference-disagrees old.device.chip _ (flash_with old xs) c t.address said) in
-        let stands : xs ≡ standing old (xs ++ c ∷ ys) = sym (standing_more (c ∷ ys) ∙ ap (λ (cs : List CommandData). xs ++ cs) none ∙ append-nil xs) in
+        let stands : xs ≡ standing_commands old (xs ++ c ∷ ys) = sym (standing_more (c ∷ ys) ∙ ap (λ (cs : List CommandData). xs ++ cs) none ∙ append-nil xs) in
         let done = are_done finished in
         let C : List CommandData → Type 0 = λ cs. AreDone cs flashes old new.device new.journal in
         let D : Device → Type 0 = λ d. AreDone xs flashes old d new.journal in
@@ -138,10 +138,10 @@ module _ (laws : StepLaws) (xs : List CommandData) (flashes : List (List ℕ)) (
         )
 
     pub run_stopped : {T U : Type 0} (l3 : Loaded) (new : RigState) (e : Fault) (outcome_in : T → OutcomeData) (result : Result U Fault) (outcomes_of : U → List OutcomeData) → is_unfinished l2.state ≡ false → IsModel new
-        → Does (flashes_after old xs flashes) c l3 mid new (Err e) outcome_in → IsErrAnd result (λ z. z ≡ e) → Runs (xs ++ c ∷ ys) flashes old new result outcomes_of
+        → DoesCommand (flashes_after old xs flashes) c l3 mid new (Err e) outcome_in → IsErrAnd result (λ z. z ≡ e) → Runs (xs ++ c ∷ ys) flashes old new result outcomes_of
     run_stopped l3 new e outcome_in (Ok y) outcomes_of finished model2 does is = absurd is
     run_stopped l3 new e outcome_in (Err y) outcomes_of finished model2 does is =
-        let all = standing old (xs ++ c ∷ ys) in
+        let all = standing_commands old (xs ++ c ∷ ys) in
         let more : (d : Device) (journal : List ℕ) → AmidRun xs flashes old d journal → AmidRun all flashes old d journal = λ d journal a.
         let A : List CommandData → Type 0 = λ cs. AmidRun cs flashes old d journal in
         subst A (sym (standing_more (c ∷ ys))) (amid_more xs rest flashes old d journal a) in

@@ -20,7 +20,7 @@ use Rattle.stm_session.specs.Meaning.{CommandData, flash_after, flash_after_all,
 use Rattle.stm_session.specs.Answers.{OutcomeData}
 use Rattle.stm_session.specs.Lines.{depth_at}
 use Rattle.stm_session.specs.Refusals.{run_refusal}
-use Rattle.stm_session.specs.Runs.{AmidRun, standing}
+use Rattle.stm_session.specs.Runs.{AmidRun, standing_commands}
 use Rattle.stm_session.specs.Undoes.{taken_count}
 use Rattle.stm_session.specs.Promises.{RunContract}
 use Rattle.stm_session.specs.Events.{World, now_of, Knows, Stops, themselves}
@@ -102,7 +102,7 @@ module _ (laws : Laws) where
   run-unbegun : (commands : List CommandData) (flashes : List (List ℕ)) (s t : World) → SameMake s.device t.device → Undoable flashes t.device t.journal → (is_unfinished_at t.journal ≡ false → t.device.flash ≡ s.device.flash) → RunLeft commands flashes s t
   run-unbegun commands flashes s t make u flash = record { begun = 0; within = omega arith; make = make; undoable = u; finished = flash }
 
-  amid-left : (commands : List CommandData) (flashes : List (List ℕ)) (old : RigState) (t : World) → AmidRun (standing old commands) flashes old t.device t.journal → RunLeft commands flashes (now_of old) t
+  amid-left : (commands : List CommandData) (flashes : List (List ℕ)) (old : RigState) (t : World) → AmidRun (standing_commands old commands) flashes old t.device t.journal → RunLeft commands flashes (now_of old) t
   amid-left commands flashes old t amid = record { begun = amid.begun; within = amid.within; make = amid.make; undoable = amid.undoable; finished = amid.finished }
 
   untouched-left : (commands : List CommandData) (flashes : List (List ℕ)) (old : RigState) (t : World) → Undoable flashes old.device old.journal → IsUntouched old t.device t.journal → RunLeft commands flashes (now_of old) t

@@ -12,10 +12,10 @@ use Rattle.stm_journal.specs.Journals.{Loaded}
 use Rattle.stm_journal.specs.States.{is_unfinished}
 use Rattle.stm_session.specs.declared.command.Command.{Command}
 use Rattle.stm_session.specs.declared.outcome.Outcome.{Outcome}
-use Rattle.stm_session.specs.Answers.{outcome_data, segments_of}
+use Rattle.stm_session.specs.Answers.{outcome_data, segments_of_command}
 use Rattle.stm_session.specs.Meaning.{CommandData, changes_of, command_data, commands_in, is_change}
 use Rattle.stm_session.specs.Order.{Follows}
-use Rattle.stm_session.specs.RunOrder.{AreDone}
+use Rattle.stm_session.specs.RunOrder.{AreDoneInOrder}
 use Rattle.stm_session.specs.Running.{AreKindsOf}
 use Rattle.stm_session.specs.Sending.{most_of_command}
 use Rattle.stm_session.specs.Steps.{IsSteady}
@@ -33,7 +33,7 @@ pub record IsRunSoFar (chip : ChipData) (commands : List Command) (i : ℕ) (out
   pub journal : new.journal_failures ≡ old.journal_failures
   pub stays : old.is_honest → new.is_honest
   pub parts : GoesOn (IsPart (Some chip) true (i * most_of_command)) old.calls new.calls
-  pub order : Follows (AreDone chip (commands_in (take i commands)) (map outcome_data outcomes.items) l.state l2.state) l l2 old new
+  pub order : Follows (AreDoneInOrder chip (commands_in (take i commands)) (map outcome_data outcomes.items) l.state l2.state) l l2 old new
   pub honest : (flashes : List (List ℕ)) → IsSteady flashes l old → old.device.chip ≡ chip
       → HasRun (commands_in (take i commands)) flashes l2 old new (map outcome_data outcomes.items)
 
@@ -90,7 +90,7 @@ module _ (commands : List Command) (i : ℕ) (d : Command) (lt : i < length comm
 
 -- how deep the journal is after it
 pub depth_next : (commands : List Command) (i : ℕ) (d : Command) → i < length commands → d ≡ get_or commands i d → (below depth deeper : ℕ) → depth ≡ below + length (changes_of (commands_in (take i commands)))
-    → deeper ≡ depth + segments_of (command_data d) → deeper ≡ below + length (changes_of (commands_in (take (i + 1) commands)))
+    → deeper ≡ depth + segments_of_command (command_data d) → deeper ≡ below + length (changes_of (commands_in (take (i + 1) commands)))
 depth_next commands i d lt is below depth deeper so_far more =
     let n = ap (λ (cs : List CommandData). length (changes_of cs)) (taken_next commands i d lt is) ∙ changes-push (commands_in (take i commands)) (command_data d) in
     omega (arith, so_far, more, n)

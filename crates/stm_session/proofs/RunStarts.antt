@@ -12,7 +12,7 @@ use Rattle.stm_session.specs.Answers.{OutcomeData, agreeing, answers_of}
 use Rattle.stm_session.specs.Lines.{depth_at, is_named_at, is_torn_at, run_entries, text_added}
 use Rattle.stm_session.specs.Meaning.{CommandData, changes_of, flash_after_all, flashes_before}
 use Rattle.stm_session.specs.Moments.{IsUnbegun}
-use Rattle.stm_session.specs.Runs.{AmidRun, AreDone, RunFails, Runs, answers_from, run_text, standing}
+use Rattle.stm_session.specs.Runs.{AmidRun, AreDone, RunFails, Runs, answers_from, run_text, standing_commands}
 use Rattle.stm_session.specs.Steps.{IsSteady, KeepsFlashes}
 use Rattle.stm_session.specs.Undoable.{Undoable, is_unfinished_at, state_at}
 use Rattle.stm_session.proofs.Keeping.{keeps_same}
@@ -56,7 +56,7 @@ module _ (old mid : RigState) (left : IsUnbegun old mid.device mid.journal) wher
       ap (λ (j : List ℕ). text j mid.device.chip mid.device.flash) left.journal_same
       ∙ ap₂ (λ (k : ChipData) f. text old.journal k f) left.make.chip left.flash
 
-  standing_from : (commands : List CommandData) → standing mid commands ≡ standing old commands
+  standing_from : (commands : List CommandData) → standing_commands mid commands ≡ standing_commands old commands
   standing_from commands = ap₂ (λ (k : ChipData) f. agreeing k f commands) left.make.chip left.flash
 
   answers_same : (commands : List CommandData) → answers_from mid commands ≡ answers_from old commands
@@ -105,7 +105,7 @@ module _ (old mid : RigState) (left : IsUnbegun old mid.device mid.journal) wher
   fails_from commands flashes new fault.InSession is = is
   fails_from commands flashes new (fault.Differs address) is =
       let D : List CommandData → Type 0 = λ cs. AreDone cs flashes old new.device new.journal in
-      (sym (answers_same commands) ∙ is.0, subst D (standing_from commands) (done_from (standing mid commands) flashes new.device new.journal is.1), is.2)
+      (sym (answers_same commands) ∙ is.0, subst D (standing_from commands) (done_from (standing_commands mid commands) flashes new.device new.journal is.1), is.2)
   fails_from commands flashes new fault.Device is = is
   fails_from commands flashes new (fault.BadJournal line) is = is
   fails_from commands flashes new fault.OtherDevice is = is
@@ -118,7 +118,7 @@ module _ (old mid : RigState) (left : IsUnbegun old mid.device mid.journal) wher
   pub runs_from : {T : Type 0} (commands : List CommandData) (flashes : List (List ℕ)) (new : RigState) (result : Result T Fault) (outcomes_of : T → List OutcomeData) → Undoable flashes old.device old.journal
       → is_unfinished_at old.journal ≡ false → LeavesOnly (IsUnbegun old) old mid → Runs commands flashes mid new result outcomes_of → Runs commands flashes old new result outcomes_of
   runs_from {T} commands flashes new result outcomes_of u finished opening runs =
-      let all = standing old commands in
+      let all = standing_commands old commands in
       let M : List CommandData → Type 0 = λ cs. LeavesOnly (AmidRun cs flashes mid) mid new in
       let L : List CommandData → Type 0 = λ cs. AmidRun cs flashes mid new.device new.journal in
       record {

@@ -9,7 +9,7 @@ use Rattle.stm_wire.specs.Rig.{RigState, IsModel}
 use Rattle.stm_journal.specs.declared.entry.Entry.{Entry}
 use Rattle.stm_journal.specs.Journals.{Loaded}
 use Rattle.stm_session.specs.Answers.{OutcomeData, outcome_of}
-use Rattle.stm_session.specs.OneCommand.{AmidOne, Does, answer_on, command_lines, flash_left, lines_if}
+use Rattle.stm_session.specs.OneCommand.{AmidOne, DoesCommand, answer_on, command_lines, flash_left, lines_if}
 use Rattle.stm_session.specs.Lines.{depth_at, is_named_at, is_torn_at, run_entries, segment_entries, text_added}
 use Rattle.stm_session.specs.Meaning.{CommandData, before_if, changes_of, flash_after, flash_after_all, flashes_before, is_change}
 use Rattle.stm_session.specs.Moments.{SameMake}
@@ -20,7 +20,7 @@ use Rattle.stm_session.specs.Steps.{AddsLines, IsSteady, Stands, torn_after}
 use Rattle.stm_session.specs.Undoable.{Undoable, state_at}
 use Rattle.stm_session.proofs.CommandLists.{after-changes, after-push, answers-push, before-append, before-push, changes-append, entries-append, entries-none, entries-one, named-as-before, named-by-changes, named_after}
 use Rattle.stm_session.proofs.Going.{at_exit}
-use Rattle.stm_session.proofs.GoingBack.{flashes_count}
+use Rattle.stm_session.proofs.UndoesOfSegments.{flashes_count}
 use Rattle.stm_session.proofs.RunHistories.{length-before}
 use Rattle.stm_session.proofs.Keeping.{good_at}
 use Rattle.stm_session.proofs.Standing.{makes_then, stands_now}
@@ -216,7 +216,7 @@ module _ (laws : StepLaws) (xs : List CommandData) (flashes : List (List ℕ)) (
       by_kind false e s = stands_amid (c ∷ []) (command_lines mid c) (lines_next c) d journal s
 
   -- the next command
-  pub run_next : {T : Type 0} (c : CommandData) (l3 : Loaded) (new : RigState) (x : T) (outcome_in : T → OutcomeData) → Does (flashes_after old xs flashes) c l3 mid new (Ok x) outcome_in
+  pub run_next : {T : Type 0} (c : CommandData) (l3 : Loaded) (new : RigState) (x : T) (outcome_in : T → OutcomeData) → DoesCommand (flashes_after old xs flashes) c l3 mid new (Ok x) outcome_in
       → HasRun (xs ++ c ∷ []) flashes l3 old new (outcomes ++ outcome_in x ∷ [])
   run_next c l3 new x outcome_in does =
       let S : List (List ℕ) → Type 0 = λ fs. IsSteady fs l3 new in

@@ -22,7 +22,7 @@ use Rattle.stm_session.specs.declared.fault.Fault.{Fault}
 use Rattle.stm_session.specs.ChangeOrder.{AreTurned, none, more, IsChangedUnless, IsOneSegment, IsSaved, IsSavedWith, IsSegmentBegun, begins, turns, ends, IsTurnOf}
 use Rattle.stm_session.specs.Contents.{content}
 use Rattle.stm_session.specs.Meaning.{CommandData}
-use Rattle.stm_session.specs.Order.{Step, Adds, Follows, Stops, erase_steps, page_reads}
+use Rattle.stm_session.specs.Order.{Step, Adds, Follows, FaultEnds, erase_steps, page_reads}
 use Rattle.stm_session.specs.Order.{program_steps, rewrite_steps}
 use Rattle.stm_session.specs.RunOrder.{IsBegunIf, IsDoneIf}
 use Rattle.stm_session.specs.Sending.{is_whole, most_of_command}
@@ -146,7 +146,7 @@ module _ (lengths : (set : Pairs) (address : ℕ) (bytes : List ℕ) → length 
 
   -- a command that changes the flash
   pub change_puts : {T : Type 0} (c : CommandData) (Told : T → List Step → Type 0) (l l2 : Loaded) (a b : RigState) (result : Result T Fault) → IfOk result (λ x. Follows (λ xs. IsDoneIf true chip c l.state xs × Told x xs) l l2 a b)
-      → Stops (IsBegunIf true chip c l.state) l.is_torn a b result → GoesOn (IsPart (Some chip) (is_whole result) most_of_command) a.calls b.calls
+      → FaultEnds (IsBegunIf true chip c l.state) l.is_torn a b result → GoesOn (IsPart (Some chip) (is_whole result) most_of_command) a.calls b.calls
   change_puts c Told l l2 a b result =
       steps_put chip most_of_command (λ x xs. IsDoneIf true chip c l.state xs × Told x xs) (IsBegunIf true chip c l.state) l l2 a b result
       (λ x xs done. put_segment done.0.0 l.state xs done.0.2) (λ xs begun. put_begun begun.0 l.state xs begun.2)

@@ -14,7 +14,7 @@ use Rattle.stm_wire.specs.SentList.{IsFrame}
 use Rattle.stm_journal.specs.Journals.{Loaded, added_bytes}
 use Rattle.stm_session.specs.declared.fault.Fault.{Fault}
 use Rattle.stm_session.specs.Fault.{Cause, cause_of, of_line, of_protocol, of_file, of_memory, of_session, of_refusal}
-use Rattle.stm_session.specs.Order.{Step, Adds, Are, Begin, Sends, AreCutShort, DoesSteps, FailsBy, Follows, IsInOrder, Stops, StopsBy, acts_of, acts_of_steps, step_in, torn_behind}
+use Rattle.stm_session.specs.Order.{Step, Adds, Are, Begin, Sends, AreCutShort, DoesSteps, StepFailsBy, Follows, IsInOrder, FaultEnds, StopsBy, acts_of, acts_of_steps, step_in, torn_behind}
 use Rattle.stm_session.specs.Sending.{is_whole, is_whole_at, leaves_whole}
 
 -- how many calls their frames are
@@ -100,7 +100,7 @@ module _ (chip : ChipData) where
       part_as (Some chip) false (length turns) (length turns + 0) last (omega arith)
       (at_once (IsPart (Some chip) false (length turns)) last (broken_is_part (Some chip) (length turns) (sent_bytes turns) turns fault (Some []) (Some last) refl is (omega arith) (last, refl, off)))
 
-  failed_part : (cause : Cause) (torn : Bool) (failed : Option Step) (last : List Call) → AreSent chip (step_in failed) → FailsBy cause torn failed last → IsPart (Some chip) (leaves_whole cause) (count_of (step_in failed)) last
+  failed_part : (cause : Cause) (torn : Bool) (failed : Option Step) (last : List Call) → AreSent chip (step_in failed) → StepFailsBy cause torn failed last → IsPart (Some chip) (leaves_whole cause) (count_of (step_in failed)) last
   failed_part of_line torn (Some (Sends turns)) last sent fails = broken Line turns last sent.0 fails
   failed_part of_protocol torn (Some (Sends turns)) last sent fails = broken fails.0 turns last sent.0 fails.2
   failed_part of_file torn (Some (Adds entries)) last sent fails = ⊎_elim (no_calls (Some chip) true last) (λ part. silent (Some chip) true last (ap puts_of part.1) (ap gets_of part.1)) fails
@@ -168,7 +168,7 @@ begun_puts chip most steps e torn a b few = stopped_puts chip most (Begin (Are s
 
 -- by the answer.
 pub steps_put : {T : Type 0} (chip : ChipData) (most : ℕ) (P : T → List Step → Type 0) (Q : List Step → Type 0) (l l2 : Loaded) (a b : RigState) (result : Result T Fault)
-    → ((x : T) (xs : List Step) → P x xs → PutFew chip most xs) → ((xs : List Step) → Q xs → PutFew chip most xs) → IfOk result (λ x. Follows (P x) l l2 a b) → Stops Q l.is_torn a b result
+    → ((x : T) (xs : List Step) → P x xs → PutFew chip most xs) → ((xs : List Step) → Q xs → PutFew chip most xs) → IfOk result (λ x. Follows (P x) l l2 a b) → FaultEnds Q l.is_torn a b result
     → GoesOn (IsPart (Some chip) (is_whole result) most) a.calls b.calls
 steps_put chip most P Q l l2 a b (Ok x) done cut (steps, p, does) stops = done_puts chip most steps l l2 a b (done x steps p) does
 steps_put chip most P Q l l2 a b (Err e) done cut order stops = stopped_puts chip most Q e l.is_torn a b cut stops

@@ -5,7 +5,7 @@ use Rattle.stm_wire.specs.Dialogue.{GoesOn}
 use Rattle.stm_wire.specs.DialogueLaws.{GoesOn-append, GoesOn-weaker}
 use Rattle.stm_wire.specs.Rig.{RigState}
 use Rattle.stm_journal.specs.Journals.{Loaded}
-use Rattle.stm_session.specs.Order.{Step, DoesSteps, IsInOrder, acts_of, behind}
+use Rattle.stm_session.specs.Order.{Step, DoesSteps, IsInOrder, acts_of, tells_behind}
 use Rattle.stm_session.specs.Told.{AreCalls, EndsWith, ToldBy, ToldIn}
 use Rattle.stm_session.proofs.Orders.{acts-append, order_then}
 use Rattle.stm_session.proofs.Tellings.{SaysAlso}
@@ -28,7 +28,7 @@ module _ {R : Type 0} (view : R → RigState) where
       }
 
   -- or before
-  pub told_then : (xs : List Step) (l l2 : Loaded) (a b c : RigState) → DoesSteps xs l l2 a b → SaysAlso (ToldIn view l2.is_torn b c) (behind xs (ToldIn view l.is_torn a c))
+  pub told_then : (xs : List Step) (l l2 : Loaded) (a b c : RigState) → DoesSteps xs l l2 a b → SaysAlso (ToldIn view l2.is_torn b c) (tells_behind xs (ToldIn view l.is_torn a c))
   told_then xs l l2 a b c does steps page told =
       let Q : Bool → Type 0 = λ t. GoesOn (IsInOrder t steps) b.calls (view told.before).calls in
       record {

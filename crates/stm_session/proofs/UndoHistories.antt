@@ -16,7 +16,7 @@ use Rattle.stm_session.specs.Refusal.{RefusesUnsent}
 use Rattle.stm_session.specs.Refusals.{undo_refusal}
 use Rattle.stm_session.specs.Undoable.{Undoable, is_unfinished_at, state_at}
 use Rattle.stm_session.specs.Lines.{depth_at}
-use Rattle.stm_session.specs.Undoes.{taken_count, flash_taken_back, AmidUndo, Undoes}
+use Rattle.stm_session.specs.Undoes.{taken_count, flash_undone, AmidUndo, Undoes}
 use Rattle.stm_session.specs.Promises.{UndoContract}
 use Rattle.stm_session.specs.Events.{World, now_of, Knows, Stops}
 use Rattle.stm_session.specs.Headline.{grown, UndoHolds, UndoLeaves}
@@ -50,7 +50,7 @@ module _ (laws : Laws) where
     pub within : undone ≤ length flashes
     pub make : SameMake s.device t.device
     pub undoable : Undoable (drop undone flashes) t.device t.journal
-    pub finished : is_unfinished_at t.journal ≡ false → t.device.flash ≡ flash_taken_back undone s.device.flash flashes
+    pub finished : is_unfinished_at t.journal ≡ false → t.device.flash ≡ flash_undone undone s.device.flash flashes
 
   amid-left : (count : ℕ) (flashes : List (List ℕ)) (old : RigState) (t : World) → AmidUndo (taken_count count (length flashes)) flashes old t.device t.journal → UndoLeft flashes (now_of old) t
   amid-left count flashes old t amid =
@@ -66,7 +66,7 @@ module _ (laws : Laws) where
 
   pub undo-leaves : (flashes : List (List ℕ)) (s t : World) → Undoable flashes s.device s.journal → UndoLeft flashes s t → UndoLeaves s t flashes
   undo-leaves flashes s t u left e =
-      left.finished e ∙ ap (λ (n : ℕ). flash_taken_back n s.device.flash flashes) (sym (undo-undone flashes s t u left))
+      left.finished e ∙ ap (λ (n : ℕ). flash_undone n s.device.flash flashes) (sym (undo-undone flashes s t u left))
 
   pub undo-starts : (flashes : List (List ℕ)) (s t : World) → Undoable flashes s.device s.journal → UndoLeft flashes s t → Undoable (drop (grown t s) flashes) t.device t.journal
   undo-starts flashes s t u left =
@@ -87,7 +87,7 @@ module _ (laws : Laws) where
           length-drop (taken_count count (length flashes)) flashes,
         );
         finished = undoes.done.finished;
-        flash = undoes.done.flash ∙ ap (λ k. flash_taken_back k old.device.flash flashes) (sym undoes.answer);
+        flash = undoes.done.flash ∙ ap (λ k. flash_undone k old.device.flash flashes) (sym undoes.answer);
       }
 
   -- with no segment to take back nothing is done, and it is held
@@ -98,7 +98,7 @@ module _ (laws : Laws) where
         answer = omega (arith, none, empty, taken-within count (depth_at old.journal));
         segments = omega (arith, none, depth);
         finished = none-finished new.journal (depth ∙ empty);
-        flash = ap (λ (d : Device). d.flash) same.1.1 ∙ ap (λ k. flash_taken_back k old.device.flash flashes) (sym none);
+        flash = ap (λ (d : Device). d.flash) same.1.1 ∙ ap (λ k. flash_undone k old.device.flash flashes) (sym none);
       }
 
   module _ (table : List ChipData) (count : ℕ) (flashes : List (List ℕ)) (old new : RigState) (result : Result ℕ Fault) (honest : old.is_honest)

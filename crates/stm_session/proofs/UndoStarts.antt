@@ -23,7 +23,7 @@ use Rattle.stm_session.specs.Undoable.{Undoable, good_state, state_at}
 use Rattle.stm_session.specs.Undoes.{AmidUndo, Undoes, taken_count}
 use Rattle.stm_session.proofs.Fitting.{fits-unrefused}
 use Rattle.stm_session.proofs.Forgetting.{misfit-forgets}
-use Rattle.stm_session.proofs.GoingBack.{flashes_count}
+use Rattle.stm_session.proofs.UndoesOfSegments.{flashes_count}
 use Rattle.stm_session.proofs.Keeping.{depth_text, good_at, text_is}
 use Rattle.stm_session.proofs.Openings.{has_chip}
 use Rattle.stm_session.proofs.Unread.{same_flash, untouched_amid, none_some}

@@ -16,7 +16,7 @@ use Rattle.stm_journal.specs.States.{intent_of}
 use Rattle.stm_session.specs.declared.fault.Fault.{Fault}
 use Rattle.stm_session.specs.Fault.{IsOutsideFault}
 use Rattle.stm_session.specs.Fresh.{settling_limit}
-use Rattle.stm_session.specs.SegmentsBack.{AmidBackBy, GoesBackBy, undo_lines}
+use Rattle.stm_session.specs.SegmentsUndo.{AmidNewestBy, UndoesBy, undo_lines}
 use Rattle.stm_session.specs.Lines.{is_torn_at, text_added}
 use Rattle.stm_session.specs.JournalDevice.{Meets}
 use Rattle.stm_session.specs.Moments.{SameMake}
@@ -84,7 +84,7 @@ module _ (table : List ChipData) (l : Loaded) (old a : RigState) (loads : Loads 
         text_b : undo_text b taken b.device.flash ≡ undo_text old taken b.device.flash
         text_b = ap₂ (λ (j : List ℕ) (p : ChipData). text_added (is_torn_at j) (Rattle.stm_session.specs.Lines.undo_entries p taken (state_at j).stack b.device.flash)) journal_b chip_as
 
-        back_amid : (d : Device) (journal : List ℕ) → AmidBackBy (undo_lines taken b) taken flashes b d journal → AmidUndo taken flashes old d journal
+        back_amid : (d : Device) (journal : List ℕ) → AmidNewestBy (undo_lines taken b) taken flashes b d journal → AmidUndo taken flashes old d journal
         back_amid d journal amid =
             let M : Device → Type 0 = λ x. SameMake x b.device in
             record {
@@ -102,16 +102,16 @@ module _ (table : List ChipData) (l : Loaded) (old a : RigState) (loads : Loads 
               lines = amid.lines ∙ ap₂ (λ (j bytes : List ℕ). j ++ take amid.written bytes) journal_b text_b;
             }
 
-        back_moments : LeavesOnly (AmidBackBy (undo_lines taken b) taken flashes b) b c → LeavesOnly (AmidUndo taken flashes old) old c
+        back_moments : LeavesOnly (AmidNewestBy (undo_lines taken b) taken flashes b) b c → LeavesOnly (AmidUndo taken flashes old) old c
         back_moments moments =
-            joined (AmidUndo taken flashes old) (AmidBackBy (undo_lines taken b) taken flashes b) (AmidUndo taken flashes old) old b c (first_moments goes.moments) moments (λ d journal m. m) back_amid
+            joined (AmidUndo taken flashes old) (AmidNewestBy (undo_lines taken b) taken flashes b) (AmidUndo taken flashes old) old b c (first_moments goes.moments) moments (λ d journal m. m) back_amid
 
-        pub undoes_stopped : {T : Type 0} (e x : Fault) → IsModel c → GoesBackBy {T = T} (undo_lines taken b) taken flashes l2 b c (Err e) → x ≡ e → Undoes taken flashes old c (Err x)
+        pub undoes_stopped : {T : Type 0} (e x : Fault) → IsModel c → UndoesBy {T = T} (undo_lines taken b) taken flashes l2 b c (Err e) → x ≡ e → Undoes taken flashes old c (Err x)
         undoes_stopped e x model back is =
             let moments = back_moments back.moments in
             record { moments = moments; honest = back.honest; left = at_exit (AmidUndo taken flashes old) old c model moments; answer = tt; done = tt; settled = tt; fails = subst IsOutsideFault (sym is) back.fails }
 
-        pub undoes_all : (n : ℕ) → n ≡ taken → 1 ≤ taken → IsModel c → GoesBackBy {T = Unit {0}} (undo_lines taken b) taken flashes l2 b c (Ok tt) → Undoes taken flashes old c (Ok n)
+        pub undoes_all : (n : ℕ) → n ≡ taken → 1 ≤ taken → IsModel c → UndoesBy {T = Unit {0}} (undo_lines taken b) taken flashes l2 b c (Ok tt) → Undoes taken flashes old c (Ok n)
         undoes_all n is one model back =
             let moments = back_moments back.moments in
             let left = at_exit (AmidUndo taken flashes old) old c model moments in

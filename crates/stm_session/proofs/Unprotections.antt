@@ -14,7 +14,7 @@ use Rattle.stm_wire.specs.Moments.{FedAndTaken}
 use Rattle.stm_wire.specs.MomentLaws.{weaker}
 use Rattle.stm_wire.specs.Protection.{protection_code}
 use Rattle.stm_wire.specs.Rig.{RigState}
-use Rattle.stm_wire.specs.Sending.{BreaksOff, Holds}
+use Rattle.stm_wire.specs.Sending.{BreaksOff, IsHeldToEnd}
 use Rattle.stm_wire.specs.Settling.{PutsPart}
 use Rattle.stm_wire.specs.SettlingCalls.{IsConnected}
 use Rattle.stm_wire.specs.Stopped.{LossStaysHarmless}
@@ -185,7 +185,7 @@ module _ (lost : LossStaysHarmless) (old : RigState) (safely : old.is_honest →
           (λ h empty. line_is_no_memory (fault_of e) (frame_used e)))
 
       -- or held to its end
-      pub whole : {U : Type 0} (new : RigState) (x : U) → Holds unprotect_frame unprotect_turns settled new → UnprotectContract old new (Ok x)
+      pub whole : {U : Type 0} (new : RigState) (x : U) → IsHeldToEnd unprotect_frame unprotect_turns settled new → UnprotectContract old new (Ok x)
       whole new x holds =
           contract new (Ok x) (λ h refusal said. accepted h refusal said) (λ h refusal said. accepted h refusal said)
           (λ h fresh. leaves_fed lost unprotect_frame _ old mid (safely h fresh) (loads h) settled (begins (loads h).honest (fresh_then h fresh)) new x holds)

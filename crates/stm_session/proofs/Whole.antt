@@ -5,9 +5,9 @@ use Rattle.stm_wire.specs.Chip.{ChipData}
 use Rattle.stm_wire.specs.Rig.{RigState}
 use Rattle.stm_session.specs.Undoable.{Undoable}
 use Rattle.stm_session.specs.Meaning.{CommandData, writes, erases, verifies, reads, flash_after, flash_after_all, flashes_before, changes_of, is_change, before_if}
-use Rattle.stm_session.specs.Undoes.{flash_taken_back}
+use Rattle.stm_session.specs.Undoes.{flash_undone}
 use Rattle.stm_session.specs.Events.{World, now_of, Event, Happening, AllLead, Knows, Leads, end_of, ran, run_stopped, informed, info_stopped, identified, identify_stopped, undid, undo_stopped, left_refused, refusal_stopped, unprotected, unprotect_stopped, kept, was_reset, lost_owed, lost_power}
-use Rattle.stm_session.specs.Headline.{standing_in, grown, starts_of_run, starts_after, oldest_after, oldest_of, oldest_start, AllIsTakenBack, WritesWhole}
+use Rattle.stm_session.specs.Headline.{standing_in, grown, starts_of_run, starts_after, oldest_after, oldest_of, oldest_start, AllIsUndone, WritesWhole}
 use Rattle.stm_session.proofs.RunHistories.{Laws, RunLeft, depth-is, length-before, run-left, run-begun}
 use Rattle.stm_session.proofs.UndoHistories.{UndoLeft, none-finished, undo-left, undo-undone}
 use Rattle.stm_session.proofs.Histories.{gives}
@@ -58,21 +58,21 @@ taken-oldest : (f : List ℕ) (fs : List (List ℕ)) → get_or (f ∷ fs) (leng
 taken-oldest f [] = refl
 taken-oldest f (g ∷ fs) = taken-oldest g fs
 
-all-oldest : (flash : List ℕ) (flashes : List (List ℕ)) → flash_taken_back (length flashes) flash flashes ≡ oldest flashes flash
+all-oldest : (flash : List ℕ) (flashes : List (List ℕ)) → flash_undone (length flashes) flash flashes ≡ oldest flashes flash
 all-oldest flash [] = refl
 all-oldest flash (f ∷ fs) = taken-oldest f fs
 
-oldest-drop : (n : ℕ) (flashes : List (List ℕ)) (old new : List ℕ) → n ≤ length flashes → (n ≡ length flashes → new ≡ flash_taken_back n old flashes) → oldest (drop n flashes) new ≡ oldest flashes old
+oldest-drop : (n : ℕ) (flashes : List (List ℕ)) (old new : List ℕ) → n ≤ length flashes → (n ≡ length flashes → new ≡ flash_undone n old flashes) → oldest (drop n flashes) new ≡ oldest flashes old
 oldest-drop n flashes old new within same = by_length n flashes old within same
   where
-    next : (n : ℕ) (old f : List ℕ) (fs : List (List ℕ)) → flash_taken_back (suc n) old (f ∷ fs) ≡ flash_taken_back n f fs
+    next : (n : ℕ) (old f : List ℕ) (fs : List (List ℕ)) → flash_undone (suc n) old (f ∷ fs) ≡ flash_undone n f fs
     next zero old f fs = refl
     next (suc n) old f fs = refl
 
     no_more : (n : ℕ) → suc n ≤ 0 → ⊥
     no_more n le = omega (arith, le)
 
-    by_length : (n : ℕ) (flashes : List (List ℕ)) (old : List ℕ) → n ≤ length flashes → (n ≡ length flashes → new ≡ flash_taken_back n old flashes) → oldest (drop n flashes) new ≡ oldest flashes old
+    by_length : (n : ℕ) (flashes : List (List ℕ)) (old : List ℕ) → n ≤ length flashes → (n ≡ length flashes → new ≡ flash_undone n old flashes) → oldest (drop n flashes) new ≡ oldest flashes old
     by_length zero [] old within same = same refl
     by_length zero (f ∷ fs) old within same = refl
     by_length (suc n) [] old within same = absurd (no_more n within)
@@ -153,13 +153,13 @@ module _ (laws : Laws) {R : Type 0} (view : R → RigState) where
       next : (event : Event R) → oldest_after event x.after (oldest starts s.device.flash) ≡ oldest_after event x.after first
       next event = ap (λ (flash : List ℕ). oldest_after event x.after flash) is
 
-  pub all-taken-back : AllIsTakenBack view
+  pub all-taken-back : AllIsUndone view
   all-taken-back history start starts u all table old new n w2 leads =
       let e = ends history start starts (oldest_start starts start) u (sym (all-oldest start.device.flash starts)) all in
       let w = end_of history start in
       let held = (gives laws view (undid table 0 old new (Ok n)) e.starts w w2 leads e.undoable).2 in
       let depth = depth-is e.starts w.device w.journal e.undoable in (
-        held.flash ∙ ap (λ k. flash_taken_back k w.device.flash e.starts) (held.answer ∙ depth) ∙ all-oldest w.device.flash e.starts ∙ e.oldest_is,
+        held.flash ∙ ap (λ k. flash_undone k w.device.flash e.starts) (held.answer ∙ depth) ∙ all-oldest w.device.flash e.starts ∙ e.oldest_is,
         omega (arith, held.segments, held.answer),
       )
 

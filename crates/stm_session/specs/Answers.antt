@@ -71,8 +71,8 @@ in_front_of (Err address) rest = Err address
 in_front_of (Ok said) (Err address) = Err address
 in_front_of (Ok said) (Ok rest) = Ok (said ∷ rest)
 
-abbrev pub segments_of : CommandData → ℕ
-segments_of c = if is_change c then 1 else 0
+abbrev pub segments_of_command : CommandData → ℕ
+segments_of_command c = if is_change c then 1 else 0
 
 -- what commands answer above so many segments: an outcome each, or the least differing address of
 -- the first verify that doesn't agree
@@ -80,7 +80,7 @@ abbrev pub answers_of : ChipData → ℕ → List ℕ → List CommandData → R
 answers_of chip below flash [] = Ok []
 answers_of chip below flash (c ∷ commands) =
     in_front_of (outcome_of chip (below + 1) flash c)
-    (answers_of chip (below + segments_of c) (flash_after chip flash c) commands)
+    (answers_of chip (below + segments_of_command c) (flash_after chip flash c) commands)
 
 abbrev pub agrees : ChipData → List ℕ → CommandData → Bool
 agrees chip flash (writes image) = true

@@ -6,7 +6,7 @@ use Rattle.stm_wire.specs.Parts.{AreFew}
 use Rattle.stm_wire.specs.Rig.{RigState}
 use Rattle.stm_session.specs.declared.asking_board.Board.{Board}
 use Rattle.stm_session.specs.declared.fault.Fault.{Fault}
-use Rattle.stm_session.specs.AskingBoard.{AnswersInOrder, AskingStops, AsksFor, most_of_board}
+use Rattle.stm_session.specs.AskingBoard.{AnswersInOrder, AskingStops, AsksForBoard, most_of_board}
 use Rattle.stm_session.specs.Fault.{HasSessionCause}
 use Rattle.stm_session.specs.Fresh.{IsAsSaid}
 use Rattle.stm_session.specs.Moments.{IsSafe}
@@ -21,7 +21,7 @@ pub record AsksWhich (table : List ChipData) (is_fresh : Bool) (old new : RigSta
   pub unwritten : GoesOn AppendsNothing old.calls new.calls
   pub cause : HasSessionCause old new asked
   pub few : GoesOn (AreFew most_of_board) old.calls new.calls
-  pub order : IfOk asked (λ board. AsksFor table is_fresh old (λ way torn.
+  pub order : IfOk asked (λ board. AsksForBoard table is_fresh old (λ way torn.
       AnswersInOrder table board way torn old new))
   pub stops : IfErr asked (AskingStops table is_fresh old new)
   pub finished : old.is_honest → is_unfinished_at old.journal ≡ false → IsSafe old.device

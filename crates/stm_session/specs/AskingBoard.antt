@@ -21,9 +21,9 @@ use Rattle.stm_chip.specs.Document.{IsChipWith}
 use Rattle.stm_session.specs.declared.asking_board.Board.{Board}
 use Rattle.stm_session.specs.declared.fault.Fault.{Fault}
 use Rattle.stm_session.specs.Asking.{Asks}
-use Rattle.stm_session.specs.Fault.{Cause, HasSessionCause, IsHeard, IsOfLine, cause_of}
+use Rattle.stm_session.specs.Fault.{Cause, HasSessionCause, IsOfTalking, IsOfLine, cause_of}
 use Rattle.stm_session.specs.Fresh.{Settles, Way, byte_of, limit_of, undo_way}
-use Rattle.stm_session.specs.Order.{Step, AreCutShort, Begin, IsInOrder, Sends, Stops, acts_of}
+use Rattle.stm_session.specs.Order.{Step, AreCutShort, Begin, IsInOrder, Sends, FaultEnds, acts_of}
 use Rattle.stm_session.specs.Reaching.{IsAsked, SettlesFirst, SettlesThen}
 use Rattle.stm_session.specs.Refusal.{chip_with}
 use Rattle.stm_session.specs.Unwritten.{AppendsNothing}
@@ -32,8 +32,8 @@ use Rattle.stm_wire.specs.Settling.{SettlesWithin}
 -- What came of a place, and what that tells:
 
 -- FF alone, or 00 alone: nobody has written there
-abbrev pub is_blank : List ℕ → Bool
-is_blank bytes = list_all (λ byte. byte == 0xFF) bytes || list_all (λ byte. byte == 0) bytes
+abbrev pub is_unwritten : List ℕ → Bool
+is_unwritten bytes = list_all (λ byte. byte == 0xFF) bytes || list_all (λ byte. byte == 0) bytes
 
 -- the bytes that came, or none where the device refused
 abbrev pub came_in : Bool → List ℕ → Option (List ℕ)
@@ -43,7 +43,7 @@ came_in false bytes = None
 -- a unique id: these bytes, or none
 abbrev pub unique_told : Option (List ℕ) → List ℕ
 unique_told None = []
-unique_told (Some bytes) = if is_blank bytes then [] else bytes
+unique_told (Some bytes) = if is_unwritten bytes then [] else bytes
 
 -- how many KiB: the number of two bytes, the lower one first; not 0, nor FFFF
 abbrev pub size_in : ℕ → Option ℕ
@@ -105,7 +105,7 @@ pub record AsksSettled {T : Type 0} (most : ℕ) (Asked : T → List Step → Ty
   pub order : (torn : Bool) → IfOk result (λ told. (steps : List Step) × Asked told steps
       × GoesOn (IsInOrder torn steps) old.calls new.calls)
   pub stops : (torn : Bool)
-      → Stops (Begin (λ steps. (told : T) × Asked told steps)) torn old new result
+      → FaultEnds (Begin (λ steps. (told : T) × Asked told steps)) torn old new result
   pub sent : IfErr result IsOfLine
   pub kept : old.is_honest → new.journal ≡ old.journal
   pub honest : old.is_honest → IsSettled old.device → Asks old new result Told
@@ -121,7 +121,7 @@ pub data IsWayOf (table : List ChipData) (is_fresh : Bool) (s : StateData)
       → IsWayOf table is_fresh s way
 
 -- A journal was loaded, and the device is settled so.
-pub record AsksFor (table : List ChipData) (is_fresh : Bool) (old : RigState)
+pub record AsksForBoard (table : List ChipData) (is_fresh : Bool) (old : RigState)
     (Does : Way → Bool → Type 0) : Type 0 where
   pub journal : Loaded
   pub loaded : old.is_honest → IsLoaded journal old.journal
@@ -137,13 +137,13 @@ AnswersInOrder table board way torn old new = (steps : List Step) × IsAnswered 
 -- It was settled in part, which the line or the device ended; or settled, and then asked in part.
 abbrev pub AsksInPart : List ChipData → Way → Cause → Bool → List Call → Type 0
 AsksInPart table way cause torn calls =
-    (IsHeard cause × SettlesWithin (byte_of way) (limit_of way) (acts_of calls))
+    (IsOfTalking cause × SettlesWithin (byte_of way) (limit_of way) (acts_of calls))
     ⊎ SettlesThen way (AreCutShort (Begin (AsksBoard table)) cause torn) calls
 
 -- at a fault: nothing was done but reading the journal, or that
 abbrev pub AskingStops : List ChipData → Bool → RigState → RigState → Fault → Type 0
 AskingStops table is_fresh old new fault = GoesOn AreFetches old.calls new.calls
-    ⊎ AsksFor table is_fresh old (λ way torn.
+    ⊎ AsksForBoard table is_fresh old (λ way torn.
     GoesOn (AsksInPart table way (cause_of fault) torn) old.calls new.calls)
 
 -- puts and gets of Get, Get ID, and of reads of 32 and of 2 bytes

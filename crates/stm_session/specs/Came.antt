@@ -29,8 +29,8 @@ AgreeInBlocks image from to (Sends turns ∷ steps) = (next : ℕ × ℕ) × (an
     × AgreeInBlocks image (next.0 + length answer) to steps
 
 -- and the image names no place behind them
-abbrev pub AllAgree : Pairs → ℕ → List Step → Type 0
-AllAgree image from steps = (to : ℕ) × HasNone image to × AgreeInBlocks image from to steps
+abbrev pub AllCameAgree : Pairs → ℕ → List Step → Type 0
+AllCameAgree image from steps = (to : ℕ) × HasNone image to × AgreeInBlocks image from to steps
 
 -- or one block more was read, in which another byte came, first for this address
 pub record OneDiffers (image : Pairs) (from address : ℕ) (steps : List Step) : Type 0 where
@@ -45,7 +45,7 @@ pub record OneDiffers (image : Pairs) (from address : ℕ) (steps : List Step) :
 
 -- what a comparison found
 abbrev pub CameFor : Pairs → ℕ → Option ℕ → List Step → Type 0
-CameFor image from None steps = AllAgree image from steps
+CameFor image from None steps = AllCameAgree image from steps
 CameFor image from (Some address) steps = OneDiffers image from address steps
 
 -- A fault that tells a difference tells what came, where a verify ends with it.
@@ -63,6 +63,6 @@ FaultTells _ chip c steps = Unit {0}
 abbrev pub TellsWhatCame : ChipData → CommandData → OutcomeData → List Step → Type 0
 TellsWhatCame chip (writes image) said steps = Unit {0}
 TellsWhatCame chip (erases pages) said steps = Unit {0}
-TellsWhatCame chip (verifies image) said steps = AllAgree image chip.base steps
+TellsWhatCame chip (verifies image) said steps = AllCameAgree image chip.base steps
 TellsWhatCame chip (reads start size) said steps =
     (bytes : List ℕ) × (said ≡ was_read bytes) × ComeInBlocks start bytes steps

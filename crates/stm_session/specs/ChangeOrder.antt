@@ -33,7 +33,7 @@ IsSaved true chip n held steps = steps ≡ []
 IsSaved false chip n held steps = IsSavedWith (n == 1 && has_companion chip) chip n held steps
 
 -- it is kept, erased and written, each line before its frames
-pub record IsRewritten (kept : Bool) (chip : ChipData) (n : ℕ) (held page : List ℕ)
+pub record IsPageChanged (kept : Bool) (chip : ChipData) (n : ℕ) (held page : List ℕ)
     (steps : List Step) : Type 0 where
   pub saved : List Step
   pub is_saved : IsSaved kept chip n held saved
@@ -42,7 +42,7 @@ pub record IsRewritten (kept : Bool) (chip : ChipData) (n : ℕ) (held page : Li
 
 abbrev pub IsChangedUnless : Bool → Bool → ChipData → ℕ → List ℕ → List ℕ → List Step → Type 0
 IsChangedUnless true kept chip n held page steps = steps ≡ []
-IsChangedUnless false kept chip n held page steps = IsRewritten kept chip n held page steps
+IsChangedUnless false kept chip n held page steps = IsPageChanged kept chip n held page steps
 
 -- where it doesn't hold its new bytes already
 abbrev pub IsChanged : Bool → ChipData → ℕ → List ℕ → List ℕ → List Step → Type 0
@@ -95,8 +95,8 @@ pub record IsOneSegment (chip : ChipData) (c : Change) (s : StateData)
 -- At a fault:
 
 -- page n, whatever comes of it
-abbrev pub IsTurn : Bool → ChipData → Change → ℕ → List Step → Type 0
-IsTurn kept chip c n steps = (changed : Bool) × IsTurnOf kept chip c n changed steps
+abbrev pub IsPageTurn : Bool → ChipData → Change → ℕ → List Step → Type 0
+IsPageTurn kept chip c n steps = (changed : Bool) × IsTurnOf kept chip c n changed steps
 
 -- the pages below one, and then a beginning of that page
 pub record AreBegunTurns (chip : ChipData) (c : Change) (steps : List Step) : Type 0 where
@@ -106,7 +106,7 @@ pub record AreBegunTurns (chip : ChipData) (c : Change) (steps : List Step) : Ty
   pub before : List Step
   pub are_turned : AreTurned chip c page first before
   pub own : List Step
-  pub is_begun : Begin (IsTurn (page == 257 && first) chip c page) own
+  pub is_begun : Begin (IsPageTurn (page == 257 && first) chip c page) own
   pub is : steps ≡ before ++ own
 
 -- A beginning of a command's segment: of its first lines; or those, and a beginning of its pages;

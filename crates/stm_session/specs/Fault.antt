@@ -73,23 +73,23 @@ abbrev pub IsJournalOrMemory : Fault → Type 0
 IsJournalOrMemory e = IsUnheard (cause_of e)
 
 -- a fault of talking to a device
-abbrev pub IsHeard : Cause → Type 0
-IsHeard of_line = Unit {0}
-IsHeard of_protocol = Unit {0}
-IsHeard _ = ⊥
+abbrev pub IsOfTalking : Cause → Type 0
+IsOfTalking of_line = Unit {0}
+IsOfTalking of_protocol = Unit {0}
+IsOfTalking _ = ⊥
 
 abbrev pub IsOfLine : Fault → Type 0
-IsOfLine e = IsHeard (cause_of e)
+IsOfLine e = IsOfTalking (cause_of e)
 
 -- something is refused: for the state of the journal, or for what the table
 -- or a command makes of it
-abbrev pub IsRefused : Cause → Type 0
-IsRefused of_session = Unit {0}
-IsRefused of_refusal = Unit {0}
-IsRefused _ = ⊥
+abbrev pub IsRefusing : Cause → Type 0
+IsRefusing of_session = Unit {0}
+IsRefusing of_refusal = Unit {0}
+IsRefusing _ = ⊥
 
 abbrev pub IsRefusal : Fault → Type 0
-IsRefusal e = IsRefused (cause_of e)
+IsRefusal e = IsRefusing (cause_of e)
 
 -- something is refused for what the table or a command makes of it
 abbrev pub IsRefusedLater : Cause → Type 0

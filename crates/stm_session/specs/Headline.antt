@@ -19,7 +19,7 @@ use Rattle.stm_session.specs.Meaning.{CommandData, writes, flash_after_all, flas
 use Rattle.stm_session.specs.Meaning.{changes_of}
 use Rattle.stm_session.specs.Answers.{OutcomeData, agreeing}
 use Rattle.stm_session.specs.Lines.{depth_at}
-use Rattle.stm_session.specs.Undoes.{taken_count, flash_taken_back}
+use Rattle.stm_session.specs.Undoes.{taken_count, flash_undone}
 
 -- the commands of a run that can begin: those before the first verify that doesn't agree
 abbrev pub standing_in : World → List CommandData → List CommandData
@@ -68,7 +68,7 @@ pub record UndoHolds (count n : ℕ) (w w2 : World) (starts : List (List ℕ)) :
   pub answer : n ≡ taken_count count (depth_at w.journal)
   pub segments : depth_at w2.journal + n ≡ depth_at w.journal
   pub finished : is_unfinished_at w2.journal ≡ false
-  pub flash : w2.device.flash ≡ flash_taken_back n w.device.flash starts
+  pub flash : w2.device.flash ≡ flash_undone n w.device.flash starts
 
 -- where no segment is unfinished, the flash is the one after the commands whose segments were
 -- begun, or the one at the start of the oldest segment that is off the stack
@@ -80,7 +80,7 @@ RunLeaves commands w w2 = is_unfinished_at w2.journal ≡ false
 abbrev pub UndoLeaves : World → World → List (List ℕ) → Type 0
 UndoLeaves w w2 starts =
     is_unfinished_at w2.journal ≡ false
-    → w2.device.flash ≡ flash_taken_back (grown w2 w) w.device.flash starts
+    → w2.device.flash ≡ flash_undone (grown w2 w) w.device.flash starts
 
 abbrev pub LeavesAlone : World → World → Type 0
 LeavesAlone w w2 = (w2.device.flash ≡ w.device.flash) × (w2.journal ≡ w.journal)
@@ -166,7 +166,7 @@ EachCanFollow {R} view =
 -- there was when the session began, and with none the flash as the session found it; or the flash
 -- as it was when the way back was last given up.
 abbrev pub oldest_start : List (List ℕ) → World → List ℕ
-oldest_start starts start = flash_taken_back (length starts) start.device.flash starts
+oldest_start starts start = flash_undone (length starts) start.device.flash starts
 
 abbrev pub oldest_after : {R : Type 0} → Event R → World → List ℕ → List ℕ
 oldest_after (ran table commands old new result) w2 flash = flash
@@ -193,8 +193,8 @@ oldest_of (x ∷ history) flash = oldest_of history (oldest_after x.event x.afte
 -- In short: whatever calls, stops, resets and losses of power came before, an undo of everything
 -- that reports success leaves every byte of the flash as it was at the start of the oldest segment,
 -- which is when the session began, or when the way back was last given up; and no segment.
-abbrev pub AllIsTakenBack : {R : Type 0} → (R → RigState) → Type 0
-AllIsTakenBack {R} view =
+abbrev pub AllIsUndone : {R : Type 0} → (R → RigState) → Type 0
+AllIsUndone {R} view =
     (history : List (Happening R)) (start : World) (starts : List (List ℕ)) → IsStart starts start
     → AllLead view history start
     → (table : List ChipData) (old new : R) (n : ℕ) (w2 : World)

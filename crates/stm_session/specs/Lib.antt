@@ -32,8 +32,8 @@ pub mod Headline
 pub mod Rows
 pub mod Steps
 pub mod StepLaws
-pub mod SegmentBack
-pub mod SegmentsBack
+pub mod SegmentUndo
+pub mod SegmentsUndo
 pub mod JournalDevice
 pub mod Changing
 pub mod Contents

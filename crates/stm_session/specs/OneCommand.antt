@@ -52,7 +52,7 @@ pub record TellsDifference (c : CommandData) (old new : RigState) (fault : Fault
 -- or memory, or tells where its image differs. At Ok all is steady again, with a segment more
 -- where it begins one; just its lines are added; the flash is the one after it, and its outcome
 -- that of the flash before it.
-pub record Does {T : Type 0} (flashes : List (List ℕ)) (c : CommandData) (l2 : Loaded)
+pub record DoesCommand {T : Type 0} (flashes : List (List ℕ)) (c : CommandData) (l2 : Loaded)
     (old new : RigState) (result : Result T Fault) (outcome_in : T → OutcomeData) : Type 0 where
   pub moments : LeavesOnly
       (AmidOne (is_change c) (command_lines old c) flashes (flash_left old c) old) old new

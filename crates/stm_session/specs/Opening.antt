@@ -34,7 +34,7 @@ pub record AreCommandsOf (d : Device) (commands : Commands) : Type 0 where
   pub codes : take commands.count commands.codes ≡ d.codes
 
 -- what a device tells of itself is so
-pub record Tells (d : Device) (told : Told) : Type 0 where
+pub record TellsItself (d : Device) (told : Told) : Type 0 where
   pub commands : AreCommandsOf d told.commands
   pub id : told.id ≡ d.chip.id
 

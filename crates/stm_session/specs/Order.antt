@@ -73,16 +73,16 @@ step_in (Some step) = step ∷ []
 -- off, by the line, or by another byte than is due, a refusal or silence; or the file took its
 -- lines only in part. Where something is refused, or memory fails, no step failed; nor where
 -- the journal can't be read.
-abbrev pub FailsBy : Cause → Bool → Option Step → List Call → Type 0
-FailsBy of_line torn (Some (Sends turns)) calls = IsBrokenOff Line turns calls
-FailsBy of_protocol torn (Some (Sends turns)) calls = (fault : WireFault) × (fault ≢ Line)
+abbrev pub StepFailsBy : Cause → Bool → Option Step → List Call → Type 0
+StepFailsBy of_line torn (Some (Sends turns)) calls = IsBrokenOff Line turns calls
+StepFailsBy of_protocol torn (Some (Sends turns)) calls = (fault : WireFault) × (fault ≢ Line)
     × IsBrokenOff fault turns calls
-FailsBy of_file torn (Some (Adds entries)) calls = AppendsInPart (added_bytes torn entries) calls
-FailsBy of_file torn None calls = calls ≡ []
-FailsBy of_memory torn None calls = calls ≡ []
-FailsBy of_session torn None calls = calls ≡ []
-FailsBy of_refusal torn None calls = calls ≡ []
-FailsBy _ torn step calls = ⊥
+StepFailsBy of_file torn (Some (Adds entries)) calls = AppendsInPart (added_bytes torn entries) calls
+StepFailsBy of_file torn None calls = calls ≡ []
+StepFailsBy of_memory torn None calls = calls ≡ []
+StepFailsBy of_session torn None calls = calls ≡ []
+StepFailsBy of_refusal torn None calls = calls ≡ []
+StepFailsBy _ torn step calls = ⊥
 
 -- Calls that end with a fault: some steps were done whole, and perhaps one more was begun, which
 -- failed; all these are allowed.
@@ -92,7 +92,7 @@ pub record AreCutShort (Allowed : List Step → Type 0) (cause : Cause) (torn : 
   pub failed : Option Step
   pub allowed : Allowed (done ++ step_in failed)
   pub last : List Call
-  pub fails : FailsBy cause (torn_behind torn done) failed last
+  pub fails : StepFailsBy cause (torn_behind torn done) failed last
   pub is : acts ≡ acts_of_steps torn done ++ last
 
 abbrev pub StopsBy : (List Step → Type 0) → Cause → Bool → RigState → RigState → Type 0
@@ -100,9 +100,9 @@ StopsBy Allowed cause torn old new =
     GoesOn (λ calls. AreCutShort Allowed cause torn (acts_of calls)) old.calls new.calls
 
 -- where a fault is answered, it ends such steps
-abbrev pub Stops : {T : Type 0} → (List Step → Type 0) → Bool → RigState → RigState
+abbrev pub FaultEnds : {T : Type 0} → (List Step → Type 0) → Bool → RigState → RigState
     → Result T Fault → Type 0
-Stops Allowed torn old new result =
+FaultEnds Allowed torn old new result =
     IfErr result (λ fault. StopsBy Allowed (cause_of fault) torn old new)
 
 -- just these steps
@@ -173,8 +173,8 @@ abbrev pub rewrite_steps : ChipData → ℕ → List ℕ → List Frame → List
 rewrite_steps chip n page frames = erase_steps chip n ++ program_steps chip n page frames
 
 -- where it doesn't hold its new bytes already
-abbrev pub restore_steps : ChipData → ℕ → List ℕ → List ℕ → List Step
-restore_steps chip n held page =
+abbrev pub give_back_steps : ChipData → ℕ → List ℕ → List ℕ → List Step
+give_back_steps chip n held page =
     if bytes_eq held page then []
     else rewrite_steps chip n page (frames_of (erased_byte chip) page (length page / 256))
 
@@ -183,8 +183,8 @@ abbrev pub Tells : Type 1
 Tells = List Step → List ℕ → Type 0
 
 -- as steps tell it that come behind others
-abbrev pub behind : List Step → Tells → Tells
-behind before Told steps page = Told (before ++ steps) page
+abbrev pub tells_behind : List Step → Tells → Tells
+tells_behind before Told steps page = Told (before ++ steps) page
 
 -- nothing is said of what it told
 abbrev pub untold : Tells
@@ -201,8 +201,8 @@ BeginTold P Told steps = Begin (P (so_far (length steps) Told)) steps
 
 -- and then it may be read again: whole, and just the bytes that it was given come
 abbrev pub return_steps : Bool → ChipData → ℕ → List ℕ → List ℕ → List Step
-return_steps false chip n held page = restore_steps chip n held page
-return_steps true chip n held page = restore_steps chip n held page ++ page_reads chip n page
+return_steps false chip n held page = give_back_steps chip n held page
+return_steps true chip n held page = give_back_steps chip n held page ++ page_reads chip n page
 
 -- Steps that end as such do that read a page again, or begin to: but for what came in these reads,
 -- which may be any bytes. Behind a page that doesn't hold its own there is no other step.
@@ -224,7 +224,7 @@ OrMisread true chip P steps = P steps ⊎ IsMisread chip P steps
 
 -- a page is read, and given the bytes that the journal told behind that; and then it is read again,
 -- where that is asked for
-pub record IsReturned (again : Bool) (chip : ChipData) (Told : Tells) (n : ℕ)
+pub record IsGivenBack (again : Bool) (chip : ChipData) (Told : Tells) (n : ℕ)
     (steps : List Step) : Type 0 where
   pub held : List ℕ
   pub held_size : length held ≡ page_size chip n
@@ -234,27 +234,27 @@ pub record IsReturned (again : Bool) (chip : ChipData) (Told : Tells) (n : ℕ)
   pub is : steps ≡ page_reads chip n held ++ return_steps again chip n held page
 
 -- each of the pages, in the order of their lines
-abbrev pub AreReturned : Bool → ChipData → Tells → List Kept → List Step → Type 0
-AreReturned again chip Told [] steps = steps ≡ []
-AreReturned again chip Told (kept ∷ pages) steps = (first : List Step) × (rest : List Step)
-    × (steps ≡ first ++ rest) × IsReturned again chip Told kept.page first
-    × AreReturned again chip (behind first Told) pages rest
+abbrev pub AreGivenBack : Bool → ChipData → Tells → List Kept → List Step → Type 0
+AreGivenBack again chip Told [] steps = steps ≡ []
+AreGivenBack again chip Told (kept ∷ pages) steps = (first : List Step) × (rest : List Step)
+    × (steps ≡ first ++ rest) × IsGivenBack again chip Told kept.page first
+    × AreGivenBack again chip (tells_behind first Told) pages rest
 
 -- and then the line that says so is appended
-pub record IsTakenBack (again : Bool) (chip : ChipData) (Told : Tells) (pages : List Kept)
+pub record IsSegmentUndone (again : Bool) (chip : ChipData) (Told : Tells) (pages : List Kept)
     (number : ℕ) (steps : List Step) : Type 0 where
   pub returns : List Step
-  pub are_returns : AreReturned again chip Told pages returns
+  pub are_returns : AreGivenBack again chip Told pages returns
   pub is : steps ≡ returns ++ Adds (Undoes number ∷ []) ∷ []
 
 -- so many segments of these pages are taken back, the newest first
-abbrev pub AreTakenBack : Bool → ChipData → Tells → ℕ → List (List Kept) → List Step → Type 0
-AreTakenBack again chip Told zero segments steps = steps ≡ []
-AreTakenBack again chip Told (suc taken) [] steps = ⊥
-AreTakenBack again chip Told (suc taken) (pages ∷ below) steps =
+abbrev pub AreSegmentsUndone : Bool → ChipData → Tells → ℕ → List (List Kept) → List Step → Type 0
+AreSegmentsUndone again chip Told zero segments steps = steps ≡ []
+AreSegmentsUndone again chip Told (suc taken) [] steps = ⊥
+AreSegmentsUndone again chip Told (suc taken) (pages ∷ below) steps =
     (first : List Step) × (rest : List Step) × (steps ≡ first ++ rest)
-    × IsTakenBack again chip Told pages (length below + 1) first
-    × AreTakenBack again chip (behind first Told) taken below rest
+    × IsSegmentUndone again chip Told pages (length below + 1) first
+    × AreSegmentsUndone again chip (tells_behind first Told) taken below rest
 
 -- a page is given the bytes that the journal told first, unread
 pub record IsRewritten (chip : ChipData) (Told : Tells) (n : ℕ) (steps : List Step) : Type 0 where
@@ -268,13 +268,13 @@ abbrev pub AreRewritten : ChipData → Tells → List ℕ → List Step → Type
 AreRewritten chip Told [] steps = steps ≡ []
 AreRewritten chip Told (n ∷ pages) steps = (first : List Step) × (rest : List Step)
     × (steps ≡ first ++ rest) × IsRewritten chip Told n first
-    × AreRewritten chip (behind first Told) pages rest
+    × AreRewritten chip (tells_behind first Told) pages rest
 
 -- the pages at work first, and then so many segments are taken back
-pub record AreAllTakenBack (again : Bool) (chip : ChipData) (Told : Tells) (work : List ℕ)
+pub record AreAllUndone (again : Bool) (chip : ChipData) (Told : Tells) (work : List ℕ)
     (taken : ℕ) (segments : List (List Kept)) (steps : List Step) : Type 0 where
   pub first : List Step
   pub is_first : AreRewritten chip Told work first
   pub back : List Step
-  pub are_back : AreTakenBack again chip (behind first Told) taken segments back
+  pub are_back : AreSegmentsUndone again chip (tells_behind first Told) taken segments back
   pub is : steps ≡ first ++ back

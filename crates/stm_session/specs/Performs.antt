@@ -4,7 +4,7 @@ use Rattle.stm_wire.specs.Rig.{RigState}
 use Rattle.stm_journal.specs.declared.entry.Entry.{Entry}
 use Rattle.stm_journal.specs.Journals.{Loaded}
 use Rattle.stm_session.specs.declared.fault.Fault.{Fault}
-use Rattle.stm_session.specs.Order.{Step, Begin, Follows, Stops}
+use Rattle.stm_session.specs.Order.{Step, Begin, Follows, FaultEnds}
 use Rattle.stm_session.specs.Steps.{Goes, IsSteady}
 
 -- On any line: at Ok such steps were done, and a fault ends a beginning of such. On an honest Rig
@@ -14,6 +14,6 @@ pub record Performs {T : Type 0} (Made : List Step → Type 0) (lines : List Ent
     (May : Type 0) (Done : T → Type 0) (l l2 : Loaded) (old new : RigState)
     (result : Result T Fault) : Type 0 where
   pub order : OnOk result (Follows Made l l2 old new)
-  pub stops : Stops (Begin Made) l.is_torn old new result
+  pub stops : FaultEnds (Begin Made) l.is_torn old new result
   pub honest : (flashes : List (List ℕ)) → IsSteady flashes l old → May
       → Goes flashes lines l2 old new result Done

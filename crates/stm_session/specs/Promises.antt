@@ -14,7 +14,7 @@ use Rattle.stm_session.specs.declared.information.Info.{Info}
 use Rattle.stm_session.specs.declared.fault.Fault.{Fault}
 use Rattle.stm_session.specs.declared.fault.Fault.TheVariants as faults
 use Rattle.stm_session.specs.Moments.{BeginsNothing, IsSafe, IsUnbegun}
-use Rattle.stm_session.specs.Opening.{Tells}
+use Rattle.stm_session.specs.Opening.{TellsItself}
 use Rattle.stm_session.specs.Refusal.{Refuses, unsent_refusal}
 use Rattle.stm_session.specs.Information.{Informs}
 use Rattle.stm_session.specs.Undoable.{Undoable, state_at}
@@ -70,7 +70,7 @@ pub record IdentifyContract (old new : RigState) (result : Result Told Fault) : 
       → GoesOn AreFetches old.calls new.calls
   -- what a safe device tells where nothing is refused
   pub tells : old.is_honest → IsSafe old.device → unsent_refusal (journal_of old.journal) ≡ None
-      → BeginsNothing old new result (Tells old.device)
+      → BeginsNothing old new result (TellsItself old.device)
   pub spared : old.is_honest → old.journal ≡ [] → IfErr result (λ e. e ≢ faults.Memory)
 
 pub record UndoContract (table : List ChipData) (count : ℕ) (old new : RigState)

@@ -15,7 +15,7 @@ use Rattle.stm_chip.specs.Document.{IsChipWith}
 use Rattle.stm_journal.specs.Journals.{Loaded, IsLoaded}
 use Rattle.stm_journal.specs.States.{StateData, IsSound, names_other_board}
 use Rattle.stm_session.specs.declared.fault.Fault.{Fault}
-use Rattle.stm_session.specs.Fault.{Cause, IsHeard, cause_of}
+use Rattle.stm_session.specs.Fault.{Cause, IsOfTalking, cause_of}
 use Rattle.stm_session.specs.Order.{Step, Sends, AreCutShort, Begin, IsAfter, IsInOrder, acts_of}
 use Rattle.stm_session.specs.Order.{acts_of_steps}
 
@@ -71,7 +71,7 @@ ReachesInOrder way id torn old new = (version : ℕ) × (codes : List ℕ)
 abbrev pub ReachesInPart : Way → Cause → Bool → List Call → Type 0
 ReachesInPart way cause torn calls =
     (acts_of calls ≡ [])
-    ⊎ ((IsHeard cause × SettlesWithin (byte_of way) (limit_of way) (acts_of calls))
+    ⊎ ((IsOfTalking cause × SettlesWithin (byte_of way) (limit_of way) (acts_of calls))
     ⊎ SettlesThen way (AreCutShort (Begin IsAsking) cause torn) calls)
 
 abbrev pub StopsShort : {T : Type 0} → Way → Bool → RigState → RigState → Result T Fault → Type 0
@@ -88,13 +88,13 @@ IsAsked address count None steps = (frame : List ℕ) × (turns : List Turn)
     × IsRefusedRead address count frame turns × (steps ≡ Sends turns ∷ [])
 
 -- a unique id of as many bytes as stand at its place
-abbrev pub place_of : Option UniquePlace → List ℕ → Option UniquePlace
-place_of None unique = None
-place_of (Some place) unique = if length unique == place.length then Some place else None
+abbrev pub place_of_bytes : Option UniquePlace → List ℕ → Option UniquePlace
+place_of_bytes None unique = None
+place_of_bytes (Some place) unique = if length unique == place.length then Some place else None
 
 -- where a device is asked once more: where it told its unique id before, which is the chip's
 abbrev pub confirmed_at : ChipData → Option UniquePlace
-confirmed_at chip = place_of chip.places.unique chip.unique
+confirmed_at chip = place_of_bytes chip.places.unique chip.unique
 
 -- it tells just this
 abbrev pub confirm_steps : Option UniquePlace → List ℕ → List Step

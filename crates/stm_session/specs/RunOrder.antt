@@ -12,7 +12,7 @@ use Rattle.stm_journal.specs.States.{StateData}
 use Rattle.stm_session.specs.declared.change.Change.{Change}
 use Rattle.stm_session.specs.declared.fault.Fault.{Fault}
 use Rattle.stm_session.specs.Fault.{cause_of}
-use Rattle.stm_session.specs.Answers.{OutcomeData, segments_of}
+use Rattle.stm_session.specs.Answers.{OutcomeData, segments_of_command}
 use Rattle.stm_session.specs.Came.{FaultTells, TellsWhatCame}
 use Rattle.stm_session.specs.ChangeOrder.{IsOneSegment, IsSegmentBegun}
 use Rattle.stm_session.specs.Contents.{command_of}
@@ -53,14 +53,14 @@ IsDoneTelling chip c s said steps = IsDoneBy chip c s steps × TellsWhatCame chi
 
 -- The commands are done in their order, each above the segments of those before it, with an outcome
 -- each.
-pub data AreDone (chip : ChipData) : List CommandData → List OutcomeData → StateData → StateData
+pub data AreDoneInOrder (chip : ChipData) : List CommandData → List OutcomeData → StateData → StateData
     → List Step → Type 0 where
-  none : (s : StateData) → AreDone chip [] [] s s []
+  none : (s : StateData) → AreDoneInOrder chip [] [] s s []
   more : (commands : List CommandData) (c : CommandData) (outcomes : List OutcomeData)
       (said : OutcomeData) (s mid last : StateData) (before own : List Step)
-      → AreDone chip commands outcomes s mid before → IsDoneTelling chip c mid said own
-      → length last.stack ≡ length mid.stack + segments_of c
-      → AreDone chip (commands ++ c ∷ []) (outcomes ++ said ∷ []) s last (before ++ own)
+      → AreDoneInOrder chip commands outcomes s mid before → IsDoneTelling chip c mid said own
+      → length last.stack ≡ length mid.stack + segments_of_command c
+      → AreDoneInOrder chip (commands ++ c ∷ []) (outcomes ++ said ∷ []) s last (before ++ own)
 
 -- A run that does such steps: settling by 7F, Get, Get ID, by which the device is the chip, the
 -- question whether it is still the chip's board, and then these.
@@ -73,12 +73,12 @@ RunDoes P table old new = Session table old (λ chip l.
 abbrev pub RunsTelling : List ChipData → List CommandData → List OutcomeData → RigState → RigState
     → Type 0
 RunsTelling table commands outcomes old new = RunDoes
-    (λ chip s steps. (last : StateData) × AreDone chip commands outcomes s last steps) table old new
+    (λ chip s steps. (last : StateData) × AreDoneInOrder chip commands outcomes s last steps) table old new
 
 -- or with some
 abbrev pub AreDoneSomehow : List CommandData → StepsOf
 AreDoneSomehow commands chip s steps = (outcomes : List OutcomeData) × (last : StateData)
-    × AreDone chip commands outcomes s last steps
+    × AreDoneInOrder chip commands outcomes s last steps
 
 abbrev pub RunsInOrder : List ChipData → List CommandData → RigState → RigState → Type 0
 RunsInOrder table commands old new = RunDoes (AreDoneSomehow commands) table old new
@@ -105,7 +105,7 @@ pub record AreBegunAt (fault : Fault) (chip : ChipData) (commands : List Command
   pub outcomes : List OutcomeData
   pub mid : StateData
   pub before : List Step
-  pub are_done : AreDone chip earlier outcomes s mid before
+  pub are_done : AreDoneInOrder chip earlier outcomes s mid before
   pub own : List Step
   pub is_begun : IsBegunBy chip command mid own
   pub tells : FaultTells fault chip command own

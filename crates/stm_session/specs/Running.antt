@@ -18,11 +18,11 @@ abbrev pub bytes_at : ChipData → List ℕ → ℕ → ℕ → List ℕ
 bytes_at chip flash start size = take size (drop (start - chip.base) flash)
 
 -- the command reads
-abbrev pub is_read : Command → Bool
-is_read (command.Write image) = false
-is_read (command.Erase pages) = false
-is_read (command.Verify image) = false
-is_read (command.Read start size) = true
+abbrev pub is_reading : Command → Bool
+is_reading (command.Write image) = false
+is_reading (command.Erase pages) = false
+is_reading (command.Verify image) = false
+is_reading (command.Read start size) = true
 
 -- the bytes that a command reads of a flash
 abbrev pub bytes_read : ChipData → List ℕ → Command → List ℕ

@@ -54,8 +54,8 @@ answers_from old commands =
     answers_of old.device.chip (depth_at old.journal) old.device.flash commands
 
 -- those before the first verify that doesn't agree
-abbrev pub standing : RigState → List CommandData → List CommandData
-standing old commands = agreeing old.device.chip old.device.flash commands
+abbrev pub standing_commands : RigState → List CommandData → List CommandData
+standing_commands old commands = agreeing old.device.chip old.device.flash commands
 
 -- A run fails by the line, the journal or memory; or it tells where the first verify that doesn't
 -- agree differs, and the commands before that stand.
@@ -70,7 +70,7 @@ RunFails commands flashes old new fault.NoErase = ⊥
 RunFails commands flashes old new fault.InSession = ⊥
 RunFails commands flashes old new (fault.Differs address) =
     (answers_from old commands ≡ Err address)
-    × AreDone (standing old commands) flashes old new.device new.journal × IsSettled new.device
+    × AreDone (standing_commands old commands) flashes old new.device new.journal × IsSettled new.device
 RunFails commands flashes old new fault.Device = ⊥
 RunFails commands flashes old new (fault.BadJournal line) = ⊥
 RunFails commands flashes old new fault.OtherDevice = ⊥
@@ -83,8 +83,8 @@ RunFails commands flashes old new fault.Full = ⊥
 pub record Runs {T : Type 0} (commands : List CommandData) (flashes : List (List ℕ))
     (old new : RigState) (result : Result T Fault)
     (outcomes_of : T → List OutcomeData) : Type 0 where
-  pub moments : LeavesOnly (AmidRun (standing old commands) flashes old) old new
-  pub left : AmidRun (standing old commands) flashes old new.device new.journal
+  pub moments : LeavesOnly (AmidRun (standing_commands old commands) flashes old) old new
+  pub left : AmidRun (standing_commands old commands) flashes old new.device new.journal
   pub honest : new.is_honest
   pub outcomes : IfOk result (λ x. answers_from old commands ≡ Ok (outcomes_of x))
   pub done : OnOk result (AreDone commands flashes old new.device new.journal)

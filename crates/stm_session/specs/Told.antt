@@ -11,7 +11,7 @@ use Rattle.stm_journal.specs.PageFetching.{Brings}
 use Rattle.stm_session.specs.declared.fault.Fault.{Fault}
 use Rattle.stm_session.specs.declared.returned.Returned.{Returned}
 use Rattle.stm_session.specs.Order.{Step, Tells, BeginTold, IsInOrder, acts_of, acts_of_steps}
-use Rattle.stm_session.specs.Order.{OrMisread, behind}
+use Rattle.stm_session.specs.Order.{OrMisread, tells_behind}
 use Rattle.stm_session.specs.Reaching.{StepsOf, confirming}
 use Rattle.stm_session.specs.UndoOrder.{AreTakenAs, AreTakenWhole, UndoDoes, UndoDoesInPart}
 
@@ -46,7 +46,7 @@ ToldBy view old new steps page = ToldBehind view EndsWith old new steps page
 
 -- as steps tell it that come behind the question whether the board is still the chip's
 abbrev pub behind_confirming : ChipData → Tells → Tells
-behind_confirming chip Told = behind (confirming chip) Told
+behind_confirming chip Told = tells_behind (confirming chip) Told
 
 -- so many of the journal's segments are taken back, behind that question
 abbrev pub AreTakenTold : Tells → ℕ → StepsOf
@@ -61,14 +61,14 @@ UndoGivesTold view is_fresh table taken old new =
     UndoDoes is_fresh (AreTakenTold (ToldBy view old new) taken) table old new
 
 -- and one that tells what it returned
-abbrev pub AreReturnedTold : Bool → Tells → Returned → StepsOf
-AreReturnedTold again Told returned chip s steps =
+abbrev pub AreGivenBackTold : Bool → Tells → Returned → StepsOf
+AreGivenBackTold again Told returned chip s steps =
     AreTakenWhole again (behind_confirming chip Told) returned chip s steps
 
-abbrev pub ReturnsTold : {R : Type 0} → (R → RigState) → Bool → Bool → List ChipData → Returned
+abbrev pub GivesBackTold : {R : Type 0} → (R → RigState) → Bool → Bool → List ChipData → Returned
     → RigState → RigState → Type 0
-ReturnsTold view is_fresh again table returned old new =
-    UndoDoes is_fresh (AreReturnedTold again (ToldBy view old new) returned) table old new
+GivesBackTold view is_fresh again table returned old new =
+    UndoDoes is_fresh (AreGivenBackTold again (ToldBy view old new) returned) table old new
 
 -- a beginning of them
 abbrev pub BeginTakingTold : Bool → Tells → ℕ → StepsOf

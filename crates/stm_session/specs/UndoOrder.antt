@@ -11,7 +11,7 @@ use Rattle.stm_journal.specs.States.{intent_of}
 use Rattle.stm_session.specs.declared.fault.Fault.{Fault}
 use Rattle.stm_session.specs.declared.returned.Returned.{Returned}
 use Rattle.stm_session.specs.Fault.{cause_of}
-use Rattle.stm_session.specs.Order.{AreAllTakenBack, Begin, IsAfter, OrMisread, Tells, untold}
+use Rattle.stm_session.specs.Order.{AreAllUndone, Begin, IsAfter, OrMisread, Tells, untold}
 use Rattle.stm_session.specs.Reaching.{IsConfirmedInPart, ReachesAndDoes, ReachesAndStops}
 use Rattle.stm_session.specs.Reaching.{ReachesInPart, Session, StepsOf, confirming}
 use Rattle.stm_session.specs.ReturnedBytes.{kept_bytes}
@@ -39,20 +39,20 @@ UndoDoesInPart is_fresh P table old new fault = GoesOn AreFetches old.calls new.
 -- theirs is read again, where that is asked for
 abbrev pub AreTakenAs : Bool → Tells → ℕ → StepsOf
 AreTakenAs again Told taken chip s steps =
-    AreAllTakenBack again chip Told (pages_at_work s.stack) taken (pages_of_segments s.stack) steps
+    AreAllUndone again chip Told (pages_at_work s.stack) taken (pages_of_segments s.stack) steps
 
-abbrev pub AreTaken : Bool → ℕ → StepsOf
-AreTaken again taken = AreTakenAs again untold taken
+abbrev pub AreUndoneInOrder : Bool → ℕ → StepsOf
+AreUndoneInOrder again taken = AreTakenAs again untold taken
 
 -- a beginning of taking some back, no more than there are, nor than are asked for where that is a
 -- number
 abbrev pub BeginTaking : Bool → ℕ → StepsOf
 BeginTaking again count chip s steps = (taken : ℕ) × (taken ≤ length s.stack)
-    × (0 < count → taken ≤ count) × OrMisread again chip (Begin (AreTaken again taken chip s)) steps
+    × (0 < count → taken ≤ count) × OrMisread again chip (Begin (AreUndoneInOrder again taken chip s)) steps
 
 abbrev pub UndoesInOrderFrom : Bool → List ChipData → ℕ → RigState → RigState → Type 0
 UndoesInOrderFrom is_fresh table taken old new =
-    UndoDoes is_fresh (AreTaken false taken) table old new
+    UndoDoes is_fresh (AreUndoneInOrder false taken) table old new
 
 abbrev pub UndoesInOrder : List ChipData → ℕ → RigState → RigState → Type 0
 UndoesInOrder table taken old new = UndoesInOrderFrom false table taken old new
@@ -74,6 +74,6 @@ AreTakenWhole again Told returned chip s steps =
     AreTakenAs again Told returned.segments chip s steps
     × (returned.bytes ≡ capped (kept_bytes chip returned.segments (pages_of_segments s.stack)))
 
-abbrev pub ReturnsInOrder : Bool → Bool → List ChipData → Returned → RigState → RigState → Type 0
-ReturnsInOrder is_fresh again table returned old new =
+abbrev pub GivesBackInOrder : Bool → Bool → List ChipData → Returned → RigState → RigState → Type 0
+GivesBackInOrder is_fresh again table returned old new =
     UndoDoes is_fresh (AreTakenWhole again untold returned) table old new

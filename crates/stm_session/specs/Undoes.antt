@@ -23,9 +23,9 @@ abbrev pub taken_count : ℕ → ℕ → ℕ
 taken_count count depth = if count == 0 || nat_lt depth count then depth else count
 
 -- the flash before the oldest of the newest n segments, and with none the flash as it is
-abbrev pub flash_taken_back : ℕ → List ℕ → List (List ℕ) → List ℕ
-flash_taken_back zero flash flashes = flash
-flash_taken_back (suc i) flash flashes = get_or flashes i []
+abbrev pub flash_undone : ℕ → List ℕ → List (List ℕ) → List ℕ
+flash_undone zero flash flashes = flash
+flash_undone (suc i) flash flashes = get_or flashes i []
 
 -- the pages that a stopped command may have left half erased or half written, and the
 -- byte that settles the device
@@ -62,18 +62,18 @@ pub record AmidUndo (taken : ℕ) (flashes : List (List ℕ)) (old : RigState) (
   pub make : SameMake old.device d
   pub undoable : Undoable (drop undone flashes) d journal
   pub finished : is_unfinished_at journal ≡ false
-      → d.flash ≡ flash_taken_back undone old.device.flash flashes
+      → d.flash ≡ flash_undone undone old.device.flash flashes
   pub settled : List ℕ
   pub is_settled : IsFlashSettled old settled
   pub written : ℕ
   pub lines : journal ≡ old.journal ++ take written (undo_text old taken settled)
 
 -- So many segments are taken back, and just the lines for that are added.
-pub record AreTakenBack (taken : ℕ) (flashes : List (List ℕ)) (old : RigState) (d : Device)
+pub record AreUndone (taken : ℕ) (flashes : List (List ℕ)) (old : RigState) (d : Device)
     (journal : List ℕ) : Type 0 where
   pub finished : is_unfinished_at journal ≡ false
   pub make : SameMake old.device d
-  pub flash : d.flash ≡ flash_taken_back taken old.device.flash flashes
+  pub flash : d.flash ≡ flash_undone taken old.device.flash flashes
   pub undoable : Undoable (drop taken flashes) d journal
   pub settled : List ℕ
   pub is_settled : IsFlashSettled old settled
@@ -86,7 +86,7 @@ pub record Undoes (taken : ℕ) (flashes : List (List ℕ)) (old new : RigState)
   pub left : AmidUndo taken flashes old new.device new.journal
   pub honest : new.is_honest
   pub answer : IfOk result (λ n. n ≡ taken)
-  pub done : OnOk result (AreTakenBack taken flashes old new.device new.journal)
+  pub done : OnOk result (AreUndone taken flashes old new.device new.journal)
   pub settled : OnOk result (1 ≤ taken → IsSettled new.device)
   pub fails : IfErr result IsOutsideFault
 

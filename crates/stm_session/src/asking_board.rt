@@ -14,7 +14,7 @@ ghost use Rattle.stm_session.specs.AskingBoard.{AsksSettled, AsksSize, AsksUniqu
 ghost use Rattle.stm_session.specs.AskingBoard.{came_in, most_of_asking, places_in};
 ghost use Rattle.stm_session.specs.AskingBoard.{size_in, size_told, unique_told};
 ghost use Rattle.stm_session.specs.Fault.{HasSessionCause, IsOfLine};
-ghost use Rattle.stm_session.specs.Order.{Step, Begin, IsInOrder, Stops};
+ghost use Rattle.stm_session.specs.Order.{Step, Begin, IsInOrder, FaultEnds};
 ghost use Rattle.stm_session.specs.Reaching.{IsAsked};
 ghost use Rattle.stm_session.specs.Sending.{is_whole};
 ghost use Rattle.stm_session.specs.ToldBoard.{IsBoardOf, ToldBoardIsTheDevices, chip_of_board};
@@ -116,7 +116,7 @@ pub fn ask_place<R: Rig>(rig: &mut R, address: u32, buf: &mut [u8]) -> Result<bo
         × IsAsked address (length buf.old) (came_in told buf.new) steps
         × GoesOn (IsInOrder torn steps) old.calls new.calls) }
     ensures stops { let old = R.view rig.old in let new = R.view rig.new in
-        (torn : Bool) → Stops (Begin (λ steps. (came : Option (List ℕ))
+        (torn : Bool) → FaultEnds (Begin (λ steps. (came : Option (List ℕ))
         × IsAsked address (length buf.old) came steps)) torn old new result }
     ensures sent { IfErr result IsOfLine }
     ensures kept { let old = R.view rig.old in let new = R.view rig.new in

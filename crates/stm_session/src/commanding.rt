@@ -7,7 +7,7 @@ ghost use Rattle.stm_session.specs.Fault.{HasSessionCause};
 ghost use Rattle.stm_session.specs.Lines.{depth_at, is_named_at, segment_entries};
 ghost use Rattle.stm_session.specs.Meaning.{flash_after};
 ghost use Rattle.stm_session.specs.ChangeOrder.{IsOneSegment, IsSegmentBegun};
-ghost use Rattle.stm_session.specs.Order.{Follows, Stops};
+ghost use Rattle.stm_session.specs.Order.{Follows, FaultEnds};
 ghost use Rattle.stm_session.specs.Segments.{Changes};
 ghost use Rattle.stm_session.specs.Steps.{IsSteady};
 
@@ -42,7 +42,7 @@ pub fn change_flash<R: Rig>(
         OnOk result (Follows Done journal.old journal.new old new) }
     ensures stops { let old = R.view rig.old in let new = R.view rig.new in
         let Begun = IsSegmentBegun chip.now change.now journal.old.state in
-        Stops Begun journal.old.is_torn old new result }
+        FaultEnds Begun journal.old.is_torn old new result }
     ensures honest { let old = R.view rig.old in let new = R.view rig.new in
         (flashes : List (List ℕ)) → IsSteady flashes journal.old old → old.device.chip ≡ chip.now
         → let flash = old.device.flash in

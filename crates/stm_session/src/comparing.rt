@@ -13,7 +13,7 @@ ghost use Rattle.stm_session.specs.Fault.{HasSessionCause, IsRefusal};
 ghost use Rattle.stm_session.specs.Reading.{IsNextBlock, IsNotBehind};
 ghost use Rattle.stm_session.specs.Refusals.{image_fits};
 ghost use Rattle.stm_session.specs.Running.{bytes_at};
-ghost use Rattle.stm_session.specs.Order.{Begin, IsReadOf, ReadsBlock, Stops};
+ghost use Rattle.stm_session.specs.Order.{Begin, IsReadOf, ReadsBlock, FaultEnds};
 ghost use Rattle.stm_session.specs.RunOrder.{IsReading, OnlyReads};
 ghost use Rattle.stm_session.specs.Sending.{PutsAtMost, most_of_command};
 
@@ -60,7 +60,7 @@ fn compare_block<R: Rig>(
         × (found ≡ first_difference image.now address answer)
         × ReadsBlock address size answer old new) }
     ensures stops { let old = R.view rig.old in let new = R.view rig.new in
-        (torn : Bool) → Stops (Begin (IsReadOf address size)) torn old new result }
+        (torn : Bool) → FaultEnds (Begin (IsReadOf address size)) torn old new result }
     ensures sent { IfErr result (λ fault. IsRefusal fault → ⊥) }
     ensures honest { let old = R.view rig.old in let new = R.view rig.new in
         old.is_honest → IsSettled old.device → old.device.chip ≡ chip.now
@@ -116,7 +116,7 @@ pub fn find_difference<R: Rig>(
         IfOk result (λ found. OnlyReads chip.now
         (CameFor image.now chip.now.base found) old new) }
     ensures reads_stop { let old = R.view rig.old in let new = R.view rig.new in
-        (torn : Bool) → Stops (AllByRecursion (IsReading chip.now)) torn old new result }
+        (torn : Bool) → FaultEnds (AllByRecursion (IsReading chip.now)) torn old new result }
     ensures cause { HasSessionCause (R.view rig.old) (R.view rig.new) result }
     ensures sent { IfErr result (λ fault. IsRefusal fault → ⊥) }
     ensures honest { let old = R.view rig.old in let new = R.view rig.new in

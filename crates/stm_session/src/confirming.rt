@@ -7,7 +7,7 @@ ghost use Rattle.stm_wire.specs.UniqueId.{is_unique_length};
 ghost use Rattle.stm_session.specs.Asking.{Asks};
 ghost use Rattle.stm_session.specs.Confirming.{HasAgain, TellsAgain};
 ghost use Rattle.stm_session.specs.Fault.{HasSessionCause, IsOfLine};
-ghost use Rattle.stm_session.specs.Order.{Begin, IsInOrder, Stops};
+ghost use Rattle.stm_session.specs.Order.{Begin, IsInOrder, FaultEnds};
 ghost use Rattle.stm_session.specs.Reaching.{IsConfirming, confirmed_at, confirming};
 ghost use Rattle.stm_session.specs.Sending.{PutsAtMost, most_of_confirming};
 
@@ -53,7 +53,7 @@ fn is_told_again<R: Rig>(rig: &mut R, place: UniquePlace, chip: &Chip) -> Result
         (torn : Bool) → IfOk result
         (λ same. TellsAgain same place chip.now.unique torn old new) }
     ensures stops { let old = R.view rig.old in let new = R.view rig.new in
-        (torn : Bool) → Stops (Begin (IsConfirming (Some place))) torn old new result }
+        (torn : Bool) → FaultEnds (Begin (IsConfirming (Some place))) torn old new result }
     ensures sent { IfErr result IsOfLine }
     ensures honest { let old = R.view rig.old in let new = R.view rig.new in
         old.is_honest → IsSettled old.device → Asks old new result
@@ -75,7 +75,7 @@ pub fn confirm<R: Rig>(rig: &mut R, chip: &Chip) -> Result<(), Fault>
         (torn : Bool) → OnOk result
         (GoesOn (IsInOrder torn (confirming chip.now)) old.calls new.calls) }
     ensures stops { let old = R.view rig.old in let new = R.view rig.new in
-        (torn : Bool) → Stops (Begin (IsConfirming (confirmed_at chip.now))) torn old new result }
+        (torn : Bool) → FaultEnds (Begin (IsConfirming (confirmed_at chip.now))) torn old new result }
     ensures named { IfErr result (λ fault. IsOfLine fault ⊎ (fault ≡ Fault.BoardChanged)) }
     ensures honest { let old = R.view rig.old in let new = R.view rig.new in
         old.is_honest → IsSettled old.device → old.device.chip ≡ chip.now

@@ -10,8 +10,8 @@ ghost use Rattle.stm_session.specs.Unwritten.{AppendsNothing};
 ghost use Rattle.stm_session.specs.Fault.{HasSessionCause, IsOfLine};
 ghost use Rattle.stm_session.specs.Asking.{Asks};
 ghost use Rattle.stm_session.specs.Moments.{BeginsNothing, IsSafe};
-ghost use Rattle.stm_session.specs.Opening.{AreCommandsOf, Tells};
-ghost use Rattle.stm_session.specs.Order.{Begin, IsInOrder, Sends, Stops};
+ghost use Rattle.stm_session.specs.Opening.{AreCommandsOf, TellsItself};
+ghost use Rattle.stm_session.specs.Order.{Begin, IsInOrder, Sends, FaultEnds};
 ghost use Rattle.stm_session.specs.Reaching.{AsksInOrder, IsAsking, IsGet, IsGetId, id_turns};
 ghost use Rattle.stm_session.specs.Sending.{is_whole};
 
@@ -58,7 +58,7 @@ pub fn ask_commands<R: Rig>(rig: &mut R) -> Result<Commands, Fault>
         (torn : Bool) → OnOk result ((version : ℕ) × (codes : List ℕ)
         × GoesOn (IsInOrder torn (Sends (get_turns version codes) ∷ [])) old.calls new.calls) }
     ensures stops { let old = R.view rig.old in let new = R.view rig.new in
-        (torn : Bool) → Stops (Begin IsGet) torn old new result }
+        (torn : Bool) → FaultEnds (Begin IsGet) torn old new result }
     ensures sent { IfErr result IsOfLine }
     ensures kept { let old = R.view rig.old in let new = R.view rig.new in
         old.is_honest → new.journal ≡ old.journal }
@@ -82,7 +82,7 @@ pub fn ask_id<R: Rig>(rig: &mut R) -> Result<u16, Fault>
         (torn : Bool) → IfOk result (λ id. let steps = Sends (id_turns id) ∷ [] in
         GoesOn (IsInOrder torn steps) old.calls new.calls) }
     ensures stops { let old = R.view rig.old in let new = R.view rig.new in
-        (torn : Bool) → Stops (Begin IsGetId) torn old new result }
+        (torn : Bool) → FaultEnds (Begin IsGetId) torn old new result }
     ensures sent { IfErr result IsOfLine }
     ensures kept { let old = R.view rig.old in let new = R.view rig.new in
         old.is_honest → new.journal ≡ old.journal }
@@ -113,12 +113,12 @@ pub fn ask<R: Rig>(rig: &mut R) -> Result<Told, Fault>
     ensures order { let old = R.view rig.old in let new = R.view rig.new in
         (torn : Bool) → IfOk result (λ told. AsksInOrder told.id torn old new) }
     ensures stops { let old = R.view rig.old in let new = R.view rig.new in
-        (torn : Bool) → Stops (Begin IsAsking) torn old new result }
+        (torn : Bool) → FaultEnds (Begin IsAsking) torn old new result }
     ensures sent { IfErr result IsOfLine }
     ensures kept { let old = R.view rig.old in let new = R.view rig.new in
         old.is_honest → new.journal ≡ old.journal }
     ensures honest { let old = R.view rig.old in let new = R.view rig.new in
-        old.is_honest → IsSettled old.device → Asks old new result (Tells old.device) }
+        old.is_honest → IsSettled old.device → Asks old new result (TellsItself old.device) }
 {
     let commands = ask_commands(rig)?;
     let id = ask_id(rig)?;

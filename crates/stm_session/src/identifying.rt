@@ -8,7 +8,7 @@ ghost use Rattle.stm_session.specs.Unwritten.{AppendsNothing};
 ghost use Rattle.stm_session.specs.Fault.{HasSessionCause};
 ghost use Rattle.stm_session.specs.Fresh.{Settles};
 ghost use Rattle.stm_session.specs.Moments.{IsSafe};
-ghost use Rattle.stm_session.specs.Opening.{Tells};
+ghost use Rattle.stm_session.specs.Opening.{TellsItself};
 ghost use Rattle.stm_session.specs.Promises.{IdentifyContract};
 ghost use Rattle.stm_session.specs.Reaching.{ReachesInOrder, StopsShort};
 ghost use Rattle.stm_session.specs.Refusal.{unsent_refusal};
@@ -43,7 +43,7 @@ pub fn identify<R: Rig>(alloc: Global, rig: &mut R) -> Result<Told, Fault>
     ensures accepted { let old = R.view rig.old in
         old.is_honest → OnOk result (unsent_refusal (journal_of old.journal) ≡ None) }
     ensures told { let old = R.view rig.old in
-        old.is_honest → IsSafe old.device → IfOk result (Tells old.device) }
+        old.is_honest → IsSafe old.device → IfOk result (TellsItself old.device) }
     ensures promised { IdentifyContract (R.view rig.old) (R.view rig.new) result }
 {
     harmless_is_kept();

@@ -14,7 +14,7 @@ ghost use Rattle.stm_session.specs.Fault.{HasSessionCause, IsLaterRefusal, cause
 ghost use Rattle.stm_session.specs.Fresh.{IsAsSaid, byte_of, limit_of, undo_way};
 ghost use Rattle.stm_session.specs.JournalDevice.{Meets};
 ghost use Rattle.stm_session.specs.Refusals.{can_erase, undo_misfit};
-ghost use Rattle.stm_session.specs.Order.{Begin, IsInOrder, Sends, Stops, StopsBy};
+ghost use Rattle.stm_session.specs.Order.{Begin, IsInOrder, Sends, FaultEnds, StopsBy};
 ghost use Rattle.stm_session.specs.Reaching.{AsksInOrder, IsAsking, IsGet, ReachesInOrder};
 ghost use Rattle.stm_session.specs.Reaching.{StopsShort};
 ghost use Rattle.stm_session.specs.Sending.{is_whole, most_of_reaching};
@@ -39,7 +39,7 @@ fn ask_erase<R: Rig>(rig: &mut R, chip: &Chip) -> Result<bool, Fault>
         (torn : Bool) → OnOk result ((version : ℕ) × (codes : List ℕ)
         × GoesOn (IsInOrder torn (Sends (get_turns version codes) ∷ [])) old.calls new.calls) }
     ensures stops { let old = R.view rig.old in let new = R.view rig.new in
-        (torn : Bool) → Stops (Begin IsGet) torn old new result }
+        (torn : Bool) → FaultEnds (Begin IsGet) torn old new result }
     ensures honest { let old = R.view rig.old in let new = R.view rig.new in
         old.is_honest → IsSettled old.device
         → Asks old new result (λ can. can ≡ can_erase chip.now old.device) }
@@ -58,7 +58,7 @@ fn ask_misfit<R: Rig>(rig: &mut R, chip: &Chip) -> Result<Option<Fault>, Fault>
         (torn : Bool) → IfOk result (λ misfit. misfit ≡ None
         → AsksInOrder chip.now.id torn old new) }
     ensures stops { let old = R.view rig.old in let new = R.view rig.new in
-        (torn : Bool) → Stops (Begin IsAsking) torn old new result }
+        (torn : Bool) → FaultEnds (Begin IsAsking) torn old new result }
     ensures refuses { let old = R.view rig.old in let new = R.view rig.new in
         (torn : Bool) → IfOk result (λ misfit. IfSome misfit
         (λ fault. StopsBy (Begin IsAsking) (cause_of fault) torn old new)) }

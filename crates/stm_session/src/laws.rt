@@ -19,7 +19,7 @@ ghost use Rattle.stm_session.specs.Events.{OutcomesAreTheRun};
 ghost use Rattle.stm_session.specs.Kept.{RunKeeps, RunStopsKept, UndoPutsBack, UndoStopsBack};
 ghost use Rattle.stm_session.specs.Meaning.{CommandData, commands_in};
 ghost use Rattle.stm_session.specs.Moments.{IsSafe, SameMake};
-ghost use Rattle.stm_session.specs.UndoOrder.{ReturnsInOrder, UndoStopsAs, UndoStopsFrom};
+ghost use Rattle.stm_session.specs.UndoOrder.{GivesBackInOrder, UndoStopsAs, UndoStopsFrom};
 ghost use Rattle.stm_session.specs.UndoOrder.{UndoesInOrderFrom};
 ghost use Rattle.stm_session.specs.PowerLoss.{
   AnyBytesAreLeft,
@@ -30,7 +30,7 @@ ghost use Rattle.stm_session.specs.PowerLoss.{
 };
 ghost use Rattle.stm_session.specs.Refusal.{chip_with, misfit_refusal, opening_refusal};
 ghost use Rattle.stm_session.specs.Refusals.{is_in_flash, run_refusal};
-ghost use Rattle.stm_session.specs.Running.{RunsReads, is_read};
+ghost use Rattle.stm_session.specs.Running.{RunsReads, is_reading};
 ghost use Rattle.stm_session.specs.RunOrder.{RunStops, RunsInOrder};
 ghost use Rattle.stm_session.specs.Runs.{Runs};
 ghost use Rattle.stm_session.specs.Undoable.{IsJournalOf, Undoable, has_companion};
@@ -51,7 +51,7 @@ pub fn a_ready_device_can_begin()
 }
 
 /// What can be taken back, still can after a reset of the device.
-pub fn a_reset_keeps_what_can_be_taken_back()
+pub fn a_reset_keeps_what_can_be_undone()
     ensures { (flashes : List (List ℕ)) (d : Device) (journal : List ℕ)
         → Undoable flashes d journal → Undoable flashes (reset d) journal }
 {
@@ -59,7 +59,7 @@ pub fn a_reset_keeps_what_can_be_taken_back()
 }
 
 /// What can be taken back, still can when bytes that the device owed are lost.
-pub fn lost_bytes_keep_what_can_be_taken_back()
+pub fn lost_bytes_keep_what_can_be_undone()
     ensures { OwedLossKeepsFlashes }
 {
     harmless_is_kept();
@@ -69,7 +69,7 @@ pub fn lost_bytes_keep_what_can_be_taken_back()
 /// whatever bytes that leaves in the pages which the unfinished newest segment keeps. These have
 /// the page of the journal's intent among them, and each page that settling the device by that
 /// intent may change. Where no segment is unfinished, the flash is as it was.
-pub fn a_power_loss_keeps_what_can_be_taken_back()
+pub fn a_power_loss_keeps_what_can_be_undone()
     ensures undoable { PowerLossKeepsFlashes }
     ensures finished { FinishedLosesNothing }
     ensures intended { IntentIsAtRisk }
@@ -83,7 +83,7 @@ pub fn a_power_loss_keeps_what_can_be_taken_back()
 
 /// Where the journal is finished, the device is safe, and at any moment of calls that begin no
 /// segment, what could be taken back still can.
-pub fn asking_keeps_what_can_be_taken_back()
+pub fn asking_keeps_what_can_be_undone()
     ensures safe { (flashes : List (List ℕ)) (d : Device) (journal : List ℕ)
         → Undoable flashes d journal → is_unfinished_at journal ≡ false → IsSafe d }
     ensures undoable { (flashes : List (List ℕ)) (old d : Device) (journal : List ℕ)
@@ -93,7 +93,7 @@ pub fn asking_keeps_what_can_be_taken_back()
 
 /// On a safe device whose chip the table holds, a journal that isn't refused, when a session is
 /// opened or for a run's commands, can be taken back to the flashes that it keeps.
-pub fn an_unrefused_journal_can_be_taken_back()
+pub fn an_unrefused_journal_can_be_undone()
     ensures opened { (table : List ChipData) (d : Device) (journal : List ℕ)
         → IsSafe d → IsChipWith table d.chip.id d.chip
         → opening_refusal (journal_of journal) d table ≡ None
@@ -129,7 +129,7 @@ pub fn a_journal_of_the_chip_is_not_refused()
 /// own bytes, and it fails by the line, the journal or memory alone.
 pub fn a_run_of_reads_begins_no_segment<R: Rig>()
     ensures { (commands : List Command) (flashes : List (List ℕ)) (old new : R)
-        (result : Result Report Fault) → list_all is_read commands ≡ true
+        (result : Result Report Fault) → list_all is_reading commands ≡ true
         → is_unfinished_at (R.view old).journal ≡ false
         → Runs (commands_in commands) flashes (R.view old) (R.view new) result outcomes_in
         → RunsReads commands (R.view old) (R.view new) result
@@ -145,7 +145,7 @@ pub fn a_run_is_known_by_its_outcomes<R: Rig, T>()
 /// Of reads no more is refused, once a session is opened, than a place outside the flash.
 pub fn reads_in_the_flash_are_not_refused()
     ensures { (journal : List ℕ) (d : Device) (table : List ChipData) (chip : ChipData)
-        (commands : List Command) → list_all is_read commands ≡ true
+        (commands : List Command) → list_all is_reading commands ≡ true
         → opening_refusal (journal_of journal) d table ≡ None
         → chip_with table d.chip.id ≡ Some chip → list_all (is_in_flash chip) commands ≡ true
         → run_refusal (journal_of journal) d table (commands_in commands) ≡ None }
@@ -172,7 +172,7 @@ pub fn a_run_keeps_pages_before_it_changes_them<R: Rig>()
 /// which it hasn't taken off yet keeps, and appends intents only for these; and it sends no other
 /// frames but those that read. It takes a segment off behind the last of these, each of which was
 /// acknowledged. That holds of all that was done, and of what failed.
-pub fn an_undo_changes_only_pages_that_it_takes_back<R: Rig>()
+pub fn an_undo_changes_only_pages_that_it_undoes<R: Rig>()
     ensures done { (is_fresh : Bool) (table : List ChipData) (taken : ℕ) (old new : R)
         → UndoesInOrderFrom is_fresh table taken (R.view old) (R.view new)
         → UndoPutsBack is_fresh table (R.view old) (R.view new) }
@@ -181,7 +181,7 @@ pub fn an_undo_changes_only_pages_that_it_takes_back<R: Rig>()
         → UndoStopsBack is_fresh table (R.view old) (R.view new) fault }
     // So does one that reads each page again.
     ensures verified { (is_fresh : Bool) (table : List ChipData) (returned : Returned)
-        (old new : R) → ReturnsInOrder is_fresh true table returned (R.view old) (R.view new)
+        (old new : R) → GivesBackInOrder is_fresh true table returned (R.view old) (R.view new)
         → UndoPutsBack is_fresh table (R.view old) (R.view new) }
     ensures verified_stopped { (is_fresh : Bool) (table : List ChipData) (count : ℕ) (old new : R)
         (fault : Fault) → UndoStopsAs is_fresh true table count (R.view old) (R.view new) fault
@@ -208,7 +208,7 @@ pub fn a_session_changes_only_its_own_board<R: Rig>()
         → GoesOn AreFetches (R.view old).calls (R.view new).calls
         ⊎ IsOfItsBoard table (R.view old) }
     ensures verified { (is_fresh : Bool) (table : List ChipData) (returned : Returned)
-        (old new : R) → ReturnsInOrder is_fresh true table returned (R.view old) (R.view new)
+        (old new : R) → GivesBackInOrder is_fresh true table returned (R.view old) (R.view new)
         → IsOfItsBoard table (R.view old) }
     ensures verified_stops { (is_fresh : Bool) (table : List ChipData) (count : ℕ) (old new : R)
         (fault : Fault) → UndoStopsAs is_fresh true table count (R.view old) (R.view new) fault

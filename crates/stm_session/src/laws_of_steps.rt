@@ -4,7 +4,7 @@ ghost use Rattle.stm_session.specs.StepLaws.{StepLaws};
 use stm_journal::{
     a_beginning_leaves_the_old_segments_or_one_more, a_journal_is_sound,
     an_entry_leaves_the_old_state_or_the_new, changes_of_kept_pages_keep_the_flashes,
-    keeping_a_page_keeps_the_flashes, restored_pages_are_the_flash_before,
+    keeping_a_page_keeps_the_flashes, pages_given_back_are_the_flash_before,
 };
 use stm_wire::{awaited_is_limited, harmless_is_kept, pages_are_the_flash, sending_is_harmless};
 
@@ -21,5 +21,5 @@ pub fn step_laws()
     a_beginning_leaves_the_old_segments_or_one_more();
     keeping_a_page_keeps_the_flashes();
     changes_of_kept_pages_keep_the_flashes();
-    restored_pages_are_the_flash_before();
+    pages_given_back_are_the_flash_before();
 }

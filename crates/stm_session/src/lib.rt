@@ -37,16 +37,16 @@ mod reading_again;
 mod returned;
 mod returned_bytes;
 mod returning;
-mod reversal;
-mod reversing;
 mod rewriting;
 mod running;
 mod saving;
-mod segment_back;
 mod segment_begin;
 mod segment_end;
-mod segments_back;
+mod segment_undo;
+mod segments_undo;
 mod settling;
+mod undo_course;
+mod undoing;
 mod unprotecting;
 
 pub use asking_board::{Board, told_board_is_the_devices};
@@ -55,21 +55,21 @@ pub use command::Command;
 pub use contact::Told;
 pub use fault::Fault;
 pub use go_and_protect::{go, protect};
-pub use headline::{a_session_can_be_taken_back, the_first_difference_is_the_first};
+pub use headline::{a_session_can_be_undone, the_first_difference_is_the_first};
 pub use identifying::identify;
 pub use information::Info;
 pub use inspect::info;
 pub use laws::{
     a_chip_is_looked_up_by_its_id, a_journal_of_the_chip_is_not_refused,
-    a_power_loss_keeps_what_can_be_taken_back, a_ready_device_can_begin,
-    a_reset_keeps_what_can_be_taken_back, a_run_is_known_by_its_outcomes,
+    a_power_loss_keeps_what_can_be_undone, a_ready_device_can_begin,
+    a_reset_keeps_what_can_be_undone, a_run_is_known_by_its_outcomes,
     a_run_keeps_pages_before_it_changes_them, a_run_of_reads_begins_no_segment,
-    a_session_changes_only_its_own_board, an_undo_changes_only_pages_that_it_takes_back,
-    an_unrefused_journal_can_be_taken_back, asking_keeps_what_can_be_taken_back,
-    lost_bytes_keep_what_can_be_taken_back, reads_in_the_flash_are_not_refused,
+    a_session_changes_only_its_own_board, an_undo_changes_only_pages_that_it_undoes,
+    an_unrefused_journal_can_be_undone, asking_keeps_what_can_be_undone,
+    lost_bytes_keep_what_can_be_undone, reads_in_the_flash_are_not_refused,
 };
 pub use outcome::{Outcome, Report};
 pub use returned::Returned;
-pub use reversal::{undo, undo_fresh, undo_verified, undo_verified_fresh};
 pub use running::run;
+pub use undoing::{undo, undo_fresh, undo_verified, undo_verified_fresh};
 pub use unprotecting::unprotect_fresh;

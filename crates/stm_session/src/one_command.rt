@@ -4,14 +4,14 @@ ghost use Rattle.std.specs.Prelude.{IsTrue, IfErr, IfOk, OnOk, Some};
 ghost use Rattle.stm_wire.specs.Chip.{fits_inside};
 ghost use Rattle.stm_journal.specs.Journals.{Loaded};
 ghost use Rattle.stm_journal.specs.States.{is_unfinished};
-ghost use Rattle.stm_session.specs.Answers.{outcome_data, segments_of};
-ghost use Rattle.stm_session.specs.OneCommand.{Does};
+ghost use Rattle.stm_session.specs.Answers.{outcome_data, segments_of_command};
+ghost use Rattle.stm_session.specs.OneCommand.{DoesCommand};
 ghost use Rattle.stm_session.specs.Fault.{HasSessionCause};
 ghost use Rattle.stm_session.specs.Meaning.{command_data, erases, is_change, reads, verifies};
 ghost use Rattle.stm_session.specs.Meaning.{writes};
 ghost use Rattle.stm_session.specs.Refusals.{image_fits, lies_in_flash};
 ghost use Rattle.stm_session.specs.Running.{IsKindOf};
-ghost use Rattle.stm_session.specs.Order.{Follows, Stops};
+ghost use Rattle.stm_session.specs.Order.{Follows, FaultEnds};
 ghost use Rattle.stm_session.specs.RunOrder.{IsBegunBy, IsBegunTelling, IsDoneTelling};
 ghost use Rattle.stm_session.specs.RunOrder.{StopsTelling};
 ghost use Rattle.stm_session.specs.Sending.{PutsAtMost, most_of_command};
@@ -50,10 +50,10 @@ fn write_image<R: Rig>(
         Follows (Done (outcome_data said)) journal.old journal.new old new) }
     ensures stops { let old = R.view rig.old in let new = R.view rig.new in
         let Begun = IsBegunBy chip.now (writes image.now) journal.old.state in
-        Stops Begun journal.old.is_torn old new result }
+        FaultEnds Begun journal.old.is_torn old new result }
     ensures honest { let old = R.view rig.old in let new = R.view rig.new in
         (flashes : List (List ℕ)) → IsSteady flashes journal.old old → old.device.chip ≡ chip.now
-        → Does flashes (writes image.now) journal.new old new result outcome_data }
+        → DoesCommand flashes (writes image.now) journal.new old new result outcome_data }
 {
     let (segment, pages) = change_flash(alloc, rig, journal, chip, &Change::Write(image))?;
     Ok(Outcome::Written { segment, pages })
@@ -81,10 +81,10 @@ fn erase_pages<R: Rig>(
         Follows (Done (outcome_data said)) journal.old journal.new old new) }
     ensures stops { let old = R.view rig.old in let new = R.view rig.new in
         let Begun = IsBegunBy chip.now (erases pages.now.items) journal.old.state in
-        Stops Begun journal.old.is_torn old new result }
+        FaultEnds Begun journal.old.is_torn old new result }
     ensures honest { let old = R.view rig.old in let new = R.view rig.new in
         (flashes : List (List ℕ)) → IsSteady flashes journal.old old → old.device.chip ≡ chip.now
-        → Does flashes (erases pages.now.items) journal.new old new result outcome_data }
+        → DoesCommand flashes (erases pages.now.items) journal.new old new result outcome_data }
 {
     let change = Change::Erase(pages.as_slice());
     let (segment, pages) = change_flash(alloc, rig, journal, chip, &change)?;
@@ -107,7 +107,7 @@ fn verify_image<R: Rig>(rig: &mut R, chip: &Chip, image: &Image) -> Result<Outco
     ensures honest { let old = R.view rig.old in let new = R.view rig.new in
         (flashes : List (List ℕ)) (l : Loaded) → IsSteady flashes l old
         → old.device.chip ≡ chip.now
-        → Does flashes (verifies image.now) l old new result outcome_data }
+        → DoesCommand flashes (verifies image.now) l old new result outcome_data }
 {
     step_laws();
     let difference = find_difference(rig, chip, image)?;
@@ -139,7 +139,7 @@ fn read_part_of<R: Rig>(
     ensures honest { let old = R.view rig.old in let new = R.view rig.new in
         (flashes : List (List ℕ)) (l : Loaded) → IsSteady flashes l old
         → old.device.chip ≡ chip.now
-        → Does flashes (reads start length) l old new result outcome_data }
+        → DoesCommand flashes (reads start length) l old new result outcome_data }
 {
     step_laws();
     let bytes = read_range(alloc, rig, chip, start, length)?;
@@ -159,7 +159,7 @@ pub fn run_command<R: Rig>(
         → length journal.old.state.stack < 65535 }
     requires finished { is_unfinished journal.old.state ≡ false }
     ensures finished { OnOk result (is_unfinished journal.new.state ≡ false) }
-    ensures depth { let segments = segments_of (command_data command.now) in
+    ensures depth { let segments = segments_of_command (command_data command.now) in
         OnOk result (length journal.new.state.stack ≡ length journal.old.state.stack + segments) }
     ensures kind { IfOk result (IsKindOf command.now) }
     ensures cause { HasSessionCause (R.view rig.old) (R.view rig.new) result }
@@ -175,7 +175,7 @@ pub fn run_command<R: Rig>(
     ensures honest { let old = R.view rig.old in let new = R.view rig.new in
         (flashes : List (List ℕ)) → IsSteady flashes journal.old old → old.device.chip ≡ chip.now
         → let c = command_data command.now in
-        Does flashes c journal.new old new result outcome_data }
+        DoesCommand flashes c journal.new old new result outcome_data }
 {
     laying_by_parts();
     chip.keeps_limits();

@@ -15,7 +15,7 @@ ghost use Rattle.stm_session.specs.Refusal.{RefusesUnsent, device_refusals, firs
 ghost use Rattle.stm_session.specs.Refusal.{misfit_refusal, unsent_refusal};
 ghost use Rattle.stm_session.specs.Reaching.{ReachesInOrder, StopsShort};
 ghost use Rattle.stm_session.specs.Sending.{is_whole, most_calls};
-ghost use Rattle.stm_session.specs.Opening.{IsCoherent, LoadsUnless, Opens, Tells};
+ghost use Rattle.stm_session.specs.Opening.{IsCoherent, LoadsUnless, Opens, TellsItself};
 
 use crate::Fault;
 use crate::check::check_kept;
@@ -71,7 +71,7 @@ pub fn reach<R: Rig>(rig: &mut R) -> Result<Told, Fault>
     ensures kept { let old = R.view rig.old in let new = R.view rig.new in
         old.is_honest → new.journal ≡ old.journal }
     ensures honest { let old = R.view rig.old in let new = R.view rig.new in
-        old.is_honest → IsSafe old.device → BeginsNothing old new result (Tells old.device) }
+        old.is_honest → IsSafe old.device → BeginsNothing old new result (TellsItself old.device) }
 {
     settle_safe(rig)?;
     ask(rig)

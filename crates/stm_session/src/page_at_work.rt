@@ -9,7 +9,7 @@ ghost use Rattle.stm_journal.specs.KeptPlaces.{IsPlaceIn, kept_entry, place_of};
 ghost use Rattle.stm_journal.specs.Newest.{KeepsSame};
 ghost use Rattle.stm_session.specs.Fault.{HasSessionCause};
 ghost use Rattle.stm_session.specs.Lines.{rewrite_entries, work_entries};
-ghost use Rattle.stm_session.specs.Order.{AreRewritten, BeginTold, Follows, IsRewritten, Stops};
+ghost use Rattle.stm_session.specs.Order.{AreRewritten, BeginTold, Follows, IsRewritten, FaultEnds};
 ghost use Rattle.stm_session.specs.Steps.{IsSteady, Goes};
 ghost use Rattle.stm_session.specs.Told.{ToldIn};
 ghost use Rattle.stm_session.specs.Undoable.{state_at};
@@ -58,7 +58,7 @@ fn rewrite_line<R: Rig>(
         OnOk result (Follows (IsRewritten chip.now Told n) journal.old journal.new old new) }
     ensures stops { let old = R.view rig.old in let new = R.view rig.new in
         let Told = ToldIn R.view journal.old.is_torn old new in
-        Stops (BeginTold (λ T. IsRewritten chip.now T n) Told) journal.old.is_torn old new result }
+        FaultEnds (BeginTold (λ T. IsRewritten chip.now T n) Told) journal.old.is_torn old new result }
     ensures honest { let old = R.view rig.old in let new = R.view rig.new in
         (flashes : List (List ℕ)) (k i : ℕ) (kept : Kept) → IsSteady flashes journal.old old
         → old.device.chip ≡ chip.now → kept_entry (state_at old.journal) k i ≡ Some kept
@@ -95,7 +95,7 @@ fn rewrite_newest<R: Rig>(
         OnOk result (Follows (IsRewritten chip.now Told n) journal.old journal.new old new) }
     ensures stops { let old = R.view rig.old in let new = R.view rig.new in
         let Told = ToldIn R.view journal.old.is_torn old new in
-        Stops (BeginTold (λ T. IsRewritten chip.now T n) Told) journal.old.is_torn old new result }
+        FaultEnds (BeginTold (λ T. IsRewritten chip.now T n) Told) journal.old.is_torn old new result }
     ensures honest { let old = R.view rig.old in let new = R.view rig.new in
         (flashes : List (List ℕ)) → IsSteady flashes journal.old old → old.device.chip ≡ chip.now
         → let kept = kept_of (state_at old.journal).stack (n ∷ []) in
@@ -134,7 +134,7 @@ fn rewrite_beside<R: Rig>(
         let Told = ToldIn R.view journal.old.is_torn old new in
         let pages = beside n (newest_keeps 257 journal.old.state) in
         let Begun = BeginTold (λ T. AreRewritten chip.now T pages) Told in
-        Stops Begun journal.old.is_torn old new result }
+        FaultEnds Begun journal.old.is_torn old new result }
     ensures honest { let old = R.view rig.old in let new = R.view rig.new in
         (flashes : List (List ℕ)) → IsSteady flashes journal.old old → old.device.chip ≡ chip.now
         → let pages = beside n (newest_keeps 257 journal.old.state) in
@@ -175,7 +175,7 @@ pub fn rewrite_at_work<R: Rig>(
         let Told = ToldIn R.view journal.old.is_torn old new in
         let work = pages_at_work journal.old.state.stack in
         let Begun = BeginTold (λ T. AreRewritten chip.now T work) Told in
-        Stops Begun journal.old.is_torn old new result }
+        FaultEnds Begun journal.old.is_torn old new result }
     ensures honest { let old = R.view rig.old in let new = R.view rig.new in
         (flashes : List (List ℕ)) → IsSteady flashes journal.old old → old.device.chip ≡ chip.now
         → let kept = kept_at_work (state_at old.journal).stack in

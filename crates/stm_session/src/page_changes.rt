@@ -5,8 +5,8 @@ ghost use Rattle.stm_wire.specs.Chip.{page_count, page_of};
 ghost use Rattle.stm_journal.specs.States.{newest_is_open, newest_keeps, newest_may_keep};
 ghost use Rattle.stm_journal.specs.Newest.{next_page};
 ghost use Rattle.stm_session.specs.Fault.{HasSessionCause};
-ghost use Rattle.stm_session.specs.ChangeOrder.{AreAllTurned, AreBegunTurns, IsTurn, IsTurnOf};
-ghost use Rattle.stm_session.specs.Order.{Begin, Follows, Stops};
+ghost use Rattle.stm_session.specs.ChangeOrder.{AreAllTurned, AreBegunTurns, IsPageTurn, IsTurnOf};
+ghost use Rattle.stm_session.specs.Order.{Begin, Follows, FaultEnds};
 ghost use Rattle.stm_session.specs.Undoable.{has_companion};
 ghost use Rattle.stm_session.specs.Steps.{IsSteady, Goes};
 ghost use Rattle.stm_session.specs.Changing.{HasTurned, change_entries};
@@ -49,8 +49,8 @@ fn turn_page<R: Rig>(
         IfOk result (λ changed. let Turned = IsTurnOf kept chip.now change.now n changed in
         Follows Turned journal.old journal.new old new) }
     ensures stops { let old = R.view rig.old in let new = R.view rig.new in
-        let Turned = IsTurn kept chip.now change.now n in
-        Stops (Begin Turned) journal.old.is_torn old new result }
+        let Turned = IsPageTurn kept chip.now change.now n in
+        FaultEnds (Begin Turned) journal.old.is_torn old new result }
     ensures honest { let old = R.view rig.old in let new = R.view rig.new in
         (flashes : List (List ℕ)) → IsSteady flashes journal.old old → old.device.chip ≡ chip.now
         → let made = content chip.now change.now n (page_of chip.now old.device.flash n) in
@@ -105,7 +105,7 @@ pub fn turn_pages<R: Rig>(
         OnOk result (Follows Turned journal.old journal.new old new) }
     ensures stops { let old = R.view rig.old in let new = R.view rig.new in
         let Turned = AreBegunTurns chip.now change.now in
-        Stops Turned journal.old.is_torn old new result }
+        FaultEnds Turned journal.old.is_torn old new result }
     ensures honest { let old = R.view rig.old in let new = R.view rig.new in
         (flashes : List (List ℕ)) → IsSteady flashes journal.old old → old.device.chip ≡ chip.now
         → let other = flash_after chip.now old.device.flash (command_of change.now) in

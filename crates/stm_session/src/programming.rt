@@ -4,13 +4,13 @@ ghost use Rattle.std.specs.Prelude.{drop, OnOk, IsTrue, Bool, IfErr};
 ghost use Rattle.stm_wire.specs.Chip.{page_count, page_size, page_offset, with_bytes, with_page};
 ghost use Rattle.stm_wire.specs.Chip.{erased_page, flash_size};
 ghost use Rattle.stm_wire.specs.Dialogue.{GoesOn};
-ghost use Rattle.stm_chip.specs.Plan.{IsFrame, AreFrames, written};
+ghost use Rattle.stm_chip.specs.Plan.{IsFrameOfPlan, AreFrames, written};
 ghost use Rattle.stm_journal.specs.declared.entry.Entry.TheVariants.{Programs};
 ghost use Rattle.stm_journal.specs.States.{newest_keeps};
 ghost use Rattle.stm_journal.specs.Newest.{HasIntended};
 ghost use Rattle.stm_journal.specs.Journals.{Loaded};
 ghost use Rattle.stm_session.specs.Fault.{HasSessionCause};
-ghost use Rattle.stm_session.specs.Order.{Adds, Are, Begin, IsInOrder, Stops};
+ghost use Rattle.stm_session.specs.Order.{Adds, Are, Begin, IsInOrder, FaultEnds};
 ghost use Rattle.stm_session.specs.Order.{write_step, write_steps};
 ghost use Rattle.stm_wire.specs.FlashLaws.{IsErasedAt};
 ghost use Rattle.stm_session.specs.Undoable.{state_at};
@@ -33,7 +33,7 @@ fn program_frame<R: Rig>(
 ) -> Result<(), Fault>
     requires exists { n < page_count chip.now }
     requires size { length page.now ≡ page_size chip.now n }
-    requires frame { IsFrame 0 (length page.now) frame }
+    requires frame { IsFrameOfPlan 0 (length page.now) frame }
     ensures cause { HasSessionCause (R.view rig.old) (R.view rig.new) result }
     ensures named { IfErr result (λ fault. fault ≢ Fault.Unfinished) }
     ensures order { let old = R.view rig.old in let new = R.view rig.new in
@@ -41,7 +41,7 @@ fn program_frame<R: Rig>(
         OnOk result (GoesOn (IsInOrder torn steps) old.calls new.calls) }
     ensures stops { let old = R.view rig.old in let new = R.view rig.new in
         (torn : Bool) → let steps = write_step chip.now n page.now frame ∷ [] in
-        Stops (Begin (Are steps)) torn old new result }
+        FaultEnds (Begin (Are steps)) torn old new result }
     ensures honest { let old = R.view rig.old in let new = R.view rig.new in
         (flashes : List (List ℕ)) (l : Loaded) → IsSteady flashes l old → old.device.chip ≡ chip.now
         → IsUnder n (Intent.Program n) (state_at old.journal)
@@ -76,7 +76,7 @@ fn program_frames<R: Rig>(
         OnOk result (GoesOn (IsInOrder torn steps) old.calls new.calls) }
     ensures stops { let old = R.view rig.old in let new = R.view rig.new in
         (torn : Bool) → let steps = write_steps chip.now n page.now frames.now in
-        Stops (Begin (Are steps)) torn old new result }
+        FaultEnds (Begin (Are steps)) torn old new result }
     ensures honest { let old = R.view rig.old in let new = R.view rig.new in
         (flashes : List (List ℕ)) (l : Loaded) (base : List ℕ) → IsSteady flashes l old
         → old.device.chip ≡ chip.now → IsUnder n (Intent.Program n) (state_at old.journal)

@@ -12,7 +12,7 @@ ghost use Rattle.stm_session.specs.Asking.{Asks};
 ghost use Rattle.stm_session.specs.Came.{ComeInBlocks};
 ghost use Rattle.stm_session.specs.Reading.{HoldsAddress, IsBlock, IsNotBehind};
 ghost use Rattle.stm_session.specs.Order.{AreReadsOf, Begin, IsInOrder, IsReadOf, ReadsBlock};
-ghost use Rattle.stm_session.specs.Order.{Stops, read_steps};
+ghost use Rattle.stm_session.specs.Order.{FaultEnds, read_steps};
 ghost use Rattle.stm_session.specs.RunOrder.{IsReading, OnlyReads};
 ghost use Rattle.stm_session.specs.Sending.{PutsAtMost, most_of_command};
 ghost use Rattle.stm_session.specs.Running.{bytes_at};
@@ -95,7 +95,7 @@ pub fn read_part<R: Rig>(
     ensures order { let old = R.view rig.old in let new = R.view rig.new in
         OnOk result (ReadsBlock address (length buf.old) buf.new old new) }
     ensures stops { let old = R.view rig.old in let new = R.view rig.new in
-        (torn : Bool) → Stops (Begin (IsReadOf address (length buf.old))) torn old new result }
+        (torn : Bool) → FaultEnds (Begin (IsReadOf address (length buf.old))) torn old new result }
     ensures sent { IfErr result (λ fault. IsRefusal fault → ⊥) }
     ensures honest { let old = R.view rig.old in let new = R.view rig.new in
         old.is_honest → IsSettled old.device → old.device.chip ≡ chip.now
@@ -128,7 +128,7 @@ fn read_block<R: Rig>(
         OnOk result ((answer : List ℕ) × (bytes.new.items ≡ bytes.old.items ++ answer)
         × ReadsBlock address size answer old new) }
     ensures stops { let old = R.view rig.old in let new = R.view rig.new in
-        (torn : Bool) → Stops (Begin (IsReadOf address size)) torn old new result }
+        (torn : Bool) → FaultEnds (Begin (IsReadOf address size)) torn old new result }
     ensures sent { IfErr result (λ fault. IsRefusal fault → ⊥) }
     ensures honest { let old = R.view rig.old in let new = R.view rig.new in
         old.is_honest → IsSettled old.device → old.device.chip ≡ chip.now
@@ -165,12 +165,12 @@ pub fn read_range<R: Rig>(
         GoesOn (IsInOrder torn steps) old.calls new.calls) }
     ensures order_stops { let old = R.view rig.old in let new = R.view rig.new in
         (page : ℕ) → InPage chip.now page start size → size % 256 ≡ 0 → (torn : Bool)
-        → Stops (Begin (AreReadsOf start size)) torn old new result }
+        → FaultEnds (Begin (AreReadsOf start size)) torn old new result }
     // They are what came, in blocks of which none is read twice.
     ensures reads { let old = R.view rig.old in let new = R.view rig.new in
         IfOk result (λ bytes. OnlyReads chip.now (ComeInBlocks start bytes.items) old new) }
     ensures reads_stop { let old = R.view rig.old in let new = R.view rig.new in
-        (torn : Bool) → Stops (AllByRecursion (IsReading chip.now)) torn old new result }
+        (torn : Bool) → FaultEnds (AllByRecursion (IsReading chip.now)) torn old new result }
     ensures cause { let old = R.view rig.old in let new = R.view rig.new in
         HasSessionCause old new result }
     ensures sent { IfErr result (λ fault. IsRefusal fault → ⊥) }

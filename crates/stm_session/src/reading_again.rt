@@ -10,7 +10,7 @@ ghost use Rattle.stm_session.specs.Asking.{Asks};
 ghost use Rattle.stm_session.specs.Fault.{HasSessionCause};
 ghost use Rattle.stm_session.specs.Lines.{rewrite_entries};
 ghost use Rattle.stm_session.specs.Order.{Are, AreReadsOf, Begin, DoesSteps, IsInOrder, OrMisread};
-ghost use Rattle.stm_session.specs.Order.{Stops, page_address, page_reads, return_steps};
+ghost use Rattle.stm_session.specs.Order.{FaultEnds, page_address, page_reads, return_steps};
 ghost use Rattle.stm_session.specs.Steps.{IsSteady, Goes};
 ghost use Rattle.stm_session.specs.Sending.{PutsAtMost};
 
@@ -48,7 +48,7 @@ fn read_again<R: Rig>(
         (GoesOn (IsInOrder torn (page_reads chip.now n page.now)) old.calls new.calls) }
     ensures stops { let old = R.view rig.old in let new = R.view rig.new in
         let Reads = AreReadsOf (page_address chip.now n) (page_size chip.now n) in
-        (torn : Bool) → Stops (Begin Reads) torn old new result }
+        (torn : Bool) → FaultEnds (Begin Reads) torn old new result }
     ensures honest { let old = R.view rig.old in let new = R.view rig.new in
         old.is_honest → IsSettled old.device → old.device.chip ≡ chip.now
         → page_of chip.now old.device.flash n ≡ page.now → Asks old new result (λ _. ⊤) }
@@ -88,7 +88,7 @@ pub fn return_page<R: Rig>(
         OnOk result (DoesSteps steps journal.old journal.new old new) }
     ensures stops { let old = R.view rig.old in let new = R.view rig.new in
         let steps = return_steps again chip.now n held.now page.now in
-        Stops (OrMisread again chip.now (Begin (Are steps))) journal.old.is_torn old new result }
+        FaultEnds (OrMisread again chip.now (Begin (Are steps))) journal.old.is_torn old new result }
     ensures honest { let old = R.view rig.old in let new = R.view rig.new in
         (flashes : List (List ℕ)) → IsSteady flashes journal.old old → old.device.chip ≡ chip.now
         → held.now ≡ page_of chip.now old.device.flash n

@@ -7,7 +7,7 @@ ghost use Rattle.stm_journal.specs.KeptPlaces.{IsPlaceIn, kept_entry, place_of};
 ghost use Rattle.stm_journal.specs.Newest.{KeepsSame};
 ghost use Rattle.stm_session.specs.Fault.{HasSessionCause};
 ghost use Rattle.stm_session.specs.Lines.{return_entries};
-ghost use Rattle.stm_session.specs.Order.{BeginTold, Follows, IsReturned, OrMisread, Stops};
+ghost use Rattle.stm_session.specs.Order.{BeginTold, Follows, IsGivenBack, OrMisread, FaultEnds};
 ghost use Rattle.stm_session.specs.Steps.{IsSteady, Goes};
 ghost use Rattle.stm_session.specs.Told.{ToldIn};
 ghost use Rattle.stm_session.specs.Undoable.{state_at};
@@ -23,7 +23,7 @@ use stm_wire::{Chip, Rig};
 
 /// Gives page `n` what the newest segment keeps of it, whose digits stand at
 /// this place of the journal; and reads it again behind that, where that is asked for.
-pub fn restore_line<R: Rig>(
+pub fn give_back_line<R: Rig>(
     alloc: Global,
     rig: &mut R,
     journal: &mut Journal,
@@ -42,11 +42,11 @@ pub fn restore_line<R: Rig>(
         PutsAtMost chip.now (13 * page_size chip.now n) old new result }
     ensures order { let old = R.view rig.old in let new = R.view rig.new in
         let Told = ToldIn R.view journal.old.is_torn old new in
-        OnOk result (Follows (IsReturned again chip.now Told n) journal.old journal.new old new) }
+        OnOk result (Follows (IsGivenBack again chip.now Told n) journal.old journal.new old new) }
     ensures stops { let old = R.view rig.old in let new = R.view rig.new in
         let Told = ToldIn R.view journal.old.is_torn old new in
-        let Begun = BeginTold (λ T. IsReturned again chip.now T n) Told in
-        Stops (OrMisread again chip.now Begun) journal.old.is_torn old new result }
+        let Begun = BeginTold (λ T. IsGivenBack again chip.now T n) Told in
+        FaultEnds (OrMisread again chip.now Begun) journal.old.is_torn old new result }
     ensures honest { let old = R.view rig.old in let new = R.view rig.new in
         (flashes : List (List ℕ)) (k i : ℕ) (kept : Kept) → IsSteady flashes journal.old old
         → old.device.chip ≡ chip.now → kept_entry (state_at old.journal) k i ≡ Some kept

@@ -8,7 +8,7 @@ ghost use Rattle.stm_journal.specs.States.{newest_keeps, newest_is_open};
 ghost use Rattle.stm_journal.specs.Newest.{KeepsSame};
 ghost use Rattle.stm_session.specs.Fault.{HasSessionCause};
 ghost use Rattle.stm_session.specs.Lines.{program_entries};
-ghost use Rattle.stm_session.specs.Order.{Are, Begin, DoesSteps, Stops, rewrite_steps};
+ghost use Rattle.stm_session.specs.Order.{Are, Begin, DoesSteps, FaultEnds, rewrite_steps};
 ghost use Rattle.stm_session.specs.Steps.{IsSteady, Goes};
 ghost use Rattle.stm_session.specs.Sending.{PutsAtMost};
 
@@ -46,7 +46,7 @@ pub fn rewrite_kept<R: Rig>(
         OnOk result (DoesSteps steps journal.old journal.new old new) }
     ensures stops { let old = R.view rig.old in let new = R.view rig.new in
         let steps = rewrite_steps chip.now n page.now frames.now in
-        Stops (Begin (Are steps)) journal.old.is_torn old new result }
+        FaultEnds (Begin (Are steps)) journal.old.is_torn old new result }
     ensures honest { let old = R.view rig.old in let new = R.view rig.new in
         (flashes : List (List ℕ)) → IsSteady flashes journal.old old → old.device.chip ≡ chip.now
         → Goes flashes (Erases n ∷ program_entries n frames.now) journal.new old new result

@@ -11,7 +11,7 @@ ghost use Rattle.stm_session.specs.Order.{IsAfter};
 ghost use Rattle.stm_session.specs.Promises.{RunContract};
 ghost use Rattle.stm_session.specs.Reaching.{IsConfirmedInPart, confirming};
 ghost use Rattle.stm_session.specs.Running.{AreKindsOf};
-ghost use Rattle.stm_session.specs.RunOrder.{AreBegun, AreDone, RunStops, RunsInOrder};
+ghost use Rattle.stm_session.specs.RunOrder.{AreBegun, AreDoneInOrder, RunStops, RunsInOrder};
 ghost use Rattle.stm_session.specs.RunOrder.{RunsTelling};
 ghost use Rattle.stm_session.specs.Sending.{SendsAsRun, is_whole, most_of_command};
 ghost use Rattle.stm_session.specs.Sending.{most_of_confirming};
@@ -40,7 +40,7 @@ fn run_commands<R: Rig>(
     ensures { let old = R.view rig.old in let new = R.view rig.new in
         let cs = commands_in commands.now in
         DoesCommands (length commands.now * most_of_command)
-        (λ said last. AreDone chip.now cs said journal.old.state last)
+        (λ said last. AreDoneInOrder chip.now cs said journal.old.state last)
         (λ fault. AreBegun fault chip.now cs journal.old.state)
         (λ _. ⊥) chip.now commands.now journal.old journal.new old new result }
 {
@@ -67,7 +67,7 @@ fn run_confirmed<R: Rig>(
         let cs = commands_in commands.now in
         DoesCommands (most_of_confirming + length commands.now * most_of_command)
         (λ said last. IsAfter (confirming chip.now)
-        (AreDone chip.now cs said journal.old.state last))
+        (AreDoneInOrder chip.now cs said journal.old.state last))
         (λ fault. IsConfirmedInPart chip.now (AreBegun fault chip.now cs journal.old.state))
         (λ fault. fault ≢ Fault.Memory)
         chip.now commands.now journal.old journal.new old new result }

@@ -6,7 +6,7 @@ ghost use Rattle.stm_journal.specs.declared.entry.Entry.TheVariants.{Keeps};
 ghost use Rattle.stm_journal.specs.States.{newest_keeps, newest_may_keep};
 ghost use Rattle.stm_session.specs.Fault.{HasSessionCause};
 ghost use Rattle.stm_session.specs.ChangeOrder.{AreBothSaved, IsCompanionSaved, IsSaved};
-ghost use Rattle.stm_session.specs.Order.{Adds, Are, Begin, DoesSteps, Follows, Stops};
+ghost use Rattle.stm_session.specs.Order.{Adds, Are, Begin, DoesSteps, Follows, FaultEnds};
 ghost use Rattle.stm_session.specs.Undoable.{has_companion};
 ghost use Rattle.stm_session.specs.Steps.{IsSteady, Goes};
 ghost use Rattle.stm_session.specs.Changing.{HasSaved, HasAllSaved, save_entries};
@@ -39,7 +39,7 @@ fn save_page<R: Rig>(
         OnOk result (DoesSteps steps journal.old journal.new old new) }
     ensures stops { let old = R.view rig.old in let new = R.view rig.new in
         let steps = Adds (Keeps n held.now ∷ []) ∷ [] in
-        Stops (Begin (Are steps)) journal.old.is_torn old new result }
+        FaultEnds (Begin (Are steps)) journal.old.is_torn old new result }
     ensures honest { let old = R.view rig.old in let new = R.view rig.new in
         (flashes : List (List ℕ)) → IsSteady flashes journal.old old → old.device.chip ≡ chip.now
         → held.now ≡ page_of chip.now old.device.flash n
@@ -68,7 +68,7 @@ fn save_companion<R: Rig>(
     ensures order { let old = R.view rig.old in let new = R.view rig.new in
         OnOk result (Follows (IsCompanionSaved chip.now) journal.old journal.new old new) }
     ensures stops { let old = R.view rig.old in let new = R.view rig.new in
-        Stops (Begin (IsCompanionSaved chip.now)) journal.old.is_torn old new result }
+        FaultEnds (Begin (IsCompanionSaved chip.now)) journal.old.is_torn old new result }
     ensures honest { let old = R.view rig.old in let new = R.view rig.new in
         (flashes : List (List ℕ)) → IsSteady flashes journal.old old → old.device.chip ≡ chip.now
         → Goes flashes (Keeps 257 (page_of chip.now old.device.flash 257) ∷ []) journal.new old new
@@ -103,7 +103,7 @@ fn save_both<R: Rig>(
         OnOk result (Follows Saved journal.old journal.new old new) }
     ensures stops { let old = R.view rig.old in let new = R.view rig.new in
         let Saved = AreBothSaved chip.now 1 held.now in
-        Stops (Begin Saved) journal.old.is_torn old new result }
+        FaultEnds (Begin Saved) journal.old.is_torn old new result }
     ensures honest { let old = R.view rig.old in let new = R.view rig.new in
         (flashes : List (List ℕ)) → IsSteady flashes journal.old old → old.device.chip ≡ chip.now
         → held.now ≡ page_of chip.now old.device.flash 1
@@ -148,7 +148,7 @@ pub fn save_pages<R: Rig>(
         OnOk result (Follows Saved journal.old journal.new old new) }
     ensures stops { let old = R.view rig.old in let new = R.view rig.new in
         let Saved = IsSaved kept chip.now n held.now in
-        Stops (Begin Saved) journal.old.is_torn old new result }
+        FaultEnds (Begin Saved) journal.old.is_torn old new result }
     ensures honest { let old = R.view rig.old in let new = R.view rig.new in
         (flashes : List (List ℕ)) → IsSteady flashes journal.old old → old.device.chip ≡ chip.now
         → held.now ≡ page_of chip.now old.device.flash n

@@ -6,7 +6,7 @@ ghost use Rattle.stm_journal.specs.States.{is_unfinished};
 ghost use Rattle.stm_journal.specs.Newest.{HasBegun};
 ghost use Rattle.stm_session.specs.Fault.{HasSessionCause};
 ghost use Rattle.stm_session.specs.Lines.{depth_at, is_named_at, opening_entries};
-ghost use Rattle.stm_session.specs.Order.{Adds, Are, Begin, DoesSteps, Stops};
+ghost use Rattle.stm_session.specs.Order.{Adds, Are, Begin, DoesSteps, FaultEnds};
 ghost use Rattle.stm_session.specs.Segments.{Changes};
 ghost use Rattle.stm_session.specs.Steps.{IsSteady};
 
@@ -30,7 +30,7 @@ pub fn begin_segment<R: Rig>(rig: &mut R, journal: &mut Journal, chip: &Chip) ->
         OnOk result (DoesSteps steps journal.old journal.new old new) }
     ensures stops { let old = R.view rig.old in let new = R.view rig.new in
         let steps = Adds (begin_entries chip.now.id chip.now.unique journal.old.state) ∷ [] in
-        Stops (Begin (Are steps)) journal.old.is_torn old new result }
+        FaultEnds (Begin (Are steps)) journal.old.is_torn old new result }
     ensures honest { let old = R.view rig.old in let new = R.view rig.new in
         (flashes : List (List ℕ)) (after : List ℕ) → IsSteady flashes journal.old old
         → old.device.chip ≡ chip.now

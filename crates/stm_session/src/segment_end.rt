@@ -6,7 +6,7 @@ ghost use Rattle.stm_journal.specs.States.{newest_is_open};
 ghost use Rattle.stm_journal.specs.Newest.{HasEnded};
 ghost use Rattle.stm_session.specs.Fault.{HasSessionCause};
 ghost use Rattle.stm_session.specs.Lines.{depth_at};
-ghost use Rattle.stm_session.specs.Order.{Adds, Are, Begin, DoesSteps, Stops};
+ghost use Rattle.stm_session.specs.Order.{Adds, Are, Begin, DoesSteps, FaultEnds};
 ghost use Rattle.stm_session.specs.Segments.{Closes};
 ghost use Rattle.stm_session.specs.Steps.{IsSteady};
 
@@ -26,7 +26,7 @@ pub fn end_segment<R: Rig>(rig: &mut R, journal: &mut Journal) -> Result<(), Fau
         OnOk result (DoesSteps steps journal.old journal.new old new) }
     ensures stops { let old = R.view rig.old in let new = R.view rig.new in
         let steps = Adds (Ends (length journal.old.state.stack) ∷ []) ∷ [] in
-        Stops (Begin (Are steps)) journal.old.is_torn old new result }
+        FaultEnds (Begin (Are steps)) journal.old.is_torn old new result }
     ensures honest { let old = R.view rig.old in let new = R.view rig.new in
         (flashes : List (List ℕ)) → IsSteady flashes journal.old old
         → Closes flashes (Ends (depth_at old.journal) ∷ []) journal.new old new result }

@@ -124,7 +124,7 @@ fn stops_come_back(rt: &HostRuntime, table: &Table, command: &[Command]) -> Resu
 }
 
 #[test]
-fn a_simulator_is_asked_and_taken_back(rt: HostRuntime) -> Result<(), Fail> {
+fn a_simulator_is_asked_and_undone(rt: HostRuntime) -> Result<(), Fail> {
     let table = table(&rt)?;
     refusals_tell_nothing(&rt, &table)?;
     stops_come_back(&rt, &table, &write_of(&rt, &[0x5A; 40], 0x0800_0400)?)

@@ -8,8 +8,8 @@ use crate::stories::{Ask, commands_of};
 use std::test::Fail;
 use stm_chip::Table;
 use stm_client::{
-    change_kept, lose_power, read, read_again, read_flash, read_new, read_twice, take_back_kept,
-    take_back_stopped, take_back_unpowered, tell, write_whole,
+    change_kept, lose_power, read, read_again, read_flash, read_new, read_twice, tell,
+    undo_behind_stops, undo_kept, undo_unpowered, write_whole,
 };
 use stm_session::{Command, Fault, Outcome, Report};
 use stm_sim::MemoryRig;
@@ -153,7 +153,7 @@ fn is_kept(rt: &HostRuntime, rig: &mut MemoryRig, table: &Table) -> Result<bool,
     let commands = write_of(rt, &[0xA5, 0x5A], 0x0800_03FF)?;
     let told = told_of(change_kept(rt.alloc(), rig, table, &commands));
     let is_there = is_written(rig.flash());
-    let taken = take_back_kept(rt.alloc(), rig, table, 0);
+    let taken = undo_kept(rt.alloc(), rig, table, 0);
     Ok(told == Some((1, 2)) && is_there && taken == Ok(1) && is_counting(rig.flash()))
 }
 
@@ -184,13 +184,13 @@ fn taken_back(
     steps: u64,
 ) -> Result<(Option<u32>, bool), Fail> {
     let mut rig = fresh_device(rt, table)?;
-    let taken = take_back_stopped(rt.alloc(), &mut rig, table, commands, steps).ok();
+    let taken = undo_behind_stops(rt.alloc(), &mut rig, table, commands, steps).ok();
     Ok((taken, is_counting(rig.flash())))
 }
 
 /// The same where the device loses its power behind the stop, after which the page of the command
 /// at work holds other bytes.
-fn taken_back_unpowered(
+fn undone_unpowered(
     rt: &HostRuntime,
     table: &Table,
     commands: &[Command],
@@ -198,18 +198,22 @@ fn taken_back_unpowered(
 ) -> Result<(Option<u32>, bool), Fail> {
     let mut rig = fresh_device(rt, table)?;
     let page = [0x6B; 1024];
-    let taken = take_back_unpowered(rt.alloc(), &mut rig, table, commands, steps, &page).ok();
+    let taken = undo_unpowered(rt.alloc(), &mut rig, table, commands, steps, &page).ok();
     Ok((taken, is_counting(rig.flash())))
 }
 
 /// The stops of both, and how many segments are then taken back.
 const STOPS: [(u64, u32); 5] = [(10, 0), (4_000, 1), (8_000, 1), (12_000, 2), (1_000_000, 2)];
 
-fn all_are_taken_back(rt: &HostRuntime, table: &Table, commands: &[Command]) -> Result<(), Fail> {
+fn all_segments_are_undone(
+    rt: &HostRuntime,
+    table: &Table,
+    commands: &[Command],
+) -> Result<(), Fail> {
     for (steps, taken) in STOPS {
         let due = (Some(taken), true);
         let is_right = taken_back(rt, table, commands, steps)? == due
-            && taken_back_unpowered(rt, table, commands, steps)? == due;
+            && undone_unpowered(rt, table, commands, steps)? == due;
         if !is_right {
             return Err(failed_at(steps));
         }
@@ -240,12 +244,12 @@ fn are_spoilt(rt: &HostRuntime, table: &Table, commands: &[Command]) -> Result<(
     )
 }
 
-fn stops_are_taken_back(rt: &HostRuntime, table: &Table) -> Result<(), Fail> {
-    all_are_taken_back(rt, table, &commands_of(rt, BOTH)?)?;
+fn stops_are_undone(rt: &HostRuntime, table: &Table) -> Result<(), Fail> {
+    all_segments_are_undone(rt, table, &commands_of(rt, BOTH)?)?;
     are_spoilt(rt, table, &commands_of(rt, &[Ask::Erase(&[1, 3])])?)
 }
 
 #[test]
-fn commands_that_are_stopped_are_taken_back(rt: HostRuntime) -> Result<(), Fail> {
-    stops_are_taken_back(&rt, &table_of(&rt, TABLE)?)
+fn commands_that_are_stopped_are_undone(rt: HostRuntime) -> Result<(), Fail> {
+    stops_are_undone(&rt, &table_of(&rt, TABLE)?)
 }

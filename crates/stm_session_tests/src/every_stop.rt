@@ -93,6 +93,6 @@ fn all_come_back(rt: &HostRuntime, table: &Table) -> Result<(), Fail> {
 }
 
 #[test]
-fn each_stop_of_a_write_is_taken_back(rt: HostRuntime) -> Result<(), Fail> {
+fn each_stop_of_a_write_is_undone(rt: HostRuntime) -> Result<(), Fail> {
     all_come_back(&rt, &table(&rt)?)
 }

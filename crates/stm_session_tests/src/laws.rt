@@ -7,7 +7,7 @@ use stm_any_line::{
 };
 use stm_client::a_journal_is_of_one_board;
 use stm_session::{
-    a_session_can_be_taken_back, a_session_changes_only_its_own_board,
+    a_session_can_be_undone, a_session_changes_only_its_own_board,
     the_first_difference_is_the_first, told_board_is_the_devices,
 };
 use stm_sim::{FlipRig, MemoryRig};
@@ -15,7 +15,7 @@ use stm_weak::{an_undo_believes_no_page_at_work, weak_pages_are_at_work};
 
 #[test]
 fn laws_are_had(_rt: HostRuntime) {
-    a_session_can_be_taken_back::<MemoryRig>();
+    a_session_can_be_undone::<MemoryRig>();
     the_first_difference_is_the_first();
     an_undo_believes_no_page_at_work::<MemoryRig>();
     weak_pages_are_at_work::<MemoryRig>();

@@ -70,8 +70,6 @@ mod swaps;
 #[cfg(test)]
 mod sweeps;
 #[cfg(test)]
-mod taking_back;
-#[cfg(test)]
 mod three_stops;
 #[cfg(test)]
 mod told_parts;
@@ -81,6 +79,8 @@ mod troubled_bytes;
 mod troubled_runs;
 #[cfg(test)]
 mod two_stops;
+#[cfg(test)]
+mod undoing_stops;
 #[cfg(test)]
 mod unprotecting;
 #[cfg(test)]

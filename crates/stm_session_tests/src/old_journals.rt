@@ -220,7 +220,7 @@ const WITH_A_WRONG_TABLE: &[Story] = &[
 ];
 
 #[test]
-fn journals_are_taken_back_or_refused(rt: HostRuntime) -> Result<(), Fail> {
+fn journals_are_undone_or_refused(rt: HostRuntime) -> Result<(), Fail> {
     all_go_right(&rt, REFUSED)?;
     all_go_right(&rt, EMPTY)?;
     all_go_right(&rt, STORIES)?;

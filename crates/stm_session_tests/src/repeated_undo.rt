@@ -5,7 +5,7 @@ use std::test::Fail;
 use stm_chip::Table;
 use stm_session::{Fault, undo};
 use stm_sim::MemoryRig;
-use stm_weak::take_back;
+use stm_weak::undo_segment;
 use stm_wire::{EraseKind, Patience, Rig, erase_page, program};
 
 /// Connects the device, and writes 01 02 03 04 at its base; whether that was done.
@@ -37,7 +37,7 @@ pub fn after_a_write(rt: &HostRuntime, table: &Table) -> Result<MemoryRig, Fail>
 
 /// Whether an undo takes the one segment back, and the flash is as it was before.
 pub fn comes_back(rt: &HostRuntime, table: &Table, rig: &mut MemoryRig) -> bool {
-    take_back(rt.alloc(), rig, table, 0) == Ok(1) && is_all(rig.flash(), 0x00)
+    undo_segment(rt.alloc(), rig, table, 0) == Ok(1) && is_all(rig.flash(), 0x00)
 }
 
 /// Whether the undo that is stopped after so many steps fails, and the next one comes to its end.

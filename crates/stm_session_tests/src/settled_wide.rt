@@ -211,6 +211,6 @@ const STORIES: &[Story] = &[
 ];
 
 #[test]
-fn stopped_devices_of_512_pages_are_taken_back(rt: HostRuntime) -> Result<(), Fail> {
+fn stopped_devices_of_512_pages_are_undone(rt: HostRuntime) -> Result<(), Fail> {
     all_go_right(&rt, STORIES)
 }

@@ -115,7 +115,7 @@ fn swaps(
         Visit::Change(command),
         Fault::Unfinished,
     )?;
-    let taken = is_swapped(rt, boards, command, Visit::TakeBack(0), Fault::OtherBoard)?;
+    let taken = is_swapped(rt, boards, command, Visit::Undo(0), Fault::OtherBoard)?;
     Ok((told, changed, taken))
 }
 

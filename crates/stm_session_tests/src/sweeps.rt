@@ -125,7 +125,7 @@ fn left_of(depth: u32, count: u32) -> u32 {
 }
 
 /// Whether an undo of so many of the segments, and the next one of all, each bring the flash back.
-fn are_taken_back(
+fn are_undone(
     rt: &HostRuntime,
     table: &Table,
     rig: &mut MemoryRig,
@@ -156,7 +156,7 @@ fn comes_back(
     let fault = stop(rt, table, rig, command, steps);
     befall(rt, rig, between)?;
     let depth = depth_of(case, begun);
-    Ok(fault == due && are_taken_back(rt, table, rig, case, count, depth))
+    Ok(fault == due && are_undone(rt, table, rig, case, count, depth))
 }
 
 /// The first stop of the run at which it answers another fault than is due, or an undo of so many

@@ -7,7 +7,7 @@ use Rattle.std.proofs.lemmas.List.Sums.{fold_push}
 use Rattle.stm_wire.specs.Chip.{ChipData, fits_inside, is_inside}
 use Rattle.stm_wire.specs.declared.verdict.Verdict.{Verdict}
 use Rattle.stm_wire.specs.declared.verdict.Verdict.TheVariants.{Refused}
-use Rattle.stm_wire.specs.Exchange.{IsOpen, all_exist, complement, done_if, is_listed, number_of, pair_of, pairs_of, verdict, xor}
+use Rattle.stm_wire.specs.Exchange.{IsOpen, all_exist, complement, done_if, is_listed, number_of, pair_of, two_byte_numbers, verdict, xor}
 use Rattle.stm_sim.specs.Rest.{named_pages}
 
 xor_from : (s : ℕ) (xs : List ℕ) → fold bit_xor s xs ≡ bit_xor s (xor xs)
@@ -79,7 +79,7 @@ module _ (chip : ChipData) (codes : List ℕ) where
 
   pub whole_pairs : (x high low : ℕ) (pages : List ℕ) → verdict chip codes (0x44 ∷ x ∷ []) ≡ None → pair_of high low < 0xFFF0 → length pages ≡ 2 * (pair_of high low + 1) + 1
       → verdict chip codes (0x44 ∷ x ∷ high ∷ low ∷ pages)
-      ≡ Some (done_if (eqb (xor (0x44 ∷ x ∷ high ∷ low ∷ pages)) 255 && all_exist chip (pairs_of (take (2 * (pair_of high low + 1)) pages))))
+      ≡ Some (done_if (eqb (xor (0x44 ∷ x ∷ high ∷ low ∷ pages)) 255 && all_exist chip (two_byte_numbers (take (2 * (pair_of high low + 1)) pages))))
   whole_pairs x high low pages p lt len =
       let (pair, x_is) = right_pair codes 0x44 x p in
       let n = 2 * (pair_of high low + 1) in
@@ -87,7 +87,7 @@ module _ (chip : ChipData) (codes : List ℕ) where
       let some : eqb (pair_of high low) 0xFFFF ≡ false = ne_eqb (pair_of high low) 0xFFFF (λ e. omega arith) in
       let size : eqb (length pages) (n + 1) ≡ true = eq-eqb (length pages) (n + 1) len in
       let more : length (high ∷ low ∷ pages) ≡ suc (suc n) + 1 = omega arith in
-      rw (pair, some, few, size) (closing (bit_xor 0x44 x) (high ∷ low ∷ pages) (suc (suc n)) (all_exist chip (pairs_of (take n pages))) (ap (λ r. bit_xor 0x44 r) x_is) more)
+      rw (pair, some, few, size) (closing (bit_xor 0x44 x) (high ∷ low ∷ pages) (suc (suc n)) (all_exist chip (two_byte_numbers (take n pages))) (ap (λ r. bit_xor 0x44 r) x_is) more)
 
   -- no proper beginning of the list has a verdict
   begins : (bytes : List ℕ) → IsOpen chip codes (take (length bytes - 1) bytes) → (n : ℕ) → n < length bytes → verdict chip codes (take n bytes) ≡ None
@@ -128,6 +128,6 @@ module _ (chip : ChipData) (codes : List ℕ) where
       let all = 0x44 ∷ x ∷ high ∷ low ∷ pages in
       let n = 2 * (pair_of high low + 1) in
       let size : length all - 1 ≡ suc (suc (suc (suc n))) = omega arith in
-      let named : exist ≡ all_exist chip (pairs_of (take n pages)) = h ∙ ap (λ m. all_exist chip (named_pages (take m all))) size in
+      let named : exist ≡ all_exist chip (two_byte_numbers (take n pages)) = h ∙ ap (λ m. all_exist chip (named_pages (take m all))) size in
       rw (e, named) (sym (whole_pairs x high low pages (begins all o 2 (omega arith)) few (omega arith)))) o e h
   pairs_at_end _ check exist o e h is few len = absurd (omega arith)

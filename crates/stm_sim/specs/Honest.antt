@@ -15,7 +15,7 @@ use Rattle.stm_wire.specs.Rig.{Elapses, AppendsHonestly, FetchesHonestly, LeftBy
 use Rattle.stm_sim.specs.Memory.{MemoryData, IsMemory, rig_state, with_call, with_append}
 use Rattle.stm_sim.specs.Memory.{AppendsInMemory, FetchesInMemory, takes_steps}
 use Rattle.stm_sim.specs.Memory.{counts_append, counts_journal, stopped, steps_left}
-use Rattle.stm_sim.specs.Past.{Goes, keeps-call, elapses, beginnings}
+use Rattle.stm_sim.specs.Past.{AddsCall, keeps-call, elapses, beginnings}
 use Rattle.stm_sim.specs.HonestLine.{Idles, idles, idles-entry}
 pub use Rattle.stm_sim.specs.HonestLine.{put-honest, get-honest}
 
@@ -41,7 +41,7 @@ beginning size journal bytes h =
     ∙ take-append-add journal bytes (size - length journal)
 
 -- an append that added a beginning of the bytes
-record Adds (bytes : List ℕ) (m n : MemoryData) : Type 0 where
+record AddsBeginning (bytes : List ℕ) (m n : MemoryData) : Type 0 where
   honest : IsMemory n
   time : Elapses (LeftByAppend bytes (rig_state m)) (rig_state m) (rig_state n)
   begins : (t k : ℕ) (d : Device) → t ≤ length m.calls → length m.journal ≤ k → LosesOwed m.device d
@@ -50,7 +50,7 @@ record Adds (bytes : List ℕ) (m n : MemoryData) : Type 0 where
 adds : (bytes added : List ℕ) (lines journals : ℕ) (plan : Plan) (m : MemoryData)
     → ((j : ℕ) → (k : ℕ) × (take j added ≡ take k bytes)) → IsMemory m
     → length (m.journal ++ added) ≤ 2 ^ 63 - 1
-    → Adds bytes m
+    → AddsBeginning bytes m
     (with_append added
     (record m { line_failures = lines; journal_failures = journals; plan = plan }))
 adds bytes added lines journals plan m part is limit =
@@ -61,7 +61,7 @@ adds bytes added lines journals plan m part is limit =
     keeps-call (Append (length added))
     (Added (length added)) added m n.device n.journal n.calls n.first n.past refl refl refl refl
     refl is is.is_device (omega arith) limit in
-    let goes : Goes (Append (length added)) (Added (length added)) added m n =
+    let goes : AddsCall (Append (length added)) (Added (length added)) added m n =
     record {
       device = refl;
       journal = refl;

@@ -16,11 +16,11 @@ use Rattle.stm_sim.specs.SimulatedDevice.{simulated_device-IsDevice}
 use Rattle.stm_wire.specs.Rig.{Elapses, PutsHonestly, GetsHonestly, LeftByPut, LeftByGet}
 use Rattle.stm_sim.specs.Memory.{MemoryData, IsMemory, rig_state, with_call, Fails, PutsInMemory}
 use Rattle.stm_sim.specs.Memory.{GetsInMemory, takes_steps, counts_put, counts_get}
-use Rattle.stm_sim.specs.Past.{Goes, keeps-quiet, elapses, beginnings, model, owed-device}
+use Rattle.stm_sim.specs.Past.{AddsCall, keeps-quiet, elapses, beginnings, model, owed-device}
 
 -- one call more, that left the journal as it was, from a device of which what may be lost is known
 quiet-time : (call : RigCall) (s : PastStep) (m n : MemoryData) (is_m : IsMemory m)
-    (is_n : IsMemory n) (P : Device → List ℕ → Type 0) → Goes call s [] m n
+    (is_n : IsMemory n) (P : Device → List ℕ → Type 0) → AddsCall call s [] m n
     → ((d : Device) → LosesOwed m.device d ⊎ LosesOwed n.device d → P d m.journal)
     → Elapses P (rig_state m) (rig_state n)
 quiet-time call s m n is_m is_n P goes p =
@@ -52,7 +52,7 @@ idles-entry P call lines journals plan m p is =
     let is_n : IsMemory n =
     keeps-quiet call Nothing m m.device n.calls m.first n.past refl refl refl refl is is.is_device
     refl in
-    let goes : Goes call Nothing [] m n =
+    let goes : AddsCall call Nothing [] m n =
     record {
       device = refl;
       journal = sym (append-nil m.journal);
@@ -123,7 +123,7 @@ put-honest byte (Ok u) m n small is p =
     let is_x : IsMemory x =
     keeps-quiet (Put byte) (Fed byte) m x.device x.calls x.first x.past refl refl refl refl is
     (simulated_device-IsDevice byte m.device small is.is_device) refl in
-    let goes : Goes (Put byte) (Fed byte) [] m x =
+    let goes : AddsCall (Put byte) (Fed byte) [] m x =
     record {
       device = refl;
       journal = sym (append-nil m.journal);
@@ -182,7 +182,7 @@ get-honest (Ok None) m n is p =
     let is_x : IsMemory x =
     keeps-quiet
     (Get None) Nothing m x.device x.calls x.first x.past refl refl refl refl is is.is_device refl in
-    let goes : Goes (Get None) Nothing [] m x =
+    let goes : AddsCall (Get None) Nothing [] m x =
     record {
       device = refl;
       journal = sym (append-nil m.journal);
@@ -213,7 +213,7 @@ get-honest (Ok (Some byte)) m n is p =
     let is_x : IsMemory x =
     keeps-quiet (Get (Some byte)) Taken m x.device x.calls x.first x.past taken refl refl refl is
     (owed-device m.device rest is.is_device) refl in
-    let goes : Goes (Get (Some byte)) Taken [] m x =
+    let goes : AddsCall (Get (Some byte)) Taken [] m x =
     record {
       device = taken;
       journal = sym (append-nil m.journal);

@@ -36,16 +36,16 @@ pub record MemoryData : Type 0 where
   pub start : ℕ
   pub past : List PastStep
 
-abbrev pub step : PastStep → Device → Device
-step (Fed byte) d = simulated_device byte d
-step Taken d = record d { owed = drop 1 d.owed }
-step (Added n) d = d
-step Nothing d = d
+abbrev pub after_past_step : PastStep → Device → Device
+after_past_step (Fed byte) d = simulated_device byte d
+after_past_step Taken d = record d { owed = drop 1 d.owed }
+after_past_step (Added n) d = d
+after_past_step Nothing d = d
 
 -- the device after these steps
 abbrev pub replay : List PastStep → Device → Device
 replay [] d = d
-replay (s ∷ past) d = replay past (step s d)
+replay (s ∷ past) d = replay past (after_past_step s d)
 
 -- how many bytes these steps added to the journal
 abbrev pub added_by : List PastStep → ℕ
@@ -56,7 +56,7 @@ added_by (Taken ∷ past) = added_by past
 added_by (Nothing ∷ past) = added_by past
 
 -- what it keeps
-pub record Keeps (now : Device) (written : List ℕ) (entries : List RigCall) (at_first : Device)
+pub record KeepsOfPast (now : Device) (written : List ℕ) (entries : List RigCall) (at_first : Device)
     (size_at_first calls_at_first : ℕ) (steps : List PastStep) : Type 0 where
   pub is_device : IsDevice now
   pub places : calls_at_first + length steps ≡ length entries
@@ -65,7 +65,7 @@ pub record Keeps (now : Device) (written : List ℕ) (entries : List RigCall) (a
   pub limit : length written ≤ 2 ^ 63 - 1
 
 abbrev pub IsMemory : MemoryData → Type 0
-IsMemory m = Keeps m.device m.journal m.calls m.first m.begun m.start m.past
+IsMemory m = KeepsOfPast m.device m.journal m.calls m.first m.begun m.start m.past
 
 -- after some call since place t, or inside the call behind it: the device is as after that call,
 -- but for owed bytes lost from the front, and the journal ends with or before what the next call
@@ -144,8 +144,8 @@ fresh_memory chip flash journal =
     }
 
 -- from now on its past begins here
-abbrev pub begins : Device → MemoryData → MemoryData
-begins d m =
+abbrev pub begins_anew : Device → MemoryData → MemoryData
+begins_anew d m =
     record m { device = d; first = d; begun = length m.journal; start = length m.calls; past = [] }
 
 -- so many steps more would run into the stop: a call that does them is stopped

@@ -9,14 +9,14 @@ use Rattle.stm_wire.specs.declared.rig.RigCall.{RigCall}
 use Rattle.stm_wire.specs.Device.{Device, IsDevice, LosesOwed}
 use Rattle.stm_sim.specs.SimulatedDevice.{le-or-gt}
 use Rattle.stm_wire.specs.Rig.{Elapses, IsModel}
-use Rattle.stm_sim.specs.Memory.{MemoryData, IsMemory, Keeps, rig_state, step, replay, added_by}
+use Rattle.stm_sim.specs.Memory.{MemoryData, IsMemory, KeepsOfPast, rig_state, after_past_step, replay, added_by}
 pub use Rattle.stm_sim.specs.FirstDevice.{restored, first-fed, taken-step, taken-rest}
 pub use Rattle.stm_sim.specs.FirstDevice.{taken-first, owed-device, taken-device, is-with_call}
 
 replay-append : (past : List PastStep) (s : PastStep) (d : Device)
-    → replay (past ++ s ∷ []) d ≡ step s (replay past d)
+    → replay (past ++ s ∷ []) d ≡ after_past_step s (replay past d)
 replay-append [] s d = refl
-replay-append (x ∷ past) s d = replay-append past s (step x d)
+replay-append (x ∷ past) s d = replay-append past s (after_past_step x d)
 
 added_by-append : (past : List PastStep) (s : PastStep)
     → added_by (past ++ s ∷ []) ≡ added_by past + added_by (s ∷ [])
@@ -38,12 +38,12 @@ added_by-take (Nothing ∷ past) (suc k) = added_by-take past k
 abbrev pub device_at : MemoryData → ℕ → Device
 device_at m k = replay (take k m.past) m.first
 
-abbrev pub size_at : MemoryData → ℕ → ℕ
-size_at m k = m.begun + added_by (take k m.past)
+abbrev pub record_size_at : MemoryData → ℕ → ℕ
+record_size_at m k = m.begun + added_by (take k m.past)
 
 -- one call more: its step, and the bytes that it added
-pub record Goes (call : RigCall) (s : PastStep) (bytes : List ℕ) (m n : MemoryData) : Type 0 where
-  pub device : n.device ≡ step s m.device
+pub record AddsCall (call : RigCall) (s : PastStep) (bytes : List ℕ) (m n : MemoryData) : Type 0 where
+  pub device : n.device ≡ after_past_step s m.device
   pub journal : n.journal ≡ m.journal ++ bytes
   pub calls : n.calls ≡ m.calls ++ call ∷ []
   pub first : n.first ≡ m.first
@@ -57,18 +57,18 @@ now-device m is =
 
 -- from the last place on, the journal's length is its length now
 now-size : (m : MemoryData) (k : ℕ) → IsMemory m → length m.past ≤ k
-    → size_at m k ≡ length m.journal
+    → record_size_at m k ≡ length m.journal
 now-size m k is le = ap (λ p. m.begun + added_by p) (take_all k m.past le) ∙ is.added
 
-size-within : (m : MemoryData) (k : ℕ) → IsMemory m → size_at m k ≤ length m.journal
+size-within : (m : MemoryData) (k : ℕ) → IsMemory m → record_size_at m k ≤ length m.journal
 size-within m k is = omega (arith, added_by-take m.past k, is.added)
 
 pub keeps-call : (call : RigCall) (s : PastStep) (bytes : List ℕ) (m : MemoryData) (device : Device)
     (journal : List ℕ) (calls : List RigCall) (first : Device) (past : List PastStep)
-    → device ≡ step s m.device → journal ≡ m.journal ++ bytes → calls ≡ m.calls ++ call ∷ []
+    → device ≡ after_past_step s m.device → journal ≡ m.journal ++ bytes → calls ≡ m.calls ++ call ∷ []
     → first ≡ m.first → past ≡ m.past ++ s ∷ []
     → IsMemory m → IsDevice device → added_by (s ∷ []) ≡ length bytes → length journal ≤ 2 ^ 63 - 1
-    → Keeps device journal calls first m.begun m.start past
+    → KeepsOfPast device journal calls first m.begun m.start past
 keeps-call call s bytes m device journal calls first past is_step is_journal is_calls is_first
     is_past is is_device size limit =
     let past_length : length past ≡ length m.past + 1 =
@@ -83,7 +83,7 @@ keeps-call call s bytes m device journal calls first past is_step is_journal is_
       is_device = is_device;
       places = omega (arith, past_length, calls_length, is.places);
       replayed =
-          is_step ∙ ap (λ d. step s d) is.replayed ∙ sym (replay-append m.past s m.first)
+          is_step ∙ ap (λ d. after_past_step s d) is.replayed ∙ sym (replay-append m.past s m.first)
           ∙ sym (ap₂ (λ p d. replay p d) is_past is_first);
       added = omega (arith, more, journal_length, is.added, size);
       limit = limit;
@@ -92,16 +92,16 @@ keeps-call call s bytes m device journal calls first past is_step is_journal is_
 -- the same for a call that left the journal as it was
 pub keeps-quiet : (call : RigCall) (s : PastStep) (m : MemoryData) (device : Device)
     (calls : List RigCall) (first : Device) (past : List PastStep)
-    → device ≡ step s m.device → calls ≡ m.calls ++ call ∷ [] → first ≡ m.first
+    → device ≡ after_past_step s m.device → calls ≡ m.calls ++ call ∷ [] → first ≡ m.first
     → past ≡ m.past ++ s ∷ []
     → IsMemory m → IsDevice device → added_by (s ∷ []) ≡ 0
-    → Keeps device m.journal calls first m.begun m.start past
+    → KeepsOfPast device m.journal calls first m.begun m.start past
 keeps-quiet call s m device calls first past is_step is_calls is_first is_past is is_device size =
     keeps-call call s [] m device m.journal calls first past is_step
     (sym (append-nil m.journal)) is_calls is_first is_past is is_device size is.limit
 
 module _ (call : RigCall) (s : PastStep) (bytes : List ℕ) (m n : MemoryData) (is_m : IsMemory m)
-    (is_n : IsMemory n) (goes : Goes call s bytes m n) where
+    (is_n : IsMemory n) (goes : AddsCall call s bytes m n) where
   one-more : length n.past ≡ length m.past + 1
   one-more = ap length goes.past ∙ length-append m.past (s ∷ [])
 
@@ -114,7 +114,7 @@ module _ (call : RigCall) (s : PastStep) (bytes : List ℕ) (m n : MemoryData) (
   same-device : (k : ℕ) → k ≤ length m.past → device_at n k ≡ device_at m k
   same-device k le = ap₂ (λ p d. replay p d) (same-steps k le) goes.first
 
-  same-size : (k : ℕ) → k ≤ length m.past → size_at n k ≡ size_at m k
+  same-size : (k : ℕ) → k ≤ length m.past → record_size_at n k ≡ record_size_at m k
   same-size k le = ap₂ (λ p b. b + added_by p) (same-steps k le) goes.begun
 
   same-journal : (k : ℕ) → k ≤ length m.journal → take k n.journal ≡ take k m.journal
@@ -143,7 +143,7 @@ module _ (call : RigCall) (s : PastStep) (bytes : List ℕ) (m n : MemoryData) (
             omega (arith, left.to, size-within n (left.place + 1) is_n) in
             ⊎_elim
             (λ last.
-            let size : size_at n left.place ≡ length n.journal =
+            let size : record_size_at n left.place ≡ length n.journal =
             now-size n left.place is_n (omega (arith, last)) in
             let here : device_at n left.place ≡ n.device =
             ap (λ k. device_at n k) last ∙ now-device n is_n in
@@ -154,8 +154,8 @@ module _ (call : RigCall) (s : PastStep) (bytes : List ℕ) (m n : MemoryData) (
             ⊎_elim
             (λ now.
             let place : left.place ≡ length m.past = omega (arith, now, before, one-more) in
-            let size : size_at n left.place ≡ length m.journal =
-            ap (λ k. size_at n k) place ∙ same-size (length m.past) (omega arith)
+            let size : record_size_at n left.place ≡ length m.journal =
+            ap (λ k. record_size_at n k) place ∙ same-size (length m.past) (omega arith)
             ∙ now-size m (length m.past) is_m (omega arith) in
             let here : device_at n left.place ≡ m.device =
             ap (λ k. device_at n k) place ∙ old-device in
@@ -163,7 +163,7 @@ module _ (call : RigCall) (s : PastStep) (bytes : List ℕ) (m n : MemoryData) (
             (p d left.size (inl (subst D here left.device))
             (omega (arith, left.from, size)) within)))
             (λ earlier.
-            let to : left.size ≤ size_at m (left.place + 1) =
+            let to : left.size ≤ record_size_at m (left.place + 1) =
             omega (arith, left.to, same-size (left.place + 1) (omega (arith, earlier))) in
             inl
             (record {
@@ -212,9 +212,9 @@ module _ (call : RigCall) (s : PastStep) (bytes : List ℕ) (m n : MemoryData) (
       → LosesOwed m.device d → (rig_state n).left_since t d (take k n.journal)
   beginnings t k d le from lost =
       let D : Device → Type 0 = λ e. LosesOwed e d in
-      let size : size_at n (length m.past) ≡ length m.journal =
+      let size : record_size_at n (length m.past) ≡ length m.journal =
       same-size (length m.past) (omega arith) ∙ now-size m (length m.past) is_m (omega arith) in
-      let whole : size_at n (length m.past + 1) ≡ length n.journal =
+      let whole : record_size_at n (length m.past + 1) ≡ length n.journal =
       now-size n (length m.past + 1) is_n (omega (arith, one-more)) in
       let make : (s : ℕ) → length m.journal ≤ s → s ≤ length n.journal
       → take k n.journal ≡ take s n.journal → (rig_state n).left_since t d (take k n.journal) =
@@ -259,7 +259,7 @@ model m is =
           let D : Device → Type 0 = λ e. LosesOwed e d in
           let last : left.place ≡ length m.past =
           omega (arith, left.since, left.until, is.places) in
-          let size : size_at m left.place ≡ length m.journal =
+          let size : record_size_at m left.place ≡ length m.journal =
           now-size m left.place is (omega (arith, last)) in (
             left.same
                 ∙ take_all left.size m.journal (omega (arith, left.from, size)),

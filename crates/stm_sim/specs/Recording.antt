@@ -18,16 +18,16 @@ abbrev record_of : MemoryData → Option (List Call)
 record_of m = Some (calls_told m.journal m.calls)
 
 -- the call stands behind those before it
-abbrev Stands : Call → MemoryData → MemoryData → Type 0
-Stands call old new = record_of new ≡ Some (calls_told old.journal old.calls ++ call ∷ [])
+abbrev CallStands : Call → MemoryData → MemoryData → Type 0
+CallStands call old new = record_of new ≡ Some (calls_told old.journal old.calls ++ call ∷ [])
 
 -- or there was no room
 abbrev StandsOrNot : Call → MemoryData → MemoryData → Type 0
-StandsOrNot call old new = Stands call old new ⊎ ((record_of new ≡ record_of old) × (old.room ≡ 0))
+StandsOrNot call old new = CallStands call old new ⊎ ((record_of new ≡ record_of old) × (old.room ≡ 0))
 
 stands : (entry : RigCall) (old mid new : MemoryData) → appended (entry ∷ []) ≡ 0
     → mid.journal ≡ old.journal → mid.calls ≡ old.calls ++ entry ∷ [] → new ≡ mid
-    → Stands (quiet_call entry) old new
+    → CallStands (quiet_call entry) old new
 stands entry old mid new none journal calls is =
     ap record_of is ∙ ap (λ (j : List ℕ). Some (calls_told j mid.calls)) journal
     ∙ ap (λ (es : List RigCall). Some (calls_told old.journal es)) calls
@@ -41,11 +41,11 @@ fails entry old new none is =
 
 -- where there is room
 stays : (call : Call) (old new : MemoryData) → StandsOrNot call old new → 0 < old.room
-    → Stands call old new
+    → CallStands call old new
 stays call old new is room = ⊎_elim (λ e. e) (λ e. absurd (omega (arith, room, e.1))) is
 
 either : (call : Call) (old new : MemoryData) → StandsOrNot call old new
-    → Stands call old new ⊎ (record_of new ≡ record_of old)
+    → CallStands call old new ⊎ (record_of new ≡ record_of old)
 either call old new is = ⊎_elim (λ e. inl e) (λ e. inr e.0) is
 
 put-stands : (byte : ℕ) (fault : RigFault) (old new : MemoryData)
@@ -73,7 +73,7 @@ get-stands Stopped old new is = fails (EnteredGet None) _ new refl is.1
 get-stands File old new is = absurd is
 
 got-stands : (answer : Option ℕ) (old new : MemoryData)
-    → GetsInMemory (Ok answer) old new → Stands (Get answer) old new
+    → GetsInMemory (Ok answer) old new → CallStands (Get answer) old new
 got-stands None old new is = stands (EnteredGet None) old _ new refl refl refl is.3
 got-stands (Some byte) old new is =
     stands (EnteredGet (Some byte)) old _ new refl refl refl is.2.2
@@ -92,7 +92,7 @@ get_entered (Err fault) old new is room =
 
 appends : (bytes : List ℕ) (old mid new : MemoryData) → mid.journal ≡ old.journal ++ bytes
     → mid.calls ≡ old.calls ++ EnteredAppend (length bytes) ∷ [] → new ≡ mid
-    → Stands (Append bytes) old new
+    → CallStands (Append bytes) old new
 appends bytes old mid new journal calls is =
     ap record_of is ∙ ap (λ (j : List ℕ). Some (calls_told j mid.calls)) journal
     ∙ ap (λ (es : List RigCall). Some (calls_told (old.journal ++ bytes) es)) calls

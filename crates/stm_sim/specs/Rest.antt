@@ -4,7 +4,7 @@ use Rattle.std.specs.Prelude.{◌≡◌, ℕ, ◌<◌, ◌==◌, if◌then◌els
 use Rattle.std.specs.Prelude.{[], ◌∷◌, ◌++◌, length, drop, None}
 use Rattle.stm_sim.specs.declared.simulator.rest.Rest.{Rest}
 use Rattle.stm_wire.specs.Chip.{ChipData}
-use Rattle.stm_wire.specs.Exchange.{IsOpen, all_exist, pairs_of, verdict, xor}
+use Rattle.stm_wire.specs.Exchange.{IsOpen, all_exist, two_byte_numbers, verdict, xor}
 
 -- whatever follows, the list has no verdict before n bytes more came
 abbrev pub IsAwaiting : ChipData → List ℕ → List ℕ → ℕ → Type 0
@@ -15,7 +15,7 @@ IsAwaiting chip codes bytes n =
 abbrev pub named_pages : List ℕ → List ℕ
 named_pages (code ∷ check ∷ rest) =
     if code == 0x43 then drop 1 rest
-    else (if code == 0x44 then pairs_of (drop 2 rest)
+    else (if code == 0x44 then two_byte_numbers (drop 2 rest)
     else [])
 named_pages bytes = []
 

@@ -7,7 +7,7 @@ use Rattle.stm_wire.specs.declared.verdict.Verdict.TheVariants.{Done, Refused}
 use Rattle.stm_wire.specs.Chip.{ChipData, fits_inside, is_inside}
 use Rattle.stm_wire.specs.Exchange.{verdict, command_verdict, after_address}
 use Rattle.stm_wire.specs.Exchange.{write_verdict, at_end, done_if, complement}
-use Rattle.stm_wire.specs.Exchange.{is_listed, number_of, pair_of, pairs_of, xor}
+use Rattle.stm_wire.specs.Exchange.{is_listed, number_of, pair_of, two_byte_numbers, xor}
 use Rattle.stm_wire.specs.Effect.{Change, Nothing, ErasePages, EraseAll, Write}
 use Rattle.stm_wire.specs.Effect.{change_of, write_change, erase_change, extended_change}
 use Rattle.stm_sim.specs.Simulator.{Fits}
@@ -72,8 +72,8 @@ extended-is F none all pages [] = none
 extended-is F none all pages (high ∷ []) = none
 extended-is F none all pages (high ∷ low ∷ rest) =
     pick F (pair_of high low == 0xFFFF) EraseAll
-    (ErasePages (pairs_of (take (2 * (pair_of high low + 1)) rest))) all
-    (pages (pairs_of (take (2 * (pair_of high low + 1)) rest)))
+    (ErasePages (two_byte_numbers (take (2 * (pair_of high low + 1)) rest))) all
+    (pages (two_byte_numbers (take (2 * (pair_of high low + 1)) rest)))
 
 change-is : (F : Change → Type 0) → F Nothing → F EraseAll
     → ((pages : List ℕ) → F (ErasePages pages)) → (code check : ℕ) (rest : List ℕ) (b : Bool)

@@ -10,7 +10,7 @@ ghost use Rattle.stm_wire.specs.Harmless.{SameOutside};
 ghost use Rattle.stm_wire.specs.PowerLoss.{powered_again};
 ghost use Rattle.stm_sim.specs.Simulator.{device_of};
 ghost use Rattle.stm_sim.specs.Memory.{MemoryData, IsMemory, rig_state};
-ghost use Rattle.stm_sim.specs.Memory.{memory_of, fresh_memory, begins};
+ghost use Rattle.stm_sim.specs.Memory.{memory_of, fresh_memory, begins_anew};
 
 mod call;
 mod fault;
@@ -171,7 +171,7 @@ impl MemoryRig {
 
     /// Resets the device: it is fresh, with the same flash, and owes nothing.
     pub fn reset(&mut self)
-        ensures reset { self.new ≡ begins (reset self.old.device) self.old }
+        ensures reset { self.new ≡ begins_anew (reset self.old.device) self.old }
         ensures honest { (rig_state self.old).is_honest → (rig_state self.new).is_honest }
     {
         self.simulator.reset();
@@ -186,7 +186,7 @@ impl MemoryRig {
     pub fn lose_power(&mut self, n: u16, page: &[u8])
         requires exists { n < page_count self.old.device.chip }
         requires size { length page.now ≡ page_size self.old.device.chip n }
-        ensures lost { self.new ≡ begins (powered_again n page.now self.old.device) self.old }
+        ensures lost { self.new ≡ begins_anew (powered_again n page.now self.old.device) self.old }
         ensures outside { let old = self.old.device in let new = self.new.device in
             SameOutside old.chip (n ∷ []) old.flash new.flash }
         ensures honest { (rig_state self.old).is_honest → (rig_state self.new).is_honest }

@@ -21,10 +21,10 @@ use Rattle.stm_wire.specs.Device.{phase_after, IsDevice}
 use Rattle.stm_sim.specs.Simulated.{open-nothing}
 use Rattle.stm_watch.specs.Known.{Known, count_read, place_read, told, lost, sight_after, judged}
 use Rattle.stm_watch.specs.Known.{fed_to, fed, may_hold, is_due_of, is_due_in, heard_of}
-use Rattle.stm_watch.specs.Known.{heard_in, heard, known_at_first}
-use Rattle.stm_watch.specs.Seen.{Holds, Agrees, device_known, IsIn, IsSeenAs, IsSeen}
-use Rattle.stm_watch.specs.Laws.{Event, Sent, Came, AreDue, Exchanges, IsHeardOf, IsListing}
-use Rattle.stm_watch.specs.Laws.{AreBytes}
+use Rattle.stm_watch.specs.Known.{heard_by_sight, heard, known_at_first}
+use Rattle.stm_watch.specs.Seen.{MayHold, Agrees, device_known, IsIn, IsSeenAs, IsSeen}
+use Rattle.stm_watch.specs.Laws.{LineEvent, Sent, Came, AreDue, Exchanges, IsHeardOf, IsListing}
+use Rattle.stm_watch.specs.Laws.{AreEventBytes}
 use Rattle.stm_watch.proofs.Placing.{agrees-length}
 use Rattle.stm_watch.proofs.Seeing.{answer-parts, reads-same, owes, replies}
 use Rattle.stm_watch.proofs.Undoing.{Bytes, all-bytes, filled, agrees-filled, length-filled}
@@ -214,7 +214,7 @@ from-fed byte k new good known possible = from-if (k.count == 0) byte k new good
 abbrev with_owed : ℕ → Device → Device
 with_owed byte d = record d { owed = byte ∷ d.owed }
 
-holds-unset : (k : Option ℕ) (byte b : ℕ) → byte ≡ b → may_hold byte k ≡ true → Holds k b
+holds-unset : (k : Option ℕ) (byte b : ℕ) → byte ≡ b → may_hold byte k ≡ true → MayHold k b
 holds-unset None byte b same may = tt
 holds-unset (Some v) byte b same may = eqb-true v byte may ∙ same
 
@@ -291,8 +291,8 @@ of-chip k [] byte = refl
 of-chip k (b ∷ due) byte = refl
 
 before-in : (s : Sight) (byte : ℕ) (k : Known) (new : Device) → IsGood k → k.sight ≡ s
-    → is_due_in s byte k ≡ true → ((heard_in s byte k).sight ≡ Lost → ⊥)
-    → IsPossible (heard_in s byte k) new → IsPossible k (with_owed byte new)
+    → is_due_in s byte k ≡ true → ((heard_by_sight s byte k).sight ≡ Lost → ⊥)
+    → IsPossible (heard_by_sight s byte k) new → IsPossible k (with_owed byte new)
 before-in Lost byte k new good is due known possible = absurd (known is)
 before-in Left byte k new good is due known possible =
     let mid = heard_of k k.due byte in
@@ -327,9 +327,9 @@ lost-fed byte k is =
     ]
 
 lost-heard : (byte : ℕ) (k : Known) → k.sight ≡ Lost → (heard byte k).sight ≡ Lost
-lost-heard byte k is = ap (λ s. (heard_in s byte k).sight) is ∙ is
+lost-heard byte k is = ap (λ s. (heard_by_sight s byte k).sight) is ∙ is
 
-lost-stays : (events : List Event) (old new : Known) → old.sight ≡ Lost → AreDue events old new
+lost-stays : (events : List LineEvent) (old new : Known) → old.sight ≡ Lost → AreDue events old new
     → new.sight ≡ Lost
 lost-stays [] old new is due = ap (λ (k : Known). k.sight) due ∙ is
 lost-stays (Sent byte ∷ events) old new is due =
@@ -338,7 +338,7 @@ lost-stays (Came byte ∷ events) old new is due =
     lost-stays events (heard byte old) new (lost-heard byte old is) due.1
 
 -- a device that this may all have been of
-pub record IsExchangeOf (events : List Event) (k : Known) : Type 0 where
+pub record IsExchangeOf (events : List LineEvent) (k : Known) : Type 0 where
   pub first : Device
   pub last : Device
   pub possible : IsPossible k first
@@ -382,7 +382,7 @@ any-possible Follows k good is known =
       },
     )
 
-exchange-of : (events : List Event) (k last : Known) → IsGood k → AreBytes events
+exchange-of : (events : List LineEvent) (k last : Known) → IsGood k → AreEventBytes events
     → AreDue events k last → (last.sight ≡ Lost → ⊥) → IsExchangeOf events k
 exchange-of [] k last good small due known =
     let here : k.sight ≡ Lost → ⊥ = λ is. known (ap (λ (l : Known). l.sight) due ∙ is) in
@@ -433,8 +433,8 @@ is-device chip version codes flash is lists size bytes =
       phase = (open-nothing chip codes, λ k e h. absurd (omega (arith, h)));
     }
 
-pub heard-of : (chip : ChipData) (version : ℕ) (codes : List ℕ) (events : List Event) (last : Known)
-    → IsChip chip → IsListing chip version codes → AreBytes events
+pub heard-of : (chip : ChipData) (version : ℕ) (codes : List ℕ) (events : List LineEvent) (last : Known)
+    → IsChip chip → IsListing chip version codes → AreEventBytes events
     → AreDue events (known_at_first chip version codes) last
     → (last.sight ≡ Lost → ⊥) → IsHeardOf chip version codes events
 heard-of chip version codes events last is lists small due known =

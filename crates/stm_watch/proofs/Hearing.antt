@@ -10,9 +10,9 @@ use Rattle.stm_watch.specs.declared.sight.Sight.TheVariants.{Follows, Left, Lost
 use Rattle.stm_wire.specs.Chip.{flash_size}
 use Rattle.stm_wire.specs.Device.{Device, Phase, Connected, Gone, IsDevice, IsSettled}
 use Rattle.stm_watch.specs.Known.{Known, may_hold, is_due_of, is_due_in, is_due, heard_of}
-use Rattle.stm_watch.specs.Known.{heard_in, heard, IsWhole}
+use Rattle.stm_watch.specs.Known.{heard_by_sight, heard, IsWhole}
 use Rattle.stm_watch.specs.Known.{known_at_first}
-use Rattle.stm_watch.specs.Seen.{Holds, Agrees, device_known, IsIn, IsSeenAs, IsSeen}
+use Rattle.stm_watch.specs.Seen.{MayHold, Agrees, device_known, IsIn, IsSeenAs, IsSeen}
 use Rattle.stm_watch.proofs.Placing.{agrees-length, agrees-at, agrees-set}
 
 -- what a byte that came leaves: it was due, and this is known then
@@ -26,7 +26,7 @@ first-is b x xs ys e = ap (λ l. get_or l 0 b) e
 rest-is : (b : ℕ) (x : ℕ) (xs ys : List ℕ) → b ∷ xs ≡ x ∷ ys → xs ≡ ys
 rest-is b x xs ys e = ap (λ l. drop 1 l) e
 
-holds-may : (k : Option ℕ) (byte : ℕ) → Holds k byte → may_hold byte k ≡ true
+holds-may : (k : Option ℕ) (byte : ℕ) → MayHold k byte → may_hold byte k ≡ true
 holds-may None byte h = refl
 holds-may (Some v) byte h = eq-eqb v byte h
 
@@ -74,7 +74,7 @@ heard-due phase k [] byte flash new whole is_due a e =
         let less : n ≡ k.count - 1 = omega (arith, is) in
         let at0 : get_or flash k.at byte
         ≡ get_or flash k.at 0 = get_or_default flash k.at byte 0 here in
-        let P : ℕ → Type 0 = λ b. Holds (get_or k.flash k.at None) b in
+        let P : ℕ → Type 0 = λ b. MayHold (get_or k.flash k.at None) b in
         record {
           is_due = due-if k.count _ some
               (holds-may (get_or k.flash k.at None) byte
@@ -109,7 +109,7 @@ heard-list k (b ∷ due) byte = refl
 
 seen-heard-in : (s : Sight) (byte : ℕ) (k : Known) (old new : Device) → k.sight ≡ s → IsWhole k
     → IsSeenAs s k old → old ≡ record new { owed = byte ∷ new.owed }
-    → (is_due_in s byte k ≡ true) × IsSeen (heard_in s byte k) new
+    → (is_due_in s byte k ≡ true) × IsSeen (heard_by_sight s byte k) new
 seen-heard-in Lost byte k old new is whole seen gave = (refl, sees Lost k k new is refl tt)
 seen-heard-in Left byte k old new is whole seen gave =
     let h = heard-due Gone k k.due byte seen.0 new whole refl seen.2 (sym gave ∙ seen.1) in

@@ -22,7 +22,7 @@ use Rattle.stm_sim.specs.Simulator.{Fits}
 use Rattle.stm_watch.specs.Known.{Known, with_items, stored_all, erased_known, changed_known}
 use Rattle.stm_watch.specs.Known.{count_of_read, place_of_read, count_read, place_read}
 use Rattle.stm_watch.specs.Known.{known_at_first}
-use Rattle.stm_watch.specs.Known.{lost, judged, fed_to, fed, heard_of, heard_in, heard}
+use Rattle.stm_watch.specs.Known.{lost, judged, fed_to, fed, heard_of, heard_by_sight, heard}
 use Rattle.stm_watch.proofs.Storing.{length-stored_all}
 use Rattle.stm_watch.proofs.Undoing.{Bytes, all-bytes, Small, Sends, small-changed}
 
@@ -219,7 +219,7 @@ good-of k [] byte good small =
 
 pub good-heard : (byte : ℕ) (k : Known) → IsGood k → byte < 256 → IsGood (heard byte k)
 good-heard byte k good small =
-    elim k.sight as (λ s. IsGood (heard_in s byte k)) [
+    elim k.sight as (λ s. IsGood (heard_by_sight s byte k)) [
       | Lost ↦ good
       | Follows ↦ good-of k k.due byte good small
       | Left ↦ good-of k k.due byte good

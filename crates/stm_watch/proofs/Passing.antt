@@ -12,7 +12,7 @@ use Rattle.stm_wire.specs.declared.rig.Patience.TheVariants.{Brief, Long}
 use Rattle.stm_wire.specs.Call.{Call, Get}
 use Rattle.stm_wire.specs.Device.{Device, Feeds}
 use Rattle.stm_wire.specs.Rig.{RigState, HasCause, Rises, Records, RecordsAppend}
-use Rattle.stm_wire.specs.Rig.{entry_of_get, waited, Tells}
+use Rattle.stm_wire.specs.Rig.{entry_of_get, waited, TellsBehind}
 use Rattle.stm_wire.specs.Rig.{PutsHonestly, GetsHonestly}
 use Rattle.stm_wire.specs.Rig.{GetsFirst}
 use Rattle.stm_wire.specs.Rig.{AppendsHonestly, FetchesHonestly}
@@ -94,7 +94,7 @@ waits-none Brief = refl
 waits-none Long = refl
 
 pub same-told : (after : List ℕ) (e : RigFault) (told : Option (List ℕ))
-    → Tells after (Err e) told told
+    → TellsBehind after (Err e) told told
 same-told after e None = refl
 same-told after e (Some past) = refl
 

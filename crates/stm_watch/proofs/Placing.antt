@@ -7,7 +7,7 @@ use Rattle.std.proofs.Math.ListN.{set}
 use Rattle.stm_wire.specs.Chip.{ChipData, erased_byte, page_offset, page_size}
 use Rattle.stm_wire.specs.Effect.{Stores, erased_pages}
 use Rattle.stm_watch.specs.Known.{with_items, stored, stored_all, erased_known}
-use Rattle.stm_watch.specs.Seen.{Holds, Agrees}
+use Rattle.stm_watch.specs.Seen.{MayHold, Agrees}
 
 abbrev pub put_front : {A : Type 0} → List A → List A → List A
 put_front [] xs = xs
@@ -102,12 +102,12 @@ agrees-drop (suc n) (k ∷ ks) [] a = absurd a
 agrees-drop (suc n) (k ∷ ks) (b ∷ bs) a = agrees-drop n ks bs a.1
 
 holds-if : (t : Bool) (sent new : ℕ) → (t ≡ true → new ≡ sent)
-    → Holds (if t then Some sent else None) new
+    → MayHold (if t then Some sent else None) new
 holds-if true sent new same = sym (same refl)
 holds-if false sent new same = tt
 
-holds-stored : (e : ℕ) (k : Option ℕ) (o s n : ℕ) → Holds k o → (o ≡ e → n ≡ s)
-    → Holds (stored e k s) n
+holds-stored : (e : ℕ) (k : Option ℕ) (o s n : ℕ) → MayHold k o → (o ≡ e → n ≡ s)
+    → MayHold (stored e k s) n
 holds-stored e None o s n h same = tt
 holds-stored e (Some v) o s n h same =
     holds-if (v == e) s n (λ t. same (sym h ∙ eqb-true v e t))
@@ -125,7 +125,7 @@ agrees-stored e (k ∷ ks) (o ∷ os) (x ∷ xs) (n ∷ ns) a s =
     (holds-stored e k o x n a.0 s.1, agrees-stored e ks os xs ns a.1 s.2)
 
 pub agrees-at : (ks : List (Option ℕ)) (bs : List ℕ) (at : ℕ) → Agrees ks bs → at < length bs
-    → Holds (get_or ks at None) (get_or bs at 0)
+    → MayHold (get_or ks at None) (get_or bs at 0)
 agrees-at [] [] at a h = absurd (omega (arith, h))
 agrees-at [] (b ∷ bs) at a h = absurd a
 agrees-at (k ∷ ks) [] at a h = absurd a

@@ -13,7 +13,7 @@ use Rattle.stm_wire.specs.PageLaws.{length-with_page, fits-end}
 use Rattle.stm_sim.specs.Simulator.{Fits}
 use Rattle.std.proofs.lemmas.List.{length-replicate}
 use Rattle.stm_watch.specs.Known.{with_items, stored, stored_all, erased_known, changed_known}
-use Rattle.stm_watch.specs.Seen.{Holds, Agrees}
+use Rattle.stm_watch.specs.Seen.{MayHold, Agrees}
 use Rattle.stm_watch.proofs.Placing.{put_front, put_over, with_items-is, agrees-length, agrees-put}
 use Rattle.stm_watch.proofs.Placing.{agrees-replicate}
 
@@ -43,11 +43,11 @@ abbrev pub filled : List (Option ℕ) → List ℕ → List ℕ
 filled (k ∷ ks) (b ∷ bs) = pick k b ∷ filled ks bs
 filled ks bs = bs
 
-pick-holds : (k : Option ℕ) (b : ℕ) → Holds k (pick k b)
+pick-holds : (k : Option ℕ) (b : ℕ) → MayHold k (pick k b)
 pick-holds None b = tt
 pick-holds (Some v) b = refl
 
-pick-same : (k : Option ℕ) (b : ℕ) → Holds k b → pick k b ≡ b
+pick-same : (k : Option ℕ) (b : ℕ) → MayHold k b → pick k b ≡ b
 pick-same None b h = refl
 pick-same (Some v) b h = h
 
@@ -171,7 +171,7 @@ abbrev pub held : ℕ → Option ℕ → ℕ
 held e None = 255 - e
 held e (Some v) = v
 
-held-holds : (e : ℕ) (k : Option ℕ) → Holds k (held e k)
+held-holds : (e : ℕ) (k : Option ℕ) → MayHold k (held e k)
 held-holds e None = tt
 held-holds e (Some v) = refl
 
@@ -179,14 +179,14 @@ held-small : (e : ℕ) (k : Option ℕ) → IsSmall k → held e k < 256
 held-small e None s = omega arith
 held-small e (Some v) s = s
 
-if-holds : (t : Bool) (s b : ℕ) → t ≡ true → Holds (if t then Some s else None) b → b ≡ s
+if-holds : (t : Bool) (s b : ℕ) → t ≡ true → MayHold (if t then Some s else None) b → b ≡ s
 if-holds true s b e h = sym h
 if-holds false s b e h = absurd-false e
   where
     absurd-false : false ≡ true → b ≡ s
     absurd-false x = cc
 
-held-stores : (e : ℕ) (k : Option ℕ) (s b : ℕ) → IsErasedByte e → Holds (stored e k s) b
+held-stores : (e : ℕ) (k : Option ℕ) (s b : ℕ) → IsErasedByte e → MayHold (stored e k s) b
     → held e k ≡ e → b ≡ s
 held-stores e None s b (inl zero_is) h is = absurd (omega (arith, zero_is, is))
 held-stores e None s b (inr all_is) h is = absurd (omega (arith, all_is, is))

@@ -198,13 +198,13 @@ heard_of k (due ∷ rest) byte = record k { due = rest }
 heard_of k [] byte =
     record k { flash = set k.flash k.at (Some byte); at = k.at + 1; count = k.count - 1 }
 
-abbrev pub heard_in : Sight → ℕ → Known → Known
-heard_in Lost byte k = k
-heard_in Follows byte k = heard_of k k.due byte
-heard_in Left byte k = heard_of k k.due byte
+abbrev pub heard_by_sight : Sight → ℕ → Known → Known
+heard_by_sight Lost byte k = k
+heard_by_sight Follows byte k = heard_of k k.due byte
+heard_by_sight Left byte k = heard_of k k.due byte
 
 abbrev pub heard : ℕ → Known → Known
-heard byte k = heard_in k.sight byte k
+heard byte k = heard_by_sight k.sight byte k
 
 -- A byte that was sent has come to what is known; or memory was refused, and nothing is known.
 abbrev pub IsFed : ℕ → Known → Known → Type 0

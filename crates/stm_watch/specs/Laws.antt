@@ -26,18 +26,18 @@ SentIsDue =
     → (is_due byte k ≡ true) × IsSeen (heard byte k) new
 
 -- A byte that was sent, or that came.
-pub data Event : Type 0 where
-  Sent : ℕ → Event
-  Came : ℕ → Event
+pub data LineEvent : Type 0 where
+  Sent : ℕ → LineEvent
+  Came : ℕ → LineEvent
 
 -- each byte that came was due
-abbrev pub AreDue : List Event → Known → Known → Type 0
+abbrev pub AreDue : List LineEvent → Known → Known → Type 0
 AreDue [] old new = new ≡ old
 AreDue (Sent byte ∷ events) old new = AreDue events (fed byte old) new
 AreDue (Came byte ∷ events) old new = (is_due byte old ≡ true) × AreDue events (heard byte old) new
 
 -- the device gets these bytes, and sends these, in this order
-abbrev pub Exchanges : List Event → Device → Device → Type 0
+abbrev pub Exchanges : List LineEvent → Device → Device → Type 0
 Exchanges [] old new = new ≡ old
 Exchanges (Sent byte ∷ events) old new =
     (mid : Device) × Feeds byte old mid × Exchanges events mid new
@@ -57,7 +57,7 @@ pub record IsListing (chip : ChipData) (version : ℕ) (codes : List ℕ) : Type
   pub no_connect : IsTrue (is_listed codes 0x7F) → ⊥
 
 -- A device of the model, of this chip, settled, with these codes, whose exchange these bytes are.
-pub record IsHeardOf (c : ChipData) (v : ℕ) (listed : List ℕ) (events : List Event) : Type 0 where
+pub record IsHeardOf (c : ChipData) (v : ℕ) (listed : List ℕ) (events : List LineEvent) : Type 0 where
   pub first : Device
   pub last : Device
   pub chip : first.chip ≡ c
@@ -67,16 +67,16 @@ pub record IsHeardOf (c : ChipData) (v : ℕ) (listed : List ℕ) (events : List
   pub device : IsDevice first
   pub exchange : Exchanges events first last
 
-abbrev pub AreBytes : List Event → Type 0
-AreBytes [] = Unit {0}
-AreBytes (Sent byte ∷ events) = (byte < 256) × AreBytes events
-AreBytes (Came byte ∷ events) = (byte < 256) × AreBytes events
+abbrev pub AreEventBytes : List LineEvent → Type 0
+AreEventBytes [] = Unit {0}
+AreEventBytes (Sent byte ∷ events) = (byte < 256) × AreEventBytes events
+AreEventBytes (Came byte ∷ events) = (byte < 256) × AreEventBytes events
 
 -- Whatever the line: bytes of which each that came was due, up to where something is still known,
 -- are an exchange of a device of the model.
 abbrev pub WatchedIsHeardOf : Type 0
 WatchedIsHeardOf =
-    (chip : ChipData) (version : ℕ) (codes : List ℕ) (events : List Event) (last : Known)
-    → IsChip chip → IsListing chip version codes → AreBytes events
+    (chip : ChipData) (version : ℕ) (codes : List ℕ) (events : List LineEvent) (last : Known)
+    → IsChip chip → IsListing chip version codes → AreEventBytes events
     → AreDue events (known_at_first chip version codes) last
     → (last.sight ≡ Lost → ⊥) → IsHeardOf chip version codes events

@@ -7,14 +7,14 @@ use Rattle.stm_watch.specs.Known.{Known}
 use Rattle.stm_wire.specs.Device.{Device, Phase, Connected, Gone}
 
 -- a place of which this is known may hold this byte
-abbrev pub Holds : Option ℕ → ℕ → Type 0
-Holds None byte = Unit {0}
-Holds (Some known) byte = known ≡ byte
+abbrev pub MayHold : Option ℕ → ℕ → Type 0
+MayHold None byte = Unit {0}
+MayHold (Some known) byte = known ≡ byte
 
 -- each place of a flash holds what is known of it
 abbrev pub Agrees : List (Option ℕ) → List ℕ → Type 0
 Agrees [] [] = Unit {0}
-Agrees (place ∷ places) (byte ∷ bytes) = Holds place byte × Agrees places bytes
+Agrees (place ∷ places) (byte ∷ bytes) = MayHold place byte × Agrees places bytes
 Agrees places bytes = ⊥
 
 -- the device of which this is known, with this flash

@@ -45,6 +45,6 @@ IsHeard (Some byte) old new = (is_due byte old ≡ true) × (new ≡ heard byte 
 
 -- this byte may not come where this is known, where that one was due, or none; and of a byte of the
 -- flash this is the address
-abbrev pub IsRefused : Option ℕ → ℕ → Option ℕ → Known → Type 0
-IsRefused due came address k = (is_due came k ≡ false) × (due ≡ first_due k k.due)
+abbrev pub IsByteRefused : Option ℕ → ℕ → Option ℕ → Known → Type 0
+IsByteRefused due came address k = (is_due came k ≡ false) × (due ≡ first_due k k.due)
     × (address ≡ address_due k k.due)

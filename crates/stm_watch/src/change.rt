@@ -1,7 +1,7 @@
 // What a done list makes of what is known of the flash.
 ghost use Rattle.std.specs.Prelude.{◌≡◌, ◌+◌, ◌<◌, ◌≤◌, length, take, drop, replicate, Some};
 ghost use Rattle.stm_wire.specs.Chip.{erased_byte, flash_size, page_count, page_offset, page_size};
-ghost use Rattle.stm_wire.specs.Exchange.{pairs_of};
+ghost use Rattle.stm_wire.specs.Exchange.{two_byte_numbers};
 ghost use Rattle.stm_wire.specs.Effect.{change_of, write_change, erase_change, extended_change};
 ghost use Rattle.stm_sim.specs.Simulator.{Fits};
 ghost use Rattle.stm_watch.specs.Known.{stored, stored_all, with_items, erased_known};
@@ -77,7 +77,7 @@ fn erase_bytes(chip: &Chip, flash: &mut [Option<u8>], pages: &[u8])
 /// Erases pages, each named by two bytes.
 fn erase_pairs(chip: &Chip, flash: &mut [Option<u8>], pages: &[u8])
     requires { length flash.old ≡ flash_size chip.now }
-    ensures erased { flash.new ≡ erased_known chip.now (pairs_of pages.now) flash.old }
+    ensures erased { flash.new ≡ erased_known chip.now (two_byte_numbers pages.now) flash.old }
     ensures length { length flash.new ≡ length flash.old }
 {
     let mut rest = pages;

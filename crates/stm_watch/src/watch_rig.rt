@@ -8,7 +8,7 @@ ghost use Rattle.stm_wire.specs.Rig.{PutsHonestly, GetsHonestly, AppendsHonestly
 ghost use Rattle.stm_wire.specs.Rig.{FetchesHonestly, entry_of_get};
 ghost use Rattle.stm_watch.specs.Known.{IsFed, lost};
 ghost use Rattle.stm_watch.specs.Seen.{IsSeen};
-ghost use Rattle.stm_watch.specs.Watching.{watched, IsHeard, IsRefused};
+ghost use Rattle.stm_watch.specs.Watching.{watched, IsHeard, IsByteRefused};
 ghost use Rattle.stm_watch.specs.Watched.{watched-model, watched-places};
 
 use crate::Watch;
@@ -252,7 +252,7 @@ impl<R: Rig + Drop> Rig for WatchRig<R> {
         ensures refused { IsTrue (is_some self.old.refusal)
             → (self.new.inner ≡ self.old.inner) × OnOk result ⊥ }
         ensures told { self.old.refusal ≡ None
-            → IfSome self.new.refusal (λ r. IsRefused r.due r.came r.address self.old.watch) }
+            → IfSome self.new.refusal (λ r. IsByteRefused r.due r.came r.address self.old.watch) }
     {
         if self.refusal.is_some() {
             count_more(&mut self.line_failures);

@@ -7,7 +7,7 @@ use Rattle.std.proofs.lemmas.List.{get_or-take, get_or-drop, length-take, length
 use Rattle.std.proofs.lemmas.List.{get_or_default}
 use Rattle.std.proofs.lemmas.List.Elements.{All-drop, All-tail, All-take}
 use Rattle.stm_wire.specs.Chip.{ChipData, fits_inside, flash_size}
-use Rattle.stm_wire.specs.Exchange.{number_of, pair_of, pairs_of}
+use Rattle.stm_wire.specs.Exchange.{number_of, pair_of, two_byte_numbers}
 use Rattle.stm_wire.specs.Effect.{Nothing, ErasePages, EraseAll, change_of, erase_change}
 use Rattle.stm_wire.specs.Effect.{extended_change, write_change}
 use Rattle.stm_wire.specs.Telling.{readable_bytes, asks_unique, kib_bytes}
@@ -112,7 +112,7 @@ small_extended (high ∷ []) = tt
 small_extended (high ∷ low ∷ rest) = by (pair_of high low == 0xFFFF)
   where
     by : (t : Bool) → AreBytes (if t then EraseAll else ErasePages
-        (pairs_of (take (2 * (pair_of high low + 1)) rest)))
+        (two_byte_numbers (take (2 * (pair_of high low + 1)) rest)))
     by true = tt
     by false = tt
 

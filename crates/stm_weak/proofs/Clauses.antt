@@ -14,11 +14,11 @@ use Rattle.stm_session.specs.Fresh.{Way, undo_way}
 use Rattle.stm_session.specs.Order.{Step, Adds, Sends, AreCutShort, IsAfter, untold}
 use Rattle.stm_session.specs.Reaching.{IsConfirmedInPart, ReachesAndStops, ReachesInPart}
 use Rattle.stm_session.specs.Reaching.{SettlesThen, StepsOf, asking_steps}
-use Rattle.stm_session.specs.UndoOrder.{AreTaken, BeginTaking, ReturnsInOrder, UndoDoes}
+use Rattle.stm_session.specs.UndoOrder.{AreUndoneInOrder, BeginTaking, GivesBackInOrder, UndoDoes}
 use Rattle.stm_session.specs.UndoOrder.{UndoDoesInPart, UndoStopsAs, UndoesInOrderFrom}
 use Rattle.stm_session.specs.Work.{pages_at_work}
 use Rattle.stm_weak.specs.Weak.{does, intent_with_lines, weak_after}
-use Rattle.stm_weak.specs.Believed.{AreAtWork, BelievesNone, Heals, NoneBelieved, UndoHeals}
+use Rattle.stm_weak.specs.Believed.{AreAtWork, BelievesNone, HealsAll, NoneBelieved, UndoHeals}
 use Rattle.stm_weak.specs.Believed.{UndoStopsHealing}
 use Rattle.stm_weak.proofs.Misreading.{begun_goes}
 use Rattle.stm_weak.proofs.Mending.{all_mend}
@@ -41,7 +41,7 @@ abbrev both_of : StateData → Bool
 both_of s = newest_has (λ segment. keeps segment 257) s.stack
 
 taken_heals : (again : Bool) (taken : ℕ) (chip : ChipData) (s : StateData) (steps : List Step)
-    → AreTaken again taken chip s steps → Heals chip s steps
+    → AreUndoneInOrder again taken chip s steps → HealsAll chip s steps
 taken_heals again taken chip s steps are =
     let W : ℕ → Type 0 = λ n. Contains (pages_at_work s.stack) n in
     let now : AreAtWork (both_of s) W (intent_of s) = λ n w. w in
@@ -156,14 +156,14 @@ undo_stops_as is_fresh table old new fault P Q more (inr x) =
 pub undo_heals : (is_fresh : Bool) (table : List ChipData) (taken : ℕ) (old new : RigState)
     → UndoesInOrderFrom is_fresh table taken old new → UndoHeals is_fresh table old new
 undo_heals is_fresh table taken old new x =
-    undo_as is_fresh table old new (AreTaken false taken) Heals
+    undo_as is_fresh table old new (AreUndoneInOrder false taken) HealsAll
     (λ chip s steps are. taken_heals false taken chip s steps are) x
 
 pub verified_heals : (is_fresh : Bool) (table : List ChipData) (returned : Returned)
-    (old new : RigState) → ReturnsInOrder is_fresh true table returned old new
+    (old new : RigState) → GivesBackInOrder is_fresh true table returned old new
     → UndoHeals is_fresh table old new
 verified_heals is_fresh table returned old new x =
-    undo_as is_fresh table old new _ Heals
+    undo_as is_fresh table old new _ HealsAll
     (λ chip s steps are. taken_heals true returned.segments chip s steps are.0) x
 
 pub undo_stops_healing : (is_fresh again : Bool) (table : List ChipData) (count : ℕ)

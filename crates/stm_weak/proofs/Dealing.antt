@@ -7,7 +7,7 @@ use Rattle.stm_wire.specs.Device.{Device, IsDevice}
 use Rattle.stm_wire.specs.Rig.{RigState}
 use Rattle.stm_session.specs.Undoable.{has_companion}
 use Rattle.stm_weak.specs.Weak.{NoneIs, intent_behind, weak_behind}
-use Rattle.stm_weak.specs.History.{AllHeal, AtOk, Deed, HistoriesHeal, events_in}
+use Rattle.stm_weak.specs.History.{AllHeal, AtOk, WeakDeed, HistoriesHeal, events_in}
 use Rattle.stm_weak.specs.History.{ran, run_stopped, undid, undid_verified, undo_stopped, asked}
 use Rattle.stm_weak.specs.History.{asking_stopped}
 use Rattle.stm_weak.specs.WeakDevice.{CanBe, WeakDevice}
@@ -17,7 +17,7 @@ use Rattle.stm_weak.proofs.Leading.{one_is_left}
 use Rattle.stm_weak.proofs.Stepping.{AmongThese, events_from}
 
 module _ (R : Type 0) (view : R → RigState) where
-  at_ok : (deed : Deed R view) (P Q : Type 0) → (P → Q) → AtOk deed P → AtOk deed Q
+  at_ok : (deed : WeakDeed R view) (P Q : Type 0) → (P → Q) → AtOk deed P → AtOk deed Q
   at_ok (ran table commands old new session) P Q f p = f p
   at_ok (run_stopped table commands old new fault whole stop) P Q f p = tt
   at_ok (undid is_fresh table taken old new session) P Q f p = f p
@@ -34,7 +34,7 @@ module _ (R : Type 0) (view : R → RigState) where
       → ⊥ = λ n lt weak. none n (among n lt weak) in
       one_is_left mid e (subst R (sym same ∙ can.chip) sound) can
 
-  deeds_from : (deeds : List (Deed R view)) (old new : WeakDevice) (d : Device) (chip : ChipData)
+  deeds_from : (deeds : List (WeakDeed R view)) (old new : WeakDevice) (d : Device) (chip : ChipData)
       (MayBe : ℕ → Type 0) (intent : Option Intent) → d.chip ≡ chip → IsDevice d → CanBe old d
       → AmongThese chip MayBe old
       → AllHeal chip MayBe intent deeds → (led : WeakDeeds deeds old new) → (e : Device)

@@ -15,8 +15,8 @@ use Rattle.stm_wire.specs.PageLaws.{page_end}
 use Rattle.stm_wire.specs.Refused.{IsRefusedRead, at_address, at_code, at_count}
 use Rattle.stm_session.specs.Order.{page_address}
 use Rattle.stm_session.specs.Work.{pages_of_intent}
-use Rattle.stm_weak.specs.Weak.{Changes, erases, writes}
-use Rattle.stm_weak.specs.Believed.{MayPut, asks, confirms, names, reads, refused}
+use Rattle.stm_weak.specs.Weak.{ChangesPage, erases, writes}
+use Rattle.stm_weak.specs.Believed.{MayPutBelieving, asks, confirms, names, reads, refused}
 use Rattle.stm_weak.specs.Believed.{erases as may_erase, writes as may_write}
 
 -- a byte that a dialogue sends
@@ -69,7 +69,7 @@ no_write_reads a b bytes answer e =
     let h : 0x31 ≡ 0x11 = same_byte 0 (write_turns b bytes) (read_turns a answer) e in
     omega (arith, h)
 
-changes_first : (chip : ChipData) (n : ℕ) (turns : List Turn) → Changes chip n turns
+changes_first : (chip : ChipData) (n : ℕ) (turns : List Turn) → ChangesPage chip n turns
     → 0x30 ≤ byte_at 0 turns
 changes_first chip n turns (erases e) =
     let P : List Turn → Type 0 = λ l. 0x30 ≤ byte_at 0 l in
@@ -81,7 +81,7 @@ changes_first chip n turns (writes offset bytes some within e) =
 
 -- a frame that begins otherwise changes no page
 no_change : (chip : ChipData) (n : ℕ) (turns : List Turn) → byte_at 0 turns < 0x30
-    → Changes chip n turns → ⊥
+    → ChangesPage chip n turns → ⊥
 no_change chip n turns lt changes =
     let h = changes_first chip n turns changes in
     omega (arith, h, lt)
@@ -134,7 +134,7 @@ of_program both intent m n is e =
 
 -- A frame that may be sent changes no page but one at work.
 pub changed_at_work : (chip : ChipData) (both : Bool) (W : ℕ → Type 0) (intent : Option Intent)
-    (turns : List Turn) (n : ℕ) → MayPut chip W intent turns → Changes chip n turns
+    (turns : List Turn) (n : ℕ) → MayPutBelieving chip W intent turns → ChangesPage chip n turns
     → Contains (pages_of_intent intent both) n
 changed_at_work chip both W intent turns n (asks version codes e) changes =
     absurd (no_change chip n turns (begins_as _ turns e (omega arith)) changes)

@@ -14,16 +14,16 @@ use Rattle.stm_session.specs.declared.fault.Fault.{Fault}
 use Rattle.stm_session.specs.Fault.{cause_of}
 use Rattle.stm_session.specs.Fresh.{Settles, undo_way}
 use Rattle.stm_session.specs.Meaning.{CommandData}
-use Rattle.stm_session.specs.Order.{Step, AreAllTakenBack, Begin, IsAfter, OrMisread, untold}
+use Rattle.stm_session.specs.Order.{Step, AreAllUndone, Begin, IsAfter, OrMisread, untold}
 use Rattle.stm_session.specs.Reaching.{IsConfirmedInPart, ReachesAndStops, ReachesInPart, StepsOf}
 use Rattle.stm_session.specs.Reaching.{confirming}
 use Rattle.stm_session.specs.RunOrder.{AreBegun, AreDoneSomehow, RunsInOrder}
 use Rattle.stm_session.specs.Undoable.{IsJournalOf, has_companion}
-use Rattle.stm_session.specs.UndoOrder.{AreTaken, AreTakenWhole, BeginTaking, UndoDoes}
+use Rattle.stm_session.specs.UndoOrder.{AreUndoneInOrder, AreTakenWhole, BeginTaking, UndoDoes}
 use Rattle.stm_session.specs.Work.{pages_at_work, pages_of_intent}
 use Rattle.stm_weak.specs.Weak.{NoneIs, intent_behind, weak_behind}
 use Rattle.stm_weak.specs.Believed.{AreAtWork, NoneBelieved}
-use Rattle.stm_weak.specs.History.{AllFind, AllHeal, AtOk, Deed, asked, asking_stopped, Finds}
+use Rattle.stm_weak.specs.History.{AllFind, AllHeal, AtOk, WeakDeed, asked, asking_stopped, Finds}
 use Rattle.stm_weak.specs.History.{done_events, events_in, ran, run_stopped, stopped_events, undid}
 use Rattle.stm_weak.specs.History.{undid_verified, undo_events, undo_stopped}
 use Rattle.stm_weak.proofs.Leaving.{Leaves, behind_at_work, done_leaves, free_none, free_own}
@@ -77,7 +77,7 @@ module _ (lengths : (set : Pairs) (address : ℕ) (bytes : List ℕ) → length
   -- undos
   undid_leaves : (is_fresh again : Bool) (table : List ChipData) (taken : ℕ) (Taken : StepsOf)
       (more : (chip : ChipData) (s : StateData) (steps : List Step) → Taken chip s steps
-      → AreTaken again taken chip s steps) (old new : RigState)
+      → AreUndoneInOrder again taken chip s steps) (old new : RigState)
       (session : UndoDoes is_fresh Taken table old new) (W : ℕ → Type 0)
       → IsJournalOf session.chip session.journal.state
       → AreAtWork (has_companion session.chip) W (intent_of session.journal.state)
@@ -95,7 +95,7 @@ module _ (lengths : (set : Pairs) (address : ℕ) (bytes : List ℕ) → length
       let does = session.does in
       let own = does.3.0 in
       let segments = pages_of_segments s.stack in
-      let P : List ℕ → Type 0 = λ work. AreAllTakenBack again chip untold work taken segments own in
+      let P : List ℕ → Type 0 = λ work. AreAllUndone again chip untold work taken segments own in
       let are = subst P (work_is chip s session.sound fits) (more chip s own does.3.2) in
       done_leaves chip W o does.0 does.1 does.2 own now does.3.1
       (λ W1 now1. (all_mend again chip both untold o W1 taken segments own now1 are).goes)
@@ -126,22 +126,22 @@ module _ (lengths : (set : Pairs) (address : ℕ) (bytes : List ℕ) → length
       (BeginTaking again count chip s) old new reached now
       (λ xs p W1 now1.
       (let P : List ℕ → Type 0 = λ work. OrMisread again chip (Begin
-      (AreAllTakenBack again chip untold work p.0 segments)) xs in
+      (AreAllUndone again chip untold work p.0 segments)) xs in
       begun_goes again chip both untold o W1 p.0 segments xs now1 (subst P
       (work_is chip s sound fits) p.3)))
 
   -- a call
-  abbrev Good : {R : Type 0} {view : R → RigState} → (ℕ → Type 0) → Option Intent → Deed R view
+  abbrev Good : {R : Type 0} {view : R → RigState} → (ℕ → Type 0) → Option Intent → WeakDeed R view
       → ChipData → Type 0
   Good W o deed chip = AreAtWork (has_companion chip) W o
       → NoneBelieved chip (has_companion chip) W o (events_in deed)
       × AtOk deed (NoneIs (λ n. weak_behind chip W (events_in deed) n))
 
   good : {R : Type 0} {view : R → RigState} (chip : ChipData) (W : ℕ → Type 0) (o : Option Intent)
-      (deed : Deed R view) → Finds chip o deed → Good W o deed chip
+      (deed : WeakDeed R view) → Finds chip o deed → Good W o deed chip
   good {R = R} {view = view} chip W o (ran table commands old new session)
       (same, intent, finished) =
-      let deed : Deed R view = ran table commands old new session in
+      let deed : WeakDeed R view = ran table commands old new session in
       let P : ChipData → Type 0 = λ c. Good W o deed c in
       let Q : Option Intent → Type 0 = λ i. Good W i deed session.chip in
       let none : None ≡ o = sym (no_intent session.journal.state finished) ∙ intent in
@@ -155,7 +155,7 @@ module _ (lengths : (set : Pairs) (address : ℕ) (bytes : List ℕ) → length
       λ now. (tt, tt)
   good {R = R} {view = view} chip W o (run_stopped table commands old new fault whole
       (inr session)) (same, intent, finished) =
-      let deed : Deed R view = run_stopped table commands old new fault whole (inr session) in
+      let deed : WeakDeed R view = run_stopped table commands old new fault whole (inr session) in
       let P : ChipData → Type 0 = λ c. Good W o deed c in
       let Q : Option Intent → Type 0 = λ i. Good W i deed session.chip in
       let none : None ≡ o = sym (no_intent session.journal.state finished) ∙ intent in
@@ -168,7 +168,7 @@ module _ (lengths : (set : Pairs) (address : ℕ) (bytes : List ℕ) → length
       )))
   good {R = R} {view = view} chip W o (undid is_fresh table taken old new session)
       (same, intent, fits) =
-      let deed : Deed R view = undid is_fresh table taken old new session in
+      let deed : WeakDeed R view = undid is_fresh table taken old new session in
       let P : ChipData → Type 0 = λ c. Good W o deed c in
       let Q : Option Intent → Type 0 = λ i. Good W i deed session.chip in
       let F : ChipData → Type 0 = λ c. IsJournalOf c session.journal.state in
@@ -176,14 +176,14 @@ module _ (lengths : (set : Pairs) (address : ℕ) (bytes : List ℕ) → length
       (subst Q intent
       (λ now.
       (let leaves =
-      undid_leaves is_fresh false table taken (AreTaken false taken) (λ c s steps are. are)
+      undid_leaves is_fresh false table taken (AreUndoneInOrder false taken) (λ c s steps are. are)
       (view old) (view new)
       session W (subst F (sym same) fits) now
       in
       (leaves.believed, leaves.none))))
   good {R = R} {view = view} chip W o (undid_verified is_fresh table returned old new session)
       (same, intent, fits) =
-      let deed : Deed R view = undid_verified is_fresh table returned old new session in
+      let deed : WeakDeed R view = undid_verified is_fresh table returned old new session in
       let P : ChipData → Type 0 = λ c. Good W o deed c in
       let Q : Option Intent → Type 0 = λ i. Good W i deed session.chip in
       let F : ChipData → Type 0 = λ c. IsJournalOf c session.journal.state in
@@ -201,7 +201,7 @@ module _ (lengths : (set : Pairs) (address : ℕ) (bytes : List ℕ) → length
       λ now. (tt, tt)
   good {R = R} {view = view} chip W o (undo_stopped is_fresh again table count old new fault whole
       (inr session)) (same, intent, fits) =
-      let deed : Deed R view = undo_stopped is_fresh again table count old new fault whole
+      let deed : WeakDeed R view = undo_stopped is_fresh again table count old new fault whole
       (inr session) in
       let P : ChipData → Type 0 = λ c. Good W o deed c in
       let Q : Option Intent → Type 0 = λ i. Good W i deed session.chip in
@@ -215,7 +215,7 @@ module _ (lengths : (set : Pairs) (address : ℕ) (bytes : List ℕ) → length
         tt,
       )))
   good {R = R} {view = view} chip W o (asked is_fresh table board old new asks) intent =
-      let deed : Deed R view = asked is_fresh table board old new asks in
+      let deed : WeakDeed R view = asked is_fresh table board old new asks in
       let Q : Option Intent → Type 0 = λ i. Good W i deed chip in
       subst Q intent
       (λ now. ((refl, settled chip W (intent_of asks.journal.state) now, tt), tt))
@@ -224,13 +224,13 @@ module _ (lengths : (set : Pairs) (address : ℕ) (bytes : List ℕ) → length
       λ now. (tt, tt)
   good {R = R} {view = view} chip W o (asking_stopped is_fresh table old new fault
       (inr asks)) intent =
-      let deed : Deed R view = asking_stopped is_fresh table old new fault (inr asks) in
+      let deed : WeakDeed R view = asking_stopped is_fresh table old new fault (inr asks) in
       let Q : Option Intent → Type 0 = λ i. Good W i deed chip in
       subst Q intent
       (λ now. ((refl, settled chip W (intent_of asks.journal.state) now, tt), tt))
 
   all_heal : {R : Type 0} {view : R → RigState} (chip : ChipData) (W : ℕ → Type 0)
-      (o : Option Intent) (deeds : List (Deed R view)) → AreAtWork (has_companion chip) W o
+      (o : Option Intent) (deeds : List (WeakDeed R view)) → AreAtWork (has_companion chip) W o
       → AllFind chip o deeds → AllHeal chip W o deeds
   all_heal chip W o [] now finds = tt
   all_heal chip W o (deed ∷ deeds) now (find, finds) =
@@ -243,6 +243,6 @@ module _ (lengths : (set : Pairs) (address : ℕ) (bytes : List ℕ) → length
       )
 
   pub histories_heal : {R : Type 0} (view : R → RigState) (chip : ChipData)
-      (deeds : List (Deed R view)) → AllFind chip None deeds → AllHeal chip (λ n. ⊥) None deeds
+      (deeds : List (WeakDeed R view)) → AllFind chip None deeds → AllHeal chip (λ n. ⊥) None deeds
   histories_heal {R = R} view chip deeds finds =
       all_heal {R = R} {view = view} chip (λ n. ⊥) None deeds (λ n none. absurd none) finds

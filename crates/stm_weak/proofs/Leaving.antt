@@ -22,10 +22,10 @@ use Rattle.stm_session.specs.Reaching.{IsConfirmedInPart, ReachesAndStops, Settl
 use Rattle.stm_session.specs.Reaching.{asking_steps, confirming}
 use Rattle.stm_session.specs.Undoable.{has_companion}
 use Rattle.stm_session.specs.Work.{beside, pages_of_intent}
-use Rattle.stm_weak.specs.Weak.{Event, settles, NoneIs, intent_after, intent_behind, weak_after}
+use Rattle.stm_weak.specs.Weak.{WeakEvent, settles, NoneIs, intent_after, intent_behind, weak_after}
 use Rattle.stm_weak.specs.Weak.{weak_behind}
 use Rattle.stm_weak.specs.Believed.{AreAtWork, NoneBelieved}
-use Rattle.stm_weak.specs.History.{left_of, part_in, stopped_events}
+use Rattle.stm_weak.specs.History.{left_events, part_in, stopped_events}
 use Rattle.stm_weak.proofs.Clauses.{all_believed}
 use Rattle.stm_weak.proofs.Sessions.{Own, reached_goes, reached_none, stopped_goes}
 use Rattle.stm_weak.proofs.Mending.{no_page}
@@ -82,7 +82,7 @@ no_intent s finished = by_stack s.stack finished
 
 -- what a call has to leave
 pub record Leaves (chip : ChipData) (W : ℕ → Type 0) (o : Option Intent)
-    (events : List Event) : Type 0 where
+    (events : List WeakEvent) : Type 0 where
   pub believed : NoneBelieved chip (has_companion chip) W o events
   pub none : NoneIs (λ n. weak_behind chip W events n)
 
@@ -124,7 +124,7 @@ part_believed : (chip : ChipData) (W : ℕ → Type 0) (o : Option Intent) (whol
     (IsConfirmedInPart chip P)) cause torn a b
     goes
     in
-    NoneBelieved chip (has_companion chip) W o (done_of part.done ++ left_of whole part.failed))
+    NoneBelieved chip (has_companion chip) W o (done_of part.done ++ left_events whole part.failed))
 part_believed chip W o whole version codes way torn cause P None b goes now go = tt
 part_believed chip W o whole version codes way torn cause P (Some past) b goes now go =
     let cut = goes.2.5 in
@@ -160,7 +160,7 @@ free_none chip own W now n w = no_page n (now n (still chip W own n w))
 
 -- What is believed nowhere leaves each page that may be weak at work.
 pub behind_at_work : (chip : ChipData) (both : Bool) (W : ℕ → Type 0) (o : Option Intent)
-    (events : List Event) → AreAtWork both W o → NoneBelieved chip both W o events
+    (events : List WeakEvent) → AreAtWork both W o → NoneBelieved chip both W o events
     → AreAtWork both (λ n. weak_behind chip W events n) (intent_behind o events)
 behind_at_work chip both W o [] now p = now
 behind_at_work chip both W o (event ∷ events) now (may, later, p) =

@@ -10,9 +10,9 @@ use Rattle.stm_chip.specs.Plan.{frames_of}
 use Rattle.stm_journal.specs.declared.entry.Entry.TheVariants.{Undoes}
 use Rattle.stm_journal.specs.declared.kept.Kept.{Kept}
 use Rattle.stm_journal.specs.States.{intent_page}
-use Rattle.stm_session.specs.Order.{Step, Adds, AreAllTakenBack, AreReturned, AreRewritten}
-use Rattle.stm_session.specs.Order.{AreTakenBack, IsReturned, IsRewritten, IsTakenBack, Tells}
-use Rattle.stm_session.specs.Order.{behind, page_reads, return_steps}
+use Rattle.stm_session.specs.Order.{Step, Adds, AreAllUndone, AreGivenBack, AreRewritten}
+use Rattle.stm_session.specs.Order.{AreSegmentsUndone, IsGivenBack, IsRewritten, IsSegmentUndone, Tells}
+use Rattle.stm_session.specs.Order.{tells_behind, page_reads, return_steps}
 use Rattle.stm_session.specs.Work.{beside, pages_of_intent}
 use Rattle.stm_weak.specs.Weak.{NoneIs}
 use Rattle.stm_weak.specs.Believed.{AreAtWork}
@@ -23,7 +23,7 @@ use Rattle.stm_weak.proofs.Walking.{Free, Goes, free_as, free_lines, free_nothin
 use Rattle.stm_weak.proofs.Walking.{goes_as, goes_then, intended, past, past_then, still}
 
 module _ (again : Bool) (chip : ChipData) (both : Bool) where
-  free_returned : (Told : Tells) (n : ℕ) (steps : List Step) → IsReturned again chip Told n steps
+  free_returned : (Told : Tells) (n : ℕ) (steps : List Step) → IsGivenBack again chip Told n steps
       → Free chip both steps
   free_returned Told n steps returned =
       free_as chip both
@@ -35,15 +35,15 @@ module _ (again : Bool) (chip : ChipData) (both : Bool) where
       (free_return again chip both n returned.held returned.page returned.size))
 
   free_pages : (Told : Tells) (pages : List Kept) (steps : List Step)
-      → AreReturned again chip Told pages steps → Free chip both steps
+      → AreGivenBack again chip Told pages steps → Free chip both steps
   free_pages Told [] steps is = free_as chip both [] steps is (free_nothing chip both)
   free_pages Told (kept ∷ pages) steps (first, rest, is, one, others) =
       free_as chip both (first ++ rest) steps is
       (free_then chip both first rest (free_returned Told kept.page first one)
-      (free_pages (behind first Told) pages rest others))
+      (free_pages (tells_behind first Told) pages rest others))
 
   free_segment : (Told : Tells) (pages : List Kept) (number : ℕ) (steps : List Step)
-      → IsTakenBack again chip Told pages number steps → Free chip both steps
+      → IsSegmentUndone again chip Told pages number steps → Free chip both steps
   free_segment Told pages number steps taken =
       free_as chip both (taken.returns ++ Adds (Undoes number ∷ []) ∷ []) steps taken.is
       (free_then chip both taken.returns (Adds (Undoes number ∷ []) ∷ [])
@@ -51,14 +51,14 @@ module _ (again : Bool) (chip : ChipData) (both : Bool) where
       (free_lines chip both (Undoes number ∷ [])))
 
   free_segments : (Told : Tells) (count : ℕ) (segments : List (List Kept)) (steps : List Step)
-      → AreTakenBack again chip Told count segments steps → Free chip both steps
+      → AreSegmentsUndone again chip Told count segments steps → Free chip both steps
   free_segments Told zero segments steps is =
       free_as chip both [] steps is (free_nothing chip both)
   free_segments Told (suc count) [] steps is = absurd is
   free_segments Told (suc count) (pages ∷ below) steps (first, rest, is, one, others) =
       free_as chip both (first ++ rest) steps is
       (free_then chip both first rest (free_segment Told pages (length below + 1) first one)
-      (free_segments (behind first Told) count below rest others))
+      (free_segments (tells_behind first Told) count below rest others))
 
 -- pages of lists
 pub no_page : (n : ℕ) → Contains [] n → ⊥
@@ -113,7 +113,7 @@ one_mends chip Told n steps W one m w =
 both_mend : (chip : ChipData) (both : Bool) (Told : Tells) (i : Intent) (W : ℕ → Type 0)
     (o : Option Intent) (first rest : List Step) → AreAtWork both W (Some i)
     → IsRewritten chip Told (intent_page i) first
-    → AreRewritten chip (behind first Told) (beside (intent_page i) both) rest
+    → AreRewritten chip (tells_behind first Told) (beside (intent_page i) both) rest
     → Mends chip both W o (first ++ rest)
 both_mend chip both Told i W o first rest own one others =
     mends_then chip both W o first rest
@@ -122,7 +122,7 @@ both_mend chip both Told i W o first rest own one others =
   where
     by_two : (two : Bool)
         → ((m : ℕ) → W m → Contains (intent_page i ∷ (if two then 257 ∷ [] else [])) m)
-        → AreRewritten chip (behind first Told) (if two then 257 ∷ [] else []) rest
+        → AreRewritten chip (tells_behind first Told) (if two then 257 ∷ [] else []) rest
         → Mends chip both (λ n. past chip W first n) (intended o first) rest
     by_two false may is =
         mends_as chip both (λ n. past chip W first n) (intended o first) [] rest is
@@ -144,7 +144,7 @@ both_mend chip both Told i W o first rest own one others =
         (let P : ℕ → Type 0 = λ k. Contains (257 ∷ beside 257 both) k in
         subst P (sym (alone m w)) (here 257 (beside 257 both)))
         in
-        let told = behind first Told in
+        let told = tells_behind first Told in
         mends_as chip both W1 (intended o first) second rest
         (is ∙ ap (λ (l : List Step). second ++ l) none ∙ append-nil second)
         (record {
@@ -168,12 +168,12 @@ work_mends chip both Told (Some i) W steps own (first, rest, is, one, others) =
 pub all_mend : (again : Bool) (chip : ChipData) (both : Bool) (Told : Tells) (o : Option Intent)
     (W : ℕ → Type 0) (count : ℕ) (segments : List (List Kept)) (steps : List Step)
     → AreAtWork both W o
-    → AreAllTakenBack again chip Told (pages_of_intent o both) count segments steps
+    → AreAllUndone again chip Told (pages_of_intent o both) count segments steps
     → Mends chip both W o steps
 all_mend again chip both Told o W count segments steps own taken =
     let work = work_mends chip both Told o W taken.first own taken.is_first in
     let free = free_segments again chip both
-    (behind taken.first Told) count segments taken.back taken.are_back in
+    (tells_behind taken.first Told) count segments taken.back taken.are_back in
     let W2 : ℕ → Type 0 = λ n. past chip W taken.first n in
     mends_as chip both W o (taken.first ++ taken.back) steps taken.is
     (mends_then chip both W o taken.first taken.back work.goes

@@ -8,8 +8,8 @@ use Rattle.stm_wire.specs.Frames.{erase_turns, read_turns}
 use Rattle.stm_chip.specs.declared.plan.Frame.{Frame}
 use Rattle.stm_chip.specs.Plan.{frames_of}
 use Rattle.stm_journal.specs.declared.kept.Kept.{Kept}
-use Rattle.stm_session.specs.Order.{Step, Adds, Sends, AreAllTakenBack, AreRewritten, Begin}
-use Rattle.stm_session.specs.Order.{OrMisread, Tells, behind, page_address, page_reads, read_steps}
+use Rattle.stm_session.specs.Order.{Step, Adds, Sends, AreAllUndone, AreRewritten, Begin}
+use Rattle.stm_session.specs.Order.{OrMisread, Tells, tells_behind, page_address, page_reads, read_steps}
 use Rattle.stm_session.specs.Order.{rewrite_steps, write_step, write_steps}
 use Rattle.stm_session.specs.Work.{pages_of_intent}
 use Rattle.stm_weak.specs.Weak.{does, NoneIs, weak_after}
@@ -84,12 +84,12 @@ late_work chip Told (n ∷ work) steps W (first, rest, is, one, others) =
     late_as chip W (first ++ rest) steps is
     (late_then chip W first rest
     (late_as chip W _ first one.is (late_rewrite chip n one.page frames W))
-    (late_work chip (behind first Told) work rest (λ m. past chip W first m) others))
+    (late_work chip (tells_behind first Told) work rest (λ m. past chip W first m) others))
 
 all_late : (again : Bool) (chip : ChipData) (both : Bool) (Told : Tells) (o : Option Intent)
     (W : ℕ → Type 0) (count : ℕ) (segments : List (List Kept)) (steps : List Step)
     → AreAtWork both W o
-    → AreAllTakenBack again chip Told (pages_of_intent o both) count segments steps
+    → AreAllUndone again chip Told (pages_of_intent o both) count segments steps
     → Late chip W steps
 all_late again chip both Told o W count segments steps own taken =
     let work = work_mends chip both Told o W taken.first own taken.is_first in
@@ -145,7 +145,7 @@ pub begun_goes : (again : Bool) (chip : ChipData) (both : Bool) (Told : Tells) (
     (W : ℕ → Type 0) (count : ℕ) (segments : List (List Kept)) (steps : List Step)
     → AreAtWork both W o
     → OrMisread again chip
-    (Begin (AreAllTakenBack again chip Told (pages_of_intent o both) count segments)) steps
+    (Begin (AreAllUndone again chip Told (pages_of_intent o both) count segments)) steps
     → Goes chip both W o steps
 begun_goes false chip both Told o W count segments steps own (rest, taken) =
     goes_front chip both W o steps rest

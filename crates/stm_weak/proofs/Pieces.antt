@@ -11,7 +11,7 @@ use Rattle.stm_wire.specs.Chip.{ChipData, erased_byte, page_size}
 use Rattle.stm_wire.specs.Frames.{erase_turns, read_turns, write_turns}
 use Rattle.stm_chip.specs.declared.plan.Frame.{Frame}
 use Rattle.stm_chip.specs.Plan.{block_of, cut_length, frame_of, frames_of, used_length}
-use Rattle.stm_session.specs.Order.{Sends, page_address, page_reads, read_steps, restore_steps}
+use Rattle.stm_session.specs.Order.{Sends, page_address, page_reads, read_steps, give_back_steps}
 use Rattle.stm_session.specs.Order.{return_steps, rewrite_steps, write_steps}
 use Rattle.stm_weak.specs.Weak.{does, weak_after}
 use Rattle.stm_weak.specs.Believed.{AreAtWork, reads, erases, writes}
@@ -137,7 +137,7 @@ free_rewrite chip both n page size W o none =
     (λ m w. absurd (none m w)) size (all_frames_inside chip page)
 
 pub free_restore : (chip : ChipData) (both : Bool) (n : ℕ) (held page : List ℕ)
-    → length page ≡ page_size chip n → Free chip both (restore_steps chip n held page)
+    → length page ≡ page_size chip n → Free chip both (give_back_steps chip n held page)
 free_restore chip both n held page size = by_same (bytes_eq held page)
   where
     by_same : (same : Bool)
@@ -151,5 +151,5 @@ pub free_return : (again : Bool) (chip : ChipData) (both : Bool) (n : ℕ) (held
     → length page ≡ page_size chip n → Free chip both (return_steps again chip n held page)
 free_return false chip both n held page size = free_restore chip both n held page size
 free_return true chip both n held page size =
-    free_then chip both (restore_steps chip n held page) (page_reads chip n page)
+    free_then chip both (give_back_steps chip n held page) (page_reads chip n page)
     (free_restore chip both n held page size) (free_page chip both n page)

@@ -14,21 +14,21 @@ use Rattle.stm_wire.specs.Frames.{address_bytes, command, read_frame, with_check
 use Rattle.stm_wire.specs.PageLaws.{page_within}
 use Rattle.stm_wire.specs.Refused.{IsRefusedRead, at_code, at_address, at_count}
 use Rattle.stm_session.specs.Order.{page_address}
-use Rattle.stm_session.specs.Reaching.{place_of}
+use Rattle.stm_session.specs.Reaching.{place_of_bytes}
 use Rattle.stm_weak.specs.Weak.{NoneIs}
-use Rattle.stm_weak.specs.Believed.{MayPut}
+use Rattle.stm_weak.specs.Believed.{MayPutBelieving}
 use Rattle.stm_weak.specs.Believed.{asks as put_asks, names as put_names, confirms, refused, reads}
 use Rattle.stm_weak.specs.Believed.{erases as put_erases, writes as put_writes}
 use Rattle.stm_weak.specs.WeakDevice.{CanBe, WeakDevice}
 use Rattle.stm_weak.specs.WeakFrames.{BeginsOf, asks, erases, names, tells, writes}
-use Rattle.stm_weak.specs.WeakRuns.{Feed, Happening, HasNoReset, IsUnread, Reset, Take, WeakBefall}
+use Rattle.stm_weak.specs.WeakRuns.{Feed, WeakHappening, HasNoReset, IsUnread, Reset, Take, WeakBefall}
 use Rattle.stm_weak.specs.WeakRuns.{fed_bytes}
 use Rattle.stm_weak.specs.WeakBelieved.{AreAmong, MayPutIsUnread}
 use Rattle.stm_weak.proofs.Agreeing.{weak_exists}
 use Rattle.stm_weak.proofs.Silent.{frames_are_unread}
 
 -- where no page is weak all is unread
-none_is_read : (happenings : List Happening) (old new : WeakDevice) (MayBe : ℕ → Type 0)
+none_is_read : (happenings : List WeakHappening) (old new : WeakDevice) (MayBe : ℕ → Type 0)
     → NoneIs MayBe → (led : WeakBefall happenings old new) → AreAmong MayBe happenings old new led
     → IsUnread happenings old new led
 none_is_read [] old new MayBe none led among = tt
@@ -43,7 +43,7 @@ none_is_read (Reset ∷ more) old new MayBe none led among = none_is_read more l
 
 -- what is told of the chip stands where the chip has it
 told_at : (o : Option UniquePlace) (unique : List ℕ) (place : UniquePlace)
-    → place_of o unique ≡ Some place → o ≡ Some place
+    → place_of_bytes o unique ≡ Some place → o ≡ Some place
 told_at None unique place e = absurd (let h : None ≡ Some place = e in cc)
 told_at (Some p) unique place e = by (length unique == p.length) e
   where
@@ -87,9 +87,9 @@ page_fits chip n offset size within =
     (le-leb (page_address chip n + offset + size) (chip.base + flash_size chip)
     (omega (arith, h, within)))
 
-pub put_is_unread : (happenings : List Happening) (old new : WeakDevice) (d : Device)
+pub put_is_unread : (happenings : List WeakHappening) (old new : WeakDevice) (d : Device)
     (MayBe : ℕ → Type 0) (intent : Option Intent) (turns : List Turn) → IsDevice d → CanBe old d
-    → d.phase ≡ Connected [] → MayPut d.chip MayBe intent turns
+    → d.phase ≡ Connected [] → MayPutBelieving d.chip MayBe intent turns
     → BeginsOf (fed_bytes happenings) (sent_bytes turns) → HasNoReset happenings
     → (led : WeakBefall happenings old new) → AreAmong MayBe happenings old new led
     → IsUnread happenings old new led

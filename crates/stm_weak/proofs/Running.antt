@@ -22,7 +22,7 @@ use Rattle.stm_session.specs.Contents.{content}
 use Rattle.stm_session.specs.Answers.{OutcomeData}
 use Rattle.stm_session.specs.Meaning.{CommandData, is_change}
 use Rattle.stm_session.specs.Order.{Step, Adds, page_reads, rewrite_steps}
-use Rattle.stm_session.specs.RunOrder.{AreBegun, AreDone, none as nothing_done, more as more_done}
+use Rattle.stm_session.specs.RunOrder.{AreBegun, AreDoneInOrder, none as nothing_done, more as more_done}
 use Rattle.stm_session.specs.RunOrder.{IsBegunIf, IsDoneIf, IsReading}
 use Rattle.stm_session.specs.Undoable.{has_companion}
 use Rattle.stm_weak.specs.Believed.{reads}
@@ -148,7 +148,7 @@ module _ (lengths : (set : Pairs) (address : ℕ) (bytes : List ℕ) → length
   done_by false c s steps are = readings_free steps are
 
   pub done_free : (commands : List CommandData) (outcomes : List OutcomeData) (s last : StateData)
-      (steps : List Step) → AreDone chip commands outcomes s last steps → Free chip both steps
+      (steps : List Step) → AreDoneInOrder chip commands outcomes s last steps → Free chip both steps
   done_free _ _ _ _ _ (nothing_done s) = free_nothing chip both
   done_free _ _ _ _ _ (more_done commands c outcomes said s mid last before own are is depth) =
       free_then chip both before own (done_free commands outcomes s mid before are)

@@ -9,7 +9,7 @@ use Rattle.stm_wire.specs.Reply.{ack}
 use Rattle.stm_wire.specs.SentList.{settling_run}
 use Rattle.stm_weak.specs.WeakDevice.{ReadsWeak, WeakDevice, WeakFeeds}
 use Rattle.stm_weak.specs.WeakFrames.{FreshSettlingIsUnread}
-use Rattle.stm_weak.specs.WeakRuns.{Feed, Happening, HasNoReset, IsUnread, Reset, Take}
+use Rattle.stm_weak.specs.WeakRuns.{Feed, WeakHappening, HasNoReset, IsUnread, Reset, Take}
 use Rattle.stm_weak.specs.WeakRuns.{WeakBefall, fed_bytes}
 use Rattle.stm_weak.proofs.Unread.{Has, HasBefore, IsSilentAlong, LeavesRest, unread_from}
 
@@ -111,7 +111,7 @@ has_before : (chip : ChipData) (codes bytes : List ℕ) (w : WeakDevice) → Has
 has_before chip codes [] w has = tt
 has_before chip codes (byte ∷ bytes) w has = has
 
-fresh_from : (chip : ChipData) (codes : List ℕ) (happenings : List Happening) (w new : WeakDevice)
+fresh_from : (chip : ChipData) (codes : List ℕ) (happenings : List WeakHappening) (w new : WeakDevice)
     (rest more : List ℕ) → HasNoReset happenings → rest ≡ fed_bytes happenings ++ more
     → IsFreshOf chip codes w → IsSilentOnce chip codes rest
     → (led : WeakBefall happenings w new) → IsUnread happenings w new led

@@ -8,14 +8,14 @@ use Rattle.stm_wire.specs.declared.chip.EraseKind.TheVariants.{Page, Extended}
 use Rattle.stm_wire.specs.Exchange.{xor}
 use Rattle.stm_wire.specs.Frames.{command, erase_frame, write_frame}
 use Rattle.stm_wire.specs.Device.{Device, IsDevice}
-use Rattle.stm_weak.specs.WeakFrames.{ReadsNothing, asks, erases, names, tells, writes}
+use Rattle.stm_weak.specs.WeakFrames.{ReadsNoFlash, asks, erases, names, tells, writes}
 use Rattle.stm_weak.specs.WeakFrames.{FramesAreUnread}
 use Rattle.stm_weak.proofs.Unread.{IsNoRead, IsSilentAlong, has_at_first}
 use Rattle.stm_weak.proofs.Unread.{silent_along, unread_from}
 use Rattle.stm_weak.proofs.Openness.{inside_if_fits, open_erase, open_write}
 use Rattle.stm_weak.proofs.UniqueReads.{outside, silent_read}
 
-silent_frame : (d : Device) (frame : List ℕ) → IsDevice d → ReadsNothing d.chip frame
+silent_frame : (d : Device) (frame : List ℕ) → IsDevice d → ReadsNoFlash d.chip frame
     → IsSilentAlong d.chip d.codes [] frame
 silent_frame d frame is (asks e) =
     let P : List ℕ → Type 0 = λ x. IsSilentAlong d.chip d.codes [] x in

@@ -16,13 +16,13 @@ use Rattle.stm_wire.specs.Dialogue.{Turn, sent_bytes}
 use Rattle.stm_wire.specs.DialogueLaws.{erase_sends}
 use Rattle.stm_wire.specs.Frames.{erase_frame, erase_turns}
 use Rattle.stm_session.specs.Order.{Adds, Sends}
-use Rattle.stm_weak.specs.Weak.{Event, breaks, does, settles, intent_after, weak_after, weak_behind}
-use Rattle.stm_weak.specs.Believed.{MayPut, NoneBelieved}
+use Rattle.stm_weak.specs.Weak.{WeakEvent, breaks, does, settles, intent_after, weak_after, weak_behind}
+use Rattle.stm_weak.specs.Believed.{MayPutBelieving, NoneBelieved}
 use Rattle.stm_weak.specs.WeakDevice.{CanBe, WeakDevice, WeakFeeds}
-use Rattle.stm_weak.specs.WeakRuns.{Befall, Feed, Happening, HasNoReset, IsUnread, Reset, Take}
+use Rattle.stm_weak.specs.WeakRuns.{Befall, Feed, WeakHappening, HasNoReset, IsUnread, Reset, Take}
 use Rattle.stm_weak.specs.WeakRuns.{WeakBefall, fed_bytes}
 use Rattle.stm_weak.specs.WeakBelieved.{AreAmong}
-use Rattle.stm_weak.specs.WeakEvents.{AreAsOrdinary, EventsAreOrdinary, IsBegun, IsSent}
+use Rattle.stm_weak.specs.WeakEvents.{AreAsOrdinary, EventsAreOrdinary, IsFrameBegun, IsSent}
 use Rattle.stm_weak.specs.WeakEvents.{NoneBecomesWeak, WeakEvents}
 use Rattle.stm_weak.proofs.Leading.{led_as_ordinary}
 use Rattle.stm_weak.proofs.Meaning.{erase_heals_at}
@@ -31,7 +31,7 @@ use Rattle.stm_weak.proofs.Openness.{open_erase}
 use Rattle.stm_weak.proofs.Unread.{Has, HasBefore, IsOpenTo, has_at_first, has_fed, has_taken}
 
 -- what is weak behind was weak before
-sound_along : (happenings : List Happening) (old new : WeakDevice) (n : ℕ) → HasNoReset happenings
+sound_along : (happenings : List WeakHappening) (old new : WeakDevice) (n : ℕ) → HasNoReset happenings
     → (led : WeakBefall happenings old new) → NoneBecomesWeak happenings old new led
     → IsTrue (new.weak n) → IsTrue (old.weak n)
 sound_along [] old new n no_reset led sound weak = subst
@@ -69,7 +69,7 @@ chip_fed : (byte : ℕ) (old new : WeakDevice) → WeakFeeds byte old new
 chip_fed byte old new f = chip_received byte f.now new.device f.now.phase f.feeds.receives
     ∙ f.can_be.chip
 
-chip_along : (happenings : List Happening) (old new : WeakDevice) → WeakBefall happenings old new
+chip_along : (happenings : List WeakHappening) (old new : WeakDevice) → WeakBefall happenings old new
     → new.device.chip ≡ old.device.chip
 chip_along [] old new led = ap (λ (w : WeakDevice). w.device.chip) led
 chip_along (Feed byte ∷ more) old new (mid, feeds, led) = chip_along more mid new led
@@ -80,7 +80,7 @@ chip_along (Reset ∷ more) old new (mid, now, led) = chip_along more mid new le
     ∙ ap (λ (d : Device). d.chip) now.device
 
 -- pages that are weak at first are among these, and so they are as each byte comes
-among_along : (happenings : List Happening) (old new : WeakDevice) (chip : ChipData)
+among_along : (happenings : List WeakHappening) (old new : WeakDevice) (chip : ChipData)
     (MayBe : ℕ → Type 0) → HasNoReset happenings → (led : WeakBefall happenings old new)
     → NoneBecomesWeak happenings old new led
     → ((n : ℕ) → n < page_count chip → IsTrue (old.weak n) → MayBe n) → old.device.chip ≡ chip
@@ -98,7 +98,7 @@ among_along (Take k ∷ more) old new chip MayBe no_reset led sound among same =
 among_along (Reset ∷ more) old new chip MayBe no_reset led sound among same = absurd no_reset
 
 -- a frame that erases page n leaves it sound
-healed_from : (chip : ChipData) (codes : List ℕ) (happenings : List Happening) (w new : WeakDevice)
+healed_from : (chip : ChipData) (codes : List ℕ) (happenings : List WeakHappening) (w new : WeakDevice)
     (n : ℕ) (done : List ℕ) → ListsKind chip.kind codes → n < page_count chip
     → HasNoReset happenings
     → (fed_bytes happenings ≡ [] → ⊥) → HasBefore chip codes done (fed_bytes happenings) w
@@ -175,10 +175,10 @@ abbrev pub AmongThese : ChipData → (ℕ → Type 0) → WeakDevice → Type 0
 AmongThese chip MayBe w = (n : ℕ) → n < page_count chip → IsTrue (w.weak n) → MayBe n
 
 -- what led the ordinary device: where it is then
-abbrev Led : List Happening → WeakDevice → Device → Type 0
+abbrev Led : List WeakHappening → WeakDevice → Device → Type 0
 Led happenings new d = (e : Device) × Befall happenings d e × CanBe new e × IsDevice e
 
-chip_led : (chip : ChipData) (happenings : List Happening) (old new : WeakDevice) (d : Device)
+chip_led : (chip : ChipData) (happenings : List WeakHappening) (old new : WeakDevice) (d : Device)
     → WeakBefall happenings old new → d.chip ≡ chip → CanBe old d → (r : Led happenings new d)
     → r.0.chip ≡ chip
 chip_led chip happenings old new d led same can r = r.2.chip ∙ chip_along happenings old new led
@@ -187,18 +187,18 @@ chip_led chip happenings old new d led same can r = r.2.chip ∙ chip_along happ
 -- a beginning of a frame that may be sent
 begun : (turns : List Turn) (old mid : WeakDevice) (d : Device) (chip : ChipData)
     (MayBe : ℕ → Type 0) (intent : Option Intent) → d.chip ≡ chip → IsDevice d → CanBe old d
-    → AmongThese chip MayBe old → MayPut chip MayBe intent turns
-    → (b : IsBegun (sent_bytes turns) old mid)
+    → AmongThese chip MayBe old → MayPutBelieving chip MayBe intent turns
+    → (b : IsFrameBegun (sent_bytes turns) old mid)
     → IsUnread b.happenings old mid b.led × Led b.happenings mid d
 begun turns old mid d chip MayBe intent same is can among may b =
-    let P : ChipData → Type 0 = λ c. MayPut c MayBe intent turns in
+    let P : ChipData → Type 0 = λ c. MayPutBelieving c MayBe intent turns in
     let unread = put_is_unread b.happenings old mid d MayBe intent turns is can
     (can.phase ∙ b.waits) (subst P (sym same) may) b.begins b.no_reset b.led
     (among_along b.happenings old mid chip MayBe b.no_reset b.led b.sound among
     (sym can.chip ∙ same)) in
     (unread, led_as_ordinary b.happenings old mid d b.are_bytes is can b.led unread)
 
-pub events_from : (events : List Event) (old new : WeakDevice) (d : Device) (chip : ChipData)
+pub events_from : (events : List WeakEvent) (old new : WeakDevice) (d : Device) (chip : ChipData)
     (MayBe : ℕ → Type 0) (both : Bool) (intent : Option Intent) → d.chip ≡ chip → IsDevice d
     → CanBe old d → AmongThese chip MayBe old
     → NoneBelieved chip both MayBe intent events → (led : WeakEvents events old new)

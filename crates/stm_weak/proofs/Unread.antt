@@ -8,7 +8,7 @@ use Rattle.stm_wire.specs.Exchange.{verdict}
 use Rattle.stm_wire.specs.PageLaws.{page_within}
 use Rattle.stm_wire.specs.Device.{Device, Phase, Fresh, Connected, Gone, Receives, Takes}
 use Rattle.stm_weak.specs.WeakDevice.{CanBe, IsWeakAt, ReadsPlace, ReadsWeak, WeakDevice, WeakFeeds}
-use Rattle.stm_weak.specs.WeakRuns.{Feed, Happening, HasNoReset, IsNow, IsUnread, Reset, Take}
+use Rattle.stm_weak.specs.WeakRuns.{Feed, WeakHappening, HasNoReset, IsNow, IsUnread, Reset, Take}
 use Rattle.stm_weak.specs.WeakRuns.{WeakBefall, fed_bytes}
 
 -- the first byte isn't that of a read
@@ -170,7 +170,7 @@ has_on chip codes done byte next (b ∷ more) w mid has feeds (inr (refused, sam
     let P : List ℕ → Type 0 = λ x. Has chip codes x mid in
     subst P (sym same) (has_refused chip codes done byte w mid has feeds refused)
 
-pub unread_from : (chip : ChipData) (codes : List ℕ) (happenings : List Happening)
+pub unread_from : (chip : ChipData) (codes : List ℕ) (happenings : List WeakHappening)
     (w new : WeakDevice) (done rest more : List ℕ) → HasNoReset happenings
     → rest ≡ fed_bytes happenings ++ more → HasBefore chip codes done rest w
     → IsSilentAlong chip codes done rest

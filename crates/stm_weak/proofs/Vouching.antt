@@ -7,11 +7,11 @@ use Rattle.stm_line.specs.declared.answered.Answered.TheVariants.{Put, PutFailed
 use Rattle.stm_line.specs.declared.answered.Answered.TheVariants.{Appended, AppendFailed}
 use Rattle.stm_line.specs.declared.answered.Answered.TheVariants.{Fetched, FetchFailed}
 use Rattle.stm_line.specs.Standing.{Standing}
-use Rattle.stm_line.specs.Vouched.{Leads, Vouched, call_at}
+use Rattle.stm_line.specs.Vouched.{CallLeads, Vouched, call_at}
 use Rattle.stm_wire.specs.Device.{Device, IsDevice, LosesOwed}
 use Rattle.stm_weak.specs.WeakDevice.{CanBe, ReadsWeak, WeakDevice, WeakFeeds}
 use Rattle.stm_weak.specs.WeakRuns.{IsNow, StayWeak}
-use Rattle.stm_weak.specs.WeakRecord.{AgreesWith, IsUnreadRecord, PutsUnread, VouchedWhileUnread}
+use Rattle.stm_weak.specs.WeakRecord.{AgreesButForWeak, IsUnreadRecord, PutsUnread, VouchedWhileUnread}
 use Rattle.stm_weak.specs.WeakRecord.{WeakLeads, WeakStanding}
 use Rattle.stm_weak.proofs.Ordinary.{fed_as_ordinary}
 use Rattle.stm_weak.proofs.Leading.{can_be_owing, can_be_still, can_be_taken, device_now}
@@ -23,7 +23,7 @@ with_journal s d = record { device = d; journal = s.journal }
 -- what the call may leave of it
 abbrev LeadsAlongside : Answered → WeakStanding → WeakStanding → Device → Type 0
 LeadsAlongside call s t d =
-    (e : Device) × Leads call (with_journal s d) (with_journal t e) × CanBe t.device e × IsDevice e
+    (e : Device) × CallLeads call (with_journal s d) (with_journal t e) × CanBe t.device e × IsDevice e
 
 -- owed bytes are lost of both
 lost_alongside : (w new : WeakDevice) (d : Device) (n : ℕ) → IsDevice d → CanBe w d
@@ -123,7 +123,7 @@ module _ (calls : List Answered) (course : ℕ → WeakStanding) (d : Device) (i
   walk (suc k) = next k (walk k) (cases_lt k (length calls))
 
   next_leads : (k : ℕ) (before : Before k) (c : (k < length calls) ⊎ (length calls ≤ k))
-      → k < length calls → Leads (call_at calls k) (with_journal (course k) before.0)
+      → k < length calls → CallLeads (call_at calls k) (with_journal (course k) before.0)
       (with_journal (course (suc k)) (next k before c).0)
   unfolding next
   next_leads k before (inl lt) less = (one_call k before.0 lt (before.1 (omega (arith, lt)))).1
@@ -132,15 +132,15 @@ module _ (calls : List Answered) (course : ℕ → WeakStanding) (d : Device) (i
   ordinary : ℕ → Standing
   ordinary k = with_journal (course k) (walk k).0
 
-  ordinary_leads : (k : ℕ) → k < length calls → Leads (call_at calls k) (ordinary k)
+  ordinary_leads : (k : ℕ) → k < length calls → CallLeads (call_at calls k) (ordinary k)
       (ordinary (k + 1))
   unfolding ordinary walk
   ordinary_leads k lt =
-      let P : ℕ → Type 0 = λ j. Leads (call_at calls k) (ordinary k) (ordinary j) in
+      let P : ℕ → Type 0 = λ j. CallLeads (call_at calls k) (ordinary k) (ordinary j) in
       subst P (sym (add-one k)) (next_leads k (walk k) (cases_lt k (length calls)) lt)
 
   vouches : (course2 : ℕ → Standing) × Vouched calls course2 × ((course2 0).device ≡ d)
-      × AgreesWith calls course course2
+      × AgreesButForWeak calls course course2
   unfolding ordinary walk
   vouches = (
     ordinary,

@@ -5,14 +5,14 @@ use Rattle.stm_wire.specs.declared.intent.Intent.{Intent}
 use Rattle.stm_wire.specs.Chip.{ChipData}
 use Rattle.stm_journal.specs.declared.entry.Entry.{Entry}
 use Rattle.stm_session.specs.Order.{Step, Adds, Sends, step_in}
-use Rattle.stm_weak.specs.Weak.{Event, does, NoneIs, intent_behind, intent_with, intent_with_lines}
+use Rattle.stm_weak.specs.Weak.{WeakEvent, does, NoneIs, intent_behind, intent_with, intent_with_lines}
 use Rattle.stm_weak.specs.Weak.{weak_after, weak_behind}
-use Rattle.stm_weak.specs.Believed.{AreAtWork, MayPut, NoneBelieved}
-use Rattle.stm_weak.specs.History.{left_of}
+use Rattle.stm_weak.specs.Believed.{AreAtWork, MayPutBelieving, NoneBelieved}
+use Rattle.stm_weak.specs.History.{left_events}
 use Rattle.stm_weak.proofs.Frames.{changed_at_work}
 
 -- steps as what befell
-abbrev pub done_of : List Step → List Event
+abbrev pub done_of : List Step → List WeakEvent
 done_of steps = map (λ step. does step) steps
 
 -- the pages that may be weak behind steps
@@ -35,7 +35,7 @@ Goes chip both W o [] = Unit {0}
 Goes chip both W o (Adds entries ∷ steps) =
     Within both W o entries × Goes chip both W (intent_with_lines o entries) steps
 Goes chip both W o (Sends turns ∷ steps) =
-    MayPut chip W o turns × Goes chip both (weak_after chip W (does (Sends turns))) o steps
+    MayPutBelieving chip W o turns × Goes chip both (weak_after chip W (does (Sends turns))) o steps
 
 -- what may be weak behind steps could be so before
 pub still : (chip : ChipData) (W : ℕ → Type 0) (steps : List Step) (n : ℕ) → past chip W steps n
@@ -69,14 +69,14 @@ goes_front chip both W o (Adds entries ∷ xs) ys (first, p) =
 goes_front chip both W o (Sends turns ∷ xs) ys (first, p) =
     (first, goes_front chip both (weak_after chip W (does (Sends turns))) o xs ys p)
 
-pub goes_back : (chip : ChipData) (both : Bool) (W : ℕ → Type 0) (o : Option Intent)
+pub undoes_newest : (chip : ChipData) (both : Bool) (W : ℕ → Type 0) (o : Option Intent)
     (xs ys : List Step) → Goes chip both W o (xs ++ ys)
     → Goes chip both (λ n. past chip W xs n) (intended o xs) ys
-goes_back chip both W o [] ys p = p
-goes_back chip both W o (Adds entries ∷ xs) ys (first, p) =
-    goes_back chip both W (intent_with_lines o entries) xs ys p
-goes_back chip both W o (Sends turns ∷ xs) ys (first, p) =
-    goes_back chip both (weak_after chip W (does (Sends turns))) o xs ys p
+undoes_newest chip both W o [] ys p = p
+undoes_newest chip both W o (Adds entries ∷ xs) ys (first, p) =
+    undoes_newest chip both W (intent_with_lines o entries) xs ys p
+undoes_newest chip both W o (Sends turns ∷ xs) ys (first, p) =
+    undoes_newest chip both (weak_after chip W (does (Sends turns))) o xs ys p
 
 pub goes_as : (chip : ChipData) (both : Bool) (W : ℕ → Type 0) (o : Option Intent)
     (xs ys : List Step) → ys ≡ xs → Goes chip both W o xs → Goes chip both W o ys
@@ -109,7 +109,7 @@ within_all both W o (entry ∷ entries) now (first, p) =
 pub none_believed : (chip : ChipData) (both : Bool) (W : ℕ → Type 0) (o : Option Intent) (whole : ℕ)
     (done : List Step) (failed : Option Step) → AreAtWork both W o
     → Goes chip both W o (done ++ step_in failed)
-    → NoneBelieved chip both W o (done_of done ++ left_of whole failed)
+    → NoneBelieved chip both W o (done_of done ++ left_events whole failed)
 none_believed chip both W o whole [] None now p = tt
 none_believed chip both W o whole [] (Some (Sends turns)) now (put, p) = (
   put,

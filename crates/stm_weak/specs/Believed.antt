@@ -15,34 +15,34 @@ use Rattle.stm_session.specs.Order.{Adds, Sends, page_address}
 use Rattle.stm_session.specs.Reaching.{StepsOf, confirmed_at}
 use Rattle.stm_session.specs.UndoOrder.{UndoDoes, UndoDoesInPart}
 use Rattle.stm_session.specs.Work.{pages_at_work, pages_of_intent}
-use Rattle.stm_weak.specs.Weak.{Event, does, settles, breaks, NoneIs, intent_after, weak_after}
+use Rattle.stm_weak.specs.Weak.{WeakEvent, does, settles, breaks, NoneIs, intent_after, weak_after}
 use Rattle.stm_weak.specs.Weak.{weak_behind}
 
 -- A frame that asks which commands a device has, or what it is, or for its unique id, which may be
 -- refused. Or it reads, where no page may be weak. Or it changes the page of the intent.
-pub data MayPut (chip : ChipData) (Weak : ℕ → Type 0) (intent : Option Intent)
+pub data MayPutBelieving (chip : ChipData) (Weak : ℕ → Type 0) (intent : Option Intent)
     (turns : List Turn) : Type 0 where
   asks : (version : ℕ) (codes : List ℕ) → turns ≡ get_turns version codes
-      → MayPut chip Weak intent turns
-  names : (high low : ℕ) → turns ≡ get_id_turns high low → MayPut chip Weak intent turns
+      → MayPutBelieving chip Weak intent turns
+  names : (high low : ℕ) → turns ≡ get_id_turns high low → MayPutBelieving chip Weak intent turns
   confirms : (place : UniquePlace) (answer : List ℕ) → confirmed_at chip ≡ Some place
-      → turns ≡ read_turns place.address answer → MayPut chip Weak intent turns
+      → turns ≡ read_turns place.address answer → MayPutBelieving chip Weak intent turns
   refused : (place : UniquePlace) (frame : List ℕ) → confirmed_at chip ≡ Some place
-      → IsRefusedRead place.address place.length frame turns → MayPut chip Weak intent turns
+      → IsRefusedRead place.address place.length frame turns → MayPutBelieving chip Weak intent turns
   reads : (address : ℕ) (answer : List ℕ) → NoneIs Weak → turns ≡ read_turns address answer
-      → MayPut chip Weak intent turns
+      → MayPutBelieving chip Weak intent turns
   erases : (n : ℕ) → intent ≡ Some (Erase n) → turns ≡ erase_turns chip.kind n
-      → MayPut chip Weak intent turns
+      → MayPutBelieving chip Weak intent turns
   writes : (n offset : ℕ) (bytes : List ℕ) → intent ≡ Some (Program n) → 1 ≤ length bytes
       → offset + length bytes ≤ page_size chip n
-      → turns ≡ write_turns (page_address chip n + offset) bytes → MayPut chip Weak intent turns
+      → turns ≡ write_turns (page_address chip n + offset) bytes → MayPutBelieving chip Weak intent turns
 
 -- an event that may come while these pages may be weak, under the intent of the lines so far
-abbrev pub MayCome : ChipData → (ℕ → Type 0) → Option Intent → Event → Type 0
+abbrev pub MayCome : ChipData → (ℕ → Type 0) → Option Intent → WeakEvent → Type 0
 MayCome chip Weak intent (settles own) = own ≡ intent
 MayCome chip Weak intent (does (Adds entries)) = Unit {0}
-MayCome chip Weak intent (does (Sends turns)) = MayPut chip Weak intent turns
-MayCome chip Weak intent (breaks turns) = MayPut chip Weak intent turns
+MayCome chip Weak intent (does (Sends turns)) = MayPutBelieving chip Weak intent turns
+MayCome chip Weak intent (breaks turns) = MayPutBelieving chip Weak intent turns
 
 -- Each page that may be weak is at work: it is the page of the intent, or page 257 beside page 1,
 -- where both are at work.
@@ -51,7 +51,7 @@ AreAtWork both Weak intent = (n : ℕ) → Weak n → Contains (pages_of_intent 
 
 -- No page is believed that may be weak: each event may come behind those before it, and behind
 -- each of them the pages that may be weak are at work.
-abbrev pub NoneBelieved : ChipData → Bool → (ℕ → Type 0) → Option Intent → List Event → Type 0
+abbrev pub NoneBelieved : ChipData → Bool → (ℕ → Type 0) → Option Intent → List WeakEvent → Type 0
 NoneBelieved chip both Weak intent [] = Unit {0}
 NoneBelieved chip both Weak intent (event ∷ events) =
     MayCome chip Weak intent event
@@ -65,14 +65,14 @@ BelievesNone chip s steps =
     (λ n. Contains (pages_at_work s.stack) n) (intent_of s) (map (λ step. does step) steps)
 
 -- and behind it no page may be weak
-abbrev pub Heals : StepsOf
-Heals chip s steps = BelievesNone chip s steps
+abbrev pub HealsAll : StepsOf
+HealsAll chip s steps = BelievesNone chip s steps
     × NoneIs (λ n. weak_behind chip (λ m. Contains (pages_at_work s.stack) m)
     (map (λ step. does step) steps) n)
 
 -- an undo, at Ok
 abbrev pub UndoHeals : Bool → List ChipData → RigState → RigState → Type 0
-UndoHeals is_fresh table old new = UndoDoes is_fresh Heals table old new
+UndoHeals is_fresh table old new = UndoDoes is_fresh HealsAll table old new
 
 -- and at a fault: of all that was done, and of what failed
 abbrev pub UndoStopsHealing : Bool → List ChipData → RigState → RigState → Fault → Type 0

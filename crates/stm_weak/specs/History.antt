@@ -12,7 +12,7 @@ use Rattle.stm_journal.specs.States.{intent_of, is_unfinished}
 use Rattle.stm_session.specs.declared.asking_board.Board.{Board}
 use Rattle.stm_session.specs.declared.fault.Fault.{Fault}
 use Rattle.stm_session.specs.declared.returned.Returned.{Returned}
-use Rattle.stm_session.specs.AskingBoard.{AnswersInOrder, AskingStops, AsksFor}
+use Rattle.stm_session.specs.AskingBoard.{AnswersInOrder, AskingStops, AsksForBoard}
 use Rattle.stm_session.specs.Fault.{Cause, cause_of}
 use Rattle.stm_session.specs.Fresh.{Settles, Way, undo_way}
 use Rattle.stm_session.specs.Meaning.{CommandData}
@@ -21,9 +21,9 @@ use Rattle.stm_session.specs.Reaching.{ReachesAndDoes, ReachesAndStops}
 use Rattle.stm_session.specs.Reaching.{ReachesInPart, Session, SettlesThen, asking_steps}
 use Rattle.stm_session.specs.RunOrder.{RunStops, RunsInOrder}
 use Rattle.stm_session.specs.Undoable.{IsJournalOf, has_companion}
-use Rattle.stm_session.specs.UndoOrder.{ReturnsInOrder, UndoStopsAs, UndoesInOrderFrom}
+use Rattle.stm_session.specs.UndoOrder.{GivesBackInOrder, UndoStopsAs, UndoesInOrderFrom}
 use Rattle.stm_weak.specs.Believed.{NoneBelieved}
-use Rattle.stm_weak.specs.Weak.{Event, breaks, does, settles, NoneIs, intent_behind, weak_behind}
+use Rattle.stm_weak.specs.Weak.{WeakEvent, breaks, does, settles, NoneIs, intent_behind, weak_behind}
 
 -- the steps of a session that was stopped: those that were done, and the one that failed, if any
 pub record Part : Type 0 where
@@ -40,15 +40,15 @@ part_in way Allowed cause torn (Some past) new goes =
 
 -- What is left of the step that failed: a frame that was broken off; or of lines the first ones
 -- that stand, so many.
-abbrev pub left_of : ℕ → Option Step → List Event
-left_of whole None = []
-left_of whole (Some (Sends turns)) = breaks turns ∷ []
-left_of whole (Some (Adds entries)) = does (Adds (take whole entries)) ∷ []
+abbrev pub left_events : ℕ → Option Step → List WeakEvent
+left_events whole None = []
+left_events whole (Some (Sends turns)) = breaks turns ∷ []
+left_events whole (Some (Adds entries)) = does (Adds (take whole entries)) ∷ []
 
 -- A session whose steps were done: it settled the device, asked it, and did them;
 abbrev pub done_events : Option Intent → (way : Way) (id : ℕ) (torn : Bool)
     (P : List Step → Type 0) (old new : RigState) → ReachesAndDoes way id torn P old new
-    → List Event
+    → List WeakEvent
 done_events intent way id torn P old new reached =
     settles intent
     ∷ map (λ step. does step) (asking_steps reached.0 reached.1 id ++ reached.2)
@@ -56,20 +56,20 @@ done_events intent way id torn P old new reached =
 -- and one that was stopped.
 abbrev pub stopped_events : Option Intent → ℕ → (way : Way) (id : ℕ) (torn : Bool)
     (P : List Step → Type 0) (cause : Cause) (old new : RigState)
-    → ReachesAndStops way id torn P cause old new → List Event
+    → ReachesAndStops way id torn P cause old new → List WeakEvent
 stopped_events intent whole way id torn P cause old new reached =
     let part =
     part_in way (IsAfter (asking_steps reached.0 reached.1 id) P) cause torn old.calls new.calls
     reached.2
     in
-    settles intent ∷ (map (λ step. does step) part.done ++ left_of whole part.failed)
+    settles intent ∷ (map (λ step. does step) part.done ++ left_events whole part.failed)
 
 -- an undo that was stopped: its device wasn't reached, or it was
 abbrev pub undo_events : Option Intent → ℕ → (way : Way) (id : ℕ) (torn : Bool)
     (P : List Step → Type 0) (cause : Cause) (old new : RigState)
     → GoesOn (ReachesInPart way cause torn) old.calls new.calls
     ⊎ ReachesAndStops way id torn P cause old new
-    → List Event
+    → List WeakEvent
 undo_events intent whole way id torn P cause old new (inl unreached) = settles intent ∷ []
 undo_events intent whole way id torn P cause old new (inr reached) =
     stopped_events intent whole way id torn P cause old new reached
@@ -77,29 +77,29 @@ undo_events intent whole way id torn P cause old new (inr reached) =
 -- A call, as its clauses tell it: also one that asks a device which board it is, as the program
 -- does before each other. Of one that was stopped so many lines of an append that failed stand. An
 -- undo that finds nothing to take back is one that was stopped before it did anything.
-pub data Deed (R : Type 0) (view : R → RigState) : Type 0 where
+pub data WeakDeed (R : Type 0) (view : R → RigState) : Type 0 where
   ran : (table : List ChipData) (commands : List CommandData) (old new : R)
-      → RunsInOrder table commands (view old) (view new) → Deed R view
+      → RunsInOrder table commands (view old) (view new) → WeakDeed R view
   run_stopped : (table : List ChipData) (commands : List CommandData) (old new : R) (fault : Fault)
-      (whole : ℕ) → RunStops table commands (view old) (view new) fault → Deed R view
+      (whole : ℕ) → RunStops table commands (view old) (view new) fault → WeakDeed R view
   undid : (is_fresh : Bool) (table : List ChipData) (taken : ℕ) (old new : R)
-      → UndoesInOrderFrom is_fresh table taken (view old) (view new) → Deed R view
+      → UndoesInOrderFrom is_fresh table taken (view old) (view new) → WeakDeed R view
   undid_verified : (is_fresh : Bool) (table : List ChipData) (returned : Returned) (old new : R)
-      → ReturnsInOrder is_fresh true table returned (view old) (view new) → Deed R view
+      → GivesBackInOrder is_fresh true table returned (view old) (view new) → WeakDeed R view
   undo_stopped : (is_fresh again : Bool) (table : List ChipData) (count : ℕ) (old new : R)
       (fault : Fault) (whole : ℕ)
-      → UndoStopsAs is_fresh again table count (view old) (view new) fault → Deed R view
+      → UndoStopsAs is_fresh again table count (view old) (view new) fault → WeakDeed R view
   asked : (is_fresh : Bool) (table : List ChipData) (board : Board) (old new : R)
-      → AsksFor table is_fresh (view old)
-      (λ way torn. AnswersInOrder table board way torn (view old) (view new)) → Deed R view
+      → AsksForBoard table is_fresh (view old)
+      (λ way torn. AnswersInOrder table board way torn (view old) (view new)) → WeakDeed R view
   asking_stopped : (is_fresh : Bool) (table : List ChipData) (old new : R) (fault : Fault)
-      → AskingStops table is_fresh (view old) (view new) fault → Deed R view
+      → AskingStops table is_fresh (view old) (view new) fault → WeakDeed R view
 
 -- What befell the device in it. A run settles under no intent, with 7F, which changes no page. A
 -- call that didn't reach the device, or was stopped before it had asked it, did no more than to
 -- settle it. Of one that asks for the board no more is told: its frames change nothing, and read
 -- where the board is told.
-abbrev pub events_in : {R : Type 0} {view : R → RigState} → Deed R view → List Event
+abbrev pub events_in : {R : Type 0} {view : R → RigState} → WeakDeed R view → List WeakEvent
 events_in {R = R} {view = view} (ran table commands old new session) =
     done_events None (Settles 0x7F 131072) session.chip.id session.journal.is_torn _
     (view old) (view new) session.does
@@ -142,7 +142,7 @@ abbrev pub UndoFinds : {table : List ChipData} {old : RigState} {P : ChipData �
 UndoFinds chip intent session = (session.chip ≡ chip) × (intent_of session.journal.state ≡ intent)
     × IsJournalOf chip session.journal.state
 
-abbrev pub Finds : {R : Type 0} {view : R → RigState} → ChipData → Option Intent → Deed R view
+abbrev pub Finds : {R : Type 0} {view : R → RigState} → ChipData → Option Intent → WeakDeed R view
     → Type 0
 Finds chip intent (ran table commands old new session) = RunFinds chip intent session
 Finds chip intent (run_stopped table commands old new fault whole (inl unreached)) = Unit {0}
@@ -163,13 +163,13 @@ Finds chip intent (asking_stopped is_fresh table old new fault (inr asks)) =
 
 -- calls one behind another, all of one chip, with an honest journal
 abbrev pub AllFind : {R : Type 0} {view : R → RigState} → ChipData → Option Intent
-    → List (Deed R view) → Type 0
+    → List (WeakDeed R view) → Type 0
 AllFind chip intent [] = Unit {0}
 AllFind chip intent (deed ∷ deeds) =
     Finds chip intent deed × AllFind chip (intent_behind intent (events_in deed)) deeds
 
 -- where a run or an undo answered Ok, this holds behind it
-abbrev pub AtOk : {R : Type 0} {view : R → RigState} → Deed R view → Type 0 → Type 0
+abbrev pub AtOk : {R : Type 0} {view : R → RigState} → WeakDeed R view → Type 0 → Type 0
 AtOk (ran table commands old new session) P = P
 AtOk (run_stopped table commands old new fault whole stop) P = Unit {0}
 AtOk (undid is_fresh table taken old new session) P = P
@@ -181,7 +181,7 @@ AtOk (asking_stopped is_fresh table old new fault stop) P = Unit {0}
 -- In each call no page is believed that may be weak, and each page that may be is at work; and
 -- behind a run or an undo that answered Ok no page may be weak.
 abbrev pub AllHeal : {R : Type 0} {view : R → RigState} → ChipData → (ℕ → Type 0) → Option Intent
-    → List (Deed R view) → Type 0
+    → List (WeakDeed R view) → Type 0
 AllHeal chip Weak intent [] = Unit {0}
 AllHeal chip Weak intent (deed ∷ deeds) =
     NoneBelieved chip (has_companion chip) Weak intent (events_in deed)
@@ -191,5 +191,5 @@ AllHeal chip Weak intent (deed ∷ deeds) =
 
 -- a history that begins with no journal, and no weak page
 abbrev pub HistoriesHeal : {R : Type 0} → (R → RigState) → Type 0
-HistoriesHeal {R} view = (chip : ChipData) (deeds : List (Deed R view))
+HistoriesHeal {R} view = (chip : ChipData) (deeds : List (WeakDeed R view))
     → AllFind chip None deeds → AllHeal chip (λ n. ⊥) None deeds

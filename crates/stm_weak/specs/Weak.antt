@@ -18,32 +18,32 @@ use Rattle.stm_journal.specs.declared.entry.Entry.TheVariants.{Programs, Ends, U
 use Rattle.stm_session.specs.Order.{Step, Adds, Sends, page_address}
 
 -- What befalls a device and its journal.
-pub data Event : Type 0 where
+pub data WeakEvent : Type 0 where
   -- it was settled under this intent, or that was begun
-  settles : Option Intent → Event
+  settles : Option Intent → WeakEvent
   -- a step was done whole: lines were appended, or each turn of a frame was held
-  does : Step → Event
+  does : Step → WeakEvent
   -- a frame was begun and broken off
-  breaks : List Turn → Event
+  breaks : List Turn → WeakEvent
 
 -- a frame that erases page n, or writes into it
-pub data Changes (chip : ChipData) (n : ℕ) (turns : List Turn) : Type 0 where
-  erases : turns ≡ erase_turns chip.kind n → Changes chip n turns
+pub data ChangesPage (chip : ChipData) (n : ℕ) (turns : List Turn) : Type 0 where
+  erases : turns ≡ erase_turns chip.kind n → ChangesPage chip n turns
   writes : (offset : ℕ) (bytes : List ℕ) → 1 ≤ length bytes
       → offset + length bytes ≤ page_size chip n
-      → turns ≡ write_turns (page_address chip n + offset) bytes → Changes chip n turns
+      → turns ≡ write_turns (page_address chip n + offset) bytes → ChangesPage chip n turns
 
 -- Where these pages may be weak, those behind an event: each page that settling may change may be;
 -- so may the page of a frame that was broken off; and a page that is erased whole is weak no more.
-abbrev pub weak_after : ChipData → (ℕ → Type 0) → Event → ℕ → Type 0
+abbrev pub weak_after : ChipData → (ℕ → Type 0) → WeakEvent → ℕ → Type 0
 weak_after chip Weak (settles intent) n =
     Weak n ⊎ ((n < page_count chip) × Contains (intended_pages intent) n)
 weak_after chip Weak (does (Adds entries)) n = Weak n
 weak_after chip Weak (does (Sends turns)) n = Weak n × (turns ≢ erase_turns chip.kind n)
-weak_after chip Weak (breaks turns) n = Weak n ⊎ Changes chip n turns
+weak_after chip Weak (breaks turns) n = Weak n ⊎ ChangesPage chip n turns
 
 -- and behind events
-abbrev pub weak_behind : ChipData → (ℕ → Type 0) → List Event → ℕ → Type 0
+abbrev pub weak_behind : ChipData → (ℕ → Type 0) → List WeakEvent → ℕ → Type 0
 weak_behind chip Weak [] n = Weak n
 weak_behind chip Weak (event ∷ events) n = weak_behind chip (weak_after chip Weak event) events n
 
@@ -67,13 +67,13 @@ intent_with_lines intent [] = intent
 intent_with_lines intent (entry ∷ entries) = intent_with_lines (intent_with intent entry) entries
 
 -- behind an event,
-abbrev pub intent_after : Option Intent → Event → Option Intent
+abbrev pub intent_after : Option Intent → WeakEvent → Option Intent
 intent_after intent (settles own) = intent
 intent_after intent (does (Adds entries)) = intent_with_lines intent entries
 intent_after intent (does (Sends turns)) = intent
 intent_after intent (breaks turns) = intent
 
 -- and behind events.
-abbrev pub intent_behind : Option Intent → List Event → Option Intent
+abbrev pub intent_behind : Option Intent → List WeakEvent → Option Intent
 intent_behind intent [] = intent
 intent_behind intent (event ∷ events) = intent_behind (intent_after intent event) events

@@ -8,16 +8,16 @@ use Rattle.stm_wire.specs.Dialogue.{sent_bytes}
 use Rattle.stm_wire.specs.Intents.{intended_pages}
 use Rattle.stm_wire.specs.Rig.{RigState}
 use Rattle.stm_session.specs.Order.{Adds, Sends}
-use Rattle.stm_weak.specs.Weak.{Event, breaks, does, settles, weak_behind}
+use Rattle.stm_weak.specs.Weak.{WeakEvent, breaks, does, settles, weak_behind}
 use Rattle.stm_weak.specs.Believed.{NoneBelieved}
-use Rattle.stm_weak.specs.History.{AllFind, AtOk, Deed, events_in}
+use Rattle.stm_weak.specs.History.{AllFind, AtOk, WeakDeed, events_in}
 use Rattle.stm_weak.specs.WeakDevice.{CanBe, Heals, NoneIsWeak, WeakDevice}
 use Rattle.stm_weak.specs.WeakFrames.{BeginsOf}
-use Rattle.stm_weak.specs.WeakRuns.{AreBytes, Befall, Feed, Happening, HasNoReset, IsUnread, Reset}
+use Rattle.stm_weak.specs.WeakRuns.{AreFedBytes, Befall, Feed, WeakHappening, HasNoReset, IsUnread, Reset}
 use Rattle.stm_weak.specs.WeakRuns.{Take, WeakBefall, fed_bytes}
 
 -- no page becomes weak without a loss of power, and one of which an erase was done isn't weak
-abbrev pub NoneBecomesWeak : (happenings : List Happening) (old new : WeakDevice)
+abbrev pub NoneBecomesWeak : (happenings : List WeakHappening) (old new : WeakDevice)
     → WeakBefall happenings old new → Type 0
 NoneBecomesWeak [] old new led = Unit {0}
 NoneBecomesWeak (Feed byte ∷ more) old new led =
@@ -29,33 +29,33 @@ NoneBecomesWeak (Reset ∷ more) old new led = NoneBecomesWeak more led.0 new le
 
 -- A beginning of a frame is sent to a device that waits for a command, and what it owes is taken
 -- meanwhile. It isn't reset, and keeps its power.
-pub record IsBegun (bytes : List ℕ) (old new : WeakDevice) : Type 0 where
+pub record IsFrameBegun (bytes : List ℕ) (old new : WeakDevice) : Type 0 where
   pub waits : old.device.phase ≡ Connected []
-  pub happenings : List Happening
+  pub happenings : List WeakHappening
   pub begins : BeginsOf (fed_bytes happenings) bytes
   pub no_reset : HasNoReset happenings
-  pub are_bytes : AreBytes happenings
+  pub are_bytes : AreFedBytes happenings
   pub led : WeakBefall happenings old new
   pub sound : NoneBecomesWeak happenings old new led
 
 -- and all of it
 pub record IsSent (bytes : List ℕ) (old new : WeakDevice) : Type 0 where
-  pub begun : IsBegun bytes old new
+  pub begun : IsFrameBegun bytes old new
   pub whole : fed_bytes begun.happenings ≡ bytes
 
 -- Before its frames a session settles the device, which may have lost its power or been reset; a
 -- call that asks for the board sends its frames in that too. By all of it no byte completes a read
 -- of a weak page, and no page becomes weak but those that settling may change.
 pub record IsSettledWeakly (intent : Option Intent) (old new : WeakDevice) : Type 0 where
-  pub happenings : List Happening
-  pub are_bytes : AreBytes happenings
+  pub happenings : List WeakHappening
+  pub are_bytes : AreFedBytes happenings
   pub led : WeakBefall happenings old new
   pub unread : IsUnread happenings old new led
   pub sound : (n : ℕ) → IsTrue (new.weak n)
       → IsTrue (old.weak n) ⊎ Contains (intended_pages intent) n
 
 -- these events befall it
-abbrev pub WeakEvents : List Event → WeakDevice → WeakDevice → Type 0
+abbrev pub WeakEvents : List WeakEvent → WeakDevice → WeakDevice → Type 0
 WeakEvents [] old new = new ≡ old
 WeakEvents (settles own ∷ events) old new =
     (mid : WeakDevice) × IsSettledWeakly own old mid × WeakEvents events mid new
@@ -63,10 +63,10 @@ WeakEvents (does (Adds entries) ∷ events) old new = WeakEvents events old new
 WeakEvents (does (Sends turns) ∷ events) old new =
     (mid : WeakDevice) × IsSent (sent_bytes turns) old mid × WeakEvents events mid new
 WeakEvents (breaks turns ∷ events) old new =
-    (mid : WeakDevice) × IsBegun (sent_bytes turns) old mid × WeakEvents events mid new
+    (mid : WeakDevice) × IsFrameBegun (sent_bytes turns) old mid × WeakEvents events mid new
 
 -- no byte completed a read of a weak page, and what befell it led an ordinary device from d to e
-abbrev pub AreAsOrdinary : (events : List Event) (old new : WeakDevice)
+abbrev pub AreAsOrdinary : (events : List WeakEvent) (old new : WeakDevice)
     → WeakEvents events old new → Device → Device → Type 0
 AreAsOrdinary [] old new led d e = e ≡ d
 AreAsOrdinary (settles own ∷ events) old new led d e =
@@ -85,7 +85,7 @@ AreAsOrdinary (breaks turns ∷ events) old new led d e =
 -- be, these events are those of an ordinary device; and behind them too the pages that are weak are
 -- among those that may be.
 abbrev pub EventsAreOrdinary : Type 0
-EventsAreOrdinary = (events : List Event) (old new : WeakDevice) (d : Device) (may_be : ℕ → Bool)
+EventsAreOrdinary = (events : List WeakEvent) (old new : WeakDevice) (d : Device) (may_be : ℕ → Bool)
     (both : Bool) (intent : Option Intent) → IsDevice d → CanBe old d
     → ((n : ℕ) → n < page_count d.chip → IsTrue (old.weak n) → IsTrue (may_be n))
     → NoneBelieved d.chip both (λ n. IsTrue (may_be n)) intent events
@@ -95,7 +95,7 @@ EventsAreOrdinary = (events : List Event) (old new : WeakDevice) (d : Device) (m
     → weak_behind d.chip (λ m. IsTrue (may_be m)) events n)
 
 -- calls, one behind another
-abbrev pub WeakDeeds : {R : Type 0} {view : R → RigState} → List (Deed R view) → WeakDevice
+abbrev pub WeakDeeds : {R : Type 0} {view : R → RigState} → List (WeakDeed R view) → WeakDevice
     → WeakDevice → Type 0
 WeakDeeds [] old new = new ≡ old
 WeakDeeds (deed ∷ deeds) old new =
@@ -103,7 +103,7 @@ WeakDeeds (deed ∷ deeds) old new =
 
 -- They led an ordinary device from d to e; and where a run or an undo answered Ok, that device is
 -- just what the one with weak pages is, with each byte of its flash.
-abbrev pub DeedsAreAsOrdinary : {R : Type 0} {view : R → RigState} → (deeds : List (Deed R view))
+abbrev pub DeedsAreAsOrdinary : {R : Type 0} {view : R → RigState} → (deeds : List (WeakDeed R view))
     (old new : WeakDevice) → WeakDeeds deeds old new → Device → Device → Type 0
 DeedsAreAsOrdinary [] old new led d e = e ≡ d
 DeedsAreAsOrdinary (deed ∷ deeds) old new led d e =
@@ -112,7 +112,7 @@ DeedsAreAsOrdinary (deed ∷ deeds) old new led d e =
 
 -- A history that begins with no journal, and no weak page.
 abbrev pub HistoriesAreOrdinary : {R : Type 0} → (R → RigState) → Type 0
-HistoriesAreOrdinary {R} view = (deeds : List (Deed R view)) (old new : WeakDevice)
+HistoriesAreOrdinary {R} view = (deeds : List (WeakDeed R view)) (old new : WeakDevice)
     → IsDevice old.device → NoneIsWeak old → AllFind old.device.chip None deeds
     → (led : WeakDeeds deeds old new)
     → (e : Device) × DeedsAreAsOrdinary deeds old new led old.device e × CanBe new e × IsDevice e

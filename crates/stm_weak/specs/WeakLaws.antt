@@ -2,7 +2,7 @@
 use Rattle.std.specs.Prelude.{◌≡◌, ℕ, ◌<◌, List}
 use Rattle.stm_wire.specs.Device.{Device, Feeds, IsDevice}
 use Rattle.stm_weak.specs.WeakDevice.{WeakDevice, CanBe, NoneIsWeak, ReadsWeak, WeakFeeds}
-use Rattle.stm_weak.specs.WeakRuns.{Happening, AreBytes, Befall, IsUnread, WeakBefall}
+use Rattle.stm_weak.specs.WeakRuns.{WeakHappening, AreFedBytes, Befall, IsUnread, WeakBefall}
 
 -- a byte leads each ordinary device that it can be taken for to one that it can be taken for then
 abbrev pub FedAsOrdinary : Type 0
@@ -12,8 +12,8 @@ FedAsOrdinary = (byte : ℕ) (old new : WeakDevice) (d : Device) → byte < 256 
 
 -- and so does all that befalls it
 abbrev pub LedAsOrdinary : Type 0
-LedAsOrdinary = (happenings : List Happening) (old new : WeakDevice) (d : Device)
-    → AreBytes happenings → IsDevice d → CanBe old d → (led : WeakBefall happenings old new)
+LedAsOrdinary = (happenings : List WeakHappening) (old new : WeakDevice) (d : Device)
+    → AreFedBytes happenings → IsDevice d → CanBe old d → (led : WeakBefall happenings old new)
     → IsUnread happenings old new led
     → (e : Device) × Befall happenings d e × CanBe new e × IsDevice e
 

@@ -4,7 +4,7 @@ use Rattle.std.specs.Prelude.{◌≡◌, ◌⊎◌, ℕ, ◌+◌, ◌-◌, ◌^�
 use Rattle.stm_line.specs.declared.answered.Answered.{Answered}
 use Rattle.stm_line.specs.declared.answered.Answered.TheVariants.{Put, PutFailed}
 use Rattle.stm_line.specs.Standing.{Standing}
-use Rattle.stm_line.specs.Vouched.{Leads, Vouched, call_at}
+use Rattle.stm_line.specs.Vouched.{CallLeads, Vouched, call_at}
 use Rattle.stm_wire.specs.Device.{Device, IsDevice}
 use Rattle.stm_weak.specs.WeakDevice.{CanBe, ReadsWeak, WeakDevice, WeakFeeds}
 use Rattle.stm_weak.specs.WeakRuns.{IsNow, StayWeak}
@@ -14,8 +14,8 @@ pub record WeakStanding : Type 0 where
   pub device : WeakDevice
   pub journal : List ℕ
 
-abbrev pub standing : WeakStanding → Standing
-standing s = record { device = s.device.device; journal = s.journal }
+abbrev pub ordinary_standing : WeakStanding → Standing
+ordinary_standing s = record { device = s.device.device; journal = s.journal }
 
 -- a put that failed: the byte was fed or not, and owed bytes may be lost
 abbrev pub WeakLeftByPut : ℕ → WeakStanding → WeakStanding → Type 0
@@ -29,7 +29,7 @@ WeakLeftByPut byte s t =
 abbrev pub WeakLeads : Answered → WeakStanding → WeakStanding → Type 0
 WeakLeads (Put byte) s t = WeakFeeds byte s.device t.device × (t.journal ≡ s.journal)
 WeakLeads (PutFailed byte) s t = WeakLeftByPut byte s t
-WeakLeads call s t = Leads call (standing s) (standing t) × StayWeak s.device t.device
+WeakLeads call s t = CallLeads call (ordinary_standing s) (ordinary_standing t) × StayWeak s.device t.device
 
 -- the byte of a put is a byte, and doesn't complete a read of a weak page
 abbrev pub PutsUnread : Answered → WeakDevice → Type 0
@@ -46,8 +46,8 @@ pub record IsUnreadRecord (calls : List Answered) (course : ℕ → WeakStanding
   pub unread : (k : ℕ) → k < length calls → PutsUnread (call_at calls k) (course k).device
 
 -- the ordinary course agrees with it, but for bytes of weak pages
-abbrev pub AgreesWith : List Answered → (ℕ → WeakStanding) → (ℕ → Standing) → Type 0
-AgreesWith calls course ordinary = (k : ℕ) → k ≤ length calls
+abbrev pub AgreesButForWeak : List Answered → (ℕ → WeakStanding) → (ℕ → Standing) → Type 0
+AgreesButForWeak calls course ordinary = (k : ℕ) → k ≤ length calls
     → CanBe (course k).device (ordinary k).device × ((ordinary k).journal ≡ (course k).journal)
 
 -- Such a record vouches for an ordinary device, for each one that it can have been taken for at
@@ -56,4 +56,4 @@ abbrev pub VouchedWhileUnread : Type 0
 VouchedWhileUnread = (calls : List Answered) (course : ℕ → WeakStanding) (d : Device) → IsDevice d
     → CanBe (course 0).device d → IsUnreadRecord calls course
     → (ordinary : ℕ → Standing) × Vouched calls ordinary × ((ordinary 0).device ≡ d)
-    × AgreesWith calls course ordinary
+    × AgreesButForWeak calls course ordinary

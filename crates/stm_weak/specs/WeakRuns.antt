@@ -4,16 +4,16 @@ use Rattle.std.specs.Prelude.{◌≡◌, ℕ, ◌<◌, IsTrue, List, [], ◌∷�
 use Rattle.stm_wire.specs.Device.{Device, Feeds, reset}
 use Rattle.stm_weak.specs.WeakDevice.{WeakDevice, ReadsWeak, WeakFeeds}
 
-pub data Happening : Type 0 where
+pub data WeakHappening : Type 0 where
   -- this byte is fed to it
-  Feed : ℕ → Happening
+  Feed : ℕ → WeakHappening
   -- so many of the bytes that it owes are taken, or lost
-  Take : ℕ → Happening
+  Take : ℕ → WeakHappening
   -- it is reset, or loses its power
-  Reset : Happening
+  Reset : WeakHappening
 
 -- they may lead an ordinary device from old to new
-abbrev pub Befall : List Happening → Device → Device → Type 0
+abbrev pub Befall : List WeakHappening → Device → Device → Type 0
 Befall [] old new = new ≡ old
 Befall (Feed byte ∷ more) old new = (mid : Device) × Feeds byte old mid × Befall more mid new
 Befall (Take n ∷ more) old new = Befall more (record old { owed = drop n old.owed }) new
@@ -29,7 +29,7 @@ pub record IsNow (d : Device) (old new : WeakDevice) : Type 0 where
   pub stays : StayWeak old new
 
 -- and one with weak pages: a loss of power may leave more of them
-abbrev pub WeakBefall : List Happening → WeakDevice → WeakDevice → Type 0
+abbrev pub WeakBefall : List WeakHappening → WeakDevice → WeakDevice → Type 0
 WeakBefall [] old new = new ≡ old
 WeakBefall (Feed byte ∷ more) old new =
     (mid : WeakDevice) × WeakFeeds byte old mid × WeakBefall more mid new
@@ -40,7 +40,7 @@ WeakBefall (Reset ∷ more) old new =
     (mid : WeakDevice) × IsNow (reset old.device) old mid × WeakBefall more mid new
 
 -- no byte of it completed a read of a weak page
-abbrev pub IsUnread : (happenings : List Happening) (old new : WeakDevice)
+abbrev pub IsUnread : (happenings : List WeakHappening) (old new : WeakDevice)
     → WeakBefall happenings old new → Type 0
 IsUnread [] old new led = Unit {0}
 IsUnread (Feed byte ∷ more) old new led =
@@ -49,20 +49,20 @@ IsUnread (Take n ∷ more) old new led = IsUnread more led.0 new led.2
 IsUnread (Reset ∷ more) old new led = IsUnread more led.0 new led.2
 
 -- the bytes that are fed are bytes
-abbrev pub AreBytes : List Happening → Type 0
-AreBytes [] = Unit {0}
-AreBytes (Feed byte ∷ more) = (byte < 256) × AreBytes more
-AreBytes (Take n ∷ more) = AreBytes more
-AreBytes (Reset ∷ more) = AreBytes more
+abbrev pub AreFedBytes : List WeakHappening → Type 0
+AreFedBytes [] = Unit {0}
+AreFedBytes (Feed byte ∷ more) = (byte < 256) × AreFedBytes more
+AreFedBytes (Take n ∷ more) = AreFedBytes more
+AreFedBytes (Reset ∷ more) = AreFedBytes more
 
 -- the bytes that are fed, where it isn't reset meanwhile
-abbrev pub fed_bytes : List Happening → List ℕ
+abbrev pub fed_bytes : List WeakHappening → List ℕ
 fed_bytes [] = []
 fed_bytes (Feed byte ∷ more) = byte ∷ fed_bytes more
 fed_bytes (Take n ∷ more) = fed_bytes more
 fed_bytes (Reset ∷ more) = fed_bytes more
 
-abbrev pub HasNoReset : List Happening → Type 0
+abbrev pub HasNoReset : List WeakHappening → Type 0
 HasNoReset [] = Unit {0}
 HasNoReset (Feed byte ∷ more) = HasNoReset more
 HasNoReset (Take n ∷ more) = HasNoReset more

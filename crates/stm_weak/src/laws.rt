@@ -6,7 +6,7 @@ ghost use Rattle.std.specs.Prelude.{ℕ, Bool, true, List};
 ghost use Rattle.stm_wire.specs.Chip.{ChipData};
 ghost use Rattle.stm_session.specs.declared.fault.Fault.{Fault};
 ghost use Rattle.stm_session.specs.declared.returned.Returned.{Returned};
-ghost use Rattle.stm_session.specs.UndoOrder.{ReturnsInOrder, UndoStopsAs, UndoStopsFrom};
+ghost use Rattle.stm_session.specs.UndoOrder.{GivesBackInOrder, UndoStopsAs, UndoStopsFrom};
 ghost use Rattle.stm_session.specs.UndoOrder.{UndoesInOrderFrom};
 ghost use Rattle.stm_weak.specs.Believed.{UndoHeals, UndoStopsHealing};
 ghost use Rattle.stm_weak.specs.History.{HistoriesHeal};
@@ -28,7 +28,7 @@ pub fn an_undo_believes_no_page_at_work<R: Rig>()
         → UndoStopsHealing is_fresh table (R.view old) (R.view new) fault }
     // So does one that reads each page again.
     ensures verified { (is_fresh : Bool) (table : List ChipData) (returned : Returned)
-        (old new : R) → ReturnsInOrder is_fresh true table returned (R.view old) (R.view new)
+        (old new : R) → GivesBackInOrder is_fresh true table returned (R.view old) (R.view new)
         → UndoHeals is_fresh table (R.view old) (R.view new) }
     ensures verified_stopped { (is_fresh : Bool) (table : List ChipData) (count : ℕ) (old new : R)
         (fault : Fault) → UndoStopsAs is_fresh true table count (R.view old) (R.view new) fault

@@ -12,4 +12,4 @@ pub use device::{
     events_that_believe_no_weak_page_are_ordinary, frames_that_ask_or_change_are_unread,
 };
 pub use laws::{an_undo_believes_no_page_at_work, weak_pages_are_at_work};
-pub use undoing::take_back;
+pub use undoing::undo_segment;

@@ -10,7 +10,7 @@ use stm_wire::Rig;
 
 /// Takes back the newest segments, so many, or all where the count is 0. On any Rig, whatever it
 /// answers, and also where it fails: it believes no page at work, and at Ok no page may be weak.
-pub fn take_back<R: Rig>(
+pub fn undo_segment<R: Rig>(
     alloc: Global,
     rig: &mut R,
     table: &Table,

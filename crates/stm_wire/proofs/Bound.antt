@@ -8,7 +8,7 @@ use Rattle.stm_wire.specs.Chip.{ChipData, is_inside, fits_inside}
 use Rattle.stm_wire.specs.Telling.{can_read, is_readable}
 use Rattle.stm_wire.specs.declared.verdict.Verdict.{Verdict}
 use Rattle.stm_wire.specs.declared.verdict.Verdict.TheVariants.{Done, Refused, Loose}
-use Rattle.stm_wire.specs.Exchange.{IsOpen, complement, at_end, done_if, after_address, read_verdict, write_verdict, all_verdict, erase_verdict, pages_verdict, extended_verdict, command_verdict, is_listed, all_exist, xor, number_of, pair_of, pairs_of}
+use Rattle.stm_wire.specs.Exchange.{IsOpen, complement, at_end, done_if, after_address, read_verdict, write_verdict, all_verdict, erase_verdict, pages_verdict, extended_verdict, command_verdict, is_listed, all_exist, xor, number_of, pair_of, two_byte_numbers}
 
 -- how many bytes a list that begins with this code has at most, of a device with these codes, before the byte that brings its verdict
 abbrev pub longest_list : List ℕ → ℕ → ℕ
@@ -124,7 +124,7 @@ opens_erase chip (n ∷ ys) by = λ none.
 opens_pages : (chip : ChipData) (count : List ℕ) (size n : ℕ) (ys : List ℕ) → size ≤ n → Opens (pages_verdict chip count size) n ys
 opens_pages chip count size n ys le = λ none. ⊎_elim (λ lt. omega arith) (λ long.
     let part = take (size + 1) ys in
-    absurd (exact (done_if (eqb (get_or part size 0) (xor (count ++ take size part)) && all_exist chip (pairs_of (take size part)))) (size + 1) part (length-take-le (size + 1) ys long) (none (size + 1))))
+    absurd (exact (done_if (eqb (get_or part size 0) (xor (count ++ take size part)) && all_exist chip (two_byte_numbers (take size part)))) (size + 1) part (length-take-le (size + 1) ys long) (none (size + 1))))
     (cases_lt (length ys) (size + 1))
 
 opens_loose : (n : ℕ) (ys : List ℕ) → Opens (λ zs. cond (eqb (length zs) 1) (Some Loose) None) n ys

@@ -8,7 +8,7 @@ use Rattle.stm_wire.specs.Exchange.{verdict}
 use Rattle.stm_wire.specs.Reply.{ack}
 use Rattle.stm_wire.specs.Device.{Device, Phase, Fresh, Connected, Gone, Takes, Receives, Feeds, IsLoose, LosesOwed, reset, phase_after, reply_of}
 use Rattle.stm_wire.specs.Awaited.{Awaits, AwaitsIn, IsRefusedIn, most_for}
-use Rattle.stm_wire.specs.Harmless.{SameOutside, IsListening, Event, Feed, Reset, Reaches, Harmless}
+use Rattle.stm_wire.specs.Harmless.{SameOutside, IsListening, Disturbance, Feed, Reset, Reaches, Harmless}
 use Rattle.stm_wire.proofs.Ending.{at_least, awaits_at, more_suffice, nearer_open, refused_empty}
 
 -- of the same chip, with the same version and codes
@@ -130,7 +130,7 @@ received_alike byte d new o Fresh e = go (eqb byte 0x7F) e
 received_alike byte d new o (Connected rest) r = taken_alike d new o (rest ++ byte ∷ []) (verdict d.chip d.codes (rest ++ byte ∷ [])) r
 received_alike byte d new o Gone e = (d, refl, record { owed = o; is = e })
 
-reaches_alike : (byte : ℕ) (events : List Event) (d new : Device) (o : List ℕ) → Reaches byte events (record d { owed = o }) new → (new' : Device) × Reaches byte events d new' × Alike new' new
+reaches_alike : (byte : ℕ) (events : List Disturbance) (d new : Device) (o : List ℕ) → Reaches byte events (record d { owed = o }) new → (new' : Device) × Reaches byte events d new' × Alike new' new
 reaches_alike byte [] d new o e = (d, refl, record { owed = o; is = e })
 reaches_alike byte (Feed ∷ events) d new o (mid, f, r) =
     let (mid', f', a) = received_alike byte d mid o d.phase f.receives in

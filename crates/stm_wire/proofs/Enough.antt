@@ -14,7 +14,7 @@ use Rattle.stm_wire.specs.declared.intent.Intent.TheVariants.{Erase, Program}
 use Rattle.stm_wire.specs.declared.verdict.Verdict.{Verdict}
 use Rattle.stm_wire.specs.declared.verdict.Verdict.TheVariants.{Refused, Loose}
 use Rattle.stm_wire.specs.Exchange.{IsOpen, all_exist, all_verdict, done_if, is_listed, pair_of}
-use Rattle.stm_wire.specs.Exchange.{pairs_of, verdict, xor}
+use Rattle.stm_wire.specs.Exchange.{two_byte_numbers, verdict, xor}
 use Rattle.stm_wire.specs.Device.{Device, Fresh, Connected, ListsKind}
 use Rattle.stm_wire.specs.Awaited.{Awaits, IsRefusedIn, most_for}
 use Rattle.stm_wire.specs.Frames.{erase_frame}
@@ -108,7 +108,7 @@ pages_end chip codes h l ys listed few len = (
 
     test : Bool
     test = eqb (get_or ys size 0) (xor ((h ∷ l ∷ []) ++ take size ys)) && all_exist chip
-        (pairs_of (take size ys))
+        (two_byte_numbers (take size ys))
 
     by : (s t u : Bool) → s ≡ false → t ≡ false → u ≡ true → cond s (all_verdict ys)
         (cond t (cond (eqb (length ys) 1) (Some Loose) None) (cond u (Some (done_if test)) None))

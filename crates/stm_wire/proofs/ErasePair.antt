@@ -4,7 +4,7 @@ use Rattle.std.specs.List.{Contains}
 use Rattle.std.proofs.lemmas.Bool.{cond_both, eq-eqb, ne_eqb, lt-leb, cases_lt, false≢true}
 use Rattle.stm_wire.specs.Chip.{ChipData}
 use Rattle.stm_wire.specs.declared.verdict.Verdict.{Verdict}
-use Rattle.stm_wire.specs.Exchange.{all_verdict, pages_verdict, extended_verdict, all_exist, xor, pair_of, pairs_of}
+use Rattle.stm_wire.specs.Exchange.{all_verdict, pages_verdict, extended_verdict, all_exist, xor, pair_of, two_byte_numbers}
 use Rattle.stm_wire.proofs.Flash.{Every}
 use Rattle.stm_wire.proofs.Mild.{Fits, Mild, after_pair, mild_empty}
 use Rattle.stm_wire.proofs.Plain.{fits_done_if}
@@ -14,7 +14,7 @@ use Rattle.stm_wire.proofs.ErasePage.{all_refused, contains_first}
 abbrev pub named_by : ℕ → List ℕ
 named_by N = N ∷ pair_of N N ∷ []
 
-pub every_pair : (P : ℕ → Type 0) (n m k : ℕ) → P (pair_of n n) → Every P (pairs_of (take m (replicate k n)))
+pub every_pair : (P : ℕ → Type 0) (n m k : ℕ) → P (pair_of n n) → Every P (two_byte_numbers (take m (replicate k n)))
 every_pair P n zero k p = tt
 every_pair P n (suc m) zero p = tt
 every_pair P n (suc zero) (suc k) p = tt
@@ -23,7 +23,7 @@ every_pair P n (suc (suc m)) (suc (suc k)) p = (p, every_pair P n m k p)
 
 -- pages after an ordinary count
 pub listed : (chip : ChipData) (pages rest : List ℕ) (x h l : ℕ) → pair_of h l < 0xFFF0 →
-    Every (Contains pages) (pairs_of (take (2 * (pair_of h l + 1)) rest)) → Fits chip pages (0x44 ∷ x ∷ h ∷ l ∷ rest) (extended_verdict chip (h ∷ l ∷ rest))
+    Every (Contains pages) (two_byte_numbers (take (2 * (pair_of h l + 1)) rest)) → Fits chip pages (0x44 ∷ x ∷ h ∷ l ∷ rest) (extended_verdict chip (h ∷ l ∷ rest))
 listed chip pages rest x h l few within =
     let bytes = 0x44 ∷ x ∷ h ∷ l ∷ rest in
     let P : Option Verdict → Type 0 = Fits chip pages bytes in
@@ -32,7 +32,7 @@ listed chip pages rest x h l few within =
     cond_both (eqb (pair_of h l) 0xFFFF) _ _ P (λ e. absurd (false≢true (sym one ∙ e)))
     (λ _. cond_both (leb 0xFFF0 (pair_of h l)) _ (pages_verdict chip (h ∷ l ∷ []) size rest) P (λ e. absurd (false≢true (sym (lt-leb 0xFFF0 (pair_of h l) few) ∙ e)))
     (λ _. cond_both (eqb (length rest) (size + 1)) _ None P
-    (λ _. fits_done_if chip pages bytes (eqb (get_or rest size 0) (xor (h ∷ l ∷ take size rest)) && all_exist chip (pairs_of (take size rest))) (refl, rw one within))
+    (λ _. fits_done_if chip pages bytes (eqb (get_or rest size 0) (xor (h ∷ l ∷ take size rest)) && all_exist chip (two_byte_numbers (take size rest))) (refl, rw one within))
     (λ _. tt)))
 
 -- count FFFF
@@ -67,7 +67,7 @@ module _ (chip : ChipData) (N : ℕ) (small : N < 256) where
   high_tail (suc k) = copies 0xBB 0 N k (omega arith)
 
   -- the high byte of the page was sent
-  one_page : (k : ℕ) → Every (Contains (named_by N)) (pairs_of (take 2 (0 ∷ replicate k N)))
+  one_page : (k : ℕ) → Every (Contains (named_by N)) (two_byte_numbers (take 2 (0 ∷ replicate k N)))
   one_page zero = tt
   one_page (suc k) = let e : 0 * 256 + N ≡ N = omega arith in (rw e (contains_first N (pair_of N N ∷ [])), tt)
 

@@ -8,7 +8,7 @@ use Rattle.stm_wire.specs.Rig.{RigState, Rises, IsModel}
 use Rattle.stm_wire.specs.Moments.{LeftBySending}
 use Rattle.stm_wire.specs.MomentLaws.{started, joined, weaker, LosesOwed-refl}
 use Rattle.stm_wire.specs.Dialogue.{Turn, says, step_turns, calls_of, FailsBy, IsBrokenOff, Adds}
-use Rattle.stm_wire.specs.Sending.{KeepsCount, SentHonestly, Holds, BreaksOff}
+use Rattle.stm_wire.specs.Sending.{KeepsCount, SentHonestly, IsHeldToEnd, BreaksOff}
 use Rattle.stm_wire.proofs.Turns.{FedAndTaken-append, PartlyFed-first, PartlyFed-second, PartlyFed-all, calls_of-append, says-step, broken-first, broken-second, Adds-append, GoesOn-append, GoesOn-weaker, Adds-GoesOn}
 
 LeftBySending-second : (xs ys : List ℕ) (a b : RigState) → SentHonestly xs a b → (d : Device) (journal : List ℕ) → LeftBySending ys b d journal → LeftBySending (xs ++ ys) a d journal
@@ -25,7 +25,7 @@ count_kept before now Quiet other same = same
 count_kept before now Garbled other same = same
 
 -- two dialogues, both held
-pub Holds-append : (xs ys : List ℕ) (s t : List Turn) (a b c : RigState) → Holds xs s a b → Holds ys t b c → Holds (xs ++ ys) (s ++ t) a c
+pub Holds-append : (xs ys : List ℕ) (s t : List Turn) (a b c : RigState) → IsHeldToEnd xs s a b → IsHeldToEnd ys t b c → IsHeldToEnd (xs ++ ys) (s ++ t) a c
 Holds-append xs ys s t a b c p q =
     let A : List Call → Type 0 = λ zs. Adds zs a.calls c.calls in
     record {
@@ -44,7 +44,7 @@ Holds-append xs ys s t a b c p q =
     }
 
 -- the second was broken off
-pub BreaksOff-second : (fault : WireFault) (xs ys : List ℕ) (s t : List Turn) (a b c : RigState) → Holds xs s a b → BreaksOff fault ys t b c → BreaksOff fault (xs ++ ys) (s ++ t) a c
+pub BreaksOff-second : (fault : WireFault) (xs ys : List ℕ) (s t : List Turn) (a b c : RigState) → IsHeldToEnd xs s a b → BreaksOff fault ys t b c → BreaksOff fault (xs ++ ys) (s ++ t) a c
 BreaksOff-second fault xs ys s t a b c p q =
     record {
       recorded = GoesOn-append (λ zs. zs ≡ calls_of s) (IsBrokenOff fault t) (IsBrokenOff fault (s ++ t)) a.calls b.calls c.calls (Adds-GoesOn (λ zs. zs ≡ calls_of s) (calls_of s) a.calls b.calls p.recorded refl) q.recorded
@@ -85,7 +85,7 @@ BreaksOff-first fault xs ys s t a b p =
 
 -- the last turn was not as it should: another reply byte came, or none
 pub breaks_at : (fault : WireFault) (bytes : List ℕ) (turns : List Turn) (turn : Turn) (call : Call) (a b c : RigState) → (fault ≡ Line → ⊥) → FailsBy fault turn call
-    → Holds bytes turns a b → Adds (call ∷ []) b.calls c.calls → c.line_failures ≡ b.line_failures → c.journal_failures ≡ b.journal_failures
+    → IsHeldToEnd bytes turns a b → Adds (call ∷ []) b.calls c.calls → c.line_failures ≡ b.line_failures → c.journal_failures ≡ b.journal_failures
     → (b.is_honest → SentHonestly [] b c) → BreaksOff fault bytes (turns ++ turn ∷ []) a c
 breaks_at fault bytes turns turn call a b c other fails p added line journal honest =
     record {
@@ -121,7 +121,7 @@ adds-none None = refl
 adds-none (Some past) = ap (λ zs. Some zs) (sym (append-nil past))
 
 -- no call
-pub Holds-none : (a : RigState) → (a.is_honest → IsModel a) → Holds [] [] a a
+pub Holds-none : (a : RigState) → (a.is_honest → IsModel a) → IsHeldToEnd [] [] a a
 Holds-none a model =
     record {
       recorded = adds-none a.calls;
@@ -141,12 +141,12 @@ if_err_weaker P Q (Ok x) f p = tt
 if_err_weaker P Q (Err e) f p = f e p
 
 -- replies alone after the bytes
-pub Holds-then : (xs : List ℕ) (s t : List Turn) (a b c : RigState) → Holds xs s a b → Holds [] t b c → Holds xs (s ++ t) a c
+pub Holds-then : (xs : List ℕ) (s t : List Turn) (a b c : RigState) → IsHeldToEnd xs s a b → IsHeldToEnd [] t b c → IsHeldToEnd xs (s ++ t) a c
 Holds-then xs s t a b c p q =
-    let P : List ℕ → Type 0 = λ zs. Holds zs (s ++ t) a c in
+    let P : List ℕ → Type 0 = λ zs. IsHeldToEnd zs (s ++ t) a c in
     subst P (append-nil xs) (Holds-append xs [] s t a b c p q)
 
-pub BreaksOff-then : (fault : WireFault) (xs : List ℕ) (s t : List Turn) (a b c : RigState) → Holds xs s a b → BreaksOff fault [] t b c → BreaksOff fault xs (s ++ t) a c
+pub BreaksOff-then : (fault : WireFault) (xs : List ℕ) (s t : List Turn) (a b c : RigState) → IsHeldToEnd xs s a b → BreaksOff fault [] t b c → BreaksOff fault xs (s ++ t) a c
 BreaksOff-then fault xs s t a b c p q =
     let P : List ℕ → Type 0 = λ zs. BreaksOff fault zs (s ++ t) a c in
     subst P (append-nil xs) (BreaksOff-second fault xs [] s t a b c p q)
@@ -158,16 +158,16 @@ BreaksOff-early fault bytes s t a b p =
     subst P (append-nil bytes) (BreaksOff-first fault bytes [] s t a b p)
 
 -- broken off between these turns and those
-pub BreaksOff-between : (fault : WireFault) (s t u : List Turn) (a b c : RigState) → Holds [] s a b → BreaksOff fault [] t b c → BreaksOff fault [] (s ++ (t ++ u)) a c
+pub BreaksOff-between : (fault : WireFault) (s t u : List Turn) (a b c : RigState) → IsHeldToEnd [] s a b → BreaksOff fault [] t b c → BreaksOff fault [] (s ++ (t ++ u)) a c
 BreaksOff-between fault s t u a b c p q = BreaksOff-second fault [] [] s (t ++ u) a b c p (BreaksOff-early fault [] t u b c q)
 
 -- bytes were sent, and a further step after them
-pub Holds-says : (xs ys : List ℕ) (a b c : RigState) → Holds xs (says xs) a b → Holds ys (step_turns ys) b c → Holds (xs ++ ys) (step_turns (xs ++ ys)) a c
+pub Holds-says : (xs ys : List ℕ) (a b c : RigState) → IsHeldToEnd xs (says xs) a b → IsHeldToEnd ys (step_turns ys) b c → IsHeldToEnd (xs ++ ys) (step_turns (xs ++ ys)) a c
 Holds-says xs ys a b c p q =
-    let Q : List Turn → Type 0 = λ zs. Holds (xs ++ ys) zs a c in
+    let Q : List Turn → Type 0 = λ zs. IsHeldToEnd (xs ++ ys) zs a c in
     subst Q (says-step xs ys) (Holds-append xs ys (says xs) (step_turns ys) a b c p q)
 
-pub BreaksOff-says : (fault : WireFault) (xs ys : List ℕ) (a b c : RigState) → Holds xs (says xs) a b → BreaksOff fault ys (step_turns ys) b c → BreaksOff fault (xs ++ ys) (step_turns (xs ++ ys)) a c
+pub BreaksOff-says : (fault : WireFault) (xs ys : List ℕ) (a b c : RigState) → IsHeldToEnd xs (says xs) a b → BreaksOff fault ys (step_turns ys) b c → BreaksOff fault (xs ++ ys) (step_turns (xs ++ ys)) a c
 BreaksOff-says fault xs ys a b c p q =
     let Q : List Turn → Type 0 = λ zs. BreaksOff fault (xs ++ ys) zs a c in
     subst Q (says-step xs ys) (BreaksOff-second fault xs ys (says xs) (step_turns ys) a b c p q)

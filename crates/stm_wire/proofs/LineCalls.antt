@@ -9,7 +9,7 @@ use Rattle.stm_wire.specs.Rig.{RigState, HasCause, IsModel, Records, LeftByPut, 
 use Rattle.stm_wire.specs.Moments.{LeftBySending}
 use Rattle.stm_wire.specs.MomentLaws.{elapsed, LosesOwed-refl}
 use Rattle.stm_wire.specs.Dialogue.{Turn, Says, Acknowledged, Expects, Learns, says, learns, call_of, FailsBy, IsBrokenOff, Adds, GoesOn}
-use Rattle.stm_wire.specs.Sending.{SentHonestly, Holds, BreaksOff}
+use Rattle.stm_wire.specs.Sending.{SentHonestly, IsHeldToEnd, BreaksOff}
 use Rattle.stm_wire.proofs.Turns.{GoesOn-weaker}
 use Rattle.stm_wire.proofs.Holding.{breaks_at, left-here, Holds-none}
 
@@ -36,7 +36,7 @@ recorded-err T turn call e (Some past) d fails r =
 
 -- a put that answered Ok
 pub Holds-put : {T : Type 0} (byte : ℕ) (u : T) (a b : RigState) → (a.is_honest → IsModel a) → HasCause {T = T} a.line_failures b.line_failures (Ok u) → b.journal_failures ≡ a.journal_failures
-    → Records {T = T} (Put byte) (Ok u) a.calls b.calls → (a.is_honest → PutsHonestly {T = T} byte (Ok u) a b) → Holds (byte ∷ []) (says (byte ∷ [])) a b
+    → Records {T = T} (Put byte) (Ok u) a.calls b.calls → (a.is_honest → PutsHonestly {T = T} byte (Ok u) a b) → IsHeldToEnd (byte ∷ []) (says (byte ∷ [])) a b
 Holds-put byte u a b model line journal recorded honest =
     record {
       recorded = recorded-ok (Put byte) u a.calls b.calls recorded;
@@ -92,7 +92,7 @@ got-honestly x a b model p =
 
 -- a get that answered this byte, where the turn takes it
 pub Holds-get : (turn : Turn) (byte : ℕ) (a b : RigState) → call_of turn ≡ Get (Some byte) → (a.is_honest → IsModel a) → HasCause {T = Option ℕ} a.line_failures b.line_failures (Ok (Some byte)) → b.journal_failures ≡ a.journal_failures
-    → Records {T = Option ℕ} (Get (Some byte)) (Ok (Some byte)) a.calls b.calls → (a.is_honest → GetsHonestly (Ok (Some byte)) a b) → Holds [] (turn ∷ []) a b
+    → Records {T = Option ℕ} (Get (Some byte)) (Ok (Some byte)) a.calls b.calls → (a.is_honest → GetsHonestly (Ok (Some byte)) a b) → IsHeldToEnd [] (turn ∷ []) a b
 Holds-get turn byte a b is model line journal recorded honest =
     let A : Call → Type 0 = λ call. Adds (call ∷ []) a.calls b.calls in
     record {
@@ -130,7 +130,7 @@ BreaksOff-reply fault turn x a b other fails model line journal recorded honest 
     breaks_at fault [] [] turn (Get x) a a b other fails (Holds-none a model) (recorded-ok {T = Option ℕ} (Get x) x a.calls b.calls recorded) line.done journal (λ h. got-honestly x a b (model h) (honest h))
 
 -- the byte that was learned is one that the turn takes
-pub Holds-retold : (x y : Turn) (a b : RigState) → call_of y ≡ call_of x → Holds [] (x ∷ []) a b → Holds [] (y ∷ []) a b
+pub Holds-retold : (x y : Turn) (a b : RigState) → call_of y ≡ call_of x → IsHeldToEnd [] (x ∷ []) a b → IsHeldToEnd [] (y ∷ []) a b
 Holds-retold x y a b same p =
     let A : Call → Type 0 = λ call. Adds (call ∷ []) a.calls b.calls in
     record { recorded = subst A (sym same) p.recorded; line_count = p.line_count; journal_count = p.journal_count; honestly = p.honestly }
@@ -170,6 +170,6 @@ BreaksOff-retold fault x turn a b h p =
     }
 
 -- a byte came that ends the dialogue at this turn
-pub BreaksOff-heard : (fault : WireFault) (bytes : List ℕ) (turns : List Turn) (turn : Turn) (x : ℕ) (a b c : RigState) → (fault ≡ Line → ⊥) → FailsBy fault turn (Get (Some x)) → Holds bytes turns a b → Holds [] (learns (x ∷ [])) b c
+pub BreaksOff-heard : (fault : WireFault) (bytes : List ℕ) (turns : List Turn) (turn : Turn) (x : ℕ) (a b c : RigState) → (fault ≡ Line → ⊥) → FailsBy fault turn (Get (Some x)) → IsHeldToEnd bytes turns a b → IsHeldToEnd [] (learns (x ∷ [])) b c
     → BreaksOff fault bytes (turns ++ turn ∷ []) a c
 BreaksOff-heard fault bytes turns turn x a b c other fails p q = breaks_at fault bytes turns turn (Get (Some x)) a b c other fails p q.recorded q.line_count q.journal_count q.honestly

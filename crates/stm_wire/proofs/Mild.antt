@@ -11,7 +11,7 @@ use Rattle.stm_wire.specs.Effect.{change_of}
 use Rattle.stm_wire.specs.Device.{Device, Phase, Fresh, Connected, Gone, Takes, Receives, reset, phase_after}
 use Rattle.stm_wire.specs.Reply.{ack}
 use Rattle.stm_wire.specs.Awaited.{Awaits, most_for}
-use Rattle.stm_wire.specs.Harmless.{SameOutside, IsListening, Event, Feed, Reset, Reaches, IsUnharmed, Harmless}
+use Rattle.stm_wire.specs.Harmless.{SameOutside, IsListening, Disturbance, Feed, Reset, Reaches, IsUnharmed, Harmless}
 use Rattle.stm_wire.proofs.Flash.{IsConfined, same_flash, then_same, effect_within}
 
 -- a device with this verdict on these bytes stays connected, and its flash is the same outside the pages
@@ -98,7 +98,7 @@ listening chip codes byte pages (Connected rest) t = tt
 listening chip codes byte pages Gone t = t
 
 pub unharmed : (byte : ℕ) (pages : List ℕ) (d : Device) → length d.flash ≡ flash_size d.chip → Tame d.chip d.codes byte pages d.phase →
-    (events : List Event) (new : Device) → Reaches byte events d new → IsUnharmed d pages new
+    (events : List Disturbance) (new : Device) → Reaches byte events d new → IsUnharmed d pages new
 unharmed byte pages d size t [] new e =
     subst (IsUnharmed d pages) (sym e) (record { phase = listening d.chip d.codes byte pages d.phase t; flash = same_flash d.chip pages d.flash d.flash refl })
 unharmed byte pages d size t (Feed ∷ events) new (mid, feeds, reaches) =

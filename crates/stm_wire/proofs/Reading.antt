@@ -14,7 +14,7 @@ use Rattle.std.proofs.lemmas.List.{length-replicate}
 use Rattle.stm_wire.specs.declared.fault.WireFault.{WireFault}
 use Rattle.stm_wire.specs.Rig.{RigState}
 use Rattle.stm_wire.specs.Dialogue.{step_turns, learns}
-use Rattle.stm_wire.specs.Sending.{Holds, BreaksOff}
+use Rattle.stm_wire.specs.Sending.{IsHeldToEnd, BreaksOff}
 use Rattle.stm_wire.specs.Frames.{address_turns, read_frame, read_turns}
 use Rattle.stm_wire.proofs.Holding.{Holds-append, Holds-then, BreaksOff-first, BreaksOff-second, BreaksOff-then}
 use Rattle.stm_wire.proofs.Receiving.{answered}
@@ -93,7 +93,7 @@ read_broken fault address n a b p =
           (BreaksOff-first fault (head ++ count) [] (address_turns 0x11 address ++ step_turns count) (learns answer) a b (BreaksOff-first fault head count (address_turns 0x11 address) (step_turns count) a b p))),
     )
 
-pub read_broken-2 : (fault : WireFault) (address n : ℕ) (a b c : RigState) → Holds (command 0x11 ++ with_checksum (address_bytes address)) (address_turns 0x11 address) a b
+pub read_broken-2 : (fault : WireFault) (address n : ℕ) (a b c : RigState) → IsHeldToEnd (command 0x11 ++ with_checksum (address_bytes address)) (address_turns 0x11 address) a b
     → BreaksOff fault (command (n - 1)) (step_turns (command (n - 1))) b c
     → (answer : List ℕ) × (length answer ≡ n) × BreaksOff fault (read_frame address n) (read_turns address answer) a c
 read_broken-2 fault address n a b c p q =
@@ -110,13 +110,13 @@ read_broken-2 fault address n a b c p q =
     )
 
 -- the address and the count, and then the bytes
-module _ (address n : ℕ) (a b c d : RigState) (head : Holds (command 0x11 ++ with_checksum (address_bytes address)) (address_turns 0x11 address) a b) (count : Holds (command (n - 1)) (step_turns (command (n - 1))) b c) where
-  asked : Holds (read_frame address n) (address_turns 0x11 address ++ step_turns (command (n - 1))) a c
+module _ (address n : ℕ) (a b c d : RigState) (head : IsHeldToEnd (command 0x11 ++ with_checksum (address_bytes address)) (address_turns 0x11 address) a b) (count : IsHeldToEnd (command (n - 1)) (step_turns (command (n - 1))) b c) where
+  asked : IsHeldToEnd (read_frame address n) (address_turns 0x11 address ++ step_turns (command (n - 1))) a c
   asked = Holds-append (command 0x11 ++ with_checksum (address_bytes address)) (command (n - 1)) (address_turns 0x11 address) (step_turns (command (n - 1))) a b c head count
 
-  pub read_held : (answer : List ℕ) → length answer ≡ n → Holds [] (learns answer) c d → Holds (read_frame address n) (read_turns address answer) a d
+  pub read_held : (answer : List ℕ) → length answer ≡ n → IsHeldToEnd [] (learns answer) c d → IsHeldToEnd (read_frame address n) (read_turns address answer) a d
   read_held answer size p =
-      let R : ℕ → Type 0 = λ m. Holds (read_frame address n) ((address_turns 0x11 address ++ step_turns (command (m - 1))) ++ learns answer) a d in
+      let R : ℕ → Type 0 = λ m. IsHeldToEnd (read_frame address n) ((address_turns 0x11 address ++ step_turns (command (m - 1))) ++ learns answer) a d in
       subst R (sym size) (Holds-then (read_frame address n) (address_turns 0x11 address ++ step_turns (command (n - 1))) (learns answer) a c d asked p)
 
   pub read_broken-3 : (fault : WireFault) → (answer : List ℕ) × (length answer ≡ n) × BreaksOff fault [] (learns answer) c d

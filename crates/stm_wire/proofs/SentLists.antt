@@ -5,23 +5,23 @@ use Rattle.stm_wire.specs.declared.fault.WireFault.{WireFault}
 use Rattle.stm_wire.specs.Device.{Device, Fed, Feeds}
 use Rattle.stm_wire.specs.Rig.{RigState}
 use Rattle.stm_wire.specs.Dialogue.{Turn, says, learns}
-use Rattle.stm_wire.specs.Sending.{Holds, BreaksOff}
+use Rattle.stm_wire.specs.Sending.{IsHeldToEnd, BreaksOff}
 use Rattle.stm_wire.specs.Command.{owing}
 use Rattle.stm_wire.proofs.Feeding.{Fed-append}
 use Rattle.stm_wire.proofs.Turns.{says-append, learns-append}
 use Rattle.stm_wire.proofs.Holding.{Holds-append, BreaksOff-second, BreaksOff-first}
 
 -- one byte more of a list is sent
-pub Holds-more : (bytes : List ℕ) (i : ℕ) (a b c : RigState) → i < length bytes → Holds (take i bytes) (says (take i bytes)) a b → Holds (get_or bytes i 0 ∷ []) (says (get_or bytes i 0 ∷ [])) b c
-    → Holds (take (i + 1) bytes) (says (take (i + 1) bytes)) a c
+pub Holds-more : (bytes : List ℕ) (i : ℕ) (a b c : RigState) → i < length bytes → IsHeldToEnd (take i bytes) (says (take i bytes)) a b → IsHeldToEnd (get_or bytes i 0 ∷ []) (says (get_or bytes i 0 ∷ [])) b c
+    → IsHeldToEnd (take (i + 1) bytes) (says (take (i + 1) bytes)) a c
 Holds-more bytes i a b c h p q =
     let one = get_or bytes i 0 ∷ [] in
-    let P : List ℕ → Type 0 = λ zs. Holds zs (says zs) a c in
-    let Q : List Turn → Type 0 = λ zs. Holds (take i bytes ++ one) zs a c in
+    let P : List ℕ → Type 0 = λ zs. IsHeldToEnd zs (says zs) a c in
+    let Q : List Turn → Type 0 = λ zs. IsHeldToEnd (take i bytes ++ one) zs a c in
     subst P (sym (take_more bytes i 0 h)) (subst Q (sym (says-append (take i bytes) one)) (Holds-append (take i bytes) one (says (take i bytes)) (says one) a b c p q))
 
 -- and where that byte was not sent, a part of the list was
-pub BreaksOff-more : (fault : WireFault) (bytes : List ℕ) (i : ℕ) (a b c : RigState) → i < length bytes → Holds (take i bytes) (says (take i bytes)) a b → BreaksOff fault (get_or bytes i 0 ∷ []) (says (get_or bytes i 0 ∷ [])) b c
+pub BreaksOff-more : (fault : WireFault) (bytes : List ℕ) (i : ℕ) (a b c : RigState) → i < length bytes → IsHeldToEnd (take i bytes) (says (take i bytes)) a b → BreaksOff fault (get_or bytes i 0 ∷ []) (says (get_or bytes i 0 ∷ [])) b c
     → BreaksOff fault bytes (says bytes) a c
 BreaksOff-more fault bytes i a b c h p q =
     let one = get_or bytes i 0 ∷ [] in
@@ -44,13 +44,13 @@ owing-more bytes i byte a b c h p q =
     p ∙ ap (λ (d : Device). owing (take i bytes) d) q ∙ ap with_owed (sym (append_assoc (take i bytes) (byte ∷ []) c.owed) ∙ ap (λ zs. zs ++ c.owed) (sym (take_more_set bytes i byte h)))
 
 -- one byte more of an answer came
-pub Holds-learned : (bytes : List ℕ) (i byte : ℕ) (a b c : RigState) → i < length bytes → Holds [] (learns (take i bytes)) a b → Holds [] (learns (byte ∷ [])) b c → Holds [] (learns (take (i + 1) (set bytes i byte))) a c
+pub Holds-learned : (bytes : List ℕ) (i byte : ℕ) (a b c : RigState) → i < length bytes → IsHeldToEnd [] (learns (take i bytes)) a b → IsHeldToEnd [] (learns (byte ∷ [])) b c → IsHeldToEnd [] (learns (take (i + 1) (set bytes i byte))) a c
 Holds-learned bytes i byte a b c h p q =
-    let Q : List Turn → Type 0 = λ zs. Holds [] zs a c in
+    let Q : List Turn → Type 0 = λ zs. IsHeldToEnd [] zs a c in
     subst Q (sym (learns-append (take i bytes) (byte ∷ [])) ∙ ap learns (sym (take_more_set bytes i byte h))) (Holds-append [] [] (learns (take i bytes)) (learns (byte ∷ [])) a b c p q)
 
 -- and where it did not come, a part of the answer had
-pub BreaksOff-learned : (fault : WireFault) (bytes : List ℕ) (i : ℕ) (a b c : RigState) → i < length bytes → Holds [] (learns (take i bytes)) a b → BreaksOff fault [] (learns (get_or bytes i 0 ∷ [])) b c
+pub BreaksOff-learned : (fault : WireFault) (bytes : List ℕ) (i : ℕ) (a b c : RigState) → i < length bytes → IsHeldToEnd [] (learns (take i bytes)) a b → BreaksOff fault [] (learns (get_or bytes i 0 ∷ [])) b c
     → BreaksOff fault [] (learns bytes) a c
 BreaksOff-learned fault bytes i a b c h p q =
     let one = get_or bytes i 0 ∷ [] in

@@ -2,7 +2,7 @@
 use Rattle.std.specs.Prelude.{◌≡◌, ℕ, ◌+◌, ◌-◌, ◌*◌, ◌<◌, ◌==◌, if◌then◌else◌}
 use Rattle.std.specs.Prelude.{List, [], ◌∷◌, length, take, drop, replicate}
 use Rattle.stm_wire.specs.Chip.{ChipData, erased_byte, erased_page, with_bytes, with_page}
-use Rattle.stm_wire.specs.Exchange.{number_of, pair_of, pairs_of}
+use Rattle.stm_wire.specs.Exchange.{number_of, pair_of, two_byte_numbers}
 
 -- the change that a list asks for
 pub data Change : Type 0 where
@@ -21,7 +21,7 @@ erase_change [] = Nothing
 abbrev pub extended_change : List ℕ → Change
 extended_change (high ∷ low ∷ rest) =
     if pair_of high low == 0xFFFF then EraseAll
-    else ErasePages (pairs_of (take (2 * (pair_of high low + 1)) rest))
+    else ErasePages (two_byte_numbers (take (2 * (pair_of high low + 1)) rest))
 extended_change rest = Nothing
 
 -- after 31 CE

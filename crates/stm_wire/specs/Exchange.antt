@@ -25,9 +25,9 @@ abbrev pub pair_of : ℕ → ℕ → ℕ
 pair_of high low = high * 256 + low
 
 -- the two-byte numbers of a list
-abbrev pub pairs_of : List ℕ → List ℕ
-pairs_of (high ∷ low ∷ rest) = pair_of high low ∷ pairs_of rest
-pairs_of rest = []
+abbrev pub two_byte_numbers : List ℕ → List ℕ
+two_byte_numbers (high ∷ low ∷ rest) = pair_of high low ∷ two_byte_numbers rest
+two_byte_numbers rest = []
 
 abbrev pub is_listed : List ℕ → ℕ → Bool
 is_listed codes code = list_any (λ c. c == code) codes
@@ -89,7 +89,7 @@ abbrev pub pages_verdict : ChipData → List ℕ → ℕ → List ℕ → Option
 pages_verdict chip count size rest =
     if length rest == size + 1
     then Some (done_if (slice_index rest size == xor (count ++ take size rest)
-    && all_exist chip (pairs_of (take size rest))))
+    && all_exist chip (two_byte_numbers (take size rest))))
     else None
 
 -- the same with numbers of two bytes; of the counts from FFF0 on only FFFF is promised

@@ -16,12 +16,12 @@ IsListening Fresh = Unit {0}
 IsListening (Connected rest) = Unit {0}
 IsListening Gone = ⊥
 
-pub data Event : Type 0 where
-  Feed : Event
-  Reset : Event
+pub data Disturbance : Type 0 where
+  Feed : Disturbance
+  Reset : Disturbance
 
 -- these events, each the byte fed or a reset, may lead from old to new
-abbrev pub Reaches : ℕ → List Event → Device → Device → Type 0
+abbrev pub Reaches : ℕ → List Disturbance → Device → Device → Type 0
 Reaches byte [] old new = new ≡ old
 Reaches byte (Feed ∷ events) old new =
     (mid : Device) × Feeds byte old mid × Reaches byte events mid new
@@ -35,6 +35,6 @@ pub record IsUnharmed (old : Device) (pages : List ℕ) (new : Device) : Type 0 
 -- However often the byte is fed and the device is reset, it stays so; and the list that it waits
 -- in is no longer than one that stmflash began and this byte goes on with.
 pub record Harmless (d : Device) (byte : ℕ) (pages : List ℕ) : Type 0 where
-  pub each : (events : List Event) (new : Device) → Reaches byte events d new
+  pub each : (events : List Disturbance) (new : Device) → Reaches byte events d new
       → IsUnharmed d pages new
   pub awaits : Awaits byte (most_for d.chip.kind byte) d

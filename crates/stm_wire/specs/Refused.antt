@@ -13,7 +13,7 @@ use Rattle.stm_wire.specs.Frames.{with_checksum}
 use Rattle.stm_wire.specs.Moments.{PartlyFed}
 use Rattle.stm_wire.specs.Reply.{ack, nack}
 use Rattle.stm_wire.specs.Rig.{RigState}
-use Rattle.stm_wire.specs.Sending.{Holds, PartSentHonestly}
+use Rattle.stm_wire.specs.Sending.{IsHeldToEnd, PartSentHonestly}
 use Rattle.stm_wire.specs.Stopped.{IsStoppedSafely}
 
 -- a step that is refused
@@ -53,9 +53,9 @@ pub data IsRefusedRead (address size : ℕ) (frame : List ℕ) (turns : List Tur
 -- these bytes were read, or the device refused so many
 abbrev pub ReadsOrIsRefused : ℕ → ℕ → List ℕ → RigState → RigState → Bool → Type 0
 ReadsOrIsRefused address size bytes old new true =
-    Holds (read_frame address size) (read_turns address bytes) old new
+    IsHeldToEnd (read_frame address size) (read_turns address bytes) old new
 ReadsOrIsRefused address size bytes old new false = (frame : List ℕ) × (turns : List Turn)
-    × IsRefusedRead address size frame turns × Holds frame turns old new
+    × IsRefusedRead address size frame turns × IsHeldToEnd frame turns old new
 
 -- On a device that follows the model: all that it may be sent, which has no count where the device
 -- tells nothing from that address.

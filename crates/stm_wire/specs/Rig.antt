@@ -72,10 +72,10 @@ waited Long None = None
 waited Long (Some n) = Some (min (n + 1) (2 ^ 64 - 1))
 
 -- what a fetch brought stands behind what was brought before
-abbrev pub Tells : List ℕ → Result ℕ RigFault → Option (List ℕ) → Option (List ℕ) → Type 0
-Tells after result None new = new ≡ None
-Tells after (Ok n) (Some past) new = new ≡ Some (past ++ take n after)
-Tells after (Err e) (Some past) new = new ≡ Some past
+abbrev pub TellsBehind : List ℕ → Result ℕ RigFault → Option (List ℕ) → Option (List ℕ) → Type 0
+TellsBehind after result None new = new ≡ None
+TellsBehind after (Ok n) (Some past) new = new ≡ Some (past ++ take n after)
+TellsBehind after (Err e) (Some past) new = new ≡ Some past
 
 -- beside its entry, a put and an append leave no trace
 pub record PutsAside (old new : RigState) : Type 0 where
@@ -91,7 +91,7 @@ pub record GetsAside (patience : Patience) (old new : RigState) : Type 0 where
 pub record FetchesAside (after : List ℕ) (result : Result ℕ RigFault)
     (old new : RigState) : Type 0 where
   pub long_gets : new.long_gets ≡ old.long_gets
-  pub told : Tells after result old.told new.told
+  pub told : TellsBehind after result old.told new.told
 
 -- the entry of a get
 abbrev pub entry_of_get : Result (Option ℕ) RigFault → Call

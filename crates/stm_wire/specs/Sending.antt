@@ -28,7 +28,7 @@ pub record PartSentHonestly (bytes : List ℕ) (old new : RigState) : Type 0 whe
   pub moments : LeavesOnly (LeftBySending bytes old) old new
 
 -- The dialogue was held to its end, and these are the bytes that it sends.
-pub record Holds (bytes : List ℕ) (turns : List Turn) (old new : RigState) : Type 0 where
+pub record IsHeldToEnd (bytes : List ℕ) (turns : List Turn) (old new : RigState) : Type 0 where
   pub recorded : Adds (calls_of turns) old.calls new.calls
   pub line_count : new.line_failures ≡ old.line_failures
   pub journal_count : new.journal_failures ≡ old.journal_failures

@@ -3,8 +3,8 @@ use Rattle.std.specs.Prelude.{◌≡◌, ℕ, ◌-◌, ◌≤◌, List, ◌++◌
 use Rattle.stm_wire.specs.declared.unique_id.UniqueId.TheInside.{Inside}
 use Rattle.stm_wire.specs.UniqueId.{IsUniqueId}
 
-abbrev pub told_by : Inside → List ℕ
-told_by u = take u.length u.bytes
+abbrev pub id_bytes_told : Inside → List ℕ
+id_bytes_told u = take u.length u.bytes
 
 -- with zeros behind, 32 bytes in all
 abbrev pub filled_up : List ℕ → List ℕ
@@ -15,5 +15,5 @@ fields_of bytes = record { bytes = filled_up bytes; length = length bytes }
 
 pub record AreFields (u : Inside) : Type 0 where
   pub within : u.length ≤ length u.bytes
-  pub bytes : u.bytes ≡ filled_up (told_by u)
-  pub told : IsUniqueId (told_by u)
+  pub bytes : u.bytes ≡ filled_up (id_bytes_told u)
+  pub told : IsUniqueId (id_bytes_told u)

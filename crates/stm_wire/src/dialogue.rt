@@ -4,7 +4,7 @@ ghost use Rattle.std.specs.Prelude.{length, OnOk, IfOk, IfErr, Some};
 ghost use Rattle.stm_wire.specs.declared.fault.WireFault.TheVariants.{Nack};
 ghost use Rattle.stm_wire.specs.Device.{Fed};
 ghost use Rattle.stm_wire.specs.Dialogue.{says, learns, step_turns, Expects};
-ghost use Rattle.stm_wire.specs.Sending.{Holds, BreaksOff};
+ghost use Rattle.stm_wire.specs.Sending.{IsHeldToEnd, BreaksOff};
 ghost use Rattle.stm_wire.specs.Command.{IsOkOrLine, OwesFirst, owing};
 ghost use Rattle.stm_wire.specs.Command.{LeavesFirst, with_rest, TakesAddress};
 ghost use Rattle.stm_wire.specs.Frames.{command, with_checksum, address_bytes, address_turns};
@@ -21,7 +21,7 @@ pub(crate) const NACK: u8 = 0x1F;
 /// Puts the bytes, one after another.
 pub(crate) fn put_all<R: Rig>(rig: &mut R, bytes: &[u8]) -> Result<(), WireFault>
     ensures held { OnOk result
-        (Holds bytes.now (says bytes.now) (R.view rig.old) (R.view rig.new)) }
+        (IsHeldToEnd bytes.now (says bytes.now) (R.view rig.old) (R.view rig.new)) }
     ensures broken { IfErr result
         (λ fault. BreaksOff fault bytes.now (says bytes.now) (R.view rig.old) (R.view rig.new)) }
     ensures fed { (R.view rig.old).is_honest
@@ -37,7 +37,7 @@ pub(crate) fn put_all<R: Rig>(rig: &mut R, bytes: &[u8]) -> Result<(), WireFault
 /// Takes a byte, and waits long for it.
 pub(crate) fn receive<R: Rig>(rig: &mut R) -> Result<u8, WireFault>
     ensures held { IfOk result
-        (λ byte. Holds [] (learns (byte ∷ [])) (R.view rig.old) (R.view rig.new)) }
+        (λ byte. IsHeldToEnd [] (learns (byte ∷ [])) (R.view rig.old) (R.view rig.new)) }
     ensures broken { IfErr result
         (λ fault. (byte : ℕ)
         → BreaksOff fault [] (learns (byte ∷ [])) (R.view rig.old) (R.view rig.new)) }
@@ -57,7 +57,7 @@ pub(crate) fn receive<R: Rig>(rig: &mut R) -> Result<u8, WireFault>
 /// Sends a step of a command, and takes its acknowledgement.
 pub(crate) fn send_step<R: Rig>(rig: &mut R, bytes: &[u8]) -> Result<(), WireFault>
     ensures held { OnOk result
-        (Holds bytes.now (step_turns bytes.now) (R.view rig.old) (R.view rig.new)) }
+        (IsHeldToEnd bytes.now (step_turns bytes.now) (R.view rig.old) (R.view rig.new)) }
     ensures broken { IfErr result
         (λ fault. BreaksOff fault bytes.now (step_turns bytes.now)
         (R.view rig.old) (R.view rig.new)) }
@@ -77,7 +77,7 @@ pub(crate) fn send_step<R: Rig>(rig: &mut R, bytes: &[u8]) -> Result<(), WireFau
 
 /// Takes a further reply byte, which has to be this one.
 pub(crate) fn expect_byte<R: Rig>(rig: &mut R, byte: u8) -> Result<(), WireFault>
-    ensures held { OnOk result (Holds [] (Expects byte ∷ []) (R.view rig.old) (R.view rig.new)) }
+    ensures held { OnOk result (IsHeldToEnd [] (Expects byte ∷ []) (R.view rig.old) (R.view rig.new)) }
     ensures broken { IfErr result
         (λ fault. BreaksOff fault [] (Expects byte ∷ []) (R.view rig.old) (R.view rig.new)) }
     ensures expected { (R.view rig.old).is_honest
@@ -95,7 +95,7 @@ pub(crate) fn expect_byte<R: Rig>(rig: &mut R, byte: u8) -> Result<(), WireFault
 
 /// Takes as many data bytes as the buffer holds.
 pub(crate) fn fill<R: Rig>(rig: &mut R, buf: &mut [u8]) -> Result<(), WireFault>
-    ensures held { OnOk result (Holds [] (learns buf.new) (R.view rig.old) (R.view rig.new)) }
+    ensures held { OnOk result (IsHeldToEnd [] (learns buf.new) (R.view rig.old) (R.view rig.new)) }
     ensures broken { IfErr result
         (λ fault. (answer : List ℕ) × (length answer ≡ length buf.old)
         × BreaksOff fault [] (learns answer) (R.view rig.old) (R.view rig.new)) }
@@ -122,7 +122,7 @@ pub(crate) fn address_step(address: u32) -> [u8; 5]
 /// Sends the code of a command that reads or writes, and its address.
 pub(crate) fn send_address<R: Rig>(rig: &mut R, code: u8, address: u32) -> Result<(), WireFault>
     ensures held { OnOk result
-        (Holds (command code ++ with_checksum (address_bytes address)) (address_turns code address)
+        (IsHeldToEnd (command code ++ with_checksum (address_bytes address)) (address_turns code address)
         (R.view rig.old) (R.view rig.new)) }
     ensures broken { IfErr result
         (λ fault. BreaksOff fault (command code ++ with_checksum (address_bytes address))

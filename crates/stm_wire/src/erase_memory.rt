@@ -2,7 +2,7 @@
 // always of one page.
 ghost use Rattle.std.specs.Prelude.{◌≡◌, ◌<◌, ◌/◌, ◌%◌, ◌∷◌, [], OnOk, IfErr};
 ghost use Rattle.stm_wire.specs.Chip.{page_limit};
-ghost use Rattle.stm_wire.specs.Sending.{Holds, BreaksOff};
+ghost use Rattle.stm_wire.specs.Sending.{IsHeldToEnd, BreaksOff};
 ghost use Rattle.stm_wire.specs.Frames.{erase_frame, erase_turns, with_checksum};
 ghost use Rattle.stm_wire.specs.Command.{CanErase, Does, with_pages_erased};
 
@@ -22,7 +22,7 @@ const EXTENDED_ERASE_MEMORY: u8 = 0x44;
 pub fn erase_page<R: Rig>(rig: &mut R, kind: EraseKind, n: u16) -> Result<(), WireFault>
     requires { n < page_limit kind }
     ensures held { OnOk result
-        (Holds (erase_frame kind n) (erase_turns kind n) (R.view rig.old) (R.view rig.new)) }
+        (IsHeldToEnd (erase_frame kind n) (erase_turns kind n) (R.view rig.old) (R.view rig.new)) }
     ensures broken { IfErr result
         (λ fault. BreaksOff fault (erase_frame kind n) (erase_turns kind n)
         (R.view rig.old) (R.view rig.new)) }
@@ -39,7 +39,7 @@ pub fn erase_page<R: Rig>(rig: &mut R, kind: EraseKind, n: u16) -> Result<(), Wi
 /// Erases a page by the command whose page numbers have one byte.
 fn erase_byte_page<R: Rig>(rig: &mut R, n: u8) -> Result<(), WireFault>
     ensures held { OnOk result
-        (Holds (erase_frame EraseKind.Page n) (erase_turns EraseKind.Page n)
+        (IsHeldToEnd (erase_frame EraseKind.Page n) (erase_turns EraseKind.Page n)
         (R.view rig.old) (R.view rig.new)) }
     ensures broken { IfErr result
         (λ fault. BreaksOff fault (erase_frame EraseKind.Page n) (erase_turns EraseKind.Page n)
@@ -56,7 +56,7 @@ fn erase_byte_page<R: Rig>(rig: &mut R, n: u8) -> Result<(), WireFault>
 /// Erases a page by the command whose page numbers have two bytes.
 fn erase_pair_page<R: Rig>(rig: &mut R, n: u16) -> Result<(), WireFault>
     ensures held { OnOk result
-        (Holds (erase_frame EraseKind.Extended n) (erase_turns EraseKind.Extended n)
+        (IsHeldToEnd (erase_frame EraseKind.Extended n) (erase_turns EraseKind.Extended n)
         (R.view rig.old) (R.view rig.new)) }
     ensures broken { IfErr result
         (λ fault. BreaksOff fault (erase_frame EraseKind.Extended n)

@@ -4,7 +4,7 @@ ghost use Rattle.std.specs.Prelude.{◌≡◌, ◌++◌, ◌∷◌, [], ℕ, Lis
 ghost use Rattle.std.specs.Prelude.{take, ◌<◌, ◌≤◌, OnOk, IfOk, IfErr};
 ghost use Rattle.stm_wire.specs.Device.{IsSettled};
 ghost use Rattle.stm_wire.specs.Dialogue.{learns};
-ghost use Rattle.stm_wire.specs.Sending.{Holds, BreaksOff};
+ghost use Rattle.stm_wire.specs.Sending.{IsHeldToEnd, BreaksOff};
 ghost use Rattle.stm_wire.specs.Frames.{command, get_turns};
 ghost use Rattle.stm_wire.specs.Command.{Does, IsOkOrLine, owing};
 
@@ -31,7 +31,7 @@ pub struct Commands {
 /// and no fault but `Line` is answered.
 pub fn get_commands<R: Rig>(rig: &mut R) -> Result<Commands, WireFault>
     ensures held { IfOk result
-        (λ c. Holds (command 0x00) (get_turns c.version (take c.count c.codes))
+        (λ c. IsHeldToEnd (command 0x00) (get_turns c.version (take c.count c.codes))
         (R.view rig.old) (R.view rig.new)) }
     ensures broken { IfErr result
         (λ fault. (version : ℕ) × (codes : List ℕ) × (length codes < 256)
@@ -52,7 +52,7 @@ pub fn get_commands<R: Rig>(rig: &mut R) -> Result<Commands, WireFault>
 /// Takes the count, the version and the codes.
 fn receive_commands<R: Rig>(rig: &mut R) -> Result<Commands, WireFault>
     ensures held { IfOk result
-        (λ c. Holds []
+        (λ c. IsHeldToEnd []
         (learns (length (take c.count c.codes) ∷ c.version ∷ take c.count c.codes))
         (R.view rig.old) (R.view rig.new)) }
     ensures broken { IfErr result
@@ -83,7 +83,7 @@ fn receive_commands<R: Rig>(rig: &mut R) -> Result<Commands, WireFault>
 fn receive_codes<R: Rig>(rig: &mut R, count: u8, codes: &mut [u8; 256]) -> Result<(), WireFault>
     ensures size { length (take count codes.new) ≡ count }
     ensures held { OnOk result
-        (Holds [] (learns (take count codes.new)) (R.view rig.old) (R.view rig.new)) }
+        (IsHeldToEnd [] (learns (take count codes.new)) (R.view rig.old) (R.view rig.new)) }
     ensures broken { IfErr result
         (λ fault. (answer : List ℕ) × (length answer ≡ count)
         × BreaksOff fault [] (learns answer) (R.view rig.old) (R.view rig.new)) }

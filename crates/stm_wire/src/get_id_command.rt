@@ -2,7 +2,7 @@
 ghost use Rattle.std.specs.Prelude.{◌≡◌, ◌/◌, ◌%◌, ◌++◌, ◌∷◌, [], ℕ, List, IfOk, IfErr};
 ghost use Rattle.stm_wire.specs.Device.{IsSettled};
 ghost use Rattle.stm_wire.specs.Dialogue.{Expects, Learns};
-ghost use Rattle.stm_wire.specs.Sending.{Holds, BreaksOff};
+ghost use Rattle.stm_wire.specs.Sending.{IsHeldToEnd, BreaksOff};
 ghost use Rattle.stm_wire.specs.Frames.{command, get_id_turns};
 ghost use Rattle.stm_wire.specs.Reply.{ack};
 ghost use Rattle.stm_wire.specs.Command.{Does, IsOkOrLine, owing};
@@ -21,7 +21,7 @@ const GET_ID: u8 = 0x02;
 /// and no fault but `Line` is answered.
 pub fn get_id<R: Rig>(rig: &mut R) -> Result<u16, WireFault>
     ensures held { IfOk result
-        (λ id. Holds (command 0x02) (get_id_turns (id / 256) (id % 256))
+        (λ id. IsHeldToEnd (command 0x02) (get_id_turns (id / 256) (id % 256))
         (R.view rig.old) (R.view rig.new)) }
     ensures broken { IfErr result
         (λ fault. (high : ℕ) × (low : ℕ)
@@ -39,7 +39,7 @@ pub fn get_id<R: Rig>(rig: &mut R) -> Result<u16, WireFault>
 /// Takes the number of bytes less one, the id, high byte first, and the last acknowledgement.
 fn receive_id<R: Rig>(rig: &mut R) -> Result<u16, WireFault>
     ensures held { IfOk result
-        (λ id. Holds []
+        (λ id. IsHeldToEnd []
         (Expects 1 ∷ Learns (id / 256) ∷ Learns (id % 256) ∷ Expects ack ∷ [])
         (R.view rig.old) (R.view rig.new)) }
     ensures broken { IfErr result

@@ -1,7 +1,7 @@
 // Go (AN3155, section 3.5): code 0x21 and an address, where the device leaves the bootloader.
 ghost use Rattle.std.specs.Prelude.{◌≡◌, OnOk, IfErr};
 ghost use Rattle.stm_wire.specs.Device.{Gone};
-ghost use Rattle.stm_wire.specs.Sending.{Holds, BreaksOff};
+ghost use Rattle.stm_wire.specs.Sending.{IsHeldToEnd, BreaksOff};
 ghost use Rattle.stm_wire.specs.Frames.{go_frame, go_turns};
 ghost use Rattle.stm_wire.specs.Command.{CanGo, Does};
 
@@ -18,7 +18,7 @@ const GO: u8 = 0x21;
 /// of the flash afterwards.
 pub fn go<R: Rig>(rig: &mut R, address: u32) -> Result<(), WireFault>
     ensures held { OnOk result
-        (Holds (go_frame address) (go_turns address) (R.view rig.old) (R.view rig.new)) }
+        (IsHeldToEnd (go_frame address) (go_turns address) (R.view rig.old) (R.view rig.new)) }
     ensures broken { IfErr result
         (λ fault. BreaksOff fault (go_frame address) (go_turns address)
         (R.view rig.old) (R.view rig.new)) }

@@ -1,7 +1,7 @@
 // Write Unprotect, Readout Protect and Readout Unprotect (AN3155, sections 3.10 to 3.12): codes
 // 0x73, 0x82 and 0x92.
 ghost use Rattle.std.specs.Prelude.{◌≡◌, OnOk, IfErr};
-ghost use Rattle.stm_wire.specs.Sending.{Holds, BreaksOff};
+ghost use Rattle.stm_wire.specs.Sending.{IsHeldToEnd, BreaksOff};
 ghost use Rattle.stm_wire.specs.Frames.{command, protect_turns};
 ghost use Rattle.stm_wire.specs.Command.{CanProtect, IsOkOrLine};
 ghost use Rattle.stm_wire.specs.Protection.{protection_code};
@@ -40,7 +40,7 @@ impl Protection {
 /// Nothing is promised of the flash and of the device's state afterwards.
 pub fn protect<R: Rig>(rig: &mut R, kind: Protection) -> Result<(), WireFault>
     ensures held { OnOk result
-        (Holds (command (protection_code kind)) (protect_turns (protection_code kind))
+        (IsHeldToEnd (command (protection_code kind)) (protect_turns (protection_code kind))
         (R.view rig.old) (R.view rig.new)) }
     ensures broken { IfErr result
         (λ fault. BreaksOff fault (command (protection_code kind))

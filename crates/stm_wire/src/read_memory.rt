@@ -1,6 +1,6 @@
 // Read Memory (AN3155, section 3.4): code 0x11, an address, a count.
 ghost use Rattle.std.specs.Prelude.{◌≡◌, ◌≤◌, ℕ, List, length, OnOk, IfErr};
-ghost use Rattle.stm_wire.specs.Sending.{Holds, BreaksOff};
+ghost use Rattle.stm_wire.specs.Sending.{IsHeldToEnd, BreaksOff};
 ghost use Rattle.stm_wire.specs.Frames.{read_frame, read_turns};
 ghost use Rattle.stm_wire.specs.Command.{CanRead, HasRead, Does};
 
@@ -19,7 +19,7 @@ pub fn read<R: Rig>(rig: &mut R, address: u32, buf: &mut [u8]) -> Result<(), Wir
     requires some { 1 ≤ length buf.old }
     requires limit { length buf.old ≤ 256 }
     ensures held { OnOk result
-        (Holds (read_frame address (length buf.old)) (read_turns address buf.new)
+        (IsHeldToEnd (read_frame address (length buf.old)) (read_turns address buf.new)
         (R.view rig.old) (R.view rig.new)) }
     ensures broken { IfErr result
         (λ fault. (answer : List ℕ) × (length answer ≡ length buf.old)

@@ -8,7 +8,7 @@ ghost use Rattle.stm_wire.specs.Dialogue.{step_turns};
 ghost use Rattle.stm_wire.specs.Frames.{read_frame, read_turns};
 ghost use Rattle.stm_wire.specs.Refused.{AsksSafely, LeavesAnswer, ReadsOrIsRefused};
 ghost use Rattle.stm_wire.specs.Refused.{RefusableReadsChangeNothing, answer_byte, answered_turns};
-ghost use Rattle.stm_wire.specs.Sending.{Holds, BreaksOff};
+ghost use Rattle.stm_wire.specs.Sending.{IsHeldToEnd, BreaksOff};
 
 use crate::dialogue::{ACK, NACK, address_step, fill, put_all, receive};
 use crate::read_memory::READ_MEMORY;
@@ -18,7 +18,7 @@ use crate::{Rig, WireFault};
 /// acknowledged.
 fn send_refusable<R: Rig>(rig: &mut R, bytes: &[u8]) -> Result<bool, WireFault>
     ensures held { IfOk result (λ told.
-        Holds bytes.now (answered_turns told bytes.now) (R.view rig.old) (R.view rig.new)) }
+        IsHeldToEnd bytes.now (answered_turns told bytes.now) (R.view rig.old) (R.view rig.new)) }
     ensures broken { IfErr result
         (λ fault. BreaksOff fault bytes.now (step_turns bytes.now)
         (R.view rig.old) (R.view rig.new)) }

@@ -18,10 +18,10 @@ impl Model for UniqueId {
 
     ghost Value = { List ℕ };
 
-    ghost use Rattle.stm_wire.specs.UniqueIdFields.{told_by, fields_of, AreFields};
+    ghost use Rattle.stm_wire.specs.UniqueIdFields.{id_bytes_told, fields_of, AreFields};
     ghost use Rattle.stm_wire.specs.UniqueIdLaws.{fields-back};
 
-    ghost view = { told_by };
+    ghost view = { id_bytes_told };
 
     ghost invariant = { AreFields };
 

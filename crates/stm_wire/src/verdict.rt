@@ -3,7 +3,7 @@ ghost use Rattle.std.specs.Prelude.{◌==◌, ◌&&◌, fold, bit_xor, ◌≡◌
 ghost use Rattle.stm_wire.specs.Exchange.{done_if, at_end, xor, verdict, command_verdict};
 ghost use Rattle.stm_wire.specs.Exchange.{after_address, read_verdict, write_verdict, all_verdict};
 ghost use Rattle.stm_wire.specs.Exchange.{erase_verdict, extended_verdict, pages_verdict};
-ghost use Rattle.stm_wire.specs.Exchange.{pairs_of, all_exist, complement, pair_of, is_listed};
+ghost use Rattle.stm_wire.specs.Exchange.{two_byte_numbers, all_exist, complement, pair_of, is_listed};
 ghost use Rattle.stm_wire.specs.Chip.{fits_inside, is_inside};
 ghost use Rattle.stm_wire.specs.Telling.{can_read, is_readable};
 
@@ -107,7 +107,7 @@ fn bytes_exist(chip: &Chip, pages: &[u8]) -> bool
 }
 
 fn pairs_exist(chip: &Chip, bytes: &[u8]) -> bool
-    ensures { result ≡ all_exist chip.now (pairs_of bytes.now) }
+    ensures { result ≡ all_exist chip.now (two_byte_numbers bytes.now) }
 {
     let mut rest = bytes;
     while let [high, low, after @ ..] = rest {

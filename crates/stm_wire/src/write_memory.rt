@@ -4,7 +4,7 @@ ghost use Rattle.std.specs.Prelude.{ℕ, length, OnOk, IfErr, fold, bit_xor};
 ghost use Rattle.stm_wire.specs.Exchange.{xor};
 ghost use Rattle.stm_wire.specs.Device.{Fed};
 ghost use Rattle.stm_wire.specs.Dialogue.{step_turns};
-ghost use Rattle.stm_wire.specs.Sending.{Holds, BreaksOff};
+ghost use Rattle.stm_wire.specs.Sending.{IsHeldToEnd, BreaksOff};
 ghost use Rattle.stm_wire.specs.Frames.{write_frame, write_turns, with_checksum};
 ghost use Rattle.stm_wire.specs.Reply.{ack};
 ghost use Rattle.stm_wire.specs.Command.{CanWrite, HasWritten, Does};
@@ -26,7 +26,7 @@ pub fn program<R: Rig>(rig: &mut R, address: u32, bytes: &[u8]) -> Result<(), Wi
     requires limit { length bytes.now ≤ 256 }
     requires words { length bytes.now % 4 ≡ 0 }
     ensures held { OnOk result
-        (Holds (write_frame address bytes.now) (write_turns address bytes.now)
+        (IsHeldToEnd (write_frame address bytes.now) (write_turns address bytes.now)
         (R.view rig.old) (R.view rig.new)) }
     ensures broken { IfErr result
         (λ fault. BreaksOff fault (write_frame address bytes.now) (write_turns address bytes.now)
@@ -52,7 +52,7 @@ fn send_data<R: Rig>(rig: &mut R, bytes: &[u8]) -> Result<(), WireFault>
     requires some { 1 ≤ length bytes.now }
     requires limit { length bytes.now ≤ 256 }
     ensures held { OnOk result
-        (Holds (with_checksum ((length bytes.now - 1) ∷ bytes.now))
+        (IsHeldToEnd (with_checksum ((length bytes.now - 1) ∷ bytes.now))
         (step_turns (with_checksum ((length bytes.now - 1) ∷ bytes.now)))
         (R.view rig.old) (R.view rig.new)) }
     ensures broken { IfErr result

@@ -6,7 +6,7 @@ use Rattle.clap.specs.declared.parser.matches.ArgMatches.{ArgMatches}
 use Rattle.clap.specs.declared.parser.matches.Found.{Found}
 use Rattle.stm_words.specs.declared.environment.Environment.{Environment}
 use Rattle.stm_words.specs.declared.request.Request.{Request}
-use Rattle.stm_words.specs.Asking.{Asks, AsksFor, IsAskedFor}
+use Rattle.stm_words.specs.Asking.{AsksBySubcommand, AsksFor, IsAskedFor}
 use Rattle.stm_words.specs.CommandSet.{TakesKinds, command_set}
 
 -- a pair, by its parts
@@ -24,7 +24,7 @@ pub found-by : (m : ArgMatches) (name : List ℕ) (given : Found) → Some name 
 found-by m name given first second = both _ _ _ name (rows_of given) first second
 
 pub asks-for : {E : Type 0} (e : Environment) (m : ArgMatches) (name : List ℕ) (given : Found) (result : Result Request E)
-    → subcommand_rows_of m ≡ Some (name, rows_of given) → IfOk result (Asks e name given)
+    → subcommand_rows_of m ≡ Some (name, rows_of given) → IfOk result (AsksBySubcommand e name given)
     → IfOk result (AsksFor e m)
 asks-for e m name given (Ok request) named asks =
     record { name = name; given = given; named = named; asks = asks }

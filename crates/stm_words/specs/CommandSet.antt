@@ -12,7 +12,7 @@ use Rattle.clap.specs.declared.builder.value_parser.ValueParser.{ValueParser}
 use Rattle.clap.specs.declared.builder.value_parser.ValueParser.TheVariants.{Names}
 use Rattle.clap.specs.declared.parser.matches.ArgMatches.{ArgMatches}
 use Rattle.stm_words.specs.declared.environment.Environment.{Environment}
-use Rattle.stm_words.specs.Number.{number_of}
+use Rattle.stm_words.specs.Number.{word_number}
 
 -- `--name VALUE`
 abbrev pub option_rule : Text → Rule
@@ -72,22 +72,22 @@ abbrev pub kind_rule : ValueParser → Rule
 kind_rule kinds = record (needed_rule (codes "KIND")) { parser = Some kinds }
 
 -- the text that stands for an option
-abbrev pub text_of : Option (Bor Text) → Option Text
-text_of = option_map (λ s. s.now)
+abbrev pub option_text : Option (Bor Text) → Option Text
+option_text = option_map (λ s. s.now)
 
 -- a subcommand with the option that names the table
 abbrev pub with_table : Environment → Text → App
 with_table e name =
-    with_rule (new_app name) (standing_option_rule (codes "table") (text_of e.table))
+    with_rule (new_app name) (standing_option_rule (codes "table") (option_text e.table))
 
 -- a subcommand with the options that name the table, the device, and the journal or the folder
 -- that has it
 abbrev pub with_places : Environment → Text → App
 with_places e name =
     with_rule (with_rule (with_rule (with_rule (with_table e name)
-    (standing_option_rule (codes "device") (text_of e.device)))
-    (spare_option_rule (codes "journal") (text_of e.journal)))
-    (spare_option_rule (codes "journals") (text_of e.journals))) (flag_rule (codes "no-lock"))
+    (standing_option_rule (codes "device") (option_text e.device)))
+    (spare_option_rule (codes "journal") (option_text e.journal)))
+    (spare_option_rule (codes "journals") (option_text e.journals))) (flag_rule (codes "no-lock"))
 
 -- how long a reply may take, in milliseconds, where no word says it
 abbrev pub wait_word : Option (Bor Text) → Text
@@ -99,7 +99,7 @@ abbrev pub with_waits : Environment → Text → App
 with_waits e name =
     with_rule (with_rule (with_rule (with_rule (with_places e name)
     (default_option_rule (codes "wait") (wait_word e.wait)))
-    (spare_option_rule (codes "baud") (text_of e.baud)))
+    (spare_option_rule (codes "baud") (option_text e.baud)))
     (default_option_rule (codes "give-up") (codes "20"))) (flag_rule (codes "fresh"))
 
 -- a subcommand with the options that every use of a device has
@@ -112,7 +112,7 @@ on_device e name =
 -- the same, with the options of which board it has to be
 abbrev pub on_board : Environment → Text → App
 on_board e name =
-    with_rule (with_rule (on_device e name) (spare_option_rule (codes "board") (text_of e.board)))
+    with_rule (with_rule (on_device e name) (spare_option_rule (codes "board") (option_text e.board)))
     (flag_rule (codes "no-board"))
 
 abbrev pub info_app : Environment → App
@@ -147,13 +147,13 @@ abbrev pub is_short_number : Option ℕ → Bool
 is_short_number None = false
 is_short_number (Some n) = nat_le 1 n && nat_lt n 400
 
-abbrev pub is_short : Text → Bool
-is_short wait = is_short_number (number_of wait)
+abbrev pub is_short_wait : Text → Bool
+is_short_wait wait = is_short_number (word_number wait)
 
 -- a wait that stands for the word, but a short one
 abbrev pub wait_behind_a_stop : Option (Bor Text) → Option (Bor Text)
 wait_behind_a_stop None = None
-wait_behind_a_stop (Some wait) = if is_short wait.now then None else Some wait
+wait_behind_a_stop (Some wait) = if is_short_wait wait.now then None else Some wait
 
 -- what stands in the place of an undo's words: the board may still be busy with what was stopped
 abbrev pub behind_a_stop : Environment → Environment
@@ -169,7 +169,7 @@ undo_app e =
 abbrev pub on_journal : Environment → Text → App
 on_journal e name =
     with_rule
-    (with_rule (new_app name) (standing_option_rule (codes "journal") (text_of e.journal)))
+    (with_rule (new_app name) (standing_option_rule (codes "journal") (option_text e.journal)))
     (flag_rule (codes "json"))
 
 abbrev pub log_app : Environment → App
@@ -222,8 +222,8 @@ abbrev pub Makes : App → Command → Type 0
 Makes a c = (app_of c ≡ a) × ((fields_of c).has_globals ≡ false)
 
 -- what `clap` finds in the words, for the subcommands of a
-abbrev pub Reads : App → List Text → ArgMatches → Type 0
-Reads a words m =
+abbrev pub ReadsWords : App → List Text → ArgMatches → Type 0
+ReadsWords a words m =
     (rows_of (found_of m) ≡ matches_of a words) × (subcommand_rows_of m ≡ subcommand_of a words)
 
 abbrev pub kind_words : List Text

@@ -38,6 +38,6 @@ decimal_number digits =
     then Some (number_of_digits 10 digits) else None
 
 -- the number that a word gives
-abbrev pub number_of : List ℕ → Option ℕ
-number_of word =
+abbrev pub word_number : List ℕ → Option ℕ
+word_number word =
     if starts_with nat_eq word (codes "0x") then hex_number (drop 2 word) else decimal_number word

@@ -7,14 +7,14 @@ use Rattle.clap.specs.declared.parser.matches.Found.{Found}
 use Rattle.stm_words.specs.declared.device.Device.{Device}
 use Rattle.stm_words.specs.declared.environment.Environment.{Environment}
 use Rattle.stm_words.specs.declared.options.Options.{Options}
-use Rattle.stm_words.specs.Number.{is_hex_digit, number_of}
-use Rattle.stm_words.specs.Request.{IsDevice, IsFlag, IsFlagOr}
+use Rattle.stm_words.specs.Number.{is_hex_digit, word_number}
+use Rattle.stm_words.specs.Request.{IsDeviceWord, IsFlag, IsFlagOr}
 use Rattle.stm_words.specs.TableNames.{AreTables}
 
 -- the word that was given under this id names the device
 abbrev pub NamesDevice : Found → Device → Type 0
 NamesDevice given device = (word : List ℕ) × (first_value given (codes "device") ≡ Some word)
-    × IsDevice word device
+    × IsDeviceWord word device
 
 -- the journal is the file of this name, or in the folder of this name
 abbrev pub NamesJournal : Found → List ℕ → Bool → Type 0
@@ -33,7 +33,7 @@ are_unique_digits text =
 
 -- The board that is wanted is the word that was given under its id, by its digits; a device is
 -- asked then, and also where a folder has its journal.
-pub record IsBoardOf (e : Environment) (given : Found) (o : Options) : Type 0 where
+pub record IsBoardWord (e : Environment) (given : Found) (o : Options) : Type 0 where
   pub word : first_value given (codes "board") ≡ option_map (λ text. text.now) o.board
   pub digits : IfSome o.board (λ text. IsTrue (are_board_digits text.now))
   pub without : IsFlagOr e.without_board given (codes "no-board") o.without_board
@@ -45,11 +45,11 @@ abbrev pub AreOptions : Environment → Found → Options → Type 0
 AreOptions e given o = AreTables e given o.table
     × NamesDevice given o.device
     × NamesJournal given o.journal.now o.in_folder
-    × (option_and_then number_of (first_value given (codes "wait")) ≡ Some o.wait)
-    × (option_and_then number_of (first_value given (codes "baud")) ≡ o.baud)
+    × (option_and_then word_number (first_value given (codes "wait")) ≡ Some o.wait)
+    × (option_and_then word_number (first_value given (codes "baud")) ≡ o.baud)
     × IfSome o.baud (λ n. (1 ≤ n) × (n ≤ 4000000))
-    × (option_and_then number_of (first_value given (codes "give-up")) ≡ Some o.give_up)
-    × IsBoardOf e given o
+    × (option_and_then word_number (first_value given (codes "give-up")) ≡ Some o.give_up)
+    × IsBoardWord e given o
     × IsFlagOr e.is_fresh given (codes "fresh") o.is_fresh
     × IsFlagOr e.without_lock given (codes "no-lock") o.without_lock
     × IsFlag given (codes "watch") o.watches

@@ -12,13 +12,13 @@ use Rattle.stm_words.specs.declared.range.Range.{Range}
 use Rattle.stm_words.specs.declared.task.Task.{Task}
 use Rattle.stm_words.specs.declared.task.Task.TheVariants.{Info, Read, Write, Verify, Erase, Undo}
 use Rattle.stm_words.specs.declared.task.Task.TheVariants.{Go, Protect, ReadHex, Sum}
-use Rattle.stm_words.specs.Number.{number_of}
+use Rattle.stm_words.specs.Number.{word_number}
 use Rattle.stm_words.specs.Pages.{NameAll}
 
 -- a socket's path is the word
-abbrev pub IsDevice : List ℕ → Device → Type 0
-IsDevice word (Simulator id file) = Unit {0}
-IsDevice word (Socket path) = path.now ≡ word
+abbrev pub IsDeviceWord : List ℕ → Device → Type 0
+IsDeviceWord word (Simulator id file) = Unit {0}
+IsDeviceWord word (Socket path) = path.now ≡ word
 
 abbrev pub IsSimulator : Device → Type 0
 IsSimulator (Simulator id file) = Unit {0}
@@ -61,18 +61,18 @@ IsErase given (Protect kind is_sure in_session) = ⊥
 
 -- the file that `read` names, of raw bytes or of HEX; blank stretches are left out where that is
 -- given
-abbrev pub IsRead : Found → Task → Type 0
-IsRead given (Read range out) = first_value given (codes "OUT") ≡ Some out.now
-IsRead given (ReadHex range out skips) =
+abbrev pub IsReadWord : Found → Task → Type 0
+IsReadWord given (Read range out) = first_value given (codes "OUT") ≡ Some out.now
+IsReadWord given (ReadHex range out skips) =
     (first_value given (codes "OUT") ≡ Some out.now) × IsFlag given (codes "skip-blank") skips
-IsRead given (Erase is_all pages) = ⊥
-IsRead given (Info is_raw) = ⊥
-IsRead given (Sum range) = ⊥
-IsRead given (Write image verifies) = ⊥
-IsRead given (Verify image) = ⊥
-IsRead given (Undo count verifies) = ⊥
-IsRead given (Go address) = ⊥
-IsRead given (Protect kind is_sure in_session) = ⊥
+IsReadWord given (Erase is_all pages) = ⊥
+IsReadWord given (Info is_raw) = ⊥
+IsReadWord given (Sum range) = ⊥
+IsReadWord given (Write image verifies) = ⊥
+IsReadWord given (Verify image) = ⊥
+IsReadWord given (Undo count verifies) = ⊥
+IsReadWord given (Go address) = ⊥
+IsReadWord given (Protect kind is_sure in_session) = ⊥
 
 -- the protection that `protect` names; in a session that was stopped the write protection is taken
 -- off, and no other is changed
@@ -105,12 +105,12 @@ IsWholeWords range = (range.start % 4 ≡ 0) × (unwrap_or range.length 0 % 4 �
 abbrev pub NamesNewest : Found → Option ℕ → Type 0
 NamesNewest given None = first_value given (codes "last") ≡ None
 NamesNewest given (Some count) =
-    (option_and_then number_of (first_value given (codes "last")) ≡ Some count)
+    (option_and_then word_number (first_value given (codes "last")) ≡ Some count)
     × (1 ≤ count) × (count ≤ 65535)
 
 -- the journal that `keep` names, and where it goes, or how many of the newest aren't given up
-abbrev pub IsKept : Environment → Found → Kept → Type 0
-IsKept e given kept = (first_value given (codes "journal") ≡ Some kept.journal.now)
+abbrev pub IsKeepWord : Environment → Found → Kept → Type 0
+IsKeepWord e given kept = (first_value given (codes "journal") ≡ Some kept.journal.now)
     × (first_value given (codes "TO") ≡ option_map (λ s. s.now) kept.to)
     × NamesNewest given kept.last × (IsSome kept.last → kept.to ≡ None)
     × IsFlagOr e.without_lock given (codes "no-lock") kept.without_lock
@@ -119,9 +119,9 @@ IsKept e given kept = (first_value given (codes "journal") ≡ Some kept.journal
 abbrev pub IsTask : List ℕ → Found → Task → Type 0
 IsTask name given (Info is_raw) = (name ≡ codes "info") × IsFlag given (codes "raw") is_raw
 IsTask name given (Read range out) =
-    (name ≡ codes "read") × IsRead given (Read range out)
+    (name ≡ codes "read") × IsReadWord given (Read range out)
 IsTask name given (ReadHex range out skips) =
-    (name ≡ codes "read") × IsRead given (ReadHex range out skips)
+    (name ≡ codes "read") × IsReadWord given (ReadHex range out skips)
 IsTask name given (Sum range) = (name ≡ codes "crc") × IfSome range IsWholeWords
 IsTask name given (Write image verifies) =
     (name ≡ codes "write") × IsImageFile given image × IsFlag given (codes "check") verifies
@@ -129,10 +129,10 @@ IsTask name given (Verify image) = (name ≡ codes "verify") × IsImageFile give
 IsTask name given (Erase is_all pages) = (name ≡ codes "erase") × IsErase given (Erase is_all pages)
 IsTask name given (Undo count verifies) =
     (name ≡ codes "undo")
-    × (option_and_then number_of (first_value given (codes "COUNT")) ≡ Some count)
+    × (option_and_then word_number (first_value given (codes "COUNT")) ≡ Some count)
     × IsFlag given (codes "check") verifies
 IsTask name given (Go address) =
     (name ≡ codes "go")
-    × (option_and_then number_of (first_value given (codes "ADDRESS")) ≡ Some address)
+    × (option_and_then word_number (first_value given (codes "ADDRESS")) ≡ Some address)
 IsTask name given (Protect kind is_sure in_session) =
     (name ≡ codes "protect") × IsProtect given (Protect kind is_sure in_session)

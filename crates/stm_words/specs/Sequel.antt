@@ -4,14 +4,14 @@ use Rattle.std.specs.Prelude.{option_and_then, option_map, true, false}
 use Rattle.clap.specs.Matches.{first_value}
 use Rattle.clap.specs.declared.parser.matches.Found.{Found}
 use Rattle.stm_words.specs.declared.sequel.Sequel.{Sequel}
-use Rattle.stm_words.specs.Number.{number_of}
+use Rattle.stm_words.specs.Number.{word_number}
 use Rattle.stm_words.specs.Request.{IsFlag}
 
 -- the address that `--go` names, or none where it isn't given
 abbrev pub NamesAddress : Found → Option ℕ → Type 0
 NamesAddress given None = first_value given (codes "go") ≡ None
 NamesAddress given (Some address) =
-    option_and_then number_of (first_value given (codes "go")) ≡ Some address
+    option_and_then word_number (first_value given (codes "go")) ≡ Some address
 
 -- nothing follows
 pub record IsAlone (sequel : Sequel) : Type 0 where

@@ -1,7 +1,7 @@
 // The subcommands and their words, for `clap`.
 ghost use Rattle.std.specs.Prelude.{◌≡◌, IfOk};
 ghost use Rattle.stm_words.specs.CommandSet.{Makes, TakesKinds, behind_a_stop, command_set, crc_app};
-ghost use Rattle.stm_words.specs.CommandSet.{erase_app, is_short};
+ghost use Rattle.stm_words.specs.CommandSet.{erase_app, is_short_wait};
 ghost use Rattle.stm_words.specs.CommandSet.{go_app, info_app, keep_app, log_app, on_board, on_device};
 ghost use Rattle.stm_words.specs.CommandSet.{on_journal, protect_app, read_app, sim_app, undo_app, verify_app};
 ghost use Rattle.stm_words.specs.CommandSet.{wait_word, with_places, with_table, with_waits};
@@ -173,8 +173,8 @@ fn erase<'a>(alloc: Global, environment: Environment<'a>) -> Result<Command<'a>,
 }
 
 /// Whether this is a wait, in milliseconds, and a shorter one than where nothing is said.
-fn is_short(wait: &str) -> bool
-    ensures { result ≡ is_short wait.now }
+fn is_short_wait(wait: &str) -> bool
+    ensures { result ≡ is_short_wait wait.now }
 {
     match parse_number(wait) {
         Some(n) => 1 <= n && n < 400,
@@ -188,7 +188,7 @@ fn behind_a_stop<'a>(environment: Environment<'a>) -> Environment<'a>
     ensures { result ≡ behind_a_stop environment.entry }
 {
     match environment.wait {
-        Some(wait) if is_short(wait) => Environment {
+        Some(wait) if is_short_wait(wait) => Environment {
             wait: None,
             ..environment
         },

@@ -1,6 +1,6 @@
 // The word that names a device.
 ghost use Rattle.std.specs.Prelude.{◌<◌, IfSome};
-ghost use Rattle.stm_words.specs.Request.{IsDevice, IsSimulator};
+ghost use Rattle.stm_words.specs.Request.{IsDeviceWord, IsSimulator};
 
 /// A device, as a word names it.
 #[derive(Clone, Copy)]
@@ -20,7 +20,7 @@ impl<'a> Device<'a> {
     /// The device that the word names. A word that begins `sim:` is cut at its first two colons,
     /// and the file's name is not empty; any other word but the empty one is a path.
     pub fn parse(word: &'a str) -> Option<Device<'a>>
-        ensures { IfSome result (IsDevice word.entry.now) }
+        ensures { IfSome result (IsDeviceWord word.entry.now) }
     {
         match word.strip_prefix("sim:") {
             Some(rest) => simulator(rest),

@@ -1,7 +1,7 @@
 // The values that `clap` found, each read as what it stands for.
 ghost use Rattle.std.specs.Prelude.{◌≡◌, ◌≤◌, IfOk, IfSome, Some, option_and_then, true};
 ghost use Rattle.clap.specs.Words.{first_value, found_of};
-ghost use Rattle.stm_words.specs.Number.{number_of};
+ghost use Rattle.stm_words.specs.Number.{word_number};
 ghost use Rattle.stm_words.specs.Pages.{NameAll};
 ghost use Rattle.stm_words.specs.Request.{IsFlag, IsFlagOr, IsWholeWords, texts_of};
 
@@ -39,7 +39,7 @@ pub fn flag_or(given: &ArgMatches, id: &str, standing: bool) -> bool
 
 /// The number that was given under this name.
 pub fn number<'a>(given: &ArgMatches<'a>, id: &str) -> Result<u32, UsageFault<'a>>
-    ensures { IfOk result (λ n. option_and_then number_of (first_value (found_of given.now) id.now)
+    ensures { IfOk result (λ n. option_and_then word_number (first_value (found_of given.now) id.now)
         ≡ Some n) }
 {
     let text = word(given, id)?;
@@ -57,7 +57,7 @@ pub fn number_within<'a>(
 ) -> Result<u32, UsageFault<'a>>
     ensures within { IfOk result (λ n. (1 ≤ n) × (n ≤ limit)) }
     ensures number { IfOk result
-        (λ n. option_and_then number_of (first_value (found_of given.now) id.now) ≡ Some n) }
+        (λ n. option_and_then word_number (first_value (found_of given.now) id.now) ≡ Some n) }
 {
     let n = number(given, id)?;
     if 1 <= n && n <= limit {
@@ -75,7 +75,7 @@ pub fn spare_number<'a>(
 ) -> Result<Option<u32>, UsageFault<'a>>
     ensures within { IfOk result (λ spare. IfSome spare (λ n. (1 ≤ n) × (n ≤ limit))) }
     ensures number { IfOk result (λ spare.
-        option_and_then number_of (first_value (found_of given.now) id.now) ≡ spare) }
+        option_and_then word_number (first_value (found_of given.now) id.now) ≡ spare) }
 {
     if given.get_str(id).is_none() {
         return Ok(None);

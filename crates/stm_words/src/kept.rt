@@ -1,7 +1,7 @@
 // A journal whose writes and erases are to stay.
 ghost use Rattle.std.specs.Prelude.{IfOk};
 ghost use Rattle.clap.specs.Words.{found_of};
-ghost use Rattle.stm_words.specs.Request.{IsKept, NamesNewest};
+ghost use Rattle.stm_words.specs.Request.{IsKeepWord, NamesNewest};
 
 use crate::environment::Environment;
 use crate::given::{flag_or, number_within, word};
@@ -32,7 +32,7 @@ impl<'a> Kept<'a> {
         environment: Environment<'a>,
         given: &ArgMatches<'a>,
     ) -> Result<Kept<'a>, UsageFault<'a>>
-        ensures { IfOk result (IsKept environment.entry (found_of given.now)) }
+        ensures { IfOk result (IsKeepWord environment.entry (found_of given.now)) }
     {
         let to = given.get_str("TO");
         let journal = word(given, "journal")?;

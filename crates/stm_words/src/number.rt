@@ -2,7 +2,7 @@
 ghost use Rattle.std.specs.Prelude.{◌≡◌, ◌≤◌, ◌<◌, ◌^◌, length, true};
 ghost use Rattle.std.specs.List.{list_all};
 ghost use Rattle.stm_words.specs.Number.{decimal_number, digit_value, has_leading_zero, hex_number};
-ghost use Rattle.stm_words.specs.Number.{is_decimal_digit, is_hex_digit, number_of};
+ghost use Rattle.stm_words.specs.Number.{is_decimal_digit, is_hex_digit, word_number};
 ghost use Rattle.stm_words.specs.Number.{number_of_digits};
 
 fn is_decimal_digit(c: u8) -> bool
@@ -110,7 +110,7 @@ fn decimal_number(digits: &[u8]) -> Option<u32>
 /// The number that a word gives: `0x` and 1 to 8 hexadecimal digits of either case, or decimal
 /// digits without leading zeros, up to 4294967295.
 pub fn parse_number(word: &str) -> Option<u32>
-    ensures { result ≡ number_of word.now }
+    ensures { result ≡ word_number word.now }
 {
     match word.as_bytes() {
         [b'0', b'x', digits @ ..] => hex_number(digits),

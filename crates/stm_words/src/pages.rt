@@ -1,6 +1,6 @@
 // The pages that words name.
 ghost use Rattle.std.specs.Prelude.{◌≡◌, ◌++◌, ◌∷◌, ◌<◌, IfOk, IfSome, List, OnOk, Some, ℕ, map};
-ghost use Rattle.stm_words.specs.Number.{number_of};
+ghost use Rattle.stm_words.specs.Number.{word_number};
 ghost use Rattle.stm_words.specs.Pages.{IsFromTo, NameAll, NamesPages};
 
 use crate::number::parse_number;
@@ -10,7 +10,7 @@ use std::alloc::Global;
 
 /// The page that a word names by its number, which is at most 65535.
 fn page(word: &str) -> Option<u16>
-    ensures { IfSome result (λ n. number_of word.now ≡ Some n) }
+    ensures { IfSome result (λ n. word_number word.now ≡ Some n) }
 {
     match parse_number(word) {
         Some(n) if n <= 0xFFFF => Some(n as u16),

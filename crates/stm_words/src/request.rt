@@ -1,7 +1,7 @@
 // What the words ask for.
 ghost use Rattle.std.specs.Prelude.{IfOk, OnOk};
 ghost use Rattle.clap.specs.Words.{found_of};
-ghost use Rattle.stm_words.specs.Asking.{Asks, AsksFor};
+ghost use Rattle.stm_words.specs.Asking.{AsksBySubcommand, AsksFor};
 ghost use Rattle.stm_words.specs.Saying.{IsFreshUnasked, IsSaidFresh};
 
 use crate::environment::Environment;
@@ -53,7 +53,7 @@ impl<'a> Request<'a> {
         given: &ArgMatches<'a>,
     ) -> Result<Request<'a>, Unread<'a>>
         ensures fresh { IfOk result IsSaidFresh }
-        ensures asked { IfOk result (Asks environment.entry name.now (found_of given.now)) }
+        ensures asked { IfOk result (AsksBySubcommand environment.entry name.now (found_of given.now)) }
     {
         match name {
             "log" => Ok(Request::Log(word(given, "journal")?, flag(given, "check"))),
@@ -73,7 +73,7 @@ impl<'a> Request<'a> {
         given: &ArgMatches<'a>,
     ) -> Result<Request<'a>, Unread<'a>>
         ensures fresh { IfOk result IsSaidFresh }
-        ensures asked { IfOk result (Asks environment.entry name.now (found_of given.now)) }
+        ensures asked { IfOk result (AsksBySubcommand environment.entry name.now (found_of given.now)) }
     {
         let options = Options::parse(environment, given)?;
         let task = Task::parse(alloc, name, given)?;

@@ -1,7 +1,7 @@
 // What follows a write in the same call.
 ghost use Rattle.std.specs.Prelude.{◌≤◌, IfOk};
 ghost use Rattle.clap.specs.Words.{found_of};
-ghost use Rattle.stm_words.specs.Asking.{Follows};
+ghost use Rattle.stm_words.specs.Asking.{IsFollowedBy};
 ghost use Rattle.stm_words.specs.Sequel.{IsAlone, IsSequel, NamesAddress};
 
 use crate::given::{flag, number, number_within};
@@ -39,7 +39,7 @@ impl<'a> Sequel<'a> {
 
     /// What follows the subcommand of this name: only a write is followed.
     pub fn behind(name: &str, given: &ArgMatches<'a>) -> Result<Sequel<'a>, UsageFault<'a>>
-        ensures { IfOk result (Follows name.now (found_of given.now)) }
+        ensures { IfOk result (IsFollowedBy name.now (found_of given.now)) }
     {
         match name {
             "write" => Sequel::parse(given),

@@ -1,7 +1,7 @@
 // What is asked of a device.
 ghost use Rattle.std.specs.Prelude.{◌≡◌, IfOk};
 ghost use Rattle.clap.specs.Words.{found_of};
-ghost use Rattle.stm_words.specs.Request.{IsErase, IsProtect, IsRead, IsTask, wants_fresh};
+ghost use Rattle.stm_words.specs.Request.{IsErase, IsProtect, IsReadWord, IsTask, wants_fresh};
 
 use crate::given::{flag, number, pages, range, word, word_range};
 use crate::image_file::ImageFile;
@@ -90,7 +90,7 @@ impl<'a> Task<'a> {
 
     /// What `read` is to read, and how. A file whose name ends in `.hex` is one of HEX.
     fn parse_read(given: &ArgMatches<'a>) -> Result<Task<'a>, Unread<'a>>
-        ensures { IfOk result (IsRead (found_of given.now)) }
+        ensures { IfOk result (IsReadWord (found_of given.now)) }
     {
         let range = range(given)?;
         let out = word(given, "OUT")?;

@@ -3,7 +3,7 @@ ghost use Rattle.std.specs.Prelude.{◌≡◌, ◌⊎◌, [], IfErr, IfOk, map};
 ghost use Rattle.clap.specs.Words.{IsAmong, fault_of, kind_of};
 ghost use Rattle.clap.specs.declared.error.ErrorKind.TheVariants.{OutOfMemory};
 ghost use Rattle.stm_words.specs.Asking.{IsAskedFor};
-ghost use Rattle.stm_words.specs.CommandSet.{Reads, TakesKinds, command_set};
+ghost use Rattle.stm_words.specs.CommandSet.{ReadsWords, TakesKinds, command_set};
 ghost use Rattle.stm_words.specs.Saying.{IsSaidFresh};
 
 use crate::command_set::command_set;
@@ -24,7 +24,7 @@ pub fn read_words<'a>(
 ) -> Result<ArgMatches<'a>, Error>
     ensures value { IfOk result (λ m. (p : _) × TakesKinds p
         × (fault_of (command_set environment.entry p) (map (λ s. s.now) words.entry.now) ≡ [])
-        × Reads (command_set environment.entry p) (map (λ s. s.now) words.entry.now) m) }
+        × ReadsWords (command_set environment.entry p) (map (λ s. s.now) words.entry.now) m) }
     ensures fault { IfErr result (λ e. (kind_of e ≡ OutOfMemory) ⊎ ((p : _) × TakesKinds p
         × IsAmong (kind_of e)
         (fault_of (command_set environment.entry p) (map (λ s. s.now) words.entry.now)))) }

@@ -5,12 +5,12 @@ use Rattle.stm_work.specs.declared.failure.Failure.{Failure}
 use Rattle.stm_work.specs.declared.steps.Steps.{Steps}
 use Rattle.stm_work.specs.declared.left_standing.Standing.{Standing}
 use Rattle.stm_work.specs.declared.work.Work.{Work}
-use Rattle.stm_work.specs.Again.{Act, DoesAgain, IsDone, IsLast, IsTurn, LeadTo, Retries, TakesBack}
-use Rattle.stm_work.specs.Again.{Tells, Turns, attempts, last_behind}
+use Rattle.stm_work.specs.Again.{Act, DoesAgain, AreActsDone, IsLast, IsTurn, LeadTo, Retries, UndoesSince}
+use Rattle.stm_work.specs.Again.{TellsStanding, Turns, attempts, last_behind}
 use Rattle.stm_work.specs.Again.Act.{Attempted, Read, ToldStanding, ToldTurn, Undone}
 use Rattle.stm_work.specs.Again.IsDone.{in_turns, no_memory, once, unread as unread_first}
 use Rattle.stm_work.specs.Again.Retries.{again, no_memory as no_memory_behind, not_again, not_taken}
-use Rattle.stm_work.specs.Again.TakesBack.{nothing, undone, unread}
+use Rattle.stm_work.specs.Again.UndoesGiven.{nothing, undone, unread}
 use Rattle.stm_work.specs.Again.Tells.{nothing as nothing_told, told, unread as unread_last}
 use Rattle.stm_work.specs.Again.Turns.{first, more}
 
@@ -49,13 +49,13 @@ last-append o (ToldStanding before now ∷ xs) ys = last-append o xs ys
 
 -- a take-back is no attempt, and neither is what is told at the end
 back-attempts : (before : Standing) (acts : List Act) (taken : Result ℕ Failure)
-    → TakesBack before acts taken → attempts acts ≡ 0
+    → UndoesSince before acts taken → attempts acts ≡ 0
 back-attempts before acts taken (unread failure) = refl
 back-attempts before acts taken (nothing now none) = refl
 back-attempts before acts taken (undone now count said some just) = refl
 
 tells-attempts : (before : Standing) (acts : List Act) (came : Result Steps Failure)
-    → Tells before acts came → attempts acts ≡ 0
+    → TellsStanding before acts came → attempts acts ≡ 0
 tells-attempts before acts came (nothing_told steps) = refl
 tells-attempts before acts came (told failure now) = refl
 tells-attempts before acts came (unread_last failure why) = refl
@@ -96,7 +96,7 @@ turns-attempts work before most turns acts came (more turn done next failure sai
     )
 
 few : (work : Work) (most : ℕ) (acts : List Act) (came : Result Steps Failure)
-    → IsDone work most acts came → attempts acts ≤ most + 1
+    → AreActsDone work most acts came → attempts acts ≤ most + 1
 few work most acts came (unread_first failure) = omega arith
 few work most acts came (no_memory before) = omega arith
 few work most acts came (once before said is) = omega arith
@@ -139,7 +139,7 @@ turns-last work before most turns o acts came steps
     (last_behind o done) next steps (subst P e is)
 
 ends-last : (work : Work) (most : ℕ) (acts : List Act) (came : Result Steps Failure) (steps : Steps)
-    → IsDone work most acts came → came ≡ Ok steps → last_behind None acts ≡ Some (Ok steps)
+    → AreActsDone work most acts came → came ≡ Ok steps → last_behind None acts ≡ Some (Ok steps)
 ends-last work most acts came steps (unread_first failure) e = absurd (cc)
 ends-last work most acts came steps (no_memory before) e = absurd (cc)
 ends-last work most acts came steps (once before said is) e = ap Some e
@@ -147,7 +147,7 @@ ends-last work most acts came steps (in_turns before turns done tells said so wi
     last-append None done tells ∙ by-tells tells came is e
     (turns-last work before most turns None done came steps so e)
   where
-    by-tells : (tells : List Act) (came : Result Steps Failure) → Tells before tells came
+    by-tells : (tells : List Act) (came : Result Steps Failure) → TellsStanding before tells came
         → came ≡ Ok steps → last_behind None done ≡ Some (Ok steps)
         → last_behind (last_behind None done) tells ≡ Some (Ok steps)
     by-tells tells came (nothing_told steps) e is = is
@@ -155,14 +155,14 @@ ends-last work most acts came steps (in_turns before turns done tells said so wi
     by-tells tells came (unread_last failure why) e is = absurd (cc)
 
 ok-last : (work : Work) (most : ℕ) (acts : List Act) (came : Result Steps Failure)
-    → IsDone work most acts came → IfOk came (λ steps. last_behind None acts ≡ Some (Ok steps))
+    → AreActsDone work most acts came → IfOk came (λ steps. last_behind None acts ≡ Some (Ok steps))
 ok-last work most acts (Ok steps) is = ends-last work most acts (Ok steps) steps is refl
 ok-last work most acts (Err failure) is = tt
 
 -- what was done, with what that comes to
 pub does-again : {A : Type 0} (Does : Act → A → A → Type 0) (work : Work) (most : ℕ)
     (acts : List Act) (old new : A) (came : Result Steps Failure) → LeadTo Does acts old new
-    → IsDone work most acts came → DoesAgain Does work most old new came
+    → AreActsDone work most acts came → DoesAgain Does work most old new came
 does-again Does work most acts old new came lead done =
     record {
       acts = acts;

@@ -30,13 +30,13 @@ use Rattle.stm_work.specs.declared.content.Content.TheVariants.{Placed, AtBase}
 use Rattle.stm_work.specs.declared.failure.Failure.{Failure}
 use Rattle.stm_work.specs.declared.failure.Failure.TheVariants.{Session}
 use Rattle.stm_work.specs.declared.steps.Steps.{Steps}
-use Rattle.stm_work.specs.Action.{Calls, Does, GoesTo, HandsOn}
+use Rattle.stm_work.specs.Action.{Calls, DoesAction, GoesTo, HandsOn}
 use Rattle.stm_work.specs.Answer.{outcomes_told}
-use Rattle.stm_work.specs.Conduct.{Asks, RunsIfRoom, RunsTold}
+use Rattle.stm_work.specs.Conduct.{PromisesInfo, RunsIfRoom, RunsTold}
 use Rattle.stm_work.specs.Content.{ImageOn, IsRawImage}
-use Rattle.stm_work.specs.OneCall.{CallsEndAsAsked, CanCall, EndsAsAsked, EndsWith, HasGone, IsKept}
+use Rattle.stm_work.specs.OneCall.{CallsEndAsAsked, CanCall, EndsAsAsked, EndsLetGo, HasGone, IsJournalKept}
 use Rattle.stm_work.specs.OneCall.{IsWritten, image_on}
-use Rattle.stm_work.specs.Steps.{Follows, GoesBehind, Keeps, MayGo, MayKeep}
+use Rattle.stm_work.specs.Steps.{FollowsSession, GoesBehind, Keeps, MayGo, MayKeep}
 
 -- what the layers below promise
 pub record Laws {R : Type 0} (view : R → RigState) : Type 0 where
@@ -100,7 +100,7 @@ module _ {R : Type 0} (view : R → RigState) (laws : Laws view) where
         subst P (sym same) (record { can = can; chip = refl; flash = refl; image_is = own-is })
     placed (AtBase bytes) old mid image can asks = by-told asks.told asks.asks asks.goes_on
       where
-        by-told : (told : Result Info Fault) → Asks table (view old) (view asks.mid) told
+        by-told : (told : Result Info Fault) → PromisesInfo table (view old) (view asks.mid) told
             → MatchResult told (λ info. (mid ≡ asks.mid)
             × IsRawImage info.base bytes.items (okay image))
             (λ fault. (mid ≡ asks.mid) × (okay image ≡ Err (Session fault)))
@@ -166,7 +166,7 @@ module _ {R : Type 0} (view : R → RigState) (laws : Laws view) where
 
     -- the same in the whole action
     wrote : (content : Content) (old new : R) (said : Answer) → CanCall table (view old)
-        → Does view table (action.WriteAndVerify content) old new (Ok said)
+        → DoesAction view table (action.WriteAndVerify content) old new (Ok said)
         → IsWritten view table (image_on (view old).device.chip content) (view old).device.chip
         (view old).device.flash new
     wrote content old new said can does = by-image does.image does.places does.goes_on
@@ -202,7 +202,7 @@ module _ {R : Type 0} (view : R → RigState) (laws : Laws view) where
 
     -- the journal was kept, or stays
     record HasKept (keeps : Bool) (written kept : R) : Type 0 where
-      is : IsKept view keeps written kept
+      is : IsJournalKept view keeps written kept
       honest : (view kept).is_honest
       settled : IsSettled (view kept).device
       flash : (view kept).device.flash ≡ (view written).device.flash
@@ -263,7 +263,7 @@ module _ {R : Type 0} (view : R → RigState) (laws : Laws view) where
     may-go : (flash : List ℕ) (go : Option ℕ) (kept new : R) (u : Unit {0}) → (view kept).is_honest
         → IsSettled (view kept).device → (view kept).device.flash ≡ flash
         → MayGo view table go kept new (Ok u)
-        → EndsWith view flash go kept new × ((view new).journal ≡ (view kept).journal)
+        → EndsLetGo view flash go kept new × ((view new).journal ≡ (view kept).journal)
     may-go flash None kept new u honest settled is (same, gone) =
         let flash-is = ap (λ (r : R). (view r).device.flash) same ∙ is in
         ((same, flash-is), ap (λ (r : R). (view r).journal) same)
@@ -281,7 +281,7 @@ module _ {R : Type 0} (view : R → RigState) (laws : Laws view) where
         by-parted (Ok x) told g hands =
             let h = went flash address kept new x honest settled is g in (h, h.journal)
 
-        by-said : (said : Result Answer Failure) → Does view table (action.Go address) kept new said
+        by-said : (said : Result Answer Failure) → DoesAction view table (action.Go address) kept new said
             → MatchResult said (λ (x : Answer). okay u ≡ Ok tt) (λ failure. okay u ≡ Err failure)
             → E
         by-said (Err failure) g failed = absurd (cc)
@@ -333,9 +333,9 @@ module _ {R : Type 0} (view : R → RigState) (laws : Laws view) where
       E = EndsAsAsked view table content sequel (view old).device.chip (view old).device.flash new
 
       by-said : (said : Result Answer Failure)
-          → Does view table (action.WriteAndVerify content) old takes.written said
+          → DoesAction view table (action.WriteAndVerify content) old takes.written said
           → MatchResult said (λ answer. (own : Steps) × (okay steps ≡ Ok own)
-          × Follows view table board sequel takes.written new answer own) (λ failure. Unit {0})
+          × FollowsSession view table board sequel takes.written new answer own) (λ failure. Unit {0})
           → MatchResult said (λ answer. Unit {0})
           (λ failure. (new ≡ takes.written) × (okay steps ≡ Err failure)) → E
       by-said (Err failure) does ok (same, failed) = absurd (cc)

@@ -14,7 +14,7 @@ use Rattle.stm_watch.specs.Laws.{SettledIsSeen}
 use Rattle.stm_watch.specs.Seen.{IsSeen}
 use Rattle.stm_watch.specs.Watching.{quieted_record, watched}
 use Rattle.stm_work.specs.Steps.{Stays}
-use Rattle.stm_work.specs.Watching.{IsBegun, TellsCodes}
+use Rattle.stm_work.specs.Watching.{IsWatchingBegun, TellsCodes}
 
 pub stays-watched : {A : Type 0} (k : Known) (refusal : Option A) (line journal : ℕ)
     (old new : RigState) → Stays old new
@@ -54,7 +54,7 @@ stays-watched k (Some r) line journal old new s =
 
 pub begun-watched : {A : Type 0} (k now : Known) (refusal : Option A) (line journal : ℕ)
     (rig : RigState)
-    → IsBegun now (watched k refusal line journal rig) (watched now refusal line journal rig)
+    → IsWatchingBegun now (watched k refusal line journal rig) (watched now refusal line journal rig)
 begun-watched k now None line journal rig =
     record {
       honest = λ h seen. (h.0, seen);
@@ -106,7 +106,7 @@ quiet-watched k now None line journal old new kept none quiet = quiet
 pub begun-at : SettledIsSeen → (table : List ChipData) (id : ℕ) (chip : ChipData) (told : Commands)
     (old mid new : RigState) (k : Known) → IsChipWith table id chip
     → k ≡ known_at_first chip told.version (take told.count told.codes)
-    → (old.is_honest → IsSettled old.device → TellsCodes old mid told) → IsBegun k mid new
+    → (old.is_honest → IsSettled old.device → TellsCodes old mid told) → IsWatchingBegun k mid new
     → old.is_honest → IsSettled old.device → IsChipWith table id old.device.chip
     → new.is_honest × (new.device ≡ old.device)
 begun-at first table id chip told old mid new k found is asks begun honest settled knows =

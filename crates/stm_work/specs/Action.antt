@@ -22,8 +22,8 @@ use Rattle.stm_session.specs.Leaving.{CanLeave, IsSettledThen, Leaves}
 use Rattle.stm_session.specs.Meaning.{erases, verifies, writes}
 use Rattle.stm_session.specs.Moments.{IsSafe}
 use Rattle.stm_session.specs.ReturnedBytes.{segments_of}
-use Rattle.stm_session.specs.Told.{ReturnsTold, UndoStopsToldAs}
-use Rattle.stm_session.specs.UndoOrder.{ReturnsInOrder, UndoStops, UndoStopsAs, UndoStopsFrom}
+use Rattle.stm_session.specs.Told.{GivesBackTold, UndoStopsToldAs}
+use Rattle.stm_session.specs.UndoOrder.{GivesBackInOrder, UndoStops, UndoStopsAs, UndoStopsFrom}
 use Rattle.stm_session.specs.UndoOrder.{UndoesInOrder, UndoesInOrderFrom}
 use Rattle.stm_session.specs.Unprotecting.{IsUnprotected, IsUnprotecting, UnprotectContract}
 use Rattle.stm_session.specs.Promises.{UndoContract}
@@ -41,7 +41,7 @@ use Rattle.stm_work.specs.declared.answer.Answer.TheVariants as answer
 use Rattle.stm_work.specs.declared.content.Content.{Content}
 use Rattle.stm_work.specs.declared.failure.Failure.{Failure}
 use Rattle.stm_work.specs.declared.failure.Failure.TheVariants.{Session}
-use Rattle.stm_work.specs.Conduct.{Asks, AsksFirst, ErasesAll, Identifies, RunsIfRoom, RunsTold}
+use Rattle.stm_work.specs.Conduct.{PromisesInfo, AsksThenGoesOn, ErasesAll, Identifies, RunsIfRoom, RunsTold}
 use Rattle.stm_work.specs.Content.{ComesOf, ImageOn, IsCopy, is_hex}
 use Rattle.stm_work.specs.Protections.{protection_of}
 use Rattle.stm_work.specs.ReadingFor.{ReadsAsHex, SumsUp}
@@ -108,7 +108,7 @@ pub record PlacesFirst {R : Type 0} (view : R → RigState) (table : List ChipDa
       (λ failure. (new ≡ mid) × (result ≡ Err failure))
 
 -- What `undo` promises.
-pub record TakesBack (table : List ChipData) (count : ℕ) (old new : RigState)
+pub record PromisesUndo (table : List ChipData) (count : ℕ) (old new : RigState)
     (taken : Result ℕ Fault) : Type 0 where
   pub promised : UndoContract table count old new taken
   pub cause : HasSessionCause old new taken
@@ -118,7 +118,7 @@ pub record TakesBack (table : List ChipData) (count : ℕ) (old new : RigState)
   pub stops : IfErr taken (UndoStops table count old new)
 
 -- And `undo_fresh`: the same of a device that is fresh from reset.
-pub record TakesBackFresh (table : List ChipData) (count : ℕ) (old new : RigState)
+pub record UndoesFresh (table : List ChipData) (count : ℕ) (old new : RigState)
     (taken : Result ℕ Fault) : Type 0 where
   pub promised : IsReset old.device → UndoContract table count old new taken
   pub cause : HasSessionCause old new taken
@@ -134,7 +134,7 @@ WhereReset false d P = P
 
 -- And `undo_verified` and `undo_verified_fresh`: the same, and that each page that was given back
 -- was read again, and held what was written.
-pub record TakesBackVerified {R : Type 0} (view : R → RigState) (is_fresh : Bool)
+pub record UndoesVerified {R : Type 0} (view : R → RigState) (is_fresh : Bool)
     (table : List ChipData) (count : ℕ) (old new : R) (taken : Result Returned Fault) : Type 0 where
   pub promised : WhereReset is_fresh (view old).device
       (UndoContract table count (view old) (view new) (segments_of taken))
@@ -143,10 +143,10 @@ pub record TakesBackVerified {R : Type 0} (view : R → RigState) (is_fresh : Bo
   pub silent : segments_of taken ≡ Ok 0 → GoesOn AreFetches (view old).calls (view new).calls
   pub none : IfOk taken (λ returned. returned.segments ≡ 0 → returned.bytes ≡ 0)
   pub order : IfOk taken (λ returned. 1 ≤ returned.segments
-      → ReturnsInOrder is_fresh true table returned (view old) (view new))
+      → GivesBackInOrder is_fresh true table returned (view old) (view new))
   pub stops : IfErr taken (UndoStopsAs is_fresh true table count (view old) (view new))
   pub given : IfOk taken (λ returned. 1 ≤ returned.segments
-      → ReturnsTold view is_fresh true table returned (view old) (view new))
+      → GivesBackTold view is_fresh true table returned (view old) (view new))
   pub given_stops :
       IfErr taken (UndoStopsToldAs view is_fresh true table count (view old) (view new))
 
@@ -180,54 +180,54 @@ pub record Parts (turns : List Turn) (frame : List ℕ) (Allows : Device → Typ
   pub spared : old.is_honest → old.journal ≡ [] → IfErr parted (λ fault. fault ≢ Memory)
 
 -- a device that lets `go` to this address
-abbrev pub CanGo : ℕ → Device → Type 0
-CanGo address d = CanLeave 0x21 d × IsTrue (is_inside d.chip address)
+abbrev pub MayBeLetGo : ℕ → Device → Type 0
+MayBeLetGo address d = CanLeave 0x21 d × IsTrue (is_inside d.chip address)
 
 -- What `go` promises: the same, and that such a device has left its bootloader then.
 pub record GoesTo (address : ℕ) (old new : RigState)
     (gone : Result (Unit {0}) Fault) : Type 0 where
-  pub parts : Parts (go_turns address) (go_frame address) (CanGo address) old new gone
-  pub left : old.is_honest → open_refusal (journal_of old.journal) ≡ None → CanGo address old.device
+  pub parts : Parts (go_turns address) (go_frame address) (MayBeLetGo address) old new gone
+  pub left : old.is_honest → open_refusal (journal_of old.journal) ≡ None → MayBeLetGo address old.device
       → OnOk gone (new.device.phase ≡ Gone)
 
 -- Each action is the calls of its own, and hands on what they answer.
-abbrev pub Does : {R : Type 0} → (R → RigState) → List ChipData → Action → R → R
+abbrev pub DoesAction : {R : Type 0} → (R → RigState) → List ChipData → Action → R → R
     → Result Answer Failure → Type 0
-Does view table action.Info old new result =
-    Calls answer.Told (λ a b said. Asks table (view a) (view b) said) old new result
-Does view table (action.Read range) old new result =
+DoesAction view table action.Info old new result =
+    Calls answer.Told (λ a b said. PromisesInfo table (view a) (view b) said) old new result
+DoesAction view table (action.Read range) old new result =
     Calls (λ said. said) (ReadsRange view table range) old new result
-Does view table (action.Write content) old new result =
+DoesAction view table (action.Write content) old new result =
     PlacesFirst view table content
     (λ image a b said. RunsTold table (writes image ∷ []) (view a) (view b) said) old new result
-Does view table (action.WriteAndVerify content) old new result =
+DoesAction view table (action.WriteAndVerify content) old new result =
     PlacesFirst view table content
     (λ image. RunsIfRoom view table (writes image ∷ (verifies image ∷ []))) old new result
-Does view table (action.Verify content) old new result =
+DoesAction view table (action.Verify content) old new result =
     PlacesFirst view table content
     (λ image a b said. RunsTold table (verifies image ∷ []) (view a) (view b) said) old new result
-Does view table (action.Erase pages) old new result =
+DoesAction view table (action.Erase pages) old new result =
     Calls (λ said. said)
     (λ a b said. RunsTold table (erases pages.items ∷ []) (view a) (view b) said) old new result
-Does view table action.EraseAll old new result =
+DoesAction view table action.EraseAll old new result =
     Calls (λ said. said) (ErasesAll view table) old new result
-Does view table (action.Undo count) old new result =
-    Calls answer.Undone (λ a b said. TakesBack table count (view a) (view b) said) old new result
-Does view table (action.UndoFresh count) old new result =
-    Calls answer.Undone (λ a b said. TakesBackFresh table count (view a) (view b) said)
+DoesAction view table (action.Undo count) old new result =
+    Calls answer.Undone (λ a b said. PromisesUndo table count (view a) (view b) said) old new result
+DoesAction view table (action.UndoFresh count) old new result =
+    Calls answer.Undone (λ a b said. UndoesFresh table count (view a) (view b) said)
     old new result
-Does view table (action.UndoVerified count) old new result =
-    Calls told_returned (TakesBackVerified view false table count) old new result
-Does view table (action.UndoVerifiedFresh count) old new result =
-    Calls told_returned (TakesBackVerified view true table count) old new result
-Does view table (action.Go address) old new result =
+DoesAction view table (action.UndoVerified count) old new result =
+    Calls told_returned (UndoesVerified view false table count) old new result
+DoesAction view table (action.UndoVerifiedFresh count) old new result =
+    Calls told_returned (UndoesVerified view true table count) old new result
+DoesAction view table (action.Go address) old new result =
     Calls (λ done. answer.Nothing) (λ a b said. GoesTo address (view a) (view b) said)
     old new result
-Does view table (action.Protect kind) old new result =
+DoesAction view table (action.Protect kind) old new result =
     Calls (λ done. answer.Nothing) (λ a b said. Parts (protect_turns (protection_code kind))
     (command (protection_code kind)) (CanLeave (protection_code kind)) (view a) (view b) said)
     old new result
-Does view table action.UnprotectFresh old new result =
+DoesAction view table action.UnprotectFresh old new result =
     Calls (λ done. answer.Nothing) (λ a b said. Unprotects (view a) (view b) said) old new result
 
 -- What is done on a device: the question that needs no table, or an action.
@@ -238,8 +238,8 @@ Works view table work.Identify old new result =
 Works view table (work.Sum range) old new result =
     (said : Result Answer Fault) × ReadsRange view table range old new said × SumsUp said result
 Works view table (work.ReadHex range skips) old new result =
-    AsksFirst view table (λ fault. Session fault) (ReadsAsHex view table range skips) old new result
-Works view table (work.Act does) old new result = Does view table does old new result
+    AsksThenGoesOn view table (λ fault. Session fault) (ReadsAsHex view table range skips) old new result
+Works view table (work.Act does) old new result = DoesAction view table does old new result
 
 -- What is done again is a write, of the same image; nothing else is.
 abbrev pub IsDoneAgain : Work → Option Work → Type 0

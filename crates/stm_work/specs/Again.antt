@@ -37,13 +37,13 @@ LeadTo {A} Does (act ∷ acts) old new = (mid : A) × Does act old mid × LeadTo
 
 -- Just the segments that came since are taken back: none is where none came, and none of those that
 -- stood before is.
-pub data TakesBack (before : Standing) : List Act → Result ℕ Failure → Type 0 where
-  unread : (failure : Failure) → TakesBack before (Read (Err failure) ∷ []) (Err failure)
+pub data UndoesSince (before : Standing) : List Act → Result ℕ Failure → Type 0 where
+  unread : (failure : Failure) → UndoesSince before (Read (Err failure) ∷ []) (Err failure)
   nothing : (now : Standing) → begun_since now before ≡ 0
-      → TakesBack before (Read (Ok now) ∷ []) (Ok 0)
+      → UndoesSince before (Read (Ok now) ∷ []) (Ok 0)
   undone : (now : Standing) (count : ℕ) (taken : Result ℕ Failure) → 1 ≤ count
       → before.depth + count ≡ now.depth
-      → TakesBack before (Read (Ok now) ∷ Undone count taken ∷ []) taken
+      → UndoesSince before (Read (Ok now) ∷ Undone count taken ∷ []) taken
 
 -- Behind a take-back that answered Ok the same work is done once more; or there was no memory for
 -- it, or it is none that is done again, so that its failure stays. Behind one that failed nothing
@@ -62,7 +62,7 @@ pub record IsTurn (work : Work) (before : Standing) (turn most : ℕ) (failure :
     (acts : List Act) (came : Result Steps Failure) : Type 0 where
   pub back : List Act
   pub taken : Result ℕ Failure
-  pub takes_back : TakesBack before back taken
+  pub takes_back : UndoesSince before back taken
   pub next : List Act
   pub retries : Retries work failure taken next came
   pub acts_are : acts ≡ back ++ ToldTurn turn most failure taken ∷ next
@@ -95,23 +95,23 @@ pub record InTurns {A : Type 0} (Does : Act → A → A → Type 0) (work : Work
   pub last : IsLast most turns came
 
 -- behind a failure it is told what stands, where the journal can be read
-pub data Tells (before : Standing) : List Act → Result Steps Failure → Type 0 where
-  nothing : (steps : Steps) → Tells before [] (Ok steps)
+pub data TellsStanding (before : Standing) : List Act → Result Steps Failure → Type 0 where
+  nothing : (steps : Steps) → TellsStanding before [] (Ok steps)
   told : (failure : Failure) (now : Standing)
-      → Tells before (Read (Ok now) ∷ ToldStanding before now ∷ []) (Err failure)
-  unread : (failure why : Failure) → Tells before (Read (Err why) ∷ []) (Err failure)
+      → TellsStanding before (Read (Ok now) ∷ ToldStanding before now ∷ []) (Err failure)
+  unread : (failure why : Failure) → TellsStanding before (Read (Err why) ∷ []) (Err failure)
 
 -- All acts, and the answer.
-pub data IsDone (work : Work) (most : ℕ) : List Act → Result Steps Failure → Type 0 where
-  unread : (failure : Failure) → IsDone work most (Read (Err failure) ∷ []) (Err failure)
-  no_memory : (before : Standing) → IsDone work most (Read (Ok before) ∷ []) (Err Memory)
+pub data AreActsDone (work : Work) (most : ℕ) : List Act → Result Steps Failure → Type 0 where
+  unread : (failure : Failure) → AreActsDone work most (Read (Err failure) ∷ []) (Err failure)
+  no_memory : (before : Standing) → AreActsDone work most (Read (Ok before) ∷ []) (Err Memory)
   -- what isn't done again is done once
   once : (before : Standing) (came : Result Steps Failure) → IsDoneAgain work None
-      → IsDone work most (Read (Ok before) ∷ Attempted work came ∷ []) came
+      → AreActsDone work most (Read (Ok before) ∷ Attempted work came ∷ []) came
   in_turns : (before : Standing) (turns : ℕ) (acts tells : List Act) (came : Result Steps Failure)
       → Turns work before most turns acts came → turns ≤ most → IsLast most turns came
-      → Tells before tells came
-      → IsDone work most (Read (Ok before) ∷ acts ++ tells) came
+      → TellsStanding before tells came
+      → AreActsDone work most (Read (Ok before) ∷ acts ++ tells) came
 
 -- how many attempts there were
 abbrev pub attempts : List Act → ℕ
@@ -130,7 +130,7 @@ pub record DoesAgain {A : Type 0} (Does : Act → A → A → Type 0) (work : Wo
     (old new : A) (came : Result Steps Failure) : Type 0 where
   pub acts : List Act
   pub lead : LeadTo Does acts old new
-  pub done : IsDone work most acts came
+  pub done : AreActsDone work most acts came
   -- there were so many attempts at the most
   pub few : attempts acts ≤ most + 1
   -- at Ok the last of them answered just this

@@ -48,6 +48,6 @@ is_flash (answer.Bytes bytes) = true
 is_flash other = false
 
 -- it tells bytes, so many
-abbrev pub IsRead : ℕ → Answer → Type 0
-IsRead size (answer.Bytes bytes) = vec_len bytes ≡ size
-IsRead size _ = ⊥
+abbrev pub IsReadAnswer : ℕ → Answer → Type 0
+IsReadAnswer size (answer.Bytes bytes) = vec_len bytes ≡ size
+IsReadAnswer size _ = ⊥

@@ -2,14 +2,14 @@
 use Rattle.std.specs.Prelude.{◌≡◌, ◌⊎◌, ℕ, Bool, true, false, List, [], ◌∷◌, ◌++◌}
 use Rattle.std.specs.Borrow.{Bor}
 use Rattle.stm_wire.specs.Chip.{ChipData}
-use Rattle.stm_chip.specs.Document.{IsFaultOf, IsTableOf}
+use Rattle.stm_chip.specs.Document.{IsTableFaultOf, IsTableOf}
 use Rattle.stm_chip.specs.Over.{IsOver}
 use Rattle.stm_chip.specs.declared.fault.TableFault.{TableFault}
 use Rattle.stm_work.specs.declared.chip_tables.TableText.{TableText}
 use Rattle.stm_work.specs.declared.failure.Failure.{Failure}
 use Rattle.stm_work.specs.declared.failure.Failure.TheVariants.{Memory}
 use Rattle.stm_work.specs.declared.failure.Failure.TheVariants.{StandingTable, Table}
-use Rattle.stm_work.specs.TriedBoards.{bytes_of}
+use Rattle.stm_work.specs.TriedBoards.{table_bytes}
 
 -- the texts of tables, the lowest first, say these chips: each goes over those below it
 pub data AreChips : List (List ℕ) → List ChipData → Type 0 where
@@ -27,7 +27,7 @@ told_fault false name fault = StandingTable name fault
 -- this text is refused as that of the table of this name, or there was no memory for it
 abbrev pub IsTextRefused : Bool → Bor (List ℕ) → List ℕ → Failure → Type 0
 IsTextRefused is_named name text failure = (failure ≡ Memory)
-    ⊎ ((fault : TableFault) × IsFaultOf text fault × (failure ≡ told_fault is_named name fault))
+    ⊎ ((fault : TableFault) × IsTableFaultOf text fault × (failure ≡ told_fault is_named name fault))
 
-abbrev pub IsRefused : TableText → Failure → Type 0
-IsRefused table failure = IsTextRefused table.is_named table.name (bytes_of table) failure
+abbrev pub IsTableRefused : TableText → Failure → Type 0
+IsTableRefused table failure = IsTextRefused table.is_named table.name (table_bytes table) failure

@@ -17,7 +17,7 @@ use Rattle.stm_session.specs.Fault.{HasSessionCause}
 use Rattle.stm_session.specs.Fresh.{Settles}
 use Rattle.stm_session.specs.Information.{Describes}
 use Rattle.stm_session.specs.Moments.{IsSafe}
-use Rattle.stm_session.specs.Opening.{Tells}
+use Rattle.stm_session.specs.Opening.{TellsItself}
 use Rattle.stm_session.specs.Refusal.{unsent_refusal}
 use Rattle.stm_session.specs.Unwritten.{AppendsNothing}
 use Rattle.stm_session.specs.Meaning.{CommandData, erases}
@@ -54,7 +54,7 @@ RunsIfRoom view table commands old new result =
     RunsTold table commands (view old) (view new) result ⊎ LacksMemory old new result
 
 -- What `info` promises.
-pub record Asks (table : List ChipData) (old new : RigState)
+pub record PromisesInfo (table : List ChipData) (old new : RigState)
     (told : Result Info Fault) : Type 0 where
   pub promised : InfoContract table old new told
   pub describes : IfOk told (Describes table)
@@ -76,19 +76,19 @@ pub record Identifies (old new : RigState) (said : Result Told Fault) : Type 0 w
   pub puts : GoesOn (IsSession None 0x7F 131072 (is_whole said) (most_calls 0)) old.calls new.calls
   pub silent : IfErr said (λ fault. fault ≡ Unfinished → GoesOn AreFetches old.calls new.calls)
   pub accepted : old.is_honest → OnOk said (unsent_refusal (journal_of old.journal) ≡ None)
-  pub told : old.is_honest → IsSafe old.device → IfOk said (Tells old.device)
+  pub told : old.is_honest → IsSafe old.device → IfOk said (TellsItself old.device)
   pub order : (torn : Bool)
       → IfOk said (λ told. ReachesInOrder (Settles 0x7F 131072) told.id torn old new)
   pub stops : (torn : Bool) → StopsShort (Settles 0x7F 131072) torn old new said
 
 -- The device is asked what it is, and by what it tells the step goes on; a fault of the asking is
 -- the step's, and nothing more was called.
-pub record AsksFirst {R T E : Type 0} (view : R → RigState) (table : List ChipData)
+pub record AsksThenGoesOn {R T E : Type 0} (view : R → RigState) (table : List ChipData)
     (fails : Fault → E) (Then : Info → R → R → Result T E → Type 0) (old new : R)
     (result : Result T E) : Type 0 where
   pub mid : R
   pub told : Result Info Fault
-  pub asks : Asks table (view old) (view mid) told
+  pub asks : PromisesInfo table (view old) (view mid) told
   pub goes_on : MatchResult told (λ info. Then info mid new result)
       (λ fault. (new ≡ mid) × (result ≡ Err (fails fault)))
 
@@ -96,5 +96,5 @@ pub record AsksFirst {R T E : Type 0} (view : R → RigState) (table : List Chip
 abbrev pub ErasesAll : {R : Type 0} → (R → RigState) → List ChipData → R → R
     → Result Answer Fault → Type 0
 ErasesAll view table old new result =
-    AsksFirst view table (λ fault. fault)
+    AsksThenGoesOn view table (λ fault. fault)
     (λ told. RunsIfRoom view table (erases (range_with_len 0 told.pages) ∷ [])) old new result

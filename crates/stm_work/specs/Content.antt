@@ -3,7 +3,7 @@ use Rattle.std.specs.Prelude.{◌≡◌, ◌⊎◌, ℕ, ◌+◌, ◌^◌, ◌<�
 use Rattle.std.specs.Prelude.{false, List, [], ◌∷◌, length, Option, Some, None, Result, Ok, Err}
 use Rattle.stm_image.specs.declared.faults.RawFault.TheVariants.{PastEnd, Memory}
 use Rattle.stm_image.specs.Pairs.{Pairs, raw_pairs}
-use Rattle.stm_image.specs.Text.{Means, Stands, IsOutOfMemory}
+use Rattle.stm_image.specs.Text.{Means, FaultStands, IsOutOfMemory}
 use Rattle.stm_wire.specs.Chip.{ChipData}
 use Rattle.stm_wire.specs.Rig.{RigState}
 use Rattle.stm_words.specs.declared.range.Range.{Range}
@@ -13,7 +13,7 @@ use Rattle.stm_work.specs.declared.content.Content.{Content}
 use Rattle.stm_work.specs.declared.content.Content.TheVariants.{Placed, AtBase}
 use Rattle.stm_work.specs.declared.failure.Failure.{Failure}
 use Rattle.stm_work.specs.declared.failure.Failure.TheVariants.{Session, Hex, Raw, Usage}
-use Rattle.stm_work.specs.Conduct.{AsksFirst}
+use Rattle.stm_work.specs.Conduct.{AsksThenGoesOn}
 
 -- HEX begins with a colon; bytes that are said to be raw are no HEX
 abbrev pub is_hex : Bool → List ℕ → Bool
@@ -26,7 +26,7 @@ has_room None size = true
 has_room (Some most) size = nat_le size most
 
 -- Raw bytes lie from a place on.
-pub record IsPlace (range : Range) (bytes : List ℕ) (image : Pairs) : Type 0 where
+pub record LiesFrom (range : Range) (bytes : List ℕ) (image : Pairs) : Type 0 where
   pub image_is : image ≡ raw_pairs range.start bytes
   pub room : has_room range.length (length bytes) ≡ true
 
@@ -43,13 +43,13 @@ IsNoPlace range bytes failure =
 
 -- the HEX text is refused
 abbrev pub IsNoHex : List ℕ → Failure → Type 0
-IsNoHex text (Hex fault) = Stands text fault ⊎ IsOutOfMemory text fault
+IsNoHex text (Hex fault) = FaultStands text fault ⊎ IsOutOfMemory text fault
 IsNoHex text _ = ⊥
 
 -- it is known where each byte lies
-abbrev pub IsPlaced : (Pairs → Type 0) → Content → Type 0
-IsPlaced P (Placed image) = P image
-IsPlaced P (AtBase bytes) = ⊥
+abbrev pub IsContentPlaced : (Pairs → Type 0) → Content → Type 0
+IsContentPlaced P (Placed image) = P image
+IsContentPlaced P (AtBase bytes) = ⊥
 
 -- the bytes lie where the flash begins
 abbrev pub IsAtBase : List ℕ → Content → Type 0
@@ -63,12 +63,12 @@ IsCopy (AtBase bytes) content = IsAtBase bytes.items content
 
 -- What comes of a file's bytes, HEX or raw, and of the range that was given.
 abbrev pub ComesOf : Bool → Option Range → List ℕ → Result Content Failure → Type 0
-ComesOf true None bytes (Ok content) = IsPlaced (Means bytes) content
+ComesOf true None bytes (Ok content) = IsContentPlaced (Means bytes) content
 ComesOf true None bytes (Err failure) = IsNoHex bytes failure
 ComesOf true (Some range) bytes result = result ≡ Err (Usage RangeNeedsRaw)
 ComesOf false None bytes (Ok content) = IsAtBase bytes content
 ComesOf false None bytes (Err failure) = ⊥
-ComesOf false (Some range) bytes (Ok content) = IsPlaced (IsPlace range bytes) content
+ComesOf false (Some range) bytes (Ok content) = IsContentPlaced (LiesFrom range bytes) content
 ComesOf false (Some range) bytes (Err failure) = IsNoPlace range bytes failure
 
 -- raw bytes as an image, from the flash's first byte on
@@ -81,5 +81,5 @@ abbrev pub ImageOn : {R : Type 0} → (R → RigState) → List ChipData → Con
     → Result Pairs Failure → Type 0
 ImageOn view table (Placed image) old new result = (result ≡ Ok image) × (new ≡ old)
 ImageOn view table (AtBase bytes) old new result =
-    AsksFirst view table (λ fault. Session fault)
+    AsksThenGoesOn view table (λ fault. Session fault)
     (λ told mid last said. (last ≡ mid) × IsRawImage told.base bytes.items said) old new result

@@ -7,7 +7,7 @@ use Rattle.stm_wire.specs.declared.get_command.Commands.{Commands}
 use Rattle.stm_session.specs.declared.asking_board.Board.{Board}
 use Rattle.stm_session.specs.declared.contact.Told.{Told}
 use Rattle.stm_session.specs.declared.information.Info.{Info}
-use Rattle.stm_work.specs.DeviceText.{erase_code}
+use Rattle.stm_work.specs.DeviceText.{erase_code_text}
 use Rattle.stm_work.specs.JsonLine.{lines_member, number_member, text_member}
 use Rattle.stm_work.specs.UpperHex.{upper_hex}
 
@@ -30,7 +30,7 @@ flash_members info =
 -- the code of the command that erases, and what it leaves
 abbrev pub erase_members : Info → List ℕ
 erase_members info =
-    text_member (codes "erase") (erase_code info.kind)
+    text_member (codes "erase") (erase_code_text info.kind)
     ++ text_member (codes "erased") (upper_hex 2 info.erased)
 
 -- what a device is

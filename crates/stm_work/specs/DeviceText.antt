@@ -36,13 +36,13 @@ abbrev pub flash_text : Info → List ℕ
 flash_text info = base_text info.base ++ pages_text info.pages ++ bytes_text info.size
 
 -- the code of the command that erases
-abbrev pub erase_code : EraseKind → List ℕ
-erase_code Page = codes "43"
-erase_code Extended = codes "44"
+abbrev pub erase_code_text : EraseKind → List ℕ
+erase_code_text Page = codes "43"
+erase_code_text Extended = codes "44"
 
 -- that command
 abbrev pub kind_text : EraseKind → List ℕ
-kind_text kind = line (codes "erase " ++ erase_code kind)
+kind_text kind = line (codes "erase " ++ erase_code_text kind)
 
 -- what a place holds that is erased
 abbrev pub blank_text : ℕ → List ℕ

@@ -45,8 +45,8 @@ is_told told (failure.Otherwise how) = is_of_refusal told
 is_told told failure.NoAnswer = true
 is_told told other = false
 
-abbrev pub told_of : Hint → Failure → Option Hint
-told_of told why = if is_told told why then Some told else None
+abbrev pub hint_told : Hint → Failure → Option Hint
+hint_told told why = if is_told told why then Some told else None
 
 -- of what was done it is told only that an undo is due
 abbrev pub told_done : Hint → Option Hint

@@ -10,17 +10,17 @@ use Rattle.stm_work.specs.declared.hinting.FlashCommand.{FlashCommand}
 use Rattle.stm_work.specs.declared.hinting.FlashCommand.TheVariants as of
 use Rattle.stm_files.specs.declared.turns.Turns.{Turns}
 use Rattle.stm_files.specs.Turn.{TurnData}
-use Rattle.stm_files.specs.Turns.{heard_of}
+use Rattle.stm_files.specs.Turns.{heard_turn}
 
 -- the command whose code was put, with its complement (AN3155, sections 3.4 and 3.6 to 3.8)
-abbrev pub command_of : List ℕ → Option FlashCommand
-command_of (code ∷ check ∷ []) =
+abbrev pub command_put : List ℕ → Option FlashCommand
+command_put (code ∷ check ∷ []) =
     if code == 0x11 && check == 0xEE then Some of.Read
     else if code == 0x31 && check == 0xCE then Some of.Write
     else if code == 0x43 && check == 0xBC then Some of.Erase
     else if code == 0x44 && check == 0xBB then Some of.ExtendedErase
     else None
-command_of _ = None
+command_put _ = None
 
 -- the address that was put, with its check
 abbrev pub address_of : List ℕ → Option ℕ
@@ -28,10 +28,10 @@ address_of (a ∷ b ∷ c ∷ d ∷ check ∷ []) = Some (number_of a b c d)
 address_of _ = None
 
 -- the page that was put as the only one, with its check: its number has two bytes, or one
-abbrev pub page_of : Bool → List ℕ → Option ℕ
-page_of false (count ∷ page ∷ check ∷ []) = Some page
-page_of true (count ∷ more ∷ high ∷ low ∷ check ∷ []) = Some (pair_of high low)
-page_of _ _ = None
+abbrev pub only_page_put : Bool → List ℕ → Option ℕ
+only_page_put false (count ∷ page ∷ check ∷ []) = Some page
+only_page_put true (count ∷ more ∷ high ∷ low ∷ check ∷ []) = Some (pair_of high low)
+only_page_put _ _ = None
 
 -- a command's code was refused
 abbrev pub code_refused_by : Option FlashCommand → Option Hint
@@ -42,18 +42,18 @@ code_refused_by (Some of.Erase) = Some hint.EraseRefused
 code_refused_by (Some of.ExtendedErase) = Some hint.EraseRefused
 
 abbrev pub code_refused : List ℕ → Option Hint
-code_refused put = code_refused_by (command_of put)
+code_refused put = code_refused_by (command_put put)
 
 -- the address or the page behind a command's code was refused
 abbrev pub place_refused_by : Option FlashCommand → List ℕ → Option Hint
 place_refused_by None put = None
 place_refused_by (Some of.Read) put = option_map hint.ReadRefusedAt (address_of put)
 place_refused_by (Some of.Write) put = option_map hint.WriteRefusedAt (address_of put)
-place_refused_by (Some of.Erase) put = option_map hint.PageRefused (page_of false put)
-place_refused_by (Some of.ExtendedErase) put = option_map hint.PageRefused (page_of true put)
+place_refused_by (Some of.Erase) put = option_map hint.PageRefused (only_page_put false put)
+place_refused_by (Some of.ExtendedErase) put = option_map hint.PageRefused (only_page_put true put)
 
 abbrev pub place_refused : List ℕ → List ℕ → Option Hint
-place_refused code put = place_refused_by (command_of code) put
+place_refused code put = place_refused_by (command_put code) put
 
 -- what follows a command's code and an address was refused: the count of a read, the data of a write
 abbrev pub data_refused_by : Option FlashCommand → List ℕ → Option Hint
@@ -62,7 +62,7 @@ data_refused_by (Some of.Write) place = option_map hint.WriteRefusedAt (address_
 data_refused_by _ place = None
 
 abbrev pub data_refused : List ℕ → List ℕ → Option Hint
-data_refused code place = data_refused_by (command_of code) place
+data_refused code place = data_refused_by (command_put code) place
 
 -- a step was refused behind what was acknowledged in the two turns before
 abbrev pub step_refused : List ℕ → List ℕ → List ℕ → Option Hint
@@ -134,4 +134,4 @@ abbrev pub hint_of : Turns → Option Hint
 hint_of turns =
     option_or
     (refused (answered ack turns.ahead) (answered ack turns.before) (answered nack turns.last))
-    (stray (heard_of turns).put (heard_of turns).came)
+    (stray (heard_turn turns).put (heard_turn turns).came)

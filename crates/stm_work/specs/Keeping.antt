@@ -14,7 +14,7 @@ pub record IsFinished (journal : List ℕ) (count : ℕ) : Type 0 where
   pub count_is : depth state ≡ count
 
 -- a journal was given up, none of whose writes and erases is unfinished; so many it had
-pub record IsKept (state : StateData) (told : Answer) : Type 0 where
+pub record IsGivenUp (state : StateData) (told : Answer) : Type 0 where
   pub ended : is_unfinished state ≡ false
   pub count : told ≡ answer.Kept (depth state)
 

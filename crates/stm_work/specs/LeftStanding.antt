@@ -26,6 +26,6 @@ finished_standing before now =
     else Several (before.depth + 1) now.depth
 
 -- which are told: those that came since, and an unfinished newest one also where it was there before
-abbrev pub stands : Standing → Standing → Stands
-stands before now =
+abbrev pub stands_since : Standing → Standing → Stands
+stands_since before now =
     if now.is_unfinished then unfinished_standing before now else finished_standing before now

@@ -34,7 +34,7 @@ use Rattle.stm_work.specs.declared.content.Content.{Content}
 use Rattle.stm_work.specs.declared.content.Content.TheVariants.{Placed, AtBase}
 use Rattle.stm_work.specs.declared.steps.Steps.{Steps}
 use Rattle.stm_work.specs.declared.work.Work.TheVariants as work
-use Rattle.stm_work.specs.Action.{CanGo}
+use Rattle.stm_work.specs.Action.{MayBeLetGo}
 use Rattle.stm_work.specs.Steps.{TakesKnown}
 
 -- the image that a content is on this chip: bytes without a place lie where its flash begins
@@ -65,9 +65,9 @@ pub record IsWritten {R : Type 0} (view : R → RigState) (table : List ChipData
   pub honest : (view new).is_honest
 
 -- the journal is kept, or stays as it is
-abbrev pub IsKept : {R : Type 0} → (R → RigState) → Bool → R → R → Type 0
-IsKept view true written kept = EndsJournal (view written) (view kept)
-IsKept view false written kept = kept ≡ written
+abbrev pub IsJournalKept : {R : Type 0} → (R → RigState) → Bool → R → R → Type 0
+IsJournalKept view true written kept = EndsJournal (view written) (view kept)
+IsJournalKept view false written kept = kept ≡ written
 
 -- The frame of Go was sent whole, to a settled device that had this flash, and behind it nothing:
 -- no call but those that read the journal, settle the device, and send the frame. At each moment
@@ -80,13 +80,13 @@ pub record HasGone (flash : List ℕ) (address : ℕ) (kept new : RigState) : Ty
   pub settled : IsSettled last
   pub flash_is : last.flash ≡ flash
   pub sent : FedAndTaken (go_frame address) last new.device
-  pub left : CanGo address kept.device → new.device.phase ≡ Gone
+  pub left : MayBeLetGo address kept.device → new.device.phase ≡ Gone
   pub journal : new.journal ≡ kept.journal
 
 -- it was let go from this flash, or has it still
-abbrev pub EndsWith : {R : Type 0} → (R → RigState) → List ℕ → Option ℕ → R → R → Type 0
-EndsWith view flash None kept new = (new ≡ kept) × ((view new).device.flash ≡ flash)
-EndsWith view flash (Some address) kept new = HasGone flash address (view kept) (view new)
+abbrev pub EndsLetGo : {R : Type 0} → (R → RigState) → List ℕ → Option ℕ → R → R → Type 0
+EndsLetGo view flash None kept new = (new ≡ kept) × ((view new).device.flash ≡ flash)
+EndsLetGo view flash (Some address) kept new = HasGone flash address (view kept) (view new)
 
 -- What was asked for was done, each step on what the one before left.
 pub record EndsAsAsked {R : Type 0} (view : R → RigState) (table : List ChipData)
@@ -95,8 +95,8 @@ pub record EndsAsAsked {R : Type 0} (view : R → RigState) (table : List ChipDa
   pub written : R
   pub writes : IsWritten view table (image_on chip content) chip flash written
   pub kept : R
-  pub keeps : IsKept view sequel.keeps written kept
-  pub ends : EndsWith view (lay (image_on chip content) chip.base flash) sequel.go kept new
+  pub keeps : IsJournalKept view sequel.keeps written kept
+  pub ends : EndsLetGo view (lay (image_on chip content) chip.base flash) sequel.go kept new
   -- where the journal is kept, it is empty
   pub empty : IsTrue sequel.keeps → (view new).journal ≡ []
 

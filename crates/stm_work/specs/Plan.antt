@@ -44,7 +44,7 @@ IsWatching false question watching = watching ≡ Unwatched
 
 -- What one use does: just this work and what follows it, beside the journal that the options name,
 -- with the chips that the tables say; the device is asked and watched as the options say.
-pub record IsPlan (options : Options) (texts : List (List ℕ)) (is_told : Bool) (does : Work)
+pub record IsUsePlan (options : Options) (texts : List (List ℕ)) (is_told : Bool) (does : Work)
     (sequel : Sequel) (plan : Plan) : Type 0 where
   pub work_is : plan.work ≡ does
   pub sequel_is : plan.sequel ≡ sequel
@@ -67,5 +67,5 @@ abbrev pub AreToldOf : Result Steps Failure → Steps → Type 0
 AreToldOf done told = MatchResult done (λ taken. AreTold taken told) (λ failure. ⊥)
 
 -- what came of steps is told
-abbrev pub Tells : Result Steps Failure → Result Steps Failure → Type 0
-Tells done told = IfOk told (AreToldOf done)
+abbrev pub TellsSteps : Result Steps Failure → Result Steps Failure → Type 0
+TellsSteps done told = IfOk told (AreToldOf done)

@@ -61,25 +61,25 @@ tried_text tried =
     else line (codes "tried: " ++ decimal tried ++ codes " boards")
 
 -- an answer, but for what is told beside it
-abbrev pub text_of : Answer → List ℕ
-text_of answer.Nothing = []
-text_of (answer.Told info) = info_text info
-text_of (answer.ToldBeside info tried) = info_text info
-text_of (answer.Identified told) = told_text told
-text_of (answer.IdentifiedBeside told table) = told_text told ++ table_text (string_bytes table)
-text_of (answer.Bytes bytes) = bytes.items
-text_of (answer.Sum crc) = sum_text crc
-text_of (answer.Written segment pages) = written_text segment pages
-text_of (answer.WrittenAndVerified segment pages bytes) =
+abbrev pub answer_text : Answer → List ℕ
+answer_text answer.Nothing = []
+answer_text (answer.Told info) = info_text info
+answer_text (answer.ToldBeside info tried) = info_text info
+answer_text (answer.Identified told) = told_text told
+answer_text (answer.IdentifiedBeside told table) = told_text told ++ table_text (string_bytes table)
+answer_text (answer.Bytes bytes) = bytes.items
+answer_text (answer.Sum crc) = sum_text crc
+answer_text (answer.Written segment pages) = written_text segment pages
+answer_text (answer.WrittenAndVerified segment pages bytes) =
     written_text segment pages ++ verified_text bytes
-text_of (answer.Verified bytes) = verified_text bytes
-text_of (answer.Erased segment pages) = erased_text segment pages
-text_of (answer.Undone count) = undone_text count
-text_of (answer.UndoneAndVerified count bytes) =
+answer_text (answer.Verified bytes) = verified_text bytes
+answer_text (answer.Erased segment pages) = erased_text segment pages
+answer_text (answer.Undone count) = undone_text count
+answer_text (answer.UndoneAndVerified count bytes) =
     undone_head count ++ behind_text bytes ++ again_text
-text_of (answer.Logged text) = text.items
-text_of (answer.Kept count) = kept_text count
-text_of (answer.KeptBut count left) = kept_text count ++ left_text left
+answer_text (answer.Logged text) = text.items
+answer_text (answer.Kept count) = kept_text count
+answer_text (answer.KeptBut count left) = kept_text count ++ left_text left
 
 -- which board told an answer, where it tells what a device is
 abbrev pub board_text_of : Answer → Board → List ℕ

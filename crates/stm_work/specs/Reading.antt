@@ -9,7 +9,7 @@ use Rattle.stm_session.specs.declared.fault.Fault.{Fault}
 use Rattle.stm_session.specs.declared.fault.Fault.TheVariants.{OutOfFlash}
 use Rattle.stm_session.specs.Meaning.{reads}
 use Rattle.stm_work.specs.declared.answer.Answer.{Answer}
-use Rattle.stm_work.specs.Conduct.{AsksFirst, RunsTold}
+use Rattle.stm_work.specs.Conduct.{AsksThenGoesOn, RunsTold}
 
 -- the part that a range names, where it has a length
 abbrev pub part_given : Option Range → Option (ℕ × ℕ)
@@ -39,7 +39,7 @@ abbrev pub ReadsRange : {R : Type 0} → (R → RigState) → List ChipData → 
     → Result Answer Fault → Type 0
 ReadsRange view table range old new result =
     MatchOption (part_given range)
-    (AsksFirst view table (λ fault. fault)
+    (AsksThenGoesOn view table (λ fault. fault)
     (λ told. ReadsPart view table (to_the_end (start_given range) told.base told.size))
     old new result)
     (λ part. ReadsPart view table (Some part) old new result)

@@ -19,7 +19,7 @@ use Rattle.stm_work.specs.declared.failure.Failure.{Failure}
 use Rattle.stm_work.specs.declared.failure.Failure.TheVariants.{Memory}
 use Rattle.stm_work.specs.declared.steps.Steps.{Steps}
 use Rattle.stm_work.specs.declared.work.Work.{Work}
-use Rattle.stm_work.specs.Action.{Does, Works}
+use Rattle.stm_work.specs.Action.{DoesAction, Works}
 use Rattle.stm_work.specs.Board.{AsksFirst, IsOfBoard, asking_if, once_asked}
 use Rattle.stm_work.specs.Keeping.{IsFinished}
 
@@ -58,7 +58,7 @@ abbrev pub MayGo : {R : Type 0} → (R → RigState) → List ChipData → Optio
     → Type 0
 MayGo view table None old new gone = (new ≡ old) × (gone ≡ Ok tt)
 MayGo view table (Some address) old new gone = (said : Result Answer Failure)
-    × Does view table (action.Go address) old new said
+    × DoesAction view table (action.Go address) old new said
     × MatchResult said (λ done. gone ≡ Ok tt) (λ failure. gone ≡ Err failure)
 
 -- behind a journal that was kept, or wasn't to be, Go is sent; behind one that couldn't be kept
@@ -73,7 +73,7 @@ pub record GoesBehind {R : Type 0} (view : R → RigState) (table : List ChipDat
       × (steps.failure ≡ Some failure))
 
 -- What follows a session that answered.
-pub record Follows {R : Type 0} (view : R → RigState) (table : List ChipData) (board : Option Board)
+pub record FollowsSession {R : Type 0} (view : R → RigState) (table : List ChipData) (board : Option Board)
     (sequel : Sequel) (written new : R) (said : Answer) (steps : Steps) : Type 0 where
   pub named : steps.board ≡ board
   pub answer : steps.answer ≡ said
@@ -90,7 +90,7 @@ pub record TakesKnown {R : Type 0} (view : R → RigState) (table : List ChipDat
   pub said : Result Answer Failure
   pub works : Works view table work old written said
   pub ok : IfOk said (λ answer. (steps : Steps) × (result ≡ Ok steps)
-      × Follows view table board sequel written new answer steps)
+      × FollowsSession view table board sequel written new answer steps)
   pub err : IfErr said (λ failure. (new ≡ written) × (result ≡ Err failure))
 
 -- A device told which board it is. Its size is heard, which changes nothing that the Rig tells of

@@ -16,9 +16,9 @@ pub data AreTried (id : ℕ) : List (List ℕ) → ℕ → Type 0 where
       → AreTried id texts below → TriedOver text id below count
       → AreTried id (texts ++ text ∷ []) count
 
-abbrev pub bytes_of : TableText → List ℕ
-bytes_of table = table.text.items
+abbrev pub table_bytes : TableText → List ℕ
+table_bytes table = table.text.items
 
 -- the texts of the tables of one use, the lowest first
-abbrev pub texts_of : ChipTables → List (List ℕ)
-texts_of tables = bytes_of tables.lowest ∷ map bytes_of tables.over.items
+abbrev pub table_texts : ChipTables → List (List ℕ)
+table_texts tables = table_bytes tables.lowest ∷ map table_bytes tables.over.items

@@ -31,7 +31,7 @@ use Rattle.stm_work.specs.Steps.{MayGo, Stays, TakesKnown, TakesSteps}
 
 -- Watching begins by what is known: where the device may be one of which this is known, the Rig
 -- follows the model as before, and all else that it tells is as it was.
-pub record IsBegun (k : Known) (old new : RigState) : Type 0 where
+pub record IsWatchingBegun (k : Known) (old new : RigState) : Type 0 where
   pub honest : old.is_honest → IsSeen k old.device → new.is_honest
   pub device : new.device ≡ old.device
   pub journal : new.journal ≡ old.journal
@@ -52,8 +52,8 @@ AsksCodes old new answer =
 
 -- At a settled device that follows the model, whose chip the table has, watching begins with nothing
 -- changed.
-abbrev pub Begins : List ChipData → ℕ → RigState → RigState → Result (Unit {0}) Failure → Type 0
-Begins table id old new begun =
+abbrev pub BeginsWatching : List ChipData → ℕ → RigState → RigState → Result (Unit {0}) Failure → Type 0
+BeginsWatching table id old new begun =
     old.is_honest → IsSettled old.device → IsChipWith table id old.device.chip
     → OnOk begun (new.is_honest × (new.device ≡ old.device))
 
@@ -95,7 +95,7 @@ pub record GoesWatched {R : Type 0} (view : R → RigState) (table : List ChipDa
     (old new : R) (gone : Result (Unit {0}) Failure) : Type 0 where
   pub begun : R
   pub said : Result (Unit {0}) Failure
-  pub begins : Begins table id (view old) (view begun) said
+  pub begins : BeginsWatching table id (view old) (view begun) said
   pub goes : MatchResult said (λ done. MayGo view table (Some address) begun new gone)
       (λ failure. (new ≡ begun) × (gone ≡ Err failure))
 
@@ -127,7 +127,7 @@ pub record TakesSettled {R : Type 0} (view : R → RigState) (table : List ChipD
     (result : Result Steps Failure) : Type 0 where
   pub begun : R
   pub said : Result (Unit {0}) Failure
-  pub begins : Begins table id (view old) (view begun) said
+  pub begins : BeginsWatching table id (view old) (view begun) said
   pub goes_on : MatchResult said
       (λ done. TakesAndGoes view table id board work sequel begun new result)
       (λ failure. (new ≡ begun) × (result ≡ Err failure))

@@ -1,6 +1,6 @@
 // What is done on a device, over any Rig.
 ghost use Rattle.std.specs.Prelude.{◌≡◌, IfOk};
-ghost use Rattle.stm_work.specs.Action.{Does, IsFor, on_fresh, told_returned};
+ghost use Rattle.stm_work.specs.Action.{DoesAction, IsFor, on_fresh, told_returned};
 
 use crate::answer::Answer;
 use crate::changing::{erase, erase_all, verify, write, write_and_verify};
@@ -126,7 +126,7 @@ impl Action {
         rig: &mut L,
         table: &Table,
     ) -> Result<Answer, Failure<'a>>
-        ensures { Does L.view table.now self rig.old rig.new result }
+        ensures { DoesAction L.view table.now self rig.old rig.new result }
     {
         match self {
             Action::Info => Ok(Answer::Told(info(alloc, rig, table)?)),

@@ -4,10 +4,10 @@ ghost use Rattle.std.specs.Prelude.{◌++◌, IfOk, OnOk, Some};
 ghost use Rattle.stm_work.specs.Answer.{IsBeside, IsToldBeside};
 ghost use Rattle.stm_work.specs.DeviceText.{board_text, info_text, table_text, told_text};
 ghost use Rattle.stm_work.specs.Printing.{board_text_of, erased_text, kept_text, left_text};
-ghost use Rattle.stm_work.specs.Printing.{sum_text, text_of, tried_text, tried_text_of};
+ghost use Rattle.stm_work.specs.Printing.{sum_text, answer_text, tried_text, tried_text_of};
 ghost use Rattle.stm_work.specs.Printing.{again_text, behind_text, undone_head, undone_text};
 ghost use Rattle.stm_work.specs.Printing.{verified_text, written_text};
-ghost use Rattle.stm_work.specs.TriedBoards.{texts_of};
+ghost use Rattle.stm_work.specs.TriedBoards.{table_texts};
 
 use crate::chip_tables::ChipTables;
 use crate::device_text::{print_beside, print_board, print_info, print_told};
@@ -88,7 +88,7 @@ impl Answer {
         names: TableNames,
         tables: &ChipTables<'a>,
     ) -> Result<Answer, Failure<'a>>
-        ensures { IfOk result (IsBeside (texts_of tables.now) self) }
+        ensures { IfOk result (IsBeside (table_texts tables.now) self) }
     {
         match self {
             Answer::Told(info) => Ok(told_beside(alloc, info, tables)?),
@@ -129,7 +129,7 @@ impl Answer {
     /// Prints what is told on standard output.
     pub fn print<O: Write>(&self, out: &mut O) -> io::Result<()>
         ensures { OnOk result (Appends (O.contents out.old) (O.contents out.new)
-            (text_of self.now)) }
+            (answer_text self.now)) }
     {
         match self {
             Answer::Told(info) => print_info(info, out),
@@ -159,7 +159,7 @@ impl Answer {
 
 /// What a device is, and how many real boards with its chip were tried.
 fn told_beside(alloc: Global, info: Info, tables: &ChipTables<'_>) -> Result<Answer, TableFault>
-    ensures { IfOk result (IsToldBeside (texts_of tables.now) info) }
+    ensures { IfOk result (IsToldBeside (table_texts tables.now) info) }
 {
     let tried = tables.tried(alloc, info.id)?;
     Ok(Answer::ToldBeside { info, tried })

@@ -1,7 +1,7 @@
 // A write that is done again where its line or its protocol failed: the loop, over what does it.
 ghost use Rattle.std.specs.Prelude.{◌≡◌, ◌≤◌, ℕ, List, Some, Ok};
-ghost use Rattle.stm_work.specs.Again.{Act, DoesAgain, InTurns, IsTurn, LeadTo, Retries, TakesBack};
-ghost use Rattle.stm_work.specs.Again.{Tells};
+ghost use Rattle.stm_work.specs.Again.{Act, DoesAgain, InTurns, IsTurn, LeadTo, Retries, UndoesSince};
+ghost use Rattle.stm_work.specs.Again.{TellsStanding};
 ghost use Rattle.stm_work.specs.Action.{IsDoneAgain};
 
 use crate::failure::Failure;
@@ -45,9 +45,9 @@ pub trait Attempts<'a> {
 }
 
 /// Takes back just the segments that came since, and answers how many.
-fn take_back<'a, A: Attempts<'a>>(all: &mut A, before: Standing) -> Result<u32, Failure<'a>>
+fn undo_since<'a, A: Attempts<'a>>(all: &mut A, before: Standing) -> Result<u32, Failure<'a>>
     ensures { (acts : List Act) × LeadTo A.does acts all.old all.new
-        × TakesBack before acts result }
+        × UndoesSince before acts result }
 {
     let now = match all.read() {
         Ok(now) => now,
@@ -91,7 +91,7 @@ fn take_turn<'a, A: Attempts<'a>>(
     ensures { (acts : List Act) × LeadTo A.does acts all.old all.new
         × IsTurn work.now before turn most failure.entry acts result }
 {
-    let back = take_back(all, before);
+    let back = undo_since(all, before);
     all.tell_turn(turn, most, &failure, &back);
     match back {
         Ok(_) => attempt_copy(alloc, all, work, failure),
@@ -133,7 +133,7 @@ fn tell_failed<'a, A: Attempts<'a>>(
     done: &Result<Steps<'a>, Failure<'a>>,
 )
     ensures { (acts : List Act) × LeadTo A.does acts all.old all.new
-        × Tells before acts done.now }
+        × TellsStanding before acts done.now }
 {
     match done {
         Ok(_) => {}

@@ -2,8 +2,8 @@
 ghost use Rattle.std.specs.Prelude.{◌≡◌, IfErr, IfOk};
 ghost use Rattle.stm_chip.specs.Document.{IsTableOf};
 ghost use Rattle.stm_chip.specs.Over.{IsOver};
-ghost use Rattle.stm_work.specs.ChipTables.{AreChips, IsRefused};
-ghost use Rattle.stm_work.specs.TriedBoards.{AreTried, TriedOver, bytes_of, texts_of};
+ghost use Rattle.stm_work.specs.ChipTables.{AreChips, IsTableRefused};
+ghost use Rattle.stm_work.specs.TriedBoards.{AreTried, TriedOver, table_bytes, table_texts};
 
 use crate::failure::Failure;
 use std::alloc::Global;
@@ -43,8 +43,8 @@ impl<'a> TableText<'a> {
 
     /// Its chips. Of a table that no word names it is told which is refused.
     fn chips(&self, alloc: Global) -> Result<Table, Failure<'a>>
-        ensures chips { IfOk result (IsTableOf (bytes_of self.now)) }
-        ensures fault { IfErr result (IsRefused self.now) }
+        ensures chips { IfOk result (IsTableOf (table_bytes self.now)) }
+        ensures fault { IfErr result (IsTableRefused self.now) }
     {
         match read_table(alloc, self.text.as_slice()) {
             Ok(table) => Ok(table),
@@ -57,7 +57,7 @@ impl<'a> TableText<'a> {
     /// How many real boards of this chip were tried, as it tells; where it has no such chip, as many
     /// as the tables below it tell.
     fn tried(&self, alloc: Global, id: u16, below: usize) -> Result<usize, TableFault>
-        ensures { IfOk result (TriedOver (bytes_of self.now) id below) }
+        ensures { IfOk result (TriedOver (table_bytes self.now) id below) }
     {
         match tried_boards(alloc, self.text.as_slice(), id)? {
             Some(count) => Ok(count),
@@ -107,7 +107,7 @@ impl<'a> ChipTables<'a> {
 
     /// How many real boards of this chip were tried, as the table tells whose chip is taken.
     pub fn tried(&self, alloc: Global, id: u16) -> Result<usize, TableFault>
-        ensures { IfOk result (AreTried id (texts_of self.now)) }
+        ensures { IfOk result (AreTried id (table_texts self.now)) }
     {
         let mut count = self.lowest.tried(alloc, id, 0)?;
         for table in &self.over {
@@ -118,7 +118,7 @@ impl<'a> ChipTables<'a> {
 
     /// Their chips once more.
     pub fn copy(&self, alloc: Global) -> Result<Table, Failure<'a>>
-        ensures { IfOk result (AreChips (texts_of self.now)) }
+        ensures { IfOk result (AreChips (table_texts self.now)) }
     {
         let mut chips = self.lowest.chips(alloc)?;
         for text in &self.over {

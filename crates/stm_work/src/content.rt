@@ -1,6 +1,6 @@
 // The image that a file holds, as far as it can be read before the device is known.
 ghost use Rattle.std.specs.Prelude.{◌≡◌, Ok, IfOk, IfErr, List, ℕ};
-ghost use Rattle.stm_work.specs.Content.{ComesOf, ImageOn, IsCopy, IsNoPlace, IsPlace, has_room, is_hex};
+ghost use Rattle.stm_work.specs.Content.{ComesOf, ImageOn, IsCopy, IsNoPlace, LiesFrom, has_room, is_hex};
 
 use crate::failure::Failure;
 use std::alloc::{AllocError, Global};
@@ -89,7 +89,7 @@ fn is_hex(bytes: &[u8], is_raw: bool) -> bool
 
 /// The image of raw bytes from a place on; a length that is given has to have room for them.
 fn place<'a>(alloc: Global, bytes: &[u8], range: Range) -> Result<Image, Failure<'a>>
-    ensures placed { IfOk result (IsPlace range bytes.now) }
+    ensures placed { IfOk result (LiesFrom range bytes.now) }
     ensures refused { IfErr result (IsNoPlace range bytes.now) }
 {
     let image = read_raw(alloc, bytes, range.start)?;

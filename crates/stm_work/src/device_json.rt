@@ -6,7 +6,7 @@ ghost use Rattle.stm_work.specs.DeviceJson.{erase_members, flash_members, info_m
 ghost use Rattle.stm_work.specs.DeviceJson.{size_members, told_members, unique_members};
 ghost use Rattle.stm_work.specs.UpperHex.{upper_hex};
 
-use crate::device_text::erase_code;
+use crate::device_text::erase_code_text;
 use crate::json_line::JsonLine;
 use std::alloc::{AllocError, Global};
 use stm_files::BoardName;
@@ -66,7 +66,7 @@ fn add_erase(alloc: Global, line: &mut JsonLine, info: &Info) -> Result<(), Allo
     ensures { OnOk result (line.new.text.items
         ≡ line.old.text.items ++ erase_members info.now) }
 {
-    line.text("erase", erase_code(info.kind))?;
+    line.text("erase", erase_code_text(info.kind))?;
     line.text("erased", two_digits(alloc, info.erased)?.as_str())
 }
 

@@ -3,7 +3,7 @@ ghost use Rattle.std.specs.Prelude.{◌≡◌, ◌++◌, OnOk};
 ghost use Rattle.std.specs.Io.KnownBytes.{Appends};
 ghost use Rattle.stm_work.specs.DeviceText.{base_text, beside_text, blank_text, board_text};
 ghost use Rattle.stm_work.specs.DeviceText.{bytes_text, code_text, codes_text, commands_text};
-ghost use Rattle.stm_work.specs.DeviceText.{erase_code, erase_text, flash_text, id_text};
+ghost use Rattle.stm_work.specs.DeviceText.{erase_code_text, erase_text, flash_text, id_text};
 ghost use Rattle.stm_work.specs.DeviceText.{info_text, kind_text, pages_text, size_text};
 ghost use Rattle.stm_work.specs.DeviceText.{table_text, told_text, unique_text, version_text};
 
@@ -113,12 +113,12 @@ fn print_kind<O: Write>(kind: EraseKind, out: &mut O) -> io::Result<()>
     ensures { OnOk result (Appends (O.contents out.old) (O.contents out.new)
         (kind_text kind)) }
 {
-    writeln!(out, "erase {}", erase_code(kind))
+    writeln!(out, "erase {}", erase_code_text(kind))
 }
 
 /// The code of the command that erases.
-pub fn erase_code(kind: EraseKind) -> &'static str
-    ensures { result.now ≡ erase_code kind }
+pub fn erase_code_text(kind: EraseKind) -> &'static str
+    ensures { result.now ≡ erase_code_text kind }
 {
     match kind {
         EraseKind::Page => "43",

@@ -1,7 +1,7 @@
 // What came on a line that failed, by name, and what to do.
 
 ghost use Rattle.std.specs.Prelude.{◌≡◌};
-ghost use Rattle.stm_work.specs.HintTold.{behind_fault, is_of_refusal, is_told, told_done, told_of};
+ghost use Rattle.stm_work.specs.HintTold.{behind_fault, is_of_refusal, is_told, told_done, hint_told};
 ghost use Rattle.stm_work.specs.NextStep.{hint_behind, hint_behind_done};
 
 use crate::failure::Failure;
@@ -107,7 +107,7 @@ impl Hint {
     /// The same, where it tells more of a failure. That nothing came says nothing of a line that was
     /// closed.
     pub fn of(self, failure: &Failure) -> Option<Hint>
-        ensures { result ≡ told_of self failure.now }
+        ensures { result ≡ hint_told self failure.now }
     {
         if self.is_told(failure) {
             Some(self)

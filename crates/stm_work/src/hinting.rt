@@ -1,7 +1,7 @@
 // What is told of the last turns on a line.
 ghost use Rattle.std.specs.Prelude.{◌≡◌};
 ghost use Rattle.stm_work.specs.Hinting.{address_of, answer_told, answered, begins, code_refused};
-ghost use Rattle.stm_work.specs.Hinting.{command_of, data_refused, hint_of, page_of, place_refused};
+ghost use Rattle.stm_work.specs.Hinting.{command_put, data_refused, hint_of, only_page_put, place_refused};
 ghost use Rattle.stm_work.specs.Hinting.{id_counted, id_told, refused, reply_told, says_busy};
 ghost use Rattle.stm_work.specs.Hinting.{step_refused, stray};
 
@@ -28,8 +28,8 @@ pub enum FlashCommand {
 }
 
 /// The command whose code was put, with its complement.
-fn command_of(put: &[u8]) -> Option<FlashCommand>
-    ensures { result ≡ command_of put.now }
+fn command_put(put: &[u8]) -> Option<FlashCommand>
+    ensures { result ≡ command_put put.now }
 {
     match put {
         [0x11, 0xEE] => Some(FlashCommand::Read),
@@ -51,8 +51,8 @@ fn address_of(put: &[u8]) -> Option<u32>
 }
 
 /// The page that was put behind the code of such an erase, as the only one, with its check.
-fn page_of(is_extended: bool, put: &[u8]) -> Option<u16>
-    ensures { result ≡ page_of is_extended put.now }
+fn only_page_put(is_extended: bool, put: &[u8]) -> Option<u16>
+    ensures { result ≡ only_page_put is_extended put.now }
 {
     match put {
         [_count, page, _check] if !is_extended => Some(u16::from(*page)),
@@ -67,7 +67,7 @@ fn page_of(is_extended: bool, put: &[u8]) -> Option<u16>
 fn of_code(put: &[u8]) -> Option<Hint>
     ensures { result ≡ code_refused put.now }
 {
-    match command_of(put)? {
+    match command_put(put)? {
         FlashCommand::Read => Some(Hint::ReadRefused),
         FlashCommand::Write => Some(Hint::WriteRefused),
         FlashCommand::Erase | FlashCommand::ExtendedErase => Some(Hint::EraseRefused),
@@ -78,11 +78,11 @@ fn of_code(put: &[u8]) -> Option<Hint>
 fn of_place(code: &[u8], put: &[u8]) -> Option<Hint>
     ensures { result ≡ place_refused code.now put.now }
 {
-    match command_of(code)? {
+    match command_put(code)? {
         FlashCommand::Read => Some(Hint::ReadRefusedAt(address_of(put)?)),
         FlashCommand::Write => Some(Hint::WriteRefusedAt(address_of(put)?)),
-        FlashCommand::Erase => Some(Hint::PageRefused(page_of(false, put)?)),
-        FlashCommand::ExtendedErase => Some(Hint::PageRefused(page_of(true, put)?)),
+        FlashCommand::Erase => Some(Hint::PageRefused(only_page_put(false, put)?)),
+        FlashCommand::ExtendedErase => Some(Hint::PageRefused(only_page_put(true, put)?)),
     }
 }
 
@@ -90,7 +90,7 @@ fn of_place(code: &[u8], put: &[u8]) -> Option<Hint>
 fn of_data(code: &[u8], place: &[u8]) -> Option<Hint>
     ensures { result ≡ data_refused code.now place.now }
 {
-    match command_of(code)? {
+    match command_put(code)? {
         FlashCommand::Read => Some(Hint::ReadRefusedAt(address_of(place)?)),
         FlashCommand::Write => Some(Hint::WriteRefusedAt(address_of(place)?)),
         FlashCommand::Erase | FlashCommand::ExtendedErase => None,

@@ -1,6 +1,6 @@
 // What a journal says of the write that was begun, and how that is told.
 ghost use Rattle.std.specs.Prelude.{◌≡◌};
-ghost use Rattle.stm_work.specs.LeftStanding.{begun_since, stands};
+ghost use Rattle.stm_work.specs.LeftStanding.{begun_since, stands_since};
 
 use std::fmt;
 use std::fmt::{Display, Formatter, Write};
@@ -42,7 +42,7 @@ impl Stands {
     /// Which stand behind those that there were, and an unfinished one also where it was there
     /// before.
     pub fn of(before: Standing, now: Standing) -> Stands
-        ensures { result ≡ stands before now }
+        ensures { result ≡ stands_since before now }
     {
         let newest = now.depth;
         match (now.begun_since(before), now.is_unfinished) {

@@ -4,7 +4,7 @@ ghost use Rattle.stm_work.specs.OneCall.{CallsEndAsAsked};
 ghost use Rattle.stm_work.specs.WholeCalls.{WholeCallsEndAsAsked};
 
 use stm_session::{
-    a_ready_device_can_begin, an_unrefused_journal_can_be_taken_back,
+    a_ready_device_can_begin, an_unrefused_journal_can_be_undone,
     the_first_difference_is_the_first, told_board_is_the_devices,
 };
 use stm_wire::Rig;
@@ -16,7 +16,7 @@ use stm_wire::Rig;
 pub fn a_call_ends_as_asked<L: Rig>()
     ensures { CallsEndAsAsked L L.view }
 {
-    an_unrefused_journal_can_be_taken_back();
+    an_unrefused_journal_can_be_undone();
     a_ready_device_can_begin();
     the_first_difference_is_the_first();
 }

@@ -1,5 +1,5 @@
 // The journal's file of one use: whether it serves, and whether what was added to it stays.
-ghost use Rattle.stm_work.specs.Plan.{Tells};
+ghost use Rattle.stm_work.specs.Plan.{TellsSteps};
 
 use crate::failure::Failure;
 use crate::steps::{Steps, failed_by, failure_of};
@@ -46,7 +46,7 @@ pub fn done_on<'a, R: Locks>(
     name: &'a str,
     done: Result<Steps<'a>, Failure<'a>>,
 ) -> Result<Steps<'a>, Failure<'a>>
-    ensures { Tells done.entry result }
+    ensures { TellsSteps done.entry result }
 {
     if let Some(why) = journal.take_refusal() {
         return Err(Failure::of_journal(why, name));

@@ -1,7 +1,7 @@
 // The plan of one use of a device: what is done, and how, by its words and its tables.
 ghost use Rattle.std.specs.Prelude.{◌≡◌, IfOk};
-ghost use Rattle.stm_work.specs.Plan.{IsPlan, IsWatching, is_asked};
-ghost use Rattle.stm_work.specs.TriedBoards.{texts_of};
+ghost use Rattle.stm_work.specs.Plan.{IsUsePlan, IsWatching, is_asked};
+ghost use Rattle.stm_work.specs.TriedBoards.{table_texts};
 
 use crate::board::Question;
 use crate::chip_tables::ChipTables;
@@ -38,7 +38,7 @@ impl<'a> Plan<'a> {
         is_told: bool,
     ) -> Result<Plan<'a>, Failure<'a>>
         ensures { IfOk result
-            (IsPlan options.now (texts_of tables.now) is_told work sequel.now) }
+            (IsUsePlan options.now (table_texts tables.now) is_told work sequel.now) }
     {
         let question = question_of(options, &work, is_told);
         let watching = watching_of(rt, options, tables, &question)?;

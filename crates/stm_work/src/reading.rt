@@ -1,7 +1,7 @@
 // Reading the flash, or a part of it.
 ghost use Rattle.std.specs.Prelude.{◌≡◌, ◌∷◌, [], IfOk};
 ghost use Rattle.stm_session.specs.Meaning.{reads};
-ghost use Rattle.stm_work.specs.Answer.{IsRead};
+ghost use Rattle.stm_work.specs.Answer.{IsReadAnswer};
 ghost use Rattle.stm_work.specs.Conduct.{RunsTold};
 ghost use Rattle.stm_work.specs.Reading.{ReadsRange, part_given, start_given, to_the_end};
 
@@ -79,7 +79,7 @@ pub fn read_bytes<L: Rig>(
 ) -> Result<Answer, Fault>
     ensures runs { let old = L.view rig.old in let new = L.view rig.new in
         RunsTold table.now (reads start length ∷ []) old new result }
-    ensures told { IfOk result (IsRead length) }
+    ensures told { IfOk result (IsReadAnswer length) }
 {
     let commands = [Command::Read { start, length }];
     let report = run(alloc, rig, table, &commands)?;

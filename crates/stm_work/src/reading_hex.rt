@@ -3,7 +3,7 @@ ghost use Rattle.std.specs.Prelude.{◌≡◌, IfOk, is_some};
 ghost use Rattle.stm_image.specs.Canon.{canon};
 ghost use Rattle.stm_image.specs.Pairs.{Pairs};
 ghost use Rattle.stm_work.specs.declared.failure.Failure.TheVariants.{Session};
-ghost use Rattle.stm_work.specs.Conduct.{AsksFirst};
+ghost use Rattle.stm_work.specs.Conduct.{AsksThenGoesOn};
 ghost use Rattle.stm_work.specs.ReadingFor.{IsHexOf, ReadsAsHex, ReadsPartAsHex, part_of};
 
 use crate::answer::Answer;
@@ -25,7 +25,7 @@ pub fn read_as_hex<'a, L: Rig>(
     range: Option<Range>,
     skips_blank: bool,
 ) -> Result<Answer, Failure<'a>>
-    ensures { AsksFirst L.view table.now (λ fault. Session fault)
+    ensures { AsksThenGoesOn L.view table.now (λ fault. Session fault)
         (ReadsAsHex L.view table.now range skips_blank) rig.old rig.new result }
 {
     let told = info(alloc, rig, table)?;

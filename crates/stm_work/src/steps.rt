@@ -2,8 +2,8 @@
 // before answered Ok.
 ghost use Rattle.std.specs.Io.KnownBytes.{Appends};
 ghost use Rattle.std.specs.Prelude.{OnOk};
-ghost use Rattle.stm_work.specs.Plan.{Tells};
-ghost use Rattle.stm_work.specs.Steps.{Follows, MayGo, MayKeep, TakesAsked, TakesKnown};
+ghost use Rattle.stm_work.specs.Plan.{TellsSteps};
+ghost use Rattle.stm_work.specs.Steps.{FollowsSession, MayGo, MayKeep, TakesAsked, TakesKnown};
 ghost use Rattle.stm_work.specs.Steps.{TakesSteps, TakesTold};
 ghost use Rattle.stm_work.specs.StepsText.{asked_text, stays_text, steps_text};
 ghost use Rattle.stm_work.specs.WholeCalls.{WritesAsAsked};
@@ -188,7 +188,7 @@ fn follow<'a, L: Keeper>(
     journal: &'a str,
     sequel: &Sequel<'a>,
 ) -> Steps<'a>
-    ensures { Follows L.view table.now board sequel.now rig.old rig.new answer result }
+    ensures { FollowsSession L.view table.now board sequel.now rig.old rig.new answer result }
 {
     match keep(alloc, rig, journal, sequel) {
         Ok(kept) => Steps {
@@ -253,7 +253,7 @@ pub fn failed_by<'a>(
     done: Result<Steps<'a>, Failure<'a>>,
     failure: Failure<'a>,
 ) -> Result<Steps<'a>, Failure<'a>>
-    ensures { Tells done.entry result }
+    ensures { TellsSteps done.entry result }
 {
     match done {
         Ok(steps) if steps.failure.is_none() => Ok(steps),

@@ -1,5 +1,5 @@
 // A Rig that can be watched.
-ghost use Rattle.stm_work.specs.Watching.{IsBegun};
+ghost use Rattle.stm_work.specs.Watching.{IsWatchingBegun};
 
 use crate::keeper::Keeper;
 use stm_watch::{Watch, WatchRig};
@@ -8,7 +8,7 @@ use stm_watch::{Watch, WatchRig};
 pub trait Watchable: Keeper {
     /// Holds each reply against this from here on.
     fn watch_by(&mut self, watch: Watch)
-        ensures { IsBegun watch (Self.view self.old) (Self.view self.new) };
+        ensures { IsWatchingBegun watch (Self.view self.old) (Self.view self.new) };
 }
 
 impl<L: Keeper + Drop> Watchable for WatchRig<L> {

@@ -1,7 +1,7 @@
 // A session each of whose replies has to be one that a device of the model could give, from the
 // question who the device is on.
-ghost use Rattle.stm_work.specs.Plan.{Tells};
-ghost use Rattle.stm_work.specs.Watching.{AsksCodes, Begins, GoesIf, GoesWatched, TakesFromBoard};
+ghost use Rattle.stm_work.specs.Plan.{TellsSteps};
+ghost use Rattle.stm_work.specs.Watching.{AsksCodes, BeginsWatching, GoesIf, GoesWatched, TakesFromBoard};
 ghost use Rattle.stm_work.specs.Watching.{TakesAndGoes, TakesFromId, TakesSettled, TakesToldWatched};
 ghost use Rattle.stm_work.specs.Watching.{TakesWatched};
 
@@ -57,7 +57,7 @@ fn begin<'a, L: Watchable>(
     table: &Table,
     id: u16,
 ) -> Result<(), Failure<'a>>
-    ensures { Begins table.now id (L.view rig.old) (L.view rig.new) result }
+    ensures { BeginsWatching table.now id (L.view rig.old) (L.view rig.new) result }
 {
     honest_passes();
     let Some(chip) = table.find(id) else {
@@ -238,7 +238,7 @@ pub fn done_watched<'a, L: Rig + Drop>(
     rig: &WatchRig<L>,
     done: Result<Steps<'a>, Failure<'a>>,
 ) -> Result<Steps<'a>, Failure<'a>>
-    ensures { Tells done.entry result }
+    ensures { TellsSteps done.entry result }
 {
     let Some(refusal) = rig.refusal() else {
         return done;

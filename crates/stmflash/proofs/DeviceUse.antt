@@ -13,8 +13,8 @@ use Rattle.stm_work.specs.declared.plan.Plan.{Plan}
 use Rattle.stm_work.specs.declared.steps.Steps.{Steps}
 use Rattle.stm_work.specs.declared.work.Work.{Work}
 use Rattle.stmflash.specs.DeviceUse.{AreOutOf, TakesAround, UsesOn, UsesOnce, UsesPlan}
-use Rattle.stm_work.specs.Plan.{AreTold, IsPlan, Tells}
-use Rattle.stm_work.specs.Watching.{IsBegun}
+use Rattle.stm_work.specs.Plan.{AreTold, IsUsePlan, TellsSteps}
+use Rattle.stm_work.specs.Watching.{IsWatchingBegun}
 
 -- where just what was so at Ok answers Ok, it is so
 pub ok-of : {A E : Type 0} (P : A → Type 0) (out last : Result A E) → IfOk out P
@@ -34,8 +34,8 @@ are-told-again first mid last before then =
       whole = λ none. let same = then.whole none in same ∙ before.whole (subst P same none);
     }
 
-pub tells-again : (first mid last : Result Steps Failure) → Tells first mid → Tells mid last
-    → Tells first last
+pub tells-again : (first mid last : Result Steps Failure) → TellsSteps first mid → TellsSteps mid last
+    → TellsSteps first last
 tells-again first mid (Err failure) before then = tt
 tells-again first (Err failure) (Ok last) before then = absurd then
 tells-again (Err failure) (Ok mid) (Ok last) before then = absurd before
@@ -45,12 +45,12 @@ tells-again (Ok first) (Ok mid) (Ok last) before then = are-told-again first mid
 pub begun-inner : {A L : Type 0} (inner_view : L → RigState) (known first : Known)
     (refusal : Option A) (line journal : ℕ) (inner before : L) → first ≡ known → refusal ≡ None
     → inner ≡ before
-    → IsBegun known (inner_view before) (watched first refusal line journal (inner_view inner))
+    → IsWatchingBegun known (inner_view before) (watched first refusal line journal (inner_view inner))
 begun-inner {A} {L} inner_view known first refusal line journal inner before same none is =
     let old = inner_view before in
-    let P : Known → Type 0 = λ k. IsBegun known old (watched k refusal line journal (inner_view inner)) in
-    let Q : Option A → Type 0 = λ r. IsBegun known old (watched known r line journal (inner_view inner)) in
-    let S : L → Type 0 = λ x. IsBegun known old (watched {A = A} known None line journal (inner_view x)) in
+    let P : Known → Type 0 = λ k. IsWatchingBegun known old (watched k refusal line journal (inner_view inner)) in
+    let Q : Option A → Type 0 = λ r. IsWatchingBegun known old (watched known r line journal (inner_view inner)) in
+    let S : L → Type 0 = λ x. IsWatchingBegun known old (watched {A = A} known None line journal (inner_view x)) in
     subst P (sym same)
     (subst Q (sym none)
     (subst S (sym is)
@@ -66,14 +66,14 @@ begun-inner {A} {L} inner_view known first refusal line journal inner before sam
 pub uses-plan : {R L : Type 0} (view : R → RigState) (inner : R → L) (inner_view : L → RigState)
     (known : Known) (plan : Plan) (before after : L) (is_out : Bool)
     (told ended out : Result Steps Failure)
-    → TakesAround view inner inner_view known plan before after told → Tells told ended
+    → TakesAround view inner inner_view known plan before after told → TellsSteps told ended
     → IfOk out (AreOutOf is_out ended) → IfOk out (UsesPlan view is_out plan)
 uses-plan view inner inner_view known plan before after is_out told ended (Err failure) takes tells are =
     tt
 uses-plan view inner inner_view known plan before after is_out told ended (Ok steps) takes tells are =
     by ended tells are
   where
-    by : (ended : Result Steps Failure) → Tells told ended → AreOutOf is_out ended steps
+    by : (ended : Result Steps Failure) → TellsSteps told ended → AreOutOf is_out ended steps
         → UsesPlan view is_out plan steps
     by (Err failure) tells are = absurd are
     by (Ok last) tells are =
@@ -107,7 +107,7 @@ module _ {A B : Type 0} (simulated : A → RigState) (connected : B → RigState
   -- one use, by its plan
   pub uses-once : (options : Options) (texts : List (List ℕ)) (is_told : Bool) (does : Work)
       (sequel : Sequel) (is_out : Bool) (plan : Plan) (came : Result Steps Failure)
-      → IsPlan options texts is_told does sequel plan
+      → IsUsePlan options texts is_told does sequel plan
       → IfOk came (UsesOn simulated connected options.device is_out plan)
       → IfOk came (UsesOnce simulated connected options texts does sequel is_out)
   uses-once options texts is_told does sequel is_out plan (Err failure) is uses = tt

@@ -12,7 +12,7 @@ use Rattle.stm_work.specs.Answer.{is_flash}
 use Rattle.stm_work.specs.ShortLine.{short_line}
 use Rattle.stm_work.specs.StepsText.{steps_text}
 use Rattle.stm_work.specs.ToldJson.{AreLines, answer_name}
-use Rattle.stmflash.specs.Printed.{ArePrinted, AreStepsOf, IsDone, IsStatusOf, IsTextOf, IsTold}
+use Rattle.stmflash.specs.Printed.{ArePrinted, AreStepsOf, IsDone, IsStatusOf, IsTextOf, CameToSteps}
 
 module _ (is_json : Bool) (hint : Option Hint) (steps : Steps) (old new : Option (List ℕ)) where
   -- this text was printed of the steps
@@ -67,7 +67,7 @@ module _ {A B : Type 0} (simulated : A → RigState) (connected : B → RigState
   module _ (request : Request) (is_json : Bool) (hint : Option Hint) (old new : Option (List ℕ))
       (status : ℕ) (steps : Steps) (of : AreStepsOf simulated connected request steps) where
     pub is-told : IsStatusOf is_json hint steps old new status
-        → IsTold simulated connected request is_json old new status
+        → CameToSteps simulated connected request is_json old new status
     is-told told = record { steps = steps; of = of; hint = hint; told = told }
 
     pub is-done : IsStatusOf is_json hint steps old new status → (status ≡ 0 → steps.failure ≡ None)

@@ -6,11 +6,11 @@ use Rattle.stm_wire.specs.declared.verdict.Verdict.{Verdict}
 use Rattle.stm_wire.specs.declared.verdict.Verdict.TheVariants.{Done, Refused, Loose}
 use Rattle.stm_wire.specs.Chip.{ChipData, fits_inside, is_inside}
 use Rattle.stm_wire.specs.Effect.{Change, Nothing, ErasePages, EraseAll, Write, change_of, erase_change, extended_change, write_change}
-use Rattle.stm_wire.specs.Exchange.{after_address, all_exist, all_verdict, at_end, command_verdict, complement, done_if, erase_verdict, extended_verdict, is_listed, number_of, pair_of, pairs_of, pages_verdict, verdict, write_verdict, xor}
+use Rattle.stm_wire.specs.Exchange.{after_address, all_exist, all_verdict, at_end, command_verdict, complement, done_if, erase_verdict, extended_verdict, is_listed, number_of, pair_of, two_byte_numbers, pages_verdict, verdict, write_verdict, xor}
 use Rattle.stm_wire.specs.Device.{Device, Phase, Fresh, Connected, Gone}
-use Rattle.stm_files.specs.Replies.{begun, telling}
+use Rattle.stm_files.specs.Replies.{telling_begun, telling}
 use Rattle.stm_files.specs.Serving.{fed_all}
-use Rattle.stmflash.specs.ProtectedPages.{Serves, Spares, all_check, changes_any, check_due, completes_change, erase_check, extended_check, fed_behind, fed_in, fed_to, guarding, is_check, write_check}
+use Rattle.stmflash.specs.ProtectedPages.{Serves, Spares, all_check, changes_any, check_due, completes_change, erase_check, extended_check, fed_behind, fed_in, fed_while_protected, guarding, is_check, write_check}
 
 -- of two tests, the first passes where the verdict is done
 done-first : (a b : Bool) → Some (done_if (a && b)) ≡ Some Done → a ≡ true
@@ -117,11 +117,11 @@ module _ (x : ℕ) where
     some-pairs : (high low : ℕ) (pages : List ℕ)
         → Due (pages_verdict chip (high ∷ low ∷ []) (2 * (pair_of high low + 1)) (pages ++ x ∷ []))
         (if length pages == 2 * (pair_of high low + 1) then Some (xor (high ∷ low ∷ pages)) else None)
-        (ErasePages (pairs_of (take (2 * (pair_of high low + 1)) (pages ++ x ∷ [])))) (ErasePages (pairs_of (take (2 * (pair_of high low + 1)) pages)))
+        (ErasePages (two_byte_numbers (take (2 * (pair_of high low + 1)) (pages ++ x ∷ [])))) (ErasePages (two_byte_numbers (take (2 * (pair_of high low + 1)) pages)))
     some-pairs high low pages e =
         let size = 2 * (pair_of high low + 1) in
-        let is = last-check (size + 1) size (high ∷ low ∷ []) pages (all_exist chip (pairs_of (take size (pages ++ x ∷ [])))) (length (pages ++ x ∷ []) == size + 1) refl refl e in
-        (sized-due size (high ∷ low ∷ []) pages is.0 is.1, ap (λ (ns : List ℕ). ErasePages (pairs_of ns)) (same-front size pages is.0))
+        let is = last-check (size + 1) size (high ∷ low ∷ []) pages (all_exist chip (two_byte_numbers (take size (pages ++ x ∷ [])))) (length (pages ++ x ∷ []) == size + 1) refl refl e in
+        (sized-due size (high ∷ low ∷ []) pages is.0 is.1, ap (λ (ns : List ℕ). ErasePages (two_byte_numbers ns)) (same-front size pages is.0))
 
     -- a count that isn't promised is never done
     promised : (t u : Bool) (v : Option Verdict) → (if t then (if u then Some Loose else None) else v) ≡ Some Done → v ≡ Some Done
@@ -140,14 +140,14 @@ module _ (x : ℕ) where
     extended-due (high ∷ []) e =
         let size = 2 * (pair_of high x + 1) in
         absurd (no-low (pair_of high x == 0xFFFF) (nat_le 0xFFF0 (pair_of high x)) size
-        (get_or [] size 0 == xor ((high ∷ x ∷ []) ++ take size []) && all_exist chip (pairs_of (take size []))) (0 == size + 1) refl e)
+        (get_or [] size 0 == xor ((high ∷ x ∷ []) ++ take size []) && all_exist chip (two_byte_numbers (take size []))) (0 == size + 1) refl e)
     extended-due (high ∷ low ∷ pages) e =
         let size = 2 * (pair_of high low + 1) in
         let some = pages_verdict chip (high ∷ low ∷ []) size (pages ++ x ∷ []) in
         pick (pair_of high low == 0xFFFF) (all_verdict (pages ++ x ∷ []))
         (if nat_le 0xFFF0 (pair_of high low) then (if length (pages ++ x ∷ []) == 1 then Some Loose else None) else some)
         (all_check pages) (if length pages == size then Some (xor (high ∷ low ∷ pages)) else None)
-        EraseAll (ErasePages (pairs_of (take size (pages ++ x ∷ [])))) EraseAll (ErasePages (pairs_of (take size pages)))
+        EraseAll (ErasePages (two_byte_numbers (take size (pages ++ x ∷ [])))) EraseAll (ErasePages (two_byte_numbers (take size pages)))
         (λ d. (all-due pages d, refl))
         (λ d. some-pairs high low pages (promised (nat_le 0xFFF0 (pair_of high low)) (length (pages ++ x ∷ []) == 1) some d)) e
 
@@ -237,18 +237,18 @@ spares pages chip (Connected rest) byte x is =
 
 -- with no protected page, and with some
 pub serves_none : (pages bytes told : List ℕ) (old new : Device) → pages ≡ [] → new ≡ record (fed_all old bytes) { owed = new.owed }
-    → record { device = new; told = told } ≡ telling (begun old) bytes → Serves pages old bytes pages new told
+    → record { device = new; told = told } ≡ telling (telling_begun old) bytes → Serves pages old bytes pages new told
 serves_none [] bytes told old new none fed said = (refl, fed, said)
 serves_none (n ∷ pages) bytes told old new none fed said = absurd (cc)
 
 pub serves_some : (pages left bytes told : List ℕ) (old new : Device) → (pages ≡ [] → ⊥)
-    → record { pages = left; telling = record { device = new; told = told } } ≡ guarding (record { pages = pages; telling = begun old }) bytes
+    → record { pages = left; telling = record { device = new; told = told } } ≡ guarding (record { pages = pages; telling = telling_begun old }) bytes
     → Serves pages old bytes left new told
 serves_some [] left bytes told old new some said = absurd (some refl)
 serves_some (n ∷ pages) left bytes told old new some said = said
 
 -- what a device is fed by its phase
-pub fed_connected : (pages : List ℕ) (d : Device) (rest : List ℕ) (byte : ℕ) → d.phase ≡ Connected rest → fed_behind pages d.chip rest byte ≡ fed_to pages d byte
+pub fed_connected : (pages : List ℕ) (d : Device) (rest : List ℕ) (byte : ℕ) → d.phase ≡ Connected rest → fed_behind pages d.chip rest byte ≡ fed_while_protected pages d byte
 fed_connected pages d rest byte here = ap (λ p. fed_in pages d.chip p byte) (sym here)
 
 apart : (pages : List ℕ) (chip : ChipData) (phase : Phase) (byte : ℕ) → ((rest : List ℕ) → phase ≡ Connected rest → ⊥) → byte ≡ fed_in pages chip phase byte
@@ -256,5 +256,5 @@ apart pages chip Fresh byte away = refl
 apart pages chip Gone byte away = refl
 apart pages chip (Connected rest) byte away = absurd (away rest refl)
 
-pub fed_apart : (pages : List ℕ) (d : Device) (byte : ℕ) → ((rest : List ℕ) → d.phase ≡ Connected rest → ⊥) → byte ≡ fed_to pages d byte
+pub fed_apart : (pages : List ℕ) (d : Device) (byte : ℕ) → ((rest : List ℕ) → d.phase ≡ Connected rest → ⊥) → byte ≡ fed_while_protected pages d byte
 fed_apart pages d byte away = apart pages d.chip d.phase byte away

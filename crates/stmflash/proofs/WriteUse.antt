@@ -7,7 +7,7 @@ use Rattle.stm_work.specs.declared.left_standing.Standing.{Standing}
 use Rattle.stm_work.specs.declared.steps.Steps.{Steps}
 use Rattle.stm_work.specs.declared.work.Work.{Work}
 use Rattle.stm_work.specs.Action.{IsDoneAgain}
-use Rattle.stm_work.specs.Again.{Act, IsDone, IsTurn, LeadTo, Retries, Turns}
+use Rattle.stm_work.specs.Again.{Act, AreActsDone, IsTurn, LeadTo, Retries, Turns}
 use Rattle.stm_work.specs.Again.Act.{ToldTurn}
 use Rattle.stm_work.specs.Again.IsDone.{in_turns, no_memory, once, unread}
 use Rattle.stm_work.specs.Again.Retries.{again, no_memory as no_memory_behind, not_again, not_taken}
@@ -83,7 +83,7 @@ module _ {A B : Type 0} (simulated : A → RigState) (connected : B → RigState
         turn-last does before _ most failure next came is (back-uses done next uses)
 
     pub last-use : (does : Work) (most : ℕ) (acts : List Act) (came : Result Steps Failure)
-        → IsDone does most acts came → AreUses simulated connected words acts
+        → AreActsDone does most acts came → AreUses simulated connected words acts
         → IfOk came (Last does)
     last-use does most acts came (unread failure) uses = tt
     last-use does most acts came (no_memory before) uses = tt

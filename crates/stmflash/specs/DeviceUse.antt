@@ -16,8 +16,8 @@ use Rattle.stm_work.specs.Answer.{is_flash}
 use Rattle.stm_work.specs.declared.plan.Plan.{Plan}
 use Rattle.stm_work.specs.declared.steps.Steps.{Steps}
 use Rattle.stm_work.specs.declared.work.Work.{Work}
-use Rattle.stm_work.specs.Plan.{IsPlan, Tells}
-use Rattle.stm_work.specs.Watching.{IsBegun, TakesWatched}
+use Rattle.stm_work.specs.Plan.{IsUsePlan, TellsSteps}
+use Rattle.stm_work.specs.Watching.{IsWatchingBegun, TakesWatched}
 
 -- the session that a plan says, and what follows it
 abbrev pub TakesPlan : {R : Type 0} → (R → RigState) → Plan → R → R → Result Steps Failure → Type 0
@@ -34,9 +34,9 @@ pub record TakesAround {R L : Type 0} (view : R → RigState) (inner : R → L)
   pub done : Result Steps Failure
   pub takes : TakesPlan view plan old new done
   pub within : inner old ≡ before
-  pub begins : IsBegun known (inner_view before) (view old)
+  pub begins : IsWatchingBegun known (inner_view before) (view old)
   pub left : inner new ≡ after
-  pub tells : Tells done told
+  pub tells : TellsSteps done told
 
 -- Steps whose bytes are in a file: nothing more is told of them than how they failed.
 pub record AreFiled (taken told : Steps) : Type 0 where
@@ -66,7 +66,7 @@ pub record UsesPlan {R : Type 0} (view : R → RigState) (is_out : Bool) (plan :
   pub done : Result Steps Failure
   pub takes : TakesPlan view plan old new done
   pub told : Steps
-  pub tells : Tells done (Ok told)
+  pub tells : TellsSteps done (Ok told)
   pub out : AreOut is_out told steps
 
 -- the same on the device that the words name: a simulator in the process, or one behind a socket
@@ -88,5 +88,5 @@ pub record UsesOnce {A B : Type 0} (simulated : A → RigState) (connected : B �
     (steps : Steps) : Type 0 where
   pub is_told : Bool
   pub plan : Plan
-  pub is_plan : IsPlan options texts is_told does sequel plan
+  pub is_plan : IsUsePlan options texts is_told does sequel plan
   pub uses : UsesOn simulated connected options.device is_out plan steps

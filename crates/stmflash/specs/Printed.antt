@@ -47,7 +47,7 @@ AreStepsOf simulated connected (Use options task sequel) steps =
 AreStepsOf simulated connected other steps = Unit {0}
 
 -- A request came to steps, which have this status.
-pub record IsTold {A B : Type 0} (simulated : A → RigState) (connected : B → RigState)
+pub record CameToSteps {A B : Type 0} (simulated : A → RigState) (connected : B → RigState)
     (request : Request) (is_json : Bool) (old new : Option (List ℕ)) (status : ℕ) : Type 0 where
   pub steps : Steps
   pub of : AreStepsOf simulated connected request steps

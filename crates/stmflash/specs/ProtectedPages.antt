@@ -10,7 +10,7 @@ use Rattle.stm_wire.specs.Chip.{ChipData, page_count, page_offset, page_size}
 use Rattle.stm_wire.specs.Device.{Device, Phase, Connected}
 use Rattle.stm_wire.specs.Effect.{Change, Nothing, ErasePages, EraseAll, Write, change_of}
 use Rattle.stm_wire.specs.Exchange.{complement, is_listed, pair_of, verdict, xor}
-use Rattle.stm_files.specs.Replies.{Telling, begun, completes, tell_one, telling}
+use Rattle.stm_files.specs.Replies.{Telling, telling_begun, completes, tell_one, telling}
 use Rattle.stm_files.specs.Serving.{fed_all}
 
 -- so many bytes from this address on reach into page n
@@ -88,8 +88,8 @@ fed_in pages chip (Connected rest) byte = fed_behind pages chip rest byte
 fed_in pages chip phase byte = byte
 
 -- what a device is fed in the place of a byte, while these pages are protected
-abbrev pub fed_to : List ℕ → Device → ℕ → ℕ
-fed_to pages d byte = fed_in pages d.chip d.phase byte
+abbrev pub fed_while_protected : List ℕ → Device → ℕ → ℕ
+fed_while_protected pages d byte = fed_in pages d.chip d.phase byte
 
 -- which pages are protected behind it: Write Unprotect frees all
 abbrev pub protected_behind : List ℕ → Device → ℕ → List ℕ
@@ -112,7 +112,7 @@ abbrev pub guard_one : Guarded → ℕ → Guarded
 guard_one g byte =
     record {
       pages = protected_behind g.pages g.telling.device byte;
-      telling = tell_one g.telling (fed_to g.pages g.telling.device byte);
+      telling = tell_one g.telling (fed_while_protected g.pages g.telling.device byte);
     }
 
 -- the same, after these bytes, one after the other
@@ -125,7 +125,7 @@ abbrev pub Serves : List ℕ → Device → List ℕ → List ℕ → Device →
 Serves [] old bytes pages new told =
     (pages ≡ [])
     × (new ≡ record (fed_all old bytes) { owed = new.owed })
-    × (record { device = new; told = told } ≡ telling (begun old) bytes)
+    × (record { device = new; told = told } ≡ telling (telling_begun old) bytes)
 Serves (n ∷ rest) old bytes pages new told =
     record { pages = pages; telling = record { device = new; told = told } }
-    ≡ guarding (record { pages = n ∷ rest; telling = begun old }) bytes
+    ≡ guarding (record { pages = n ∷ rest; telling = telling_begun old }) bytes

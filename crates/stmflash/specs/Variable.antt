@@ -14,21 +14,21 @@ use Rattle.stm_work.specs.declared.failure.Failure.TheVariants.{Memory, Usage}
 use Rattle.stmflash.specs.declared.variable.Variable.{Variable}
 
 -- it isn't set, or it is a text
-abbrev pub is_told : Result (String Global) VarError → Bool
-is_told (Ok text) = true
-is_told (Err NotPresent) = true
-is_told (Err fault) = false
+abbrev pub is_text_or_unset : Result (String Global) VarError → Bool
+is_text_or_unset (Ok text) = true
+is_text_or_unset (Err NotPresent) = true
+is_text_or_unset (Err fault) = false
 
-abbrev pub is_read : Variable → Bool
-is_read variable = is_told variable.told
+abbrev pub is_variable_read : Variable → Bool
+is_variable_read variable = is_text_or_unset variable.told
 
 -- the text of one that is set and not empty
-abbrev pub told_text : Result (String Global) VarError → Option (String Global)
-told_text (Ok text) = if string_len text == 0 then None else Some text
-told_text (Err fault) = None
+abbrev pub variable_told : Result (String Global) VarError → Option (String Global)
+variable_told (Ok text) = if string_len text == 0 then None else Some text
+variable_told (Err fault) = None
 
-abbrev pub text_of : Variable → Option (String Global)
-text_of variable = told_text variable.told
+abbrev pub variable_text : Variable → Option (String Global)
+variable_text variable = variable_told variable.told
 
 -- one that is set to 1
 abbrev pub says_one : Option (String Global) → Bool
@@ -36,7 +36,7 @@ says_one (Some text) = bytes_eq (string_bytes text) (codes "1")
 says_one None = false
 
 abbrev pub is_one : Variable → Bool
-is_one variable = says_one (text_of variable)
+is_one variable = says_one (variable_text variable)
 
 -- why it can't be read: it is no text, and named so, or memory is out
 abbrev pub IsNoText : List ℕ → Result (String Global) VarError → Failure → Type 0
@@ -44,8 +44,8 @@ IsNoText name (Err NotUnicode) (Usage (NotText told)) = told.now ≡ name
 IsNoText name (Err OutOfMemory) Memory = Unit {0}
 IsNoText name told failure = ⊥
 
-abbrev pub IsUnread : Variable → Failure → Type 0
-IsUnread variable failure = IsNoText variable.name.now variable.told failure
+abbrev pub IsVariableUnread : Variable → Failure → Type 0
+IsVariableUnread variable failure = IsNoText variable.name.now variable.told failure
 
 -- the folder that it names: a text that begins at the root; or memory is out
 abbrev pub told_folder : Result (String Global) VarError → Result (Option (String Global)) AllocError

@@ -7,7 +7,7 @@ use Rattle.stmflash.specs.declared.variable.Variable.{Variable}
 use Rattle.stmflash.specs.declared.variables.Asked.{Asked}
 use Rattle.stmflash.specs.declared.variables.Variables.{Variables}
 use Rattle.stmflash.specs.Tables.{IsUsersName}
-use Rattle.stmflash.specs.Variable.{IsUnread, is_one, is_read, text_of}
+use Rattle.stmflash.specs.Variable.{IsVariableUnread, is_one, is_variable_read, variable_text}
 
 -- Each was asked for by its own name.
 pub record AreNamed (asked : Asked) : Type 0 where
@@ -29,13 +29,13 @@ pub record AreNamed (asked : Asked) : Type 0 where
 pub record SaysAs (asked : Asked) (variables : Variables) : Type 0 where
   pub users_table :
       IsUsersName asked.config_home asked.home (option_map string_bytes variables.users_table)
-  pub table : variables.table ≡ text_of asked.table
-  pub device : variables.device ≡ text_of asked.device
-  pub journal : variables.journal ≡ text_of asked.journal
-  pub journals : variables.journals ≡ text_of asked.journals
-  pub board : variables.board ≡ text_of asked.board
-  pub wait : variables.wait ≡ text_of asked.wait
-  pub baud : variables.baud ≡ text_of asked.baud
+  pub table : variables.table ≡ variable_text asked.table
+  pub device : variables.device ≡ variable_text asked.device
+  pub journal : variables.journal ≡ variable_text asked.journal
+  pub journals : variables.journals ≡ variable_text asked.journals
+  pub board : variables.board ≡ variable_text asked.board
+  pub wait : variables.wait ≡ variable_text asked.wait
+  pub baud : variables.baud ≡ variable_text asked.baud
   pub without_board : variables.without_board ≡ is_one asked.without_board
   pub is_fresh : variables.is_fresh ≡ is_one asked.is_fresh
   pub without_lock : variables.without_lock ≡ is_one asked.without_lock
@@ -51,17 +51,17 @@ in_order asked =
 abbrev pub IsOfFirst : List Variable → Failure → Type 0
 IsOfFirst [] failure = ⊥
 IsOfFirst (variable ∷ others) failure =
-    IsUnread variable failure ⊎ ((is_read variable ≡ true) × IsOfFirst others failure)
+    IsVariableUnread variable failure ⊎ ((is_variable_read variable ≡ true) × IsOfFirst others failure)
 
 -- or there was no memory for the name of the user's table
 abbrev pub FailsFirst : Asked → Failure → Type 0
 FailsFirst asked failure = (failure ≡ Memory) ⊎ IsOfFirst (in_order asked) failure
 
 -- what comes of what the system tells of them
-abbrev pub ComesOf : Asked → Result Variables Failure → Type 0
-ComesOf asked (Ok variables) = SaysAs asked variables
-ComesOf asked (Err failure) = FailsFirst asked failure
+abbrev pub VariablesComeOf : Asked → Result Variables Failure → Type 0
+VariablesComeOf asked (Ok variables) = SaysAs asked variables
+VariablesComeOf asked (Err failure) = FailsFirst asked failure
 
 -- The system was asked for each by its name, and this came of what it told.
-abbrev pub IsAsked : Result Variables Failure → Type 0
-IsAsked result = (asked : Asked) × AreNamed asked × ComesOf asked result
+abbrev pub SystemIsAsked : Result Variables Failure → Type 0
+SystemIsAsked result = (asked : Asked) × AreNamed asked × VariablesComeOf asked result

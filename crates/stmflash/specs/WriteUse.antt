@@ -13,7 +13,7 @@ use Rattle.stm_work.specs.declared.steps.Steps.{Steps}
 use Rattle.stm_work.specs.declared.work.Work.{Work}
 use Rattle.stm_work.specs.declared.work.Work.TheVariants as work
 use Rattle.stm_work.specs.Action.{IsDoneAgain}
-use Rattle.stm_work.specs.Again.{Act, IsDone}
+use Rattle.stm_work.specs.Again.{Act, AreActsDone}
 use Rattle.stm_work.specs.Again.Act.{Attempted, Undone}
 use Rattle.stmflash.specs.DeviceUse.{UsesOnce}
 
@@ -60,7 +60,7 @@ pub record UsesAgain {A B : Type 0} (simulated : A → RigState) (connected : B 
     (words : Words) (does : Work) (came : Result Steps Failure) : Type 0 where
   pub acts : List Act
   pub uses : AreUses simulated connected words acts
-  pub done : IsDone does words.sequel.again acts came
+  pub done : AreActsDone does words.sequel.again acts came
 
 -- These are the steps of one use: of the work, or, where it is a write, of one of the same image.
 pub record UsesLast {A B : Type 0} (simulated : A → RigState) (connected : B → RigState)

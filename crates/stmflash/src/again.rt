@@ -1,6 +1,6 @@
 // A write that is done again where its line or its protocol failed.
 ghost use Rattle.std.specs.Prelude.{◌≡◌, IfOk, false};
-ghost use Rattle.stm_work.specs.TriedBoards.{texts_of};
+ghost use Rattle.stm_work.specs.TriedBoards.{table_texts};
 ghost use Rattle.stmflash.specs.WriteUse.{IsUse, UsesAgain, UsesLast, count_undone, words_by};
 
 use crate::first_question::Line;
@@ -55,9 +55,9 @@ impl<'b, 'a, 'r, R: Locks + Net + Clock + AllocGlobal, E: Write + IsTerminal> At
     // of files and lines nothing can be said
     ghost does = { λ act old new.
         IsUse ⟦<ShownSimulator<'r, 'b, R, E> as Rig>⟧.view ⟦<ShownSocket<'r, 'b, R, E> as Rig>⟧.view
-        (words_by old.options.now (texts_of old.tables.now) old.sequel.now) act
-        × (words_by new.options.now (texts_of new.tables.now) new.sequel.now
-        ≡ words_by old.options.now (texts_of old.tables.now) old.sequel.now) };
+        (words_by old.options.now (table_texts old.tables.now) old.sequel.now) act
+        × (words_by new.options.now (table_texts new.tables.now) new.sequel.now
+        ≡ words_by old.options.now (table_texts old.tables.now) old.sequel.now) };
 
     fn attempt(&mut self, work: Work) -> Result<Steps<'a>, Failure<'a>> {
         use_once(
@@ -146,10 +146,10 @@ pub fn use_again<'a, 'r, 'e, R: Locks + Net + Clock + AllocGlobal, E: Write + Is
 ) -> Result<Steps<'a>, Failure<'a>>
     ensures acts { UsesAgain
         ⟦<ShownSimulator<'r, 'e, R, E> as Rig>⟧.view ⟦<ShownSocket<'r, 'e, R, E> as Rig>⟧.view
-        (words_by options.now (texts_of tables.now) sequel.now) work result }
+        (words_by options.now (table_texts tables.now) sequel.now) work result }
     ensures last { IfOk result (UsesLast
         ⟦<ShownSimulator<'r, 'e, R, E> as Rig>⟧.view ⟦<ShownSocket<'r, 'e, R, E> as Rig>⟧.view
-        options.now (texts_of tables.now) work sequel.now false) }
+        options.now (table_texts tables.now) work sequel.now false) }
 {
     let mut write = OneWrite {
         rt,

@@ -1,6 +1,6 @@
 // What is done with a journal alone: it is looked at, or its way back is given up.
 ghost use Rattle.std.specs.Prelude.{IfOk};
-ghost use Rattle.stm_work.specs.Keeping.{IsKept};
+ghost use Rattle.stm_work.specs.Keeping.{IsGivenUp};
 
 use crate::cut_journal::keep_newest;
 use std::alloc::Global;
@@ -93,7 +93,7 @@ fn keep_loaded<'a, R: Files + AllocGlobal>(
     journal: &Journal,
     kept: &Kept<'a>,
 ) -> Result<Answer, Failure<'a>>
-    ensures { IfOk result (IsKept journal.now.state) }
+    ensures { IfOk result (IsGivenUp journal.now.state) }
 {
     let count = count_kept(journal)?;
     give_up_journal(rt, kept.journal, kept.to)?;

@@ -4,7 +4,7 @@ ghost use Rattle.std.specs.Prelude.{◌&&◌, ◌==◌, IfOk, is_some};
 ghost use Rattle.stmflash.specs.DeviceUse.{UsesOnce, goes_out};
 ghost use Rattle.stm_work.specs.FreshUndo.{work_on_fresh};
 ghost use Rattle.stmflash.specs.TaskUse.{AreBeside, UsesBeside, UsesTask};
-ghost use Rattle.stm_work.specs.TriedBoards.{texts_of};
+ghost use Rattle.stm_work.specs.TriedBoards.{table_texts};
 ghost use Rattle.stmflash.specs.WriteUse.{UsesLast};
 
 use crate::again::use_again;
@@ -88,7 +88,7 @@ fn use_beside<'a, 'r, 'e, R: Locks + Net + Clock + AllocGlobal, E: Write + IsTer
 ) -> Result<Steps<'a>, Failure<'a>>
     ensures { IfOk result (UsesBeside
         ⟦<ShownSimulator<'r, 'e, R, E> as Rig>⟧.view ⟦<ShownSocket<'r, 'e, R, E> as Rig>⟧.view
-        options.now (texts_of tables.now) (work_on_fresh options.now.is_fresh work) sequel.now
+        options.now (table_texts tables.now) (work_on_fresh options.now.is_fresh work) sequel.now
         (is_some files.entry.out)) }
 {
     let work = work.on_fresh(options.is_fresh);
@@ -118,7 +118,7 @@ fn use_files<'a, 'r, 'e, R: Locks + Net + Clock + AllocGlobal, E: Write + IsTerm
 ) -> Result<Steps<'a>, Failure<'a>>
     ensures { IfOk result (UsesBeside
         ⟦<ShownSimulator<'r, 'e, R, E> as Rig>⟧.view ⟦<ShownSocket<'r, 'e, R, E> as Rig>⟧.view
-        options.now (texts_of tables.now) work sequel.now (is_some files.entry.out)) }
+        options.now (table_texts tables.now) work sequel.now (is_some files.entry.out)) }
 {
     if let Some(to) = sequel.to {
         files.check_new(rt, to)?;
@@ -147,7 +147,7 @@ fn use_work<'a, 'r, 'e, R: Locks + Net + Clock + AllocGlobal, E: Write + IsTermi
 ) -> Result<Steps<'a>, Failure<'a>>
     ensures { IfOk result (UsesLast
         ⟦<ShownSimulator<'r, 'e, R, E> as Rig>⟧.view ⟦<ShownSocket<'r, 'e, R, E> as Rig>⟧.view
-        options.now (texts_of tables.now) work sequel.now
+        options.now (table_texts tables.now) work sequel.now
         (goes_out output.entry && (sequel.now.again == 0))) }
 {
     if sequel.again == 0 {
@@ -164,7 +164,7 @@ fn tell_beside<'a, R: AllocGlobal>(
     options: &Options<'a>,
     tables: &ChipTables<'a>,
 ) -> Result<Steps<'a>, Failure<'a>>
-    ensures { IfOk result (AreBeside (texts_of tables.now) steps.entry) }
+    ensures { IfOk result (AreBeside (table_texts tables.now) steps.entry) }
 {
     Ok(Steps {
         board: steps.board,
@@ -188,7 +188,7 @@ pub fn use_once<'a, 'r, 'e, R: Locks + Net + Clock + AllocGlobal, E: Write + IsT
 ) -> Result<Steps<'a>, Failure<'a>>
     ensures { IfOk result (UsesOnce
         ⟦<ShownSimulator<'r, 'e, R, E> as Rig>⟧.view ⟦<ShownSocket<'r, 'e, R, E> as Rig>⟧.view
-        options.now (texts_of tables.now) work sequel.now (goes_out output.entry)) }
+        options.now (table_texts tables.now) work sequel.now (goes_out output.entry)) }
 {
     let style = Style::of(rt, options, err);
     let screen = Screen::new(err, rt, rt.alloc(), style);

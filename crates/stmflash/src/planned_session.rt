@@ -1,6 +1,6 @@
 // A session by a plan, over any Rig: it is shown, its last turns are kept, and it may be watched.
 ghost use Rattle.stmflash.specs.DeviceUse.{TakesAround, TakesPlan};
-ghost use Rattle.stm_work.specs.Plan.{Tells};
+ghost use Rattle.stm_work.specs.Plan.{TellsSteps};
 
 use std::alloc::Global;
 use std::io::Write;
@@ -84,7 +84,7 @@ pub fn failed_if<'a>(
     done: Result<Steps<'a>, Failure<'a>>,
     failure: Failure<'a>,
 ) -> Result<Steps<'a>, Failure<'a>>
-    ensures { Tells done.entry result }
+    ensures { TellsSteps done.entry result }
 {
     if is_so {
         failed_by(done, failure)

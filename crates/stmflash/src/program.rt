@@ -5,7 +5,7 @@ ghost use Rattle.stm_words.specs.Json.{wants_json};
 ghost use Rattle.stm_work.specs.Answer.{is_flash};
 ghost use Rattle.stm_work.specs.ExitStatus.{status_of};
 ghost use Rattle.stmflash.specs.Printed.{ArePrinted, AreStepsOf, IsDone, IsFailed, IsStatusOf};
-ghost use Rattle.stmflash.specs.Printed.{IsTold, IsWell};
+ghost use Rattle.stmflash.specs.Printed.{CameToSteps, IsWell};
 ghost use Rattle.stm_work.specs.ShortLine.{short_line};
 ghost use Rattle.stm_work.specs.StepsText.{steps_text};
 
@@ -110,7 +110,7 @@ fn answer<
     out: &mut O,
     err: &'e mut E,
 ) -> u8
-    ensures told { IsFailed result ⊎ IsTold
+    ensures told { IsFailed result ⊎ CameToSteps
         ⟦<ShownSimulator<'r, 'e, R, E> as Rig>⟧.view ⟦<ShownSocket<'r, 'e, R, E> as Rig>⟧.view
         request.entry is_json (O.contents out.old) (O.contents out.new) result }
     ensures done { result ≡ 0 → IsDone

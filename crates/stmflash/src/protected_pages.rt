@@ -3,11 +3,11 @@
 // a wrong check in its place, and refuses the frame by itself.
 ghost use Rattle.std.specs.Prelude.{◌≡◌, ◌↔◌, ℕ, List, [], IsTrue, fold, bit_xor, length};
 ghost use Rattle.stm_wire.specs.Effect.{change_of, erase_change, extended_change, write_change};
-ghost use Rattle.stm_wire.specs.Exchange.{is_listed, pairs_of, xor};
-ghost use Rattle.stm_files.specs.Replies.{begun, completes};
+ghost use Rattle.stm_wire.specs.Exchange.{is_listed, two_byte_numbers, xor};
+ghost use Rattle.stm_files.specs.Replies.{telling_begun, completes};
 ghost use Rattle.stmflash.specs.ProtectedPages.{Spares, changes_any, changes_page, check_due, fed_behind};
 ghost use Rattle.stmflash.specs.ProtectedPages.{all_check, completes_change, erase_check};
-ghost use Rattle.stmflash.specs.ProtectedPages.{extended_check, fed_to, guarding, is_check};
+ghost use Rattle.stmflash.specs.ProtectedPages.{extended_check, fed_while_protected, guarding, is_check};
 ghost use Rattle.stmflash.specs.ProtectedPages.{protected_behind, reaches, write_check};
 
 use std::marker::Model;
@@ -123,7 +123,7 @@ fn has_byte(pages: &[u8], n: u16) -> bool
 
 /// Whether two of these bytes are the number of page `n`.
 fn has_pair(pages: &[u8], n: u16) -> bool
-    ensures { result ≡ is_listed (pairs_of pages.now) n }
+    ensures { result ≡ is_listed (two_byte_numbers pages.now) n }
 {
     let mut rest = pages;
     while let [high, low, after @ ..] = rest {
@@ -230,7 +230,7 @@ impl ProtectedPages {
     /// What the simulator is fed in the place of a byte.
     #[tactic(auto, using(crate::proofs::ProtectedPages::fed_connected, crate::proofs::ProtectedPages::fed_apart))]
     fn fed(&self, sim: &Simulator, byte: u8) -> u8
-        ensures { result ≡ fed_to self.now sim.now byte }
+        ensures { result ≡ fed_while_protected self.now sim.now byte }
     {
         match sim.rest() {
             Some(rest) => self.fed_behind(sim.chip(), rest, byte),
@@ -253,7 +253,7 @@ impl ProtectedPages {
     /// done and changes a protected page. Write Unprotect frees all pages.
     #[tactic(auto, using(crate::proofs::ProtectedPages::spares))]
     pub fn feed(&mut self, sim: &Simulator, byte: u8) -> u8
-        ensures fed { result ≡ fed_to self.old sim.now byte }
+        ensures fed { result ≡ fed_while_protected self.old sim.now byte }
         ensures spares { Spares self.old sim.now.chip sim.now.phase result }
         ensures left { self.new ≡ protected_behind self.old sim.now byte }
     {
@@ -277,7 +277,7 @@ impl ProtectedPages {
           pages = self.new;
           telling = record { device = sim.new; told = told.new.items };
         }
-            ≡ guarding (record { pages = self.old; telling = begun sim.old }) bytes.now }
+            ≡ guarding (record { pages = self.old; telling = telling_begun sim.old }) bytes.now }
     {
         told.clear();
         for byte in bytes {

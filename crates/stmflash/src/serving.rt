@@ -13,7 +13,7 @@ use std::net::Net;
 use std::os::unix::net::{UnixListener, UnixStream};
 use std::time::Duration;
 use stm_files::{
-    BoundSocket, Locks, SimulatedBoard, SimulatorFiles, SimulatorNames, line_of, tell_all,
+    BoundSocket, Locks, SimulatedBoard, SimulatorFiles, SimulatorNames, standing_line, tell_all,
 };
 use stm_session::Fault;
 use stm_sim::Simulator;
@@ -248,6 +248,6 @@ fn store<'a, R: Locks + AllocGlobal>(
     sim: &Simulator,
     files: &mut SimulatorFiles<'_, 'a, R>,
 ) -> Result<(), Failure<'a>> {
-    let line = line_of(rt.alloc(), sim.is_gone(), sim.rest())?;
+    let line = standing_line(rt.alloc(), sim.is_gone(), sim.rest())?;
     Ok(files.store(sim.flash(), line.as_slice())?)
 }

@@ -1,6 +1,6 @@
 // A variable of the environment: its name, and what the system tells of it.
 ghost use Rattle.std.specs.Prelude.{◌≡◌, IfErr, IfOk, true};
-ghost use Rattle.stmflash.specs.Variable.{IsUnread, folder_of, is_one, is_read, text_of};
+ghost use Rattle.stmflash.specs.Variable.{IsVariableUnread, folder_of, is_one, is_variable_read, variable_text};
 
 use std::alloc::AllocError;
 use std::env;
@@ -28,8 +28,8 @@ impl Variable {
 
     /// Its text, where it is set and not empty.
     pub fn text<'a>(self) -> Result<Option<String>, Failure<'a>>
-        ensures read { IfOk result (λ text. (is_read self ≡ true) × (text ≡ text_of self)) }
-        ensures unread { IfErr result (IsUnread self) }
+        ensures read { IfOk result (λ text. (is_variable_read self ≡ true) × (text ≡ variable_text self)) }
+        ensures unread { IfErr result (IsVariableUnread self) }
     {
         match self.told {
             Ok(text) if text.is_empty() => Ok(None),
@@ -42,8 +42,8 @@ impl Variable {
 
     /// Whether it is set to 1.
     pub fn is_one<'a>(self) -> Result<bool, Failure<'a>>
-        ensures read { IfOk result (λ one. (is_read self ≡ true) × (one ≡ is_one self)) }
-        ensures unread { IfErr result (IsUnread self) }
+        ensures read { IfOk result (λ one. (is_variable_read self ≡ true) × (one ≡ is_one self)) }
+        ensures unread { IfErr result (IsVariableUnread self) }
     {
         match self.text()? {
             Some(text) => Ok(text.as_str() == "1"),

@@ -3,7 +3,7 @@
 ghost use Rattle.std.specs.Prelude.{◌≡◌, IfErr, IfOk, OnErr, option_map, string_bytes};
 ghost use Rattle.stmflash.specs.Standing.{IsTables, StandsFor};
 ghost use Rattle.stmflash.specs.Tables.{AreStanding};
-ghost use Rattle.stmflash.specs.Variables.{AreNamed, FailsFirst, IsAsked, SaysAs};
+ghost use Rattle.stmflash.specs.Variables.{AreNamed, FailsFirst, SystemIsAsked, SaysAs};
 
 use crate::tables::{standing_tables, users_table};
 use crate::variable::Variable;
@@ -74,7 +74,7 @@ pub struct Variables {
 impl Variables {
     /// Reads the variables. One that is empty counts as one that isn't set.
     pub fn read<'a, R: Env + AllocGlobal>(rt: &R) -> Result<Variables, Failure<'a>>
-        ensures { IsAsked result }
+        ensures { SystemIsAsked result }
     {
         Variables::of(rt.alloc(), Asked::ask(rt))
     }

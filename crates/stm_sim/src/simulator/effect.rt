@@ -1,7 +1,7 @@
 // What a done list does to the simulator's flash.
 ghost use Rattle.std.specs.Prelude.{◌≡◌, ◌+◌, ◌<◌, ◌≤◌, length, take, drop, replicate, IsTrue};
 ghost use Rattle.stm_wire.specs.Chip.{erased_page, flash_size, page_count, with_bytes, with_page};
-ghost use Rattle.stm_wire.specs.Exchange.{pairs_of};
+ghost use Rattle.stm_wire.specs.Exchange.{two_byte_numbers};
 ghost use Rattle.stm_wire.specs.Effect.{change_of, write_change, erase_change};
 ghost use Rattle.stm_wire.specs.Effect.{extended_change, erased_pages};
 ghost use Rattle.stm_sim.specs.Simulator.{stored_byte, stored_bytes, changed_flash, Fits};
@@ -71,7 +71,7 @@ fn erase_bytes(chip: &Chip, flash: &mut [u8], pages: &[u8])
 /// Erases pages, each named by two bytes.
 fn erase_pairs(chip: &Chip, flash: &mut [u8], pages: &[u8])
     requires { length flash.old ≡ flash_size chip.now }
-    ensures { flash.new ≡ erased_pages chip.now (pairs_of pages.now) flash.old }
+    ensures { flash.new ≡ erased_pages chip.now (two_byte_numbers pages.now) flash.old }
 {
     let mut rest = pages;
     while let [high, low, after @ ..] = rest {

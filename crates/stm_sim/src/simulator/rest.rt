@@ -5,7 +5,7 @@ ghost use Rattle.std.specs.Prelude.{◌==◌, ◌&&◌, length, take, MatchOptio
 ghost use Rattle.std.specs.Vec.{vec_capacity};
 ghost use Rattle.stm_wire.specs.Chip.{ChipData};
 ghost use Rattle.stm_wire.specs.Exchange.{IsOpen, all_exist, done_if};
-ghost use Rattle.stm_wire.specs.Exchange.{pair_of, pairs_of, verdict, xor};
+ghost use Rattle.stm_wire.specs.Exchange.{pair_of, two_byte_numbers, verdict, xor};
 ghost use Rattle.stm_sim.specs.Rest.{IsAwaiting, IsCurrent, named_pages};
 
 use std::alloc::{AllocError, Global};
@@ -77,8 +77,8 @@ fn awaited_after(bytes: &[u8]) -> usize
 /// Whether the page is there whose number a byte completes behind numbers of two bytes each. The
 /// first byte of a number completes none.
 fn completes_existing_page(chip: &Chip, numbers: &[u8], byte: u8) -> bool
-    ensures { all_exist chip.now (pairs_of (numbers.now ++ byte ∷ []))
-        ≡ (all_exist chip.now (pairs_of numbers.now) && result) }
+    ensures { all_exist chip.now (two_byte_numbers (numbers.now ++ byte ∷ []))
+        ≡ (all_exist chip.now (two_byte_numbers numbers.now) && result) }
 {
     if numbers.len() % 2 == 0 {
         true

@@ -51,7 +51,7 @@ pub(super) fn write_pages<R: Rig>(
 }
 
 /// The newest command is taken back.
-fn take_back<R: Rig>(journal: &mut Journal, rig: &mut R) -> Result<(), JournalFault>
+fn undo_segment<R: Rig>(journal: &mut Journal, rig: &mut R) -> Result<(), JournalFault>
     requires { 0 < length journal.old.state.stack }
     ensures { OnOk result (is_unfinished journal.new.state ≡ false) }
 {
@@ -80,7 +80,7 @@ fn is_written_and_undone(journal: &mut Journal, rig: &mut MemoryRig) -> bool {
     if !is_written || journal.depth() == 0 {
         return false;
     }
-    take_back(journal, rig) == Ok(())
+    undo_segment(journal, rig) == Ok(())
         && rig.journal().ends_with(b"\nend 1\nerase 2\nprogram 2\nerase 5\nprogram 5\nundone 1\n")
         && !journal.is_open()
 }

@@ -123,7 +123,7 @@ fn first_commanded(alloc: Global) -> Result<Option<usize>, Fail> {
 const TORN: &[u8] = b"stmjournal 1 0412\nopen 1\nend 1\npage 0 FFFF";
 
 /// Whether the segment of `TORN` is taken back behind a mark for its last line, and none is left.
-fn is_taken_back(journal: &mut Journal, rig: &mut MemoryRig) -> bool {
+fn was_undone(journal: &mut Journal, rig: &mut MemoryRig) -> bool {
     if journal.depth() == 0 {
         return false;
     }
@@ -135,7 +135,7 @@ fn is_taken_back(journal: &mut Journal, rig: &mut MemoryRig) -> bool {
 /// Whether a torn line is marked when its segment is taken back.
 fn is_torn_tail_marked(alloc: Global) -> Result<bool, Fail> {
     let (mut journal, mut rig) = opened(alloc, TORN)?;
-    Ok(is_taken_back(&mut journal, &mut rig))
+    Ok(was_undone(&mut journal, &mut rig))
 }
 
 /// What a journal's Rig does with an append: it takes it, fails, or stops behind so many steps.

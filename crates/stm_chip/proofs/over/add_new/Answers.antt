@@ -4,7 +4,7 @@ use Rattle.std.specs.Borrow.{Bor}
 use Rattle.std.specs.Option.{option_or}
 use Rattle.stm_wire.specs.Chip.{ChipData}
 use Rattle.stm_chip.specs.Document.{IsNewId}
-use Rattle.stm_chip.specs.Over.{chip_with}
+use Rattle.stm_chip.specs.Over.{chip_by_id}
 use Rattle.stm_chip.proofs.Joining.{is_last, is_there}
 use Rattle.stm_chip.proofs.over.add_new.Goals as goal
 
@@ -12,7 +12,7 @@ pub returns-in_ok-push-clause-added : goal.returns-in_ok-push-clause-added
 returns-in_ok-push-clause-added c = rw c.in_ok-push.ensures.items (is_last c.args.chips.now.items c.args.chip)
 
 held : (chips : List ChipData) (chip : ChipData) (found : Option (Bor ChipData)) → MatchOption found (IsNewId chips chip.id) (λ other. (other.now.id ≡ chip.id) × Contains chips other.now)
-    → is_some found ≡ true → (id : ℕ) → chip_with chips id ≡ option_or (chip_with chips id) (chip_with (chip ∷ []) id)
+    → is_some found ≡ true → (id : ℕ) → chip_by_id chips id ≡ option_or (chip_by_id chips id) (chip_by_id (chip ∷ []) id)
 held chips chip None h e = cc
 held chips chip (Some other) h e = is_there chips chip other.now h.1 h.0
 

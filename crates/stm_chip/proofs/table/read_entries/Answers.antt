@@ -4,11 +4,11 @@ use Rattle.stm_chip.specs.declared.fault.TableFault.TheVariants.{Memory}
 use Rattle.std.proofs.lemmas.Result.{err_from_is_err_and}
 use Rattle.toml.specs.View.{view}
 use Rattle.stm_chip.proofs.Documents.{flaw_at, reads_more}
-use Rattle.stm_chip.specs.Document.{Reads, IsNextChip, IsFlaw}
+use Rattle.stm_chip.specs.Document.{ReadsEntries, IsNextChip, IsFlaw}
 use Rattle.stm_chip.proofs.table.read_entries.Goals as goal
 
 pub loop-entry-init : goal.loop-entry-init
-loop-entry-init c = (c.new-chips.ensures.len, rw c.new-chips.ensures.items Reads.none)
+loop-entry-init c = (c.new-chips.ensures.len, rw c.new-chips.ensures.items ReadsEntries.none)
 
 pub returns-in_err-chip : goal.returns-in_err-chip
 returns-in_err-chip c =

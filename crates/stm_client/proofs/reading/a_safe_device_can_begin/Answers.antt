@@ -4,4 +4,4 @@ use Rattle.stm_client.proofs.reading.a_safe_device_can_begin.Goals as goal
 pub returns : goal.returns
 returns g c table rig honest safe held none =
     let now = g.R.Rig.view rig in
-    record { honest = honest; tabled = inr held; undoable = c.an_unrefused_journal_can_be_taken_back.ensures.opened table now.device now.journal safe held none }
+    record { honest = honest; tabled = inr held; undoable = c.an_unrefused_journal_can_be_undone.ensures.opened table now.device now.journal safe held none }

@@ -1,7 +1,7 @@
 use Rattle.std.proofs.Common.{List, Result, ℕ, [], ◌∷◌, ◌∙◌, ap}
 use Rattle.stm_sim.specs.Memory.{MemoryData, rig_state}
 use Rattle.stm_session.specs.declared.fault.Fault.{Fault}
-use Rattle.stm_client.specs.Keeping.{CanBegin, IsKept, Keeps}
+use Rattle.stm_client.specs.Keeping.{CanBegin, IsAllKept, KeepsAll}
 use Rattle.stm_client.proofs.Keeping.{kept_begins, kept_further, other_as}
 use Rattle.stm_client.proofs.Resets.{IsReset, was_reset}
 use Rattle.stm_client.proofs.Stops.{can_again, kept_again}
@@ -24,22 +24,22 @@ module _ (c : goal.After-read_flash) (flashes : List (List ℕ))
   -- the second reading can begin
   begins : CanBegin c.args.table.now flashes (rig_state c.stop_after-2.new.self)
   begins =
-      can_again c.args.table.now flashes c.a_reset_keeps_what_can_be_taken_back.ensures
+      can_again c.args.table.now flashes c.a_reset_keeps_what_can_be_undone.ensures
       c.args.rig.now c.stop_after.new.self c.read_flash-stopped.new.rig c.stop_after-2.new.self
       is_reset (c.read_flash-stopped.ensures.keeps flashes) can
 
   -- and finds what there was
-  kept : IsKept flashes (rig_state c.args.rig.now)
+  kept : IsAllKept flashes (rig_state c.args.rig.now)
       c.stop_after-2.new.self.device c.stop_after-2.new.self.journal
   kept =
-      kept_again c.args.table.now flashes c.a_reset_keeps_what_can_be_taken_back.ensures
+      kept_again c.args.table.now flashes c.a_reset_keeps_what_can_be_undone.ensures
       c.args.rig.now c.stop_after.new.self c.read_flash-stopped.new.rig c.stop_after-2.new.self
       is_reset (c.read_flash-stopped.ensures.keeps flashes) can
 
   -- what it keeps was kept from the first one on, and a third one can begin
   module _ {T : Type 0} {Done : T → Type 0} {result : Result T Fault} (left : MemoryData)
-      (keeps : Keeps flashes (rig_state c.stop_after-2.new.self) (rig_state left) result Done) where
-    is_kept : IsKept flashes (rig_state c.args.rig.now) left.device left.journal
+      (keeps : KeepsAll flashes (rig_state c.stop_after-2.new.self) (rig_state left) result Done) where
+    is_kept : IsAllKept flashes (rig_state c.args.rig.now) left.device left.journal
     is_kept =
         kept_further flashes (rig_state c.args.rig.now) (rig_state c.stop_after-2.new.self) kept
         left.device left.journal keeps.left

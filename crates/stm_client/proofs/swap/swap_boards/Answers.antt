@@ -24,13 +24,13 @@ returns-clause-there g c starts honest is knows there_honest safe none two table
     let m2 : MemoryData = c.run-stopped.new.rig in
     let m4 : MemoryData = c.stop_after-2.new.self in
     let is_reset = was_reset m m1 m2 c.reset.new.self m4 _ _ c.stop_after.ensures.plan c.stop_after.ensures.honest c.reset.ensures.reset c.reset.ensures.honest c.stop_after-2.ensures.plan c.stop_after-2.ensures.honest in
-    let laws : Laws = record { headline = c.a_session_can_be_taken_back.ensures.headline; back = c.a_session_can_be_taken_back.ensures.whole; follows = c.a_session_can_be_taken_back.ensures.follows } in
+    let laws : Laws = record { headline = c.a_session_can_be_undone.ensures.headline; back = c.a_session_can_be_undone.ensures.whole; follows = c.a_session_can_be_undone.ensures.follows } in
     let contract = c.a_run_is_known_by_its_outcomes.ensures table commands m1 m2 c.run-stopped.result outcomes_in c.run-stopped.ensures.promised in
     let found = same_world m1 m is_reset.planned_device is_reset.planned_journal in
     let planned = is_reset.planned_honest honest in
     let left = run_start laws table commands starts m m1 m2 c.run-stopped.result contract found planned is knows in
     let flashes = starts_then table commands starts m m1 m2 c.run-stopped.result in
-    let again = c.a_reset_keeps_what_can_be_taken_back.ensures flashes m2.device m2.journal left in
+    let again = c.a_reset_keeps_what_can_be_undone.ensures flashes m2.device m2.journal left in
     let make = run_make laws table commands starts m m1 m2 c.run-stopped.result contract found planned is knows in
     let D : Device → Type 0 = λ d. Undoable flashes d m2.journal in
     let J : List ℕ → Type 0 = λ j. Undoable flashes m4.device j in
@@ -57,7 +57,7 @@ returns-clause-back g c starts honest is knows =
     let is_reset = was_reset m m1 m2 c.reset.new.self m4 _ _ c.stop_after.ensures.plan c.stop_after.ensures.honest c.reset.ensures.reset c.reset.ensures.honest c.stop_after-2.ensures.plan c.stop_after-2.ensures.honest in
     let C : Result ℕ Fault → Type 0 = λ r. UndoContract table 0 (rig_state m4) (rig_state m5) r in
     let is_ok : c.undo.result ≡ Ok c.in_ok-taken.taken = c.in_ok-taken.was in
-    let laws : Laws = record { headline = c.a_session_can_be_taken_back.ensures.headline; back = c.a_session_can_be_taken_back.ensures.whole; follows = c.a_session_can_be_taken_back.ensures.follows } in
+    let laws : Laws = record { headline = c.a_session_can_be_undone.ensures.headline; back = c.a_session_can_be_undone.ensures.whole; follows = c.a_session_can_be_undone.ensures.follows } in
     let contract = c.a_run_is_known_by_its_outcomes.ensures table commands m1 m2 c.run-stopped.result outcomes_in c.run-stopped.ensures.promised in
     let found = same_world m1 m is_reset.planned_device is_reset.planned_journal in
     let stays = is_reset.honest (run_honest laws table commands starts m m1 m2 c.run-stopped.result contract found (is_reset.planned_honest honest) is knows) in

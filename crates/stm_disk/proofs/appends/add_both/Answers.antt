@@ -2,14 +2,14 @@
 use Rattle.std.proofs.Common.{◌≡◌, ◌+◌, ◌≤◌, ◌-◌, ◌^◌, ◌∙◌, List, ℕ, ap, arith, length, refl, sym, length-append}
 use Rattle.std.proofs.KnownBytes.{Appends-trans}
 use Rattle.std.proofs.lemmas.Result.{on_ok_weaker}
-use Rattle.stm_disk.specs.GrowingFile.{FileState, IsModel}
-use Rattle.stm_disk.specs.Lines.{IsSettled, Stays}
+use Rattle.stm_disk.specs.GrowingFile.{FileState, FollowsFileModel}
+use Rattle.stm_disk.specs.Lines.{IsSynced, StaysOnDisk}
 use Rattle.stm_disk.proofs.InTurn.{both_added, first_failed}
 use Rattle.stm_disk.proofs.appends.add_both.Goals as goal
 
 -- the end of the file behind the first
-settled_behind : (at len place : ℕ) (first : List ℕ) (a b : FileState) → IsModel b → IsSettled at a
-    → Stays first a b → len ≡ length first → (at + len ≤ 2 ^ 64 - 1 → place ≡ at + len) → IsSettled place b
+settled_behind : (at len place : ℕ) (first : List ℕ) (a b : FileState) → FollowsFileModel b → IsSynced at a
+    → StaysOnDisk first a b → len ≡ length first → (at + len ≤ 2 ^ 64 - 1 → place ≡ at + len) → IsSynced place b
 settled_behind at len place first a b model s stays is place_is =
     let long : length b.seen ≡ at + len =
     omega (arith, ap (λ (xs : List ℕ). length xs) stays.seen, length-append a.seen first, s.place, is) in

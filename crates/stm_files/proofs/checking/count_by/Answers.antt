@@ -1,5 +1,5 @@
 use Rattle.std.proofs.Common.{◌≡◌, ℕ, ◌+◌, ◌<◌, ◌≤◌, length, subst, sym, arith}
-use Rattle.stm_files.specs.Checking.{IsCounted, Reads}
+use Rattle.stm_files.specs.Checking.{IsCounted, ReadsJournal}
 use Rattle.stm_files.proofs.Checks.{counted-all, counted-more, counted-none}
 use Rattle.stm_files.proofs.checking.count_by.Goals as goal
 
@@ -33,5 +33,5 @@ returns-then-n-eq0-clause-honest g c = λ honest.
     let d = V c.fetch.new.rig in
     let has = c.loop-n.invariant.read honest in
     let none : c.in_ok-n.n ≡ 0 = omega (arith, c.if-n-eq0.true) in
-    let R : ℕ → Type 0 = λ n. Reads c.loop-n.at c.loop-n.buf c.fetch.new.buf n b d in
+    let R : ℕ → Type 0 = λ n. ReadsJournal c.loop-n.at c.loop-n.buf c.fetch.new.buf n b d in
     counted-all c.loop-n.at c.loop-n.buf c.fetch.new.buf c.loop-n.tally a b d has (subst R none (c.in_ok-n.ensures.honest has.stays.honest)) c.loop-n.invariant.some

@@ -1,6 +1,6 @@
 use Rattle.std.proofs.Common.{ℕ, ◌++◌, ◌+◌, ◌<◌, ◌∷◌, [], List, true, false, ap, sym, ◌∙◌, append_assoc, drop, subst}
 use Rattle.stm_journal.specs.States.{StateData}
-use Rattle.stm_files.specs.Logging.{kept_text, numbers_of, pages_text}
+use Rattle.stm_files.specs.Logging.{kept_pages_text, numbers_of, logged_pages}
 use Rattle.stm_files.proofs.LoggedPages.{counted, number-at, step}
 use Rattle.stm_files.proofs.logging.add_pages.Goals as goal
 use Rattle.stm_files.proofs.logging.add_pages.Goals.{then-not-follows+in_ok-add_range, else-not-follows}
@@ -18,8 +18,8 @@ loop-i-init c =
     let p : ℕ = c.in-Some.page in
     let rest : List ℕ = drop 1 (numbers_of segment) in
     let at = number-at s c.args.k segment 0 p c.in-Some.field-0-1 is c.in-Some.ensures in
-    ap (λ (xs : List ℕ). xs ++ pages_text p p rest) c.in_ok-push.ensures.items
-    ∙ append_assoc out (58 ∷ []) (pages_text p p rest) ∙ ap (λ ns. out ++ kept_text ns) (sym at)
+    ap (λ (xs : List ℕ). xs ++ logged_pages p p rest) c.in_ok-push.ensures.items
+    ∙ append_assoc out (58 ∷ []) (logged_pages p p rest) ∙ ap (λ ns. out ++ kept_pages_text ns) (sym at)
 
 pub loop-i-preserved : goal.loop-i-preserved
 loop-i-preserved c =
@@ -33,7 +33,7 @@ loop-i-preserved c =
     elim c.if-not-follows.branch [
       | then-not-follows+in_ok-add_range w ↦
           rw (w.out-is, w.first-is)
-          (ap (λ (xs : List ℕ). xs ++ pages_text n n rest) w.in_ok-add_range.ensures
+          (ap (λ (xs : List ℕ). xs ++ logged_pages n n rest) w.in_ok-add_range.ensures
           ∙ step c.loop-i.first c.loop-i.last n pages rest out false at (sym w.if-not-follows.true ∙ c.follows.ensures)
           ∙ c.loop-i.invariant segment is)
       | else-not-follows w ↦

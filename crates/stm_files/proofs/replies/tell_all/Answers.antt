@@ -1,5 +1,5 @@
 use Rattle.std.proofs.Common.{ℕ, List, take_all, ◌∙◌, ap, arith}
-use Rattle.stm_files.specs.Replies.{begun, telling}
+use Rattle.stm_files.specs.Replies.{telling_begun, telling}
 use Rattle.stm_files.proofs.Told.{told_serves}
 use Rattle.stm_files.proofs.replies.tell_all.Goals as goal
 
@@ -10,4 +10,4 @@ returns-clause-device c =
     let all = take_all i bytes (omega (arith, c.loop-byte-test.false)) in
     λ ok.
     told_serves c.args.sim.now c.loop-byte.sim c.loop-byte.told.items bytes
-    (c.loop-byte.invariant ∙ ap (λ (xs : List ℕ). telling (begun c.args.sim.now) xs) all)
+    (c.loop-byte.invariant ∙ ap (λ (xs : List ℕ). telling (telling_begun c.args.sim.now) xs) all)

@@ -3,7 +3,7 @@ use Rattle.std.proofs.lemmas.Result.{IfOk-weaker}
 use Rattle.stm_wire.specs.Device.{Phase, Connected, Gone}
 use Rattle.stm_files.specs.SimulatorFile.{Becomes, standing_at}
 use Rattle.stm_files.specs.SimulatorFileLaws.{connected, settles, from_there}
-use Rattle.stm_files.specs.Standing.{phase_of}
+use Rattle.stm_files.specs.Standing.{standing_phase}
 use Rattle.stm_files.proofs.restoring.stand.Goals as goal
 
 pub lengthen-requires : goal.lengthen-requires
@@ -23,7 +23,7 @@ returns-in_ok-feed-in-Connected c =
     let new = c.lengthen.new.rig in
     let was = connected old.device old mid refl c.requires.fresh c.in_ok-feed-in-Connected.ensures in
     let rest = c.deref.result.now in
-    let is = ap Connected c.deref.ensures.value ∙ sym (ap phase_of c.in-Connected.is) in
+    let is = ap Connected c.deref.ensures.value ∙ sym (ap standing_phase c.in-Connected.is) in
     let P : Phase → Type 0 = λ p. Becomes (standing_at p old.device) old new in
     IfOk-weaker c.lengthen.result _ _ (λ stays h yes. subst P is (from_there (Connected rest) old.device old mid new was (h yes))) c.lengthen.ensures
 
@@ -34,4 +34,4 @@ returns-in_ok-feed-in-Gone c =
     let new = c.leave.new.rig in
     let was = connected old.device old mid refl c.requires.fresh c.in_ok-feed-in-Gone.ensures in
     let P : Phase → Type 0 = λ p. Becomes (standing_at p old.device) old new in
-    IfOk-weaker c.leave.result _ _ (λ left h yes. subst P (sym (ap phase_of c.in-Gone.is)) (from_there Gone old.device old mid new was (h yes))) c.leave.ensures
+    IfOk-weaker c.leave.result _ _ (λ left h yes. subst P (sym (ap standing_phase c.in-Gone.is)) (from_there Gone old.device old mid new was (h yes))) c.leave.ensures

@@ -4,35 +4,35 @@ use Rattle.stm_histories.proofs.histories.actions_are_histories.Goals as goal
 pub returns-clause-history : goal.returns-clause-history
 returns-clause-history g c =
     actions-are-histories g.L.Rig.view (record {
-      headline = c.a_session_can_be_taken_back.ensures.headline;
-      whole = c.a_session_can_be_taken_back.ensures.whole;
-      follows = c.a_session_can_be_taken_back.ensures.follows;
+      headline = c.a_session_can_be_undone.ensures.headline;
+      whole = c.a_session_can_be_undone.ensures.whole;
+      follows = c.a_session_can_be_undone.ensures.follows;
       told = c.a_run_is_known_by_its_outcomes.ensures;
     })
 
 pub returns-clause-identifies : goal.returns-clause-identifies
 returns-clause-identifies g c =
     identifying-is-history g.L.Rig.view (record {
-      headline = c.a_session_can_be_taken_back.ensures.headline;
-      whole = c.a_session_can_be_taken_back.ensures.whole;
-      follows = c.a_session_can_be_taken_back.ensures.follows;
+      headline = c.a_session_can_be_undone.ensures.headline;
+      whole = c.a_session_can_be_undone.ensures.whole;
+      follows = c.a_session_can_be_undone.ensures.follows;
       told = c.a_run_is_known_by_its_outcomes.ensures;
     })
 
 pub returns-clause-back : goal.returns-clause-back
 returns-clause-back g c =
     stopped-actions-are-taken-back g.L.Rig.view (record {
-      headline = c.a_session_can_be_taken_back.ensures.headline;
-      whole = c.a_session_can_be_taken_back.ensures.whole;
-      follows = c.a_session_can_be_taken_back.ensures.follows;
+      headline = c.a_session_can_be_undone.ensures.headline;
+      whole = c.a_session_can_be_undone.ensures.whole;
+      follows = c.a_session_can_be_undone.ensures.follows;
       told = c.a_run_is_known_by_its_outcomes.ensures;
     })
 
 pub returns-clause-unprotected : goal.returns-clause-unprotected
 returns-clause-unprotected g c =
     unprotected-actions-are-taken-back g.L.Rig.view (record {
-      headline = c.a_session_can_be_taken_back.ensures.headline;
-      whole = c.a_session_can_be_taken_back.ensures.whole;
-      follows = c.a_session_can_be_taken_back.ensures.follows;
+      headline = c.a_session_can_be_undone.ensures.headline;
+      whole = c.a_session_can_be_undone.ensures.whole;
+      follows = c.a_session_can_be_undone.ensures.follows;
       told = c.a_run_is_known_by_its_outcomes.ensures;
     })

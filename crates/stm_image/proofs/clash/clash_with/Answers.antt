@@ -3,7 +3,7 @@ use Rattle.std.proofs.lemmas.Bool.{cases_lt}
 use Rattle.std.proofs.lemmas.List.{get_or_default, get_or-take, length-take}
 use Rattle.std.proofs.lemmas.List.Elements.{Contains-get_or}
 use Rattle.stm_image.specs.Lay.{AgreesWith, IsFirstDifference}
-use Rattle.stm_image.specs.Pieces.{bytes_at}
+use Rattle.stm_image.specs.Pieces.{piece_bytes}
 use Rattle.stm_image.specs.declared.pieces.Piece.{Piece}
 use Rattle.stm_image.proofs.Clashing.{all_agree, clash_at}
 use Rattle.stm_image.proofs.Lying.{stands_within}
@@ -23,7 +23,7 @@ returns-in-Some c =
     let lt = c.loop-piece-test.true in
     let taken = length-take i list in
     let D : List ℕ → Type 0 = λ b. IsFirstDifference c.args.set.now p.first b c.in-Some.address in
-    let A : Piece → Type 0 = λ q. AgreesWith c.args.set.now q.first (bytes_at bytes q) in
+    let A : Piece → Type 0 = λ q. AgreesWith c.args.set.now q.first (piece_bytes bytes q) in
     clash_at c.args.set.now bytes list i p c.in-Some.address c.requires.stand lt (get_or_default list i d p lt) c.requires.firsts
     (λ r held. subst A (sym (get_or-take i list held.0 r (omega (arith, held.1))) ∙ held.2) (c.loop-piece.invariant held.0 r (omega (arith, held.1))))
     (subst D c.bytes_in.ensures c.in-Some.ensures)
@@ -39,7 +39,7 @@ loop-piece-preserved c k d lt = elim (cases_lt k c.loop-piece.piece-index) [
       let p : Piece = get_or list i record { first = 0; last = 0; place = 0 } in
       let same : p ≡ get_or list k d = get_or_default list i _ d c.loop-piece-test.true ∙ ap (λ n. get_or list n d) at in
       let B : List ℕ → Type 0 = λ b. AgreesWith c.args.set.now p.first b in
-      let A : Piece → Type 0 = λ q. AgreesWith c.args.set.now q.first (bytes_at c.args.bytes.now q) in
+      let A : Piece → Type 0 = λ q. AgreesWith c.args.set.now q.first (piece_bytes c.args.bytes.now q) in
       subst A same (subst B c.bytes_in.ensures c.in-None.ensures)
 ]
 
@@ -47,6 +47,6 @@ loop-piece-preserved c k d lt = elim (cases_lt k c.loop-piece.piece-index) [
 pub unreachable-requires : goal.unreachable-requires
 unreachable-requires c =
     let list = c.args.list.now in
-    let A : Piece → Type 0 = λ q. AgreesWith c.args.set.now q.first (bytes_at c.args.bytes.now q) in
+    let A : Piece → Type 0 = λ q. AgreesWith c.args.set.now q.first (piece_bytes c.args.bytes.now q) in
     c.requires.differs (all_agree c.args.set.now c.args.bytes.now list c.requires.stand c.requires.firsts
     (λ r held. subst A held.2 (c.loop-piece.invariant held.0 r (omega (arith, held.1, c.loop-piece-test.false)))))

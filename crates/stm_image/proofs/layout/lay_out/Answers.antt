@@ -3,7 +3,7 @@ use Rattle.std.proofs.lemmas.List.{get_or_default}
 use Rattle.std.proofs.lemmas.List.Elements.{Contains-get_or}
 use Rattle.stm_image.specs.Layout.{IsAmong, Covers}
 use Rattle.stm_image.specs.Pairs.{Pairs, raw_pairs}
-use Rattle.stm_image.specs.Pieces.{size_of, bytes_at, pairs_at, pairs_in}
+use Rattle.stm_image.specs.Pieces.{piece_size, piece_bytes, pairs_at, pairs_in}
 use Rattle.stm_image.specs.declared.pieces.Piece.{Piece}
 use Rattle.stm_image.proofs.Lying.{length-bytes_at}
 use Rattle.stm_image.proofs.Overlaps.{next_laid, none_laid, all_laid}
@@ -52,7 +52,7 @@ loop-piece-preserved c =
     let within = c.requires.within p (Contains-get_or list i d lt) in
     let order = within.order in
     let fits = within.fits in
-    let long : length c.bytes_in-data.result.now ≡ size_of p = ap (λ (b : List ℕ). length b) c.bytes_in-data.ensures ∙ length-bytes_at bytes p within.ends in
+    let long : length c.bytes_in-data.result.now ≡ piece_size p = ap (λ (b : List ℕ). length b) c.bytes_in-data.ensures ∙ length-bytes_at bytes p within.ends in
     let low = inv.order i d (omega arith) lt in
     let from : c.from.result ≡ p.first = first_of (omega (arith, c.from.ensures), search (rules, c.from.ensures)) in
     let skip : c.saturating_sub-skip.result ≡ c.loop-piece.next - p.first = c.saturating_sub-skip.ensures ∙ ap (λ n. c.loop-piece.next - n) from in
@@ -66,8 +66,8 @@ loop-piece-preserved c =
           let next : c.if-skip-data.next ≡ p.last + 1 = w.next-is ∙ first_of (omega (arith, w.from-next.ensures), search (rules, w.from-next.ensures)) in
           let short = w.if-skip-data.true in
           let start : p.first + c.saturating_sub-skip.result ≡ p.first + (c.loop-piece.next - p.first) = omega (arith, skip) in
-          let rest : w.split_at.result.1.now ≡ drop (c.loop-piece.next - p.first) (bytes_at bytes p) = w.split_at.ensures.back ∙ ap₂ (λ k b. drop k b) skip c.bytes_in-data.ensures in
-          let pairs : pairs_in c.if-skip-data.laid ≡ pairs_in c.loop-piece.laid ++ raw_pairs (p.first + (c.loop-piece.next - p.first)) (drop (c.loop-piece.next - p.first) (bytes_at bytes p)) =
+          let rest : w.split_at.result.1.now ≡ drop (c.loop-piece.next - p.first) (piece_bytes bytes p) = w.split_at.ensures.back ∙ ap₂ (λ k b. drop k b) skip c.bytes_in-data.ensures in
+          let pairs : pairs_in c.if-skip-data.laid ≡ pairs_in c.loop-piece.laid ++ raw_pairs (p.first + (c.loop-piece.next - p.first)) (drop (c.loop-piece.next - p.first) (piece_bytes bytes p)) =
           ap pairs_in w.laid-is ∙ adds.pairs ∙ ap₂ (λ s b. pairs_in c.loop-piece.laid ++ raw_pairs s b) start rest in
           rw (w.laid-is) (record {
             stand = adds.stand;

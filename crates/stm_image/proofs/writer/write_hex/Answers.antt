@@ -3,7 +3,7 @@ use Rattle.std.specs.Prelude.{Contains}
 use Rattle.std.proofs.lemmas.List.{drop_all, drop_more}
 use Rattle.stm_image.specs.Canon.{canon, lines, parts_of, runs_of}
 use Rattle.stm_image.specs.Pairs.{raw_pairs}
-use Rattle.stm_image.specs.Pieces.{Apart, pairs_at, size_of}
+use Rattle.stm_image.specs.Pieces.{Apart, pairs_at, piece_size}
 use Rattle.stm_image.specs.Parts.{IsBehind}
 use Rattle.stm_image.specs.declared.pieces.Piece.{Piece}
 use Rattle.stm_image.proofs.Lying.{length-bytes_at}
@@ -27,7 +27,7 @@ put_run-requires c =
     let within = within_read c.runs-runs.result.now bytes list c.loop-run.run-index record { first = 0; last = 0; place = 0 } c.as_slice-bytes.ensures.value c.as_slice-list.ensures.value c.runs-runs.ensures.runs.stand c.loop-run-test.true in
     let fits = within.fits in
     let order = within.order in
-    let long : length c.bytes_in.result.now ≡ size_of p = ap (λ (b : List ℕ). length b) c.bytes_in.ensures ∙ length-bytes_at bytes p within.ends in
+    let long : length c.bytes_in.result.now ≡ piece_size p = ap (λ (b : List ℕ). length b) c.bytes_in.ensures ∙ length-bytes_at bytes p within.ends in
     omega arith
 
 -- the lines of one run
@@ -48,7 +48,7 @@ loop-run-preserved c =
     let apart = subst A (sym c.as_slice-list.ensures.value) c.runs-runs.ensures.runs.apart in
     let within = within_read runs bytes list i d c.as_slice-bytes.ensures.value c.as_slice-list.ensures.value c.runs-runs.ensures.runs.stand lt in
     let order = within.order in
-    let long : length own ≡ size_of p = ap (λ (b : List ℕ). length b) c.bytes_in.ensures ∙ length-bytes_at bytes p within.ends in
+    let long : length own ≡ piece_size p = ap (λ (b : List ℕ). length b) c.bytes_in.ensures ∙ length-bytes_at bytes p within.ends in
     let next : i + 1 ≡ suc i = omega arith in
     let behind : IsBehind (p.first + length own) later = λ q held.
     let C : ℕ → Type 0 = λ n. Contains (pairs_at bytes (drop n list)) q in

@@ -1,14 +1,14 @@
 use Rattle.std.proofs.Common.{◌-◌, ◌^◌, ◌≤◌, ◌<◌, length, Ok}
 use Rattle.stm_wire.specs.Dialogue.{GoesOn}
 use Rattle.stm_journal.specs.Calls.{HasJournalCause, AreFetches}
-use Rattle.stm_journal.specs.Loading.{HasRead}
+use Rattle.stm_journal.specs.Loading.{HasReadJournal}
 use Rattle.stm_journal.proofs.load.load_by.Given as goal
 
 abbrev pub invariant-loop-loader : goal.invariant-loop-loader
 invariant-loop-loader g l = record {
   cause : HasJournalCause {T = Unit {0}} (g.R.Rig.view l.fn.rig) (g.R.Rig.view l.rig) (Ok tt);
   calls : GoesOn AreFetches (g.R.Rig.view l.fn.rig).calls (g.R.Rig.view l.rig).calls;
-  read : (g.R.Rig.view l.fn.rig).is_honest → HasRead l.loader.journal l.loader.tail (g.R.Rig.view l.fn.rig) (g.R.Rig.view l.rig);
+  read : (g.R.Rig.view l.fn.rig).is_honest → HasReadJournal l.loader.journal l.loader.tail (g.R.Rig.view l.fn.rig) (g.R.Rig.view l.rig);
   some : 0 < length l.buf;
   few : length l.buf ≤ 65536;
 }

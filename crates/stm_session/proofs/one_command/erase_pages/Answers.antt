@@ -1,7 +1,7 @@
 use Rattle.std.proofs.Common.{ℕ, List, Ok, refl, subst}
 use Rattle.stm_session.specs.declared.outcome.Outcome.{Outcome}
 use Rattle.stm_session.specs.declared.outcome.Outcome.TheVariants.{Erased}
-use Rattle.stm_session.specs.OneCommand.{Does}
+use Rattle.stm_session.specs.OneCommand.{DoesCommand}
 use Rattle.stm_session.specs.Meaning.{erases}
 use Rattle.stm_session.specs.Answers.{outcome_data, was_erased}
 use Rattle.stm_session.specs.declared.change.Change.TheVariants as change
@@ -16,7 +16,7 @@ use Rattle.stm_session.proofs.one_command.erase_pages.Goals as goal
 pub returns-in_err-segment-clause-honest : goal.returns-in_err-segment-clause-honest
 returns-in_err-segment-clause-honest g c flashes steady chip =
     let V = g.R.Rig.view in
-    let P : List ℕ → Type 0 = λ ns. Does flashes (erases ns) c.change_flash.new.journal (V c.args.rig.now) (V c.change_flash.new.rig) c.from_residual.result outcome_data in
+    let P : List ℕ → Type 0 = λ ns. DoesCommand flashes (erases ns) c.change_flash.new.journal (V c.args.rig.now) (V c.change_flash.new.rig) c.from_residual.result outcome_data in
     subst P c.as_slice.ensures.value
     (change_broken flashes (change.Erase c.as_slice.result) c.args.chip.now c.args.journal.now c.change_flash.new.journal (V c.args.rig.now) (V c.change_flash.new.rig) refl chip outcome_data _ c.from_residual.result
     (c.in_err-segment.ensures.honest flashes steady chip) c.from_residual.ensures.1)
@@ -25,7 +25,7 @@ pub returns-clause-honest : goal.returns-clause-honest
 returns-clause-honest g c flashes steady chip =
     let V = g.R.Rig.view in
     let y : Outcome = Erased c.in_ok-segment.segment c.in_ok-segment.pages in
-    let P : List ℕ → Type 0 = λ ns. Does flashes (erases ns) c.change_flash.new.journal (V c.args.rig.now) (V c.change_flash.new.rig) (Ok y) outcome_data in
+    let P : List ℕ → Type 0 = λ ns. DoesCommand flashes (erases ns) c.change_flash.new.journal (V c.args.rig.now) (V c.change_flash.new.rig) (Ok y) outcome_data in
     subst P c.as_slice.ensures.value
     (change_made flashes (change.Erase c.as_slice.result) c.args.chip.now c.args.journal.now c.change_flash.new.journal (V c.args.rig.now) (V c.change_flash.new.rig) refl chip
     c.in_ok-segment.segment c.in_ok-segment.pages y (λ s p. was_erased s p) steady c.in_ok-segment.ensures.number (c.in_ok-segment.ensures.honest flashes steady chip) refl refl)

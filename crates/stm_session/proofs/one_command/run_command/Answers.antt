@@ -1,11 +1,11 @@
 use Rattle.std.proofs.Common.{sym, subst}
 use Rattle.stm_session.specs.declared.command.Command.{Command}
 use Rattle.stm_session.specs.Answers.{outcome_data}
-use Rattle.stm_session.specs.OneCommand.{Does}
+use Rattle.stm_session.specs.OneCommand.{DoesCommand}
 use Rattle.stm_session.specs.Came.{TellsWhatCame}
 use Rattle.stm_session.specs.Meaning.{command_data, erases, is_change, writes}
 use Rattle.std.specs.Prelude.{IfOk}
-use Rattle.stm_session.specs.Order.{Follows, Stops}
+use Rattle.stm_session.specs.Order.{Follows, FaultEnds}
 use Rattle.stm_session.specs.RunOrder.{IsDoneTelling}
 use Rattle.std.proofs.Common.{ap}
 use Rattle.stm_session.specs.RunOrder.{IsBegunBy, IsBegunTelling, StopsTelling}
@@ -16,25 +16,25 @@ use Rattle.stm_session.proofs.one_command.run_command.Goals as goal
 pub returns-in-Write-clause-honest : goal.returns-in-Write-clause-honest
 returns-in-Write-clause-honest g c flashes steady chip =
     let V = g.R.Rig.view in
-    let P : Command → Type 0 = λ k. Does flashes (command_data k) c.write_image.new.journal (V c.args.rig.now) (V c.write_image.new.rig) c.write_image.result outcome_data in
+    let P : Command → Type 0 = λ k. DoesCommand flashes (command_data k) c.write_image.new.journal (V c.args.rig.now) (V c.write_image.new.rig) c.write_image.result outcome_data in
     subst P (sym c.in-Write.is) (c.write_image.ensures.honest flashes steady chip)
 
 pub returns-in-Erase-clause-honest : goal.returns-in-Erase-clause-honest
 returns-in-Erase-clause-honest g c flashes steady chip =
     let V = g.R.Rig.view in
-    let P : Command → Type 0 = λ k. Does flashes (command_data k) c.erase_pages.new.journal (V c.args.rig.now) (V c.erase_pages.new.rig) c.erase_pages.result outcome_data in
+    let P : Command → Type 0 = λ k. DoesCommand flashes (command_data k) c.erase_pages.new.journal (V c.args.rig.now) (V c.erase_pages.new.rig) c.erase_pages.result outcome_data in
     subst P (sym c.in-Erase.is) (c.erase_pages.ensures.honest flashes steady chip)
 
 pub returns-in-Verify-clause-honest : goal.returns-in-Verify-clause-honest
 returns-in-Verify-clause-honest g c flashes steady chip =
     let V = g.R.Rig.view in
-    let P : Command → Type 0 = λ k. Does flashes (command_data k) c.args.journal.now (V c.args.rig.now) (V c.verify_image.new.rig) c.verify_image.result outcome_data in
+    let P : Command → Type 0 = λ k. DoesCommand flashes (command_data k) c.args.journal.now (V c.args.rig.now) (V c.verify_image.new.rig) c.verify_image.result outcome_data in
     subst P (sym c.in-Verify.is) (c.verify_image.ensures.honest flashes c.args.journal.now steady chip)
 
 pub returns-in-Read-clause-honest : goal.returns-in-Read-clause-honest
 returns-in-Read-clause-honest g c flashes steady chip =
     let V = g.R.Rig.view in
-    let P : Command → Type 0 = λ k. Does flashes (command_data k) c.args.journal.now (V c.args.rig.now) (V c.read_part_of.new.rig) c.read_part_of.result outcome_data in
+    let P : Command → Type 0 = λ k. DoesCommand flashes (command_data k) c.args.journal.now (V c.args.rig.now) (V c.read_part_of.new.rig) c.read_part_of.result outcome_data in
     subst P (sym c.in-Read.is) (c.read_part_of.ensures.honest flashes c.args.journal.now steady chip)
 
 pub returns-in-Write-clause-order : goal.returns-in-Write-clause-order
@@ -68,7 +68,7 @@ returns-in-Write-clause-stops g c =
     let l = c.args.journal.now in
     let a = V c.args.rig.now in
     let b = V c.write_image.new.rig in
-    let P : Command → Type 0 = λ k. Stops (IsBegunBy chip (command_data k) l.state) l.is_torn a b c.write_image.result in
+    let P : Command → Type 0 = λ k. FaultEnds (IsBegunBy chip (command_data k) l.state) l.is_torn a b c.write_image.result in
     change_stops chip (command_data c.args.command.now) l.state l.is_torn a b c.write_image.result (ap (λ (k : Command). is_change (command_data k)) c.in-Write.is)
     (subst P (sym c.in-Write.is) c.write_image.ensures.stops)
 
@@ -79,7 +79,7 @@ returns-in-Erase-clause-stops g c =
     let l = c.args.journal.now in
     let a = V c.args.rig.now in
     let b = V c.erase_pages.new.rig in
-    let P : Command → Type 0 = λ k. Stops (IsBegunBy chip (command_data k) l.state) l.is_torn a b c.erase_pages.result in
+    let P : Command → Type 0 = λ k. FaultEnds (IsBegunBy chip (command_data k) l.state) l.is_torn a b c.erase_pages.result in
     change_stops chip (command_data c.args.command.now) l.state l.is_torn a b c.erase_pages.result (ap (λ (k : Command). is_change (command_data k)) c.in-Erase.is)
     (subst P (sym c.in-Erase.is) c.erase_pages.ensures.stops)
 

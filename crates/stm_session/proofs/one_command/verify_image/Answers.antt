@@ -6,7 +6,7 @@ use Rattle.stm_session.proofs.Doings.{asks_fails}
 use Rattle.stm_session.proofs.OneCommands.{verify_agrees, verify_differs}
 use Rattle.stm_session.proofs.RunOrders.{reads_follow}
 use Rattle.stm_session.specs.Fault.{of_refusal}
-use Rattle.stm_session.specs.Came.{AllAgree, CameFor}
+use Rattle.stm_session.specs.Came.{AllCameAgree, CameFor}
 use Rattle.std.proofs.Common.{Some}
 use Rattle.stm_session.specs.declared.fault.Fault.TheVariants as faults
 use Rattle.stm_session.specs.RunOrder.{IsBegunTelling, OnlyReads}
@@ -44,7 +44,7 @@ returns-in-None-clause-order g c l =
     let a = V c.args.rig.now in
     let b = V c.find_difference.new.rig in
     let P : Option ℕ → Type 0 = λ o. OnlyReads chip (CameFor image chip.base o) a b in
-    reads_follow chip (AllAgree image chip.base) l a b (subst P c.in-None.is c.in_ok-difference.ensures.reads)
+    reads_follow chip (AllCameAgree image chip.base) l a b (subst P c.in-None.is c.in_ok-difference.ensures.reads)
 
 pub returns-in_err-difference-clause-stops : goal.returns-in_err-difference-clause-stops
 returns-in_err-difference-clause-stops g c l =

@@ -5,7 +5,7 @@ use Rattle.std.specs.Prelude.{bytes_eq}
 use Rattle.stm_wire.specs.Chip.{ChipData, flash_size, page_of, page_size, with_page}
 use Rattle.stm_wire.specs.Device.{Device}
 use Rattle.stm_wire.specs.PageLaws.{length-page_of}
-use Rattle.stm_session.specs.ChangeOrder.{IsChanged, IsTurn, IsTurnOf}
+use Rattle.stm_session.specs.ChangeOrder.{IsChanged, IsPageTurn, IsTurnOf}
 use Rattle.stm_session.specs.Changing.{change_entries}
 use Rattle.stm_session.specs.Contents.{IsGiven, content}
 use Rattle.stm_session.specs.declared.fault.Fault.{Fault}
@@ -224,7 +224,7 @@ returns-in_err-held-clause-stops g c =
     (c.touches.ensures.may c.if-not-touches.false) in
     read_stops chip n c.page_start-start.result c.page_size-size.result c.requires.exists
     c.page_start-start.ensures.address c.page_size-size.ensures.bytes
-    (IsTurn c.args.kept chip c.args.change.now n) c.args.journal.now.is_torn (V c.args.rig.now)
+    (IsPageTurn c.args.kept chip c.args.change.now n) c.args.journal.now.is_torn (V c.args.rig.now)
     (V c.read_range.new.rig) _ c.from_residual.result c.from_residual.ensures.1
     c.page_size-size.ensures.blocks.1 some c.in_err-held.ensures.order_stops
 
@@ -238,7 +238,7 @@ returns-in_err-page-clause-stops g c =
     let read = was_read g (goal.at.returns-in_err-page-clause-stops g c).After-content held refl in
     let some = some_turn c.args.kept chip c.args.change.now n
     (c.touches.ensures.may c.if-not-touches.false) held many in
-    memory_stops (Begin (IsTurn c.args.kept chip c.args.change.now n)) c.args.journal.now.is_torn
+    memory_stops (Begin (IsPageTurn c.args.kept chip c.args.change.now n)) c.args.journal.now.is_torn
     (page_reads chip n held) (V c.args.rig.now) (V c.read_range.new.rig)
     c.from_residual-in_err-page.result c.from_residual-in_err-page.ensures.1 some read.acts
 
@@ -254,7 +254,7 @@ returns-in_err-changed-clause-stops g c =
     let here = (goal.at.returns-in_err-changed-clause-stops g c).After-content in
     let last = (goal.at.returns-in_err-changed-clause-stops g c).After-change_page in
     let Made = IsChanged c.args.kept chip n held page in
-    let Turn = IsTurn c.args.kept chip c.args.change.now n in
+    let Turn = IsPageTurn c.args.kept chip c.args.change.now n in
     then_stops (Begin Made) (Begin Turn) reads l l (V c.args.rig.now) (V c.read_range.new.rig)
     (V c.change_page.new.rig) _ c.from_residual-in_err-changed.result
     c.from_residual-in_err-changed.ensures.1 (was_read g here held c.deref-2.ensures.value)

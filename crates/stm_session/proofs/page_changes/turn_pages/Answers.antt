@@ -13,7 +13,7 @@ use Rattle.std.proofs.Common.{true}
 use Rattle.stm_session.specs.ChangeOrder.{AreAllTurned, AreTurned, none}
 use Rattle.stm_session.proofs.ChangeOrders.{all_turned}
 use Rattle.stm_session.proofs.Orders.{does_nothing, does_then}
-use Rattle.stm_session.specs.ChangeOrder.{AreBegunTurns, IsTurn}
+use Rattle.stm_session.specs.ChangeOrder.{AreBegunTurns, IsPageTurn}
 use Rattle.stm_session.specs.Order.{Step, Begin}
 use Rattle.stm_session.proofs.CutShort.{then_stops}
 use Rattle.stm_session.proofs.page_changes.turn_pages.Goals as goal
@@ -169,7 +169,7 @@ returns-in_err-changed-clause-stops g c =
     let n = c.loop-n.n in
     let so_far = c.loop-n.invariant.order in
     let here : n < page_count chip = omega (arith, c.loop-n-test.true, c.pages-n-end.ensures) in
-    let Turn : Bool → List Step → Type 0 = λ k. IsTurn k chip change n in
+    let Turn : Bool → List Step → Type 0 = λ k. IsPageTurn k chip change n in
     then_stops (Begin (Turn c.is_kept-kept.result)) (AreBegunTurns chip change) so_far.0 c.args.journal.now c.loop-n.journal (V c.args.rig.now) (V c.loop-n.rig) (V c.turn_page.new.rig) _ c.from_residual.result c.from_residual.ensures.1
     so_far.2 c.in_err-changed.ensures.stops
     (λ ys begun.

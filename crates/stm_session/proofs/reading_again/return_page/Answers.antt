@@ -7,7 +7,7 @@ use Rattle.stm_wire.specs.Parts.{IsPart}
 use Rattle.stm_wire.specs.PartLaws.{part_weaker}
 use Rattle.stm_session.specs.ChangeOrder.{IsChanged}
 use Rattle.stm_session.specs.Lines.{rewrite_entries}
-use Rattle.stm_session.specs.Order.{Are, AreReadsOf, Begin, DoesSteps, OrMisread, page_address, page_reads, restore_steps, return_steps}
+use Rattle.stm_session.specs.Order.{Are, AreReadsOf, Begin, DoesSteps, OrMisread, page_address, page_reads, give_back_steps, return_steps}
 use Rattle.stm_wire.specs.Chip.{page_size}
 use Rattle.stm_session.specs.Steps.{Goes, IsSteady}
 use Rattle.stm_session.proofs.CutShort.{page_was_read, part_stops, then_stops}
@@ -53,7 +53,7 @@ gave g c =
 
 -- and did
 given_back : (g : given.Over) (c : After-read_again g)
-    → DoesSteps (restore_steps c.args.chip.now c.args.n c.args.held.now c.args.page.now)
+    → DoesSteps (give_back_steps c.args.chip.now c.args.n c.args.held.now c.args.page.now)
     c.args.journal.now c.change_page.new.journal (g.R.Rig.view c.args.rig.now)
     (g.R.Rig.view c.change_page.new.rig)
 given_back g c =
@@ -178,7 +178,7 @@ returns-in_err-read_again-clause-stops g c =
     let page = c.args.page.now in
     let l2 = c.change_page.new.journal in
     let yes : again ≡ true = search rules in
-    let own = restore_steps chip n held page in
+    let own = give_back_steps chip n held page in
     let All = Begin (Are (return_steps again chip n held page)) in
     then_stops (Begin (AreReadsOf (page_address chip n) (page_size chip n))) (OrMisread again chip All) own c.args.journal.now l2 (V c.args.rig.now) (V c.change_page.new.rig) (V c.read_again.new.rig) _
     c.from_residual-in_err-read_again.result c.from_residual-in_err-read_again.ensures.1
@@ -200,7 +200,7 @@ returns-clause-order g c =
     let b = V c.change_page.new.rig in
     let d = V c.read_again.new.rig in
     let yes : again ≡ true = search rules in
-    let own = restore_steps chip n held page in
+    let own = give_back_steps chip n held page in
     let reads = page_was_read chip n l2 (page_address chip n) (page_size chip n) page page b d refl refl refl (c.in_ok-read_again.ensures.order l2.is_torn) in
     does_as (own ++ page_reads chip n page) (return_steps again chip n held page) l l2 a d (return_is again chip n held page yes) (does_then own (page_reads chip n page) l l2 l2 a b d
     (given_back g (goal.at.returns-clause-order g c).After-read_again) reads)

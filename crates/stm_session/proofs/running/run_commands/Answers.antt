@@ -18,7 +18,7 @@ use Rattle.stm_session.proofs.Runs.{HasRun, made_so_far, run_next, run_nothing}
 use Rattle.stm_session.proofs.Sending.{same_fault}
 use Rattle.stm_session.proofs.SentParts.{commands_next, commands_within}
 use Rattle.stm_session.specs.Order.{Follows, Step, StopsBy}
-use Rattle.stm_session.specs.RunOrder.{AreDone, none as none_done, more}
+use Rattle.stm_session.specs.RunOrder.{AreDoneInOrder, none as none_done, more}
 use Rattle.stm_session.proofs.Orders.{does_nothing, does_then}
 use Rattle.std.proofs.Common.{drop, inl, inr}
 use Rattle.stm_session.specs.declared.fault.Fault.{Fault}
@@ -47,7 +47,7 @@ loop-command-init g c =
       stays = λ h. h;
       parts = nothing_is_part (Some c.args.chip.now) true 0 a.calls;
       order =
-          let D : List Outcome → Type 0 = λ os. AreDone c.args.chip.now [] (map outcome_data os) l.state l.state [] in
+          let D : List Outcome → Type 0 = λ os. AreDoneInOrder c.args.chip.now [] (map outcome_data os) l.state l.state [] in
           ([], subst D (sym none) (none_done l.state), does_nothing l a);
       honest = λ flashes steady chip.
           let model = g.met.R.Rig.model c.args.rig.now steady.honest in
@@ -99,8 +99,8 @@ loop-command-preserved g c =
           let own = c.in_ok-outcome.ensures.order in
           let steps = before.0 ++ own.0 in
           let after = map outcome_data c.push.new.self.items in
-          let O : List CommandData → Type 0 = λ ys. AreDone c.args.chip.now ys after l.state l3.state steps in
-          let S : List OutcomeData → Type 0 = λ os. AreDone c.args.chip.now (commands_in (take i cs) ++ command_data next ∷ []) os l.state l3.state steps in
+          let O : List CommandData → Type 0 = λ ys. AreDoneInOrder c.args.chip.now ys after l.state l3.state steps in
+          let S : List OutcomeData → Type 0 = λ os. AreDoneInOrder c.args.chip.now (commands_in (take i cs) ++ command_data next ∷ []) os l.state l3.state steps in
           let said : map outcome_data c.loop-command.outcomes.items ++ outcome_data one ∷ [] ≡ after =
           sym (ap (map outcome_data) pushed ∙ map-append outcome_data c.loop-command.outcomes.items (one ∷ [])) in
           let done = more (commands_in (take i cs)) (command_data next) (map outcome_data c.loop-command.outcomes.items) (outcome_data one) l.state l2.state l3.state before.0 own.0 before.1 own.1 c.in_ok-outcome.ensures.depth in
@@ -233,7 +233,7 @@ returns g c =
           let cs = c.args.commands.now in
           let all : commands_in (take i cs) ≡ commands_in cs = ap commands_in (take_all i cs (omega (arith, c.loop-command-test.false))) in
           let said = map outcome_data c.loop-command.outcomes.items in
-          let P : List CommandData → Type 0 = λ ys. Follows (AreDone c.args.chip.now ys said l.state l2.state) l l2 (V c.args.rig.now) (V c.loop-command.rig) in
+          let P : List CommandData → Type 0 = λ ys. Follows (AreDoneInOrder c.args.chip.now ys said l.state l2.state) l l2 (V c.args.rig.now) (V c.loop-command.rig) in
           subst P all c.loop-command.invariant.order);
       stops = search rules;
       none = search rules;

@@ -7,7 +7,7 @@ use Rattle.stm_session.proofs.Beginnings.{begins, unbegun, untorn_begin}
 use Rattle.stm_session.proofs.Keeping.{good_at}
 use Rattle.stm_journal.specs.Journals.{begin_entries}
 use Rattle.std.proofs.Common.{◌∷◌, []}
-use Rattle.stm_session.specs.Order.{Adds, DoesSteps, Step, Are, Begin, Stops}
+use Rattle.stm_session.specs.Order.{Adds, DoesSteps, Step, Are, Begin, FaultEnds}
 use Rattle.stm_session.proofs.Orders.{does_add}
 use Rattle.std.proofs.Common.{List, refl}
 use Rattle.stm_session.proofs.CutShort.{append_stops}
@@ -65,6 +65,6 @@ returns-in_err-segment-clause-stops g c =
     let l = c.args.journal.now in
     let a = V c.args.rig.now in
     let d = V c.begin.new.rig in
-    let P : ℕ → List ℕ → Type 0 = λ i u. Stops (Begin (Are (Adds (begin_entries i u l.state) ∷ []))) l.is_torn a d c.from_residual.result in
+    let P : ℕ → List ℕ → Type 0 = λ i u. FaultEnds (Begin (Are (Adds (begin_entries i u l.state) ∷ []))) l.is_torn a d c.from_residual.result in
     let all : List Step = Adds (begin_entries c.id.result c.unique.result l.state) ∷ [] in
     as_named P _ _ _ _ c.id.ensures c.unique.ensures (append_stops ℕ (Begin (Are all)) l.is_torn (begin_entries c.id.result c.unique.result l.state) _ a d c.from_residual.result c.from_residual.ensures.1 (all, refl) ([], refl) c.in_err-segment.ensures.calls)

@@ -1,10 +1,10 @@
 use Rattle.std.proofs.Common.{◌≡◌, [], take}
 use Rattle.stm_wire.specs.Dialogue.{learns}
-use Rattle.stm_wire.specs.Sending.{Holds}
+use Rattle.stm_wire.specs.Sending.{IsHeldToEnd}
 use Rattle.stm_wire.specs.Command.{owing}
 use Rattle.stm_wire.proofs.dialogue.fill.Given as goal
 
 abbrev pub invariant-loop-slot : goal.invariant-loop-slot
 invariant-loop-slot g l =
-    Holds [] (learns (take l.slot-index l.buf)) (g.R.Rig.view l.fn.rig) (g.R.Rig.view l.rig)
+    IsHeldToEnd [] (learns (take l.slot-index l.buf)) (g.R.Rig.view l.fn.rig) (g.R.Rig.view l.rig)
     × ((g.R.Rig.view l.fn.rig).is_honest → (g.R.Rig.view l.fn.rig).device ≡ owing (take l.slot-index l.buf) (g.R.Rig.view l.rig).device)

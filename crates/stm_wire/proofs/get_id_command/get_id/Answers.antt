@@ -3,7 +3,7 @@ use Rattle.stm_wire.specs.declared.fault.WireFault.{WireFault}
 use Rattle.stm_wire.specs.Device.{Device}
 use Rattle.stm_wire.specs.Reply.{ack}
 use Rattle.stm_wire.specs.Dialogue.{Expects, Learns, step_turns}
-use Rattle.stm_wire.specs.Sending.{Holds, BreaksOff}
+use Rattle.stm_wire.specs.Sending.{IsHeldToEnd, BreaksOff}
 use Rattle.stm_wire.specs.Frames.{command, get_id_turns}
 use Rattle.stm_wire.specs.Command.{owing}
 use Rattle.stm_wire.proofs.Holding.{Holds-then, BreaksOff-early, BreaksOff-then, on_fault, if_err_weaker}
@@ -33,8 +33,8 @@ returns-clause-held g c =
     let V = g.R.Rig.view in
     let old = V c.args.rig.now in
     let new = V c.receive_id.new.rig in
-    let P : ℕ → Type 0 = λ id. Holds [] (Expects 1 ∷ Learns (id / 256) ∷ Learns (id % 256) ∷ Expects ack ∷ []) (V c.send_step.new.rig) new in
-    let Q : ℕ → Type 0 = λ id. Holds (command 0x02) (get_id_turns (id / 256) (id % 256)) old new in
+    let P : ℕ → Type 0 = λ id. IsHeldToEnd [] (Expects 1 ∷ Learns (id / 256) ∷ Learns (id % 256) ∷ Expects ack ∷ []) (V c.send_step.new.rig) new in
+    let Q : ℕ → Type 0 = λ id. IsHeldToEnd (command 0x02) (get_id_turns (id / 256) (id % 256)) old new in
     if_ok_weaker P Q c.receive_id.result
     (λ id. Holds-then (command 0x02) (step_turns (command 0x02)) (Expects 1 ∷ Learns (id / 256) ∷ Learns (id % 256) ∷ Expects ack ∷ []) old (V c.send_step.new.rig) new c.in_ok-send_step.ensures.held)
     c.receive_id.ensures.held

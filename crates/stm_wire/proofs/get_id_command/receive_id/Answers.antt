@@ -2,7 +2,7 @@ use Rattle.std.proofs.Common.{◌≡◌, ◌<◌, ◌/◌, ◌%◌, ◌∷◌, [
 use Rattle.stm_wire.specs.declared.fault.WireFault.{WireFault}
 use Rattle.stm_wire.specs.Reply.{ack}
 use Rattle.stm_wire.specs.Dialogue.{Expects, Learns}
-use Rattle.stm_wire.specs.Sending.{Holds, BreaksOff}
+use Rattle.stm_wire.specs.Sending.{IsHeldToEnd, BreaksOff}
 use Rattle.stm_wire.proofs.Holding.{Holds-append, BreaksOff-early, BreaksOff-between, BreaksOff-second, on_fault}
 use Rattle.stm_wire.proofs.get_id_command.receive_id.Goals as goal
 
@@ -56,6 +56,6 @@ returns-clause-held g c =
     let small : low < 256 = omega arith in
     let upper : number / 256 ≡ high = omega (arith, c.read_u16.ensures, small) in
     let lower : number % 256 ≡ low = omega (arith, c.read_u16.ensures, small) in
-    let P : ℕ → Type 0 = λ x. Holds [] (Expects 1 ∷ Learns x ∷ Learns low ∷ Expects ack ∷ []) (V c.args.rig.now) (V c.expect_byte-2.new.rig) in
-    let Q : ℕ → Type 0 = λ y. Holds [] (Expects 1 ∷ Learns (number / 256) ∷ Learns y ∷ Expects ack ∷ []) (V c.args.rig.now) (V c.expect_byte-2.new.rig) in
+    let P : ℕ → Type 0 = λ x. IsHeldToEnd [] (Expects 1 ∷ Learns x ∷ Learns low ∷ Expects ack ∷ []) (V c.args.rig.now) (V c.expect_byte-2.new.rig) in
+    let Q : ℕ → Type 0 = λ y. IsHeldToEnd [] (Expects 1 ∷ Learns (number / 256) ∷ Learns y ∷ Expects ack ∷ []) (V c.args.rig.now) (V c.expect_byte-2.new.rig) in
     subst Q (sym lower) (subst P (sym upper) all)

@@ -1,7 +1,7 @@
 use Rattle.std.proofs.Common.{◌≡◌, List, sym, ◌∙◌, ap, subst, inl, inr, map}
 use Rattle.clap.specs.Words.{IsAmong, Text, app_of, fault_of, is_simple, is_simple_and_free, kind_of}
 use Rattle.stm_words.proofs.Simple.{at_err, at_ok, simple, simple_and_free}
-use Rattle.stm_words.specs.CommandSet.{Reads, command_set}
+use Rattle.stm_words.specs.CommandSet.{ReadsWords, command_set}
 use Rattle.stm_words.proofs.words.read_words.Goals as goal
 
 pub returns-clause-value : goal.returns-clause-value
@@ -15,7 +15,7 @@ returns-clause-value c =
       p.0,
       p.2,
       sym (ap (λ a. fault_of a words) same) ∙ none,
-      subst (λ a. Reads a words m) same (h (ap is_simple same ∙ simple c.args.environment p.0)),
+      subst (λ a. ReadsWords a words m) same (h (ap is_simple same ∙ simple c.args.environment p.0)),
     ))
 
 pub returns-clause-fault : goal.returns-clause-fault

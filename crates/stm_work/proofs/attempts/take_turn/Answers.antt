@@ -8,9 +8,9 @@ use Rattle.stm_work.proofs.attempts.take_turn.Goals as goal
 
 pub returns-in-Ok : goal.returns-in-Ok
 returns-in-Ok g c =
-    let (back, lead, takes) = c.take_back-back.ensures in
+    let (back, lead, takes) = c.undo_since-back.ensures in
     let (next, go, retries) = c.attempt_copy.ensures in
-    let taken = c.take_back-back.result in
+    let taken = c.undo_since-back.result in
     let told = ToldTurn c.args.turn c.args.most c.args.failure taken in (
       back ++ (told ∷ next),
       lead-append g.A.Attempts.does back (told ∷ next) _ _ _ lead (_, c.tell_turn.ensures, go),
@@ -28,8 +28,8 @@ returns-in-Ok g c =
 
 pub returns-in-Err : goal.returns-in-Err
 returns-in-Err g c =
-    let (back, lead, takes) = c.take_back-back.ensures in
-    let taken = c.take_back-back.result in
+    let (back, lead, takes) = c.undo_since-back.ensures in
+    let taken = c.undo_since-back.result in
     let told = ToldTurn c.args.turn c.args.most c.args.failure taken in (
       back ++ (told ∷ []),
       lead-append g.A.Attempts.does back (told ∷ []) _ _ _ lead (_, c.tell_turn.ensures, refl),

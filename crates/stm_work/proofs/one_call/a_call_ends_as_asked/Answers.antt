@@ -5,7 +5,7 @@ pub returns : goal.returns
 returns g c =
     calls-end-as-asked g.L.Rig.view (record {
       model = g.met.L.Rig.model;
-      unrefused = c.an_unrefused_journal_can_be_taken_back.ensures.run;
+      unrefused = c.an_unrefused_journal_can_be_undone.ensures.run;
       ready = c.a_ready_device_can_begin.ensures.safe;
       agrees = c.the_first_difference_is_the_first.ensures.none;
     })

@@ -4,7 +4,7 @@ use Rattle.stm_wire.specs.Chip.{ChipData}
 use Rattle.stm_wire.specs.Device.{Device, Phase}
 use Rattle.stm_files.specs.declared.standing.Standing.{Standing}
 use Rattle.stm_files.specs.SimulatorFile.{simulator_at}
-use Rattle.stm_files.specs.Standing.{line_of, phase_from, phase_of, standing_of}
+use Rattle.stm_files.specs.Standing.{standing_line, phase_from, standing_phase, standing_of}
 use Rattle.stm_files.proofs.Standings.{HasBytes, open-bytes, phase-is, reads-back}
 use Rattle.stm_files.proofs.simulator_file.StoredSimulator.left.Goals as goal
 
@@ -19,14 +19,14 @@ returns c honest =
     let B : Phase → Type 0 = λ p. HasBytes p in
     let bytes : HasBytes stood =
     subst B (sym is) (open-bytes d.chip d.codes d.phase honest.is_device.phase) in
-    let read : Some (phase_of standing) ≡ standing_of c.as_slice.result.now =
-    ap (λ (o : Option Standing). option_map phase_of o) (sym c.in-Some.is)
+    let read : Some (standing_phase standing) ≡ standing_of c.as_slice.result.now =
+    ap (λ (o : Option Standing). option_map standing_phase o) (sym c.in-Some.is)
     ∙ c.in_ok-standing.ensures in
-    let written : c.as_slice.result.now ≡ line_of stood =
+    let written : c.as_slice.result.now ≡ standing_line stood =
     c.as_slice.ensures.value ∙ c.in_ok-line.ensures in
     let phase =
-    reads-back stood (phase_of standing) c.as_slice.result.now bytes written read ∙ is in
-    ap (λ (chip : ChipData). simulator_at chip flash (phase_of standing))
+    reads-back stood (standing_phase standing) c.as_slice.result.now bytes written read ∙ is in
+    ap (λ (chip : ChipData). simulator_at chip flash (standing_phase standing))
     (c.in_ok-chip.ensures.cases ∙ c.chip.ensures)
     ∙ ap₂ (λ (bytes : List ℕ) (p : Phase). simulator_at d.chip bytes p)
     (c.in_ok-flash.ensures.items ∙ c.flash.ensures) phase

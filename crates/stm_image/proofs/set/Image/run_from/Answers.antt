@@ -3,7 +3,7 @@ use Rattle.std.specs.List.{AllWithin}
 use Rattle.std.specs.List.Sorted.{IsNonDecreasingBy}
 use Rattle.std.proofs.lemmas.List.{get_or_default}
 use Rattle.stm_image.specs.Pairs.{Pairs, HasNone}
-use Rattle.stm_image.specs.Pieces.{pairs_at, bytes_at, size_of}
+use Rattle.stm_image.specs.Pieces.{pairs_at, piece_bytes, piece_size}
 use Rattle.stm_image.specs.Runs.{IsRunFrom}
 use Rattle.stm_image.specs.declared.pieces.Piece.{Piece}
 use Rattle.stm_image.proofs.Lying.{length-bytes_at}
@@ -35,7 +35,7 @@ split_at-requires c =
     let p = get_or list place d in
     let within = within_read c.self.inside.runs c.as_slice.result.now list place d c.as_slice.ensures.value c.as_slice-list.ensures.value c.self.invariant.stand lt in
     let order = within.order in
-    let long : length c.bytes_in-bytes.result.now ≡ size_of p = ap (λ (b : List ℕ). length b) c.bytes_in-bytes.ensures ∙ length-bytes_at c.as_slice.result.now p within.ends in
+    let long : length c.bytes_in-bytes.result.now ≡ piece_size p = ap (λ (b : List ℕ). length b) c.bytes_in-bytes.ensures ∙ length-bytes_at c.as_slice.result.now p within.ends in
     let high = found.here place d (omega arith) lt in
     let skip : c.saturating_sub-skip.result ≡ c.args.address - p.first = c.saturating_sub-skip.ensures in
     omega arith
@@ -74,11 +74,11 @@ returns c =
     let own = c.bytes_in-bytes.result.now in
     let skip = c.saturating_sub-skip.result in
     let rest = c.split_at.result.1.now in
-    let all : rest ≡ drop (c.args.address - p.first) (bytes_at bytes p) = c.split_at.ensures.back ∙ ap₂ (λ k b. drop k b) c.saturating_sub-skip.ensures c.bytes_in-bytes.ensures in
+    let all : rest ≡ drop (c.args.address - p.first) (piece_bytes bytes p) = c.split_at.ensures.back ∙ ap₂ (λ k b. drop k b) c.saturating_sub-skip.ensures c.bytes_in-bytes.ensures in
     let set : pairs_at bytes list ≡ c.args.self.now = ap₂ pairs_at c.as_slice.ensures.value c.as_slice-list.ensures.value ∙ c.self.view_is in
     let A : Pairs → Type 0 = λ ps. IsRunFrom ps c.args.address (p.first + skip) rest in
     let B : List ℕ → Type 0 = λ b. IsRunFrom (pairs_at bytes list) c.args.address (p.first + skip) b in
-    let S : ℕ → Type 0 = λ k. IsRunFrom (pairs_at bytes list) c.args.address (p.first + k) (drop (c.args.address - p.first) (bytes_at bytes p)) in
+    let S : ℕ → Type 0 = λ k. IsRunFrom (pairs_at bytes list) c.args.address (p.first + k) (drop (c.args.address - p.first) (piece_bytes bytes p)) in
     subst A set (subst B (sym all) (subst S (sym c.saturating_sub-skip.ensures) run))
 
 pub returns-then-place-list : goal.returns-then-place-list

@@ -1,5 +1,0 @@
-use Rattle.stm_journal.proofs.Laying.{held-is-before}
-use Rattle.stm_journal.proofs.laws.restored_pages_are_the_flash_before.Goals as goal
-
-pub returns : goal.returns
-returns c = held-is-before
