@@ -3,7 +3,7 @@ use Rattle.std.proofs.Common.{◌≡◌, ◌⊎◌, inl, inr, ℕ, zero, suc, Bo
 use Rattle.std.proofs.lemmas.Bool.Decides.{nat_tests}
 use Rattle.stm_wire.specs.Call.{Call}
 use Rattle.stm_wire.specs.Dialogue.{calls_of}
-use Rattle.stm_wire.specs.DialogueLaws.{calls_of-are_line}
+use Rattle.stm_wire.specs.lemmas.DialogueLaws.{calls_of-are_line}
 use Rattle.stm_journal.specs.declared.entry.Entry.{Entry}
 use Rattle.stm_journal.specs.Calls.{AppendsInPart}
 use Rattle.stm_journal.specs.Entries.{line_of, line_text}

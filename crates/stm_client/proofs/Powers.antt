@@ -10,7 +10,7 @@ use Rattle.stm_wire.specs.declared.intent.Intent.TheVariants.{Erase, Program}
 use Rattle.stm_wire.specs.Intents.{intended_pages}
 use Rattle.stm_sim.specs.Memory.{MemoryData, begins_anew, rig_state}
 use Rattle.stm_wire.specs.PowerLoss.{powered_again}
-use Rattle.stm_journal.specs.ForgetLaws.{intent_of-forgets}
+use Rattle.stm_journal.specs.lemmas.ForgetLaws.{intent_of-forgets}
 use Rattle.stm_journal.specs.Journals.{IsLoaded, Loaded, good, journal_of}
 use Rattle.stm_journal.specs.States.{StateData, intent_of, intent_page}
 use Rattle.stm_session.specs.PowerLoss.{IntentIsAtRisk, LosesPower}

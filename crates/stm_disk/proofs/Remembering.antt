@@ -8,7 +8,7 @@ use Rattle.std.proofs.lemmas.List.{get_or_append_left, length_push}
 use Rattle.stm_disk.specs.Crash.{MayBeLeft}
 use Rattle.stm_disk.specs.GrowingFile.{FileElapses, GrowsHonestly, SyncsHonestly}
 use Rattle.stm_disk.specs.MemoryFile.{IsFileInMemory, sizes_at, CrashLeftSince, file_state}
-use Rattle.stm_disk.specs.MemoryFileLaws.{LeftAt, now_left}
+use Rattle.stm_disk.specs.lemmas.MemoryFileLaws.{LeftAt, now_left}
 
 -- what may be left of a file, may be of one that more is being added to
 pub longer_left : (synced : ℕ) (seen more left : List ℕ) → synced ≤ length seen

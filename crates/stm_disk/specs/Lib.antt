@@ -5,10 +5,9 @@ pub mod Moments
 pub mod Lines
 pub mod Appends
 pub mod MemoryFile
-pub mod MemoryFileLaws
 pub mod Stops
 pub mod RigCalls
 pub mod DiskRig
-pub mod DiskRigLaws
 pub mod Folder
 pub mod LockedFile
+pub mod lemmas

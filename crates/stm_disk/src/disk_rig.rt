@@ -8,7 +8,7 @@ ghost use Rattle.stm_disk.specs.Lines.{StaysOnDisk};
 ghost use Rattle.stm_disk.specs.RigCalls.{AppendsAsRig, FetchesAsRig, GetsAsRig, PutsAsRig};
 ghost use Rattle.stm_disk.specs.DiskRig.{CrashesAreStopsHere, CrashesAreStopsIn, HoldsJournal};
 ghost use Rattle.stm_disk.specs.DiskRig.{IdlesOnceFailed, IsOnDisk, disk_of, disk_rig_state};
-ghost use Rattle.stm_disk.specs.DiskRigLaws.{follows};
+ghost use Rattle.stm_disk.specs.lemmas.DiskRigLaws.{follows};
 
 use crate::{GrowingFile, add_lines};
 use stm_wire::{Patience, Rig, RigFault};

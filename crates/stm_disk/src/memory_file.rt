@@ -1,7 +1,7 @@
 // A file in memory, of which a crash may leave all that the model allows.
 ghost use Rattle.std.specs.Prelude.{◌≡◌, []};
 ghost use Rattle.stm_disk.specs.MemoryFile.{IsFileInMemory, file_state};
-ghost use Rattle.stm_disk.specs.MemoryFileLaws.{is_model};
+ghost use Rattle.stm_disk.specs.lemmas.MemoryFileLaws.{is_model};
 
 use crate::GrowingFile;
 use std::alloc::Global;

@@ -12,7 +12,7 @@ use Rattle.stm_journal.specs.declared.fault.JournalFault.TheVariants.{File}
 use Rattle.stm_journal.specs.declared.kept.Kept.{Kept}
 use Rattle.stm_journal.specs.declared.kept.PagePlace.{PagePlace}
 use Rattle.stm_journal.specs.Calls.{FetchesPage, Loads}
-use Rattle.stm_journal.specs.ForgetLaws.{kept_at-forgets, kept_count-forgets, kept_place-forgets}
+use Rattle.stm_journal.specs.lemmas.ForgetLaws.{kept_at-forgets, kept_count-forgets, kept_place-forgets}
 use Rattle.stm_journal.specs.InMemory.{forget_state}
 use Rattle.stm_journal.specs.Journals.{IsLoaded, Loaded, good, journal_of}
 use Rattle.stm_journal.specs.KeptPlaces.{kept_count, kept_entry, kept_place, place_of}

@@ -18,12 +18,11 @@ pub mod Serving
 pub mod ShortWaits
 pub mod Silence
 pub mod SimulatorFile
-pub mod SimulatorFileLaws
 pub mod SimulatorRig
-pub mod SimulatorRigLaws
 pub mod SocketLine
 pub mod SocketRig
 pub mod Standing
 pub mod Tally
 pub mod Turn
 pub mod Turns
+pub mod lemmas

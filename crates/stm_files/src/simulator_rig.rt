@@ -5,13 +5,13 @@ ghost use Rattle.std.proofs.Common.{sym};
 ghost use Rattle.stm_sim.specs.Memory.{PutsInMemory, GetsInMemory, rig_state};
 ghost use Rattle.stm_wire.specs.Rig.{AppendsHonestly, FetchesHonestly, FetchesWithin, GetsHonestly};
 ghost use Rattle.stm_wire.specs.Call.{Put, Fetch};
-ghost use Rattle.stm_sim.specs.Recorded.{length_told};
+ghost use Rattle.stm_sim.specs.lemmas.Recorded.{length_told};
 ghost use Rattle.stm_wire.specs.Rig.{HasCause, PutsHonestly, Records, RecordsAppend, entry_of_get};
 ghost use Rattle.stm_wire.specs.Rig.{Enters, EntersAppend, FetchesAside, GetsAside, PutsAside};
 ghost use Rattle.stm_files.specs.SimulatorRig.{SimulatorState, simulator_rig_state, AppendsToFile};
 ghost use Rattle.stm_files.specs.SimulatorFile.{StandsSo, simulator_at};
 ghost use Rattle.stm_files.specs.SimulatorRig.{FetchesUnlessFailed};
-ghost use Rattle.stm_files.specs.SimulatorRigLaws.{follows};
+ghost use Rattle.stm_files.specs.lemmas.SimulatorRigLaws.{follows};
 ghost use Rattle.stm_files.specs.Ending.{EndsJournal};
 
 use crate::file_fault::FileFault;

@@ -9,7 +9,7 @@ use Rattle.stm_wire.specs.Harmless.{SameOutside}
 use Rattle.stm_sim.specs.Memory.{MemoryData, begins_anew, rig_state}
 use Rattle.stm_journal.specs.declared.header.JournalHeader.{JournalHeader}
 use Rattle.stm_journal.specs.declared.kept.Kept.{Kept}
-use Rattle.stm_journal.specs.ForgetLaws.{is_unfinished-forgets, newest_pages-forgets}
+use Rattle.stm_journal.specs.lemmas.ForgetLaws.{is_unfinished-forgets, newest_pages-forgets}
 use Rattle.stm_journal.specs.InMemory.{forget_state}
 use Rattle.stm_journal.specs.Journals.{IsLoaded, Loaded}
 use Rattle.stm_journal.specs.KeptPlaces.{page_place, place_of}

@@ -20,7 +20,7 @@ use Rattle.stm_journal.specs.Newest.{KeepsSame, HasBegun, HasKept, HasIntended, 
 use Rattle.stm_journal.specs.Added.{HasAdded}
 use Rattle.stm_journal.specs.Blank.{blank}
 use Rattle.stm_journal.specs.InMemory.{forget_entry}
-use Rattle.stm_journal.specs.NewestLaws.{segment_of-newest}
+use Rattle.stm_journal.specs.lemmas.NewestLaws.{segment_of-newest}
 use Rattle.stm_journal.specs.Journals.{Loaded, loaded_after, past_mark, capped}
 use Rattle.stm_journal.proofs.Ties.{mark-state}
 

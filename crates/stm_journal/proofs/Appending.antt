@@ -2,7 +2,7 @@
 use Rattle.std.proofs.Common.{◌≤◌, ℕ, ◌-◌, ◌^◌, List, ◌++◌, length, Result, Ok, Err, refl, sym, subst, append-nil}
 use Rattle.stm_wire.specs.Device.{Device, LosesOwed}
 use Rattle.stm_wire.specs.Rig.{RigState, IsModel, LeftByAppend}
-use Rattle.stm_wire.specs.MomentLaws.{started}
+use Rattle.stm_wire.specs.lemmas.MomentLaws.{started}
 use Rattle.stm_journal.specs.declared.entry.Entry.{Entry}
 use Rattle.stm_journal.specs.declared.fault.JournalFault.{JournalFault}
 use Rattle.stm_journal.specs.declared.fault.JournalFault.TheVariants.{OtherDevice, OtherBoard, Memory}

@@ -13,7 +13,7 @@ use Rattle.stm_journal.specs.Blank.{blank}
 use Rattle.stm_journal.specs.InMemory.{forget_entry, forget_kept, forget_segment, forget_state}
 use Rattle.stm_journal.specs.Summary.{summary_of}
 use Rattle.stm_journal.specs.Forget.{forget_journal, after_summary}
-use Rattle.stm_journal.specs.ForgetLaws.{allows-forgets}
+use Rattle.stm_journal.specs.lemmas.ForgetLaws.{allows-forgets}
 use Rattle.stm_journal.proofs.Decides.{said_by-line}
 use Rattle.stm_journal.proofs.Voids.{void_by-line}
 

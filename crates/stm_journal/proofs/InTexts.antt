@@ -7,11 +7,11 @@ use Rattle.stm_journal.specs.declared.entry.Entry.{Entry}
 use Rattle.stm_journal.specs.States.{StateData, SegmentData, empty_state, allows, is_other_board, header_board}
 use Rattle.stm_journal.specs.InMemory.{forget_entry, forget_state}
 use Rattle.stm_journal.specs.Journals.{Loaded, IsLoaded, IsPrintable, journal_of, good, added_bytes, first_entries, version_for}
-use Rattle.stm_journal.specs.CallEntries.{header-for, own-board}
+use Rattle.stm_journal.specs.lemmas.CallEntries.{header-for, own-board}
 use Rattle.stm_journal.specs.Newest.{HasBegun}
 use Rattle.stm_journal.specs.Calls.{InText}
 use Rattle.stm_journal.specs.Added.{HasAdded, HasOpenedSegment}
-use Rattle.stm_journal.specs.ForgetLaws.{allows-forgets}
+use Rattle.stm_journal.specs.lemmas.ForgetLaws.{allows-forgets}
 use Rattle.stm_journal.proofs.Sound.{journal-is-sound}
 use Rattle.stm_journal.proofs.AfterCalls.{HasAdded-entry, HasBegun-opened}
 use Rattle.stm_journal.proofs.Stopping.{added-entries}

@@ -6,13 +6,13 @@ use Rattle.std.proofs.lemmas.Bool.{cases_eq, eq-eqb, ne_eqb, false≢true, not-t
 use Rattle.std.proofs.lemmas.List.Sums.{fold_push}
 use Rattle.stm_wire.specs.Chip.{ChipData, flash_size, page_count, page_of, with_page}
 use Rattle.stm_wire.specs.Harmless.{SameOutside}
-use Rattle.stm_wire.specs.PageLaws.{length-with_page, page_put, page_put-other, put_page}
+use Rattle.stm_wire.specs.lemmas.PageLaws.{length-with_page, page_put, page_put-other, put_page}
 use Rattle.stm_wire.specs.FlashLaws.{same_all}
 use Rattle.stm_journal.specs.declared.kept.Kept.{Kept}
 use Rattle.stm_journal.specs.States.{SegmentData, may_keep, is_open_stage, keeping}
 use Rattle.stm_journal.specs.Flashes.{with_kept_pages, flashes_before_segments}
 use Rattle.stm_journal.specs.Fits.{fits_chip, AllKeptFit, AllHeld}
-use Rattle.stm_journal.specs.FitsLaws.{fits-exists, fits-size}
+use Rattle.stm_journal.specs.lemmas.FitsLaws.{fits-exists, fits-size}
 use Rattle.stm_journal.specs.FlashLaws.{KeepingKeepsFlashes, ChangesKeepFlashes, HeldIsBefore}
 
 -- a kept page, and pages, laid over a flash

@@ -7,7 +7,7 @@ use Rattle.hex.specs.Hex.{decode_sized}
 use Rattle.stm_wire.specs.Device.{Device, LosesOwed}
 use Rattle.stm_wire.specs.Rig.{RigState, IsModel}
 use Rattle.stm_wire.specs.Moments.{LeavesOnly}
-use Rattle.stm_wire.specs.MomentLaws.{started, joined}
+use Rattle.stm_wire.specs.lemmas.MomentLaws.{started, joined}
 use Rattle.stm_journal.specs.declared.kept.Kept.{Kept}
 use Rattle.stm_journal.specs.declared.kept.PagePlace.{PagePlace}
 use Rattle.stm_journal.specs.declared.fault.JournalFault.{JournalFault}
@@ -16,7 +16,7 @@ use Rattle.stm_journal.specs.Entries.{is_upper_digit, hex_bytes_of}
 use Rattle.stm_journal.specs.States.{StateData, SegmentData, segment_of}
 use Rattle.stm_journal.specs.KeptPlaces.{kept_entry, kept_place, place_of, IsPlaceIn}
 use Rattle.stm_journal.specs.Places.{cut, IsPlaced, PagesPlaced, AllPlaced}
-use Rattle.stm_journal.specs.ForgetLaws.{kept_place-forgets}
+use Rattle.stm_journal.specs.lemmas.ForgetLaws.{kept_place-forgets}
 use Rattle.stm_journal.specs.Journals.{Loaded, IsLoaded}
 use Rattle.stm_journal.specs.Calls.{IsUntouched, FetchesPage}
 use Rattle.stm_journal.specs.Loading.{Fetches}

@@ -7,7 +7,7 @@ use Rattle.stm_journal.specs.declared.header.JournalHeader.{JournalHeader}
 use Rattle.stm_journal.specs.declared.entry.Entry.TheVariants.{Names, Opens}
 use Rattle.stm_journal.specs.States.{StateData, SegmentData, empty_state, allows, is_unfinished, IsSound}
 use Rattle.stm_journal.specs.Journals.{Loaded, past_mark, begin_entries, first_entries, version_for}
-use Rattle.stm_journal.specs.CallEntries.{header-for}
+use Rattle.stm_journal.specs.lemmas.CallEntries.{header-for}
 use Rattle.stm_journal.proofs.Ties.{AllAllowed, mark-state}
 
 -- the header and the first segment's line

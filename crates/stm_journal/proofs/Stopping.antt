@@ -12,7 +12,7 @@ use Rattle.stm_journal.specs.Journals.{IsLoaded, Loaded, journal_of, good, after
 use Rattle.stm_journal.specs.Beginnings.{EntriesLead, AllAllowed, AllPrintable, BeginningsAreGood}
 use Rattle.stm_journal.specs.Added.{HasAdded, EntriesLeaveEither, BeginningsLeaveEither}
 use Rattle.stm_journal.specs.Newest.{HasBegun}
-use Rattle.stm_journal.specs.CallEntries.{allowed-begin, printable-begin, own-board}
+use Rattle.stm_journal.specs.lemmas.CallEntries.{allowed-begin, printable-begin, own-board}
 use Rattle.stm_journal.proofs.Sound.{journal-is-sound}
 use Rattle.stm_journal.proofs.AfterCalls.{HasAdded-entry, HasBegun-opened}
 use Rattle.stm_journal.proofs.Texts.{text-more-lines}

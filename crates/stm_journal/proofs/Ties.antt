@@ -8,7 +8,7 @@ use Rattle.stm_journal.specs.States.{StateData, allows, after_entry}
 use Rattle.stm_journal.specs.Journals.{good, bad, after_line, after_said, Loaded, IsLoaded, capped, mark, added_bytes, past_mark, past_entry, loaded_after, IsPrintable}
 use Rattle.stm_journal.proofs.Texts.{text-more-lines}
 use Rattle.stm_journal.specs.InMemory.{forget_entry}
-use Rattle.stm_journal.specs.ForgetLaws.{allows-forgets}
+use Rattle.stm_journal.specs.lemmas.ForgetLaws.{allows-forgets}
 use Rattle.stm_journal.proofs.Forgets.{after-forgets}
 use Rattle.stm_journal.proofs.Readings.{journal-line, lines-within}
 use Rattle.stm_journal.proofs.Lines.{entry_of-line, HasNoLF-line, is_void-printed, is_void-marked}

@@ -13,7 +13,7 @@ use Rattle.stm_line.specs.declared.answered.Answered.TheVariants.{Fetched, Fetch
 use Rattle.stm_line.specs.Standing.{Standing, rig_at}
 use Rattle.stm_line.specs.Vouched.{Vouched, CallLeads, call_at}
 use Rattle.stm_line.specs.Recorded.{IsRecordOf, recorded, stands}
-use Rattle.stm_sim.specs.SimulatedDevice.{le-or-gt}
+use Rattle.stm_sim.specs.lemmas.SimulatedDevice.{le-or-gt}
 use Rattle.stm_wire.specs.declared.fault.RigFault.{RigFault}
 use Rattle.stm_wire.specs.Device.{Device, IsDevice, LosesOwed}
 use Rattle.stm_wire.specs.Rig.{RigState, IsModel, Elapses, LeftByPut, LeftByGet, LeftByAppend}

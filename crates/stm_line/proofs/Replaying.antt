@@ -18,7 +18,7 @@ use Rattle.std.specs.Prelude.{Vec}
 use Rattle.std.specs.declared.alloc.Global.{Global}
 use Rattle.std.proofs.Math.Seq.{take-append-add}
 use Rattle.std.proofs.lemmas.List.{take-take, length-take, length-take-le}
-use Rattle.stm_sim.specs.SimulatedDevice.{le-or-gt}
+use Rattle.stm_sim.specs.lemmas.SimulatedDevice.{le-or-gt}
 use Rattle.stm_wire.specs.declared.fault.RigFault.{RigFault}
 use Rattle.stm_wire.specs.declared.fault.RigFault.TheVariants.{Line}
 use Rattle.stm_wire.specs.Device.{Device, Feeds, LosesOwed}

@@ -1,7 +1,7 @@
 // A Rig whose calls are recorded with what they answered.
 ghost use Rattle.std.specs.Prelude.{◌≡◌, []};
 ghost use Rattle.stm_line.specs.Recorded.{IsRecordOf, recorded, stands};
-ghost use Rattle.stm_line.specs.RecordedLaws.{recorded_model};
+ghost use Rattle.stm_line.specs.lemmas.RecordedLaws.{recorded_model};
 
 use crate::Answered;
 use crate::counting::count_more;

@@ -4,7 +4,7 @@ ghost use Rattle.std.specs.Prelude.{MatchOption};
 ghost use Rattle.stm_line.specs.Replayed.{IsNextCall, IsPut, IsPutFailed, IsGot, IsGetFailed};
 ghost use Rattle.stm_line.specs.Replayed.{IsAppended, IsAppendFailed, IsFetched, IsFetchFailed};
 ghost use Rattle.stm_line.specs.Replayed.{MatchSaid, replayed};
-ghost use Rattle.stm_line.specs.ReplayedLaws.{follows};
+ghost use Rattle.stm_line.specs.lemmas.ReplayedLaws.{follows};
 
 use crate::counting::count_more;
 use crate::{Answered, Course, Said};

@@ -6,7 +6,7 @@ use Rattle.stm_wire.specs.Device.{Device, IsDevice, IsSettled}
 use Rattle.stm_wire.specs.Dialogue.{Turn}
 use Rattle.stm_wire.specs.Frames.{command}
 use Rattle.stm_wire.specs.Moments.{LeftBySending}
-use Rattle.stm_wire.specs.MomentLaws.{joined, started, weaker}
+use Rattle.stm_wire.specs.lemmas.MomentLaws.{joined, started, weaker}
 use Rattle.stm_wire.specs.Rig.{RigState, IsModel}
 use Rattle.stm_wire.specs.Sending.{IsHeldToEnd, BreaksOff}
 use Rattle.stm_wire.specs.Stopped.{AskingChangesNothing, IsQuestion, get}

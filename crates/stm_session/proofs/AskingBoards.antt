@@ -8,10 +8,10 @@ use Rattle.stm_wire.specs.Call.{Call}
 use Rattle.stm_wire.specs.Chip.{ChipData}
 use Rattle.stm_wire.specs.Device.{Device, IsDevice, IsSettled}
 use Rattle.stm_wire.specs.Dialogue.{Turn, Adds, GoesOn, IsBrokenOff, calls_of, puts_of}
-use Rattle.stm_wire.specs.DialogueLaws.{GoesOn-adds, GoesOn-append, GoesOn-weaker, broken_off_is_cut_short, calls_of-are_line, gets_of-append, length-calls_of, length-read_turns, line_calls_are_few, puts_of-append}
+use Rattle.stm_wire.specs.lemmas.DialogueLaws.{GoesOn-adds, GoesOn-append, GoesOn-weaker, broken_off_is_cut_short, calls_of-are_line, gets_of-append, length-calls_of, length-read_turns, line_calls_are_few, puts_of-append}
 use Rattle.stm_wire.specs.Frames.{command, get_id_turns, get_turns, read_turns}
 use Rattle.stm_wire.specs.Moments.{LeftBySending}
-use Rattle.stm_wire.specs.MomentLaws.{weaker}
+use Rattle.stm_wire.specs.lemmas.MomentLaws.{weaker}
 use Rattle.stm_wire.specs.Parts.{AreFew, IsPart}
 use Rattle.stm_wire.specs.Refused.{AsksSafely, IsRefusedRead, ReadsOrIsRefused, RefusableReadsChangeNothing, at_address, at_code, at_count, refusable_frame, refused_turns}
 use Rattle.stm_wire.specs.Rig.{RigState}
@@ -26,7 +26,7 @@ use Rattle.stm_session.specs.Unwritten.{AppendsNothing}
 use Rattle.stm_wire.specs.declared.chip.EraseKind.{EraseKind}
 use Rattle.stm_wire.specs.declared.intent.Intent.{Intent}
 use Rattle.stm_wire.specs.Rig.{IsModel}
-use Rattle.stm_wire.specs.MomentLaws.{joined}
+use Rattle.stm_wire.specs.lemmas.MomentLaws.{joined}
 use Rattle.stm_wire.specs.Settling.{SettlesWithin}
 use Rattle.stm_wire.specs.Stopped.{LossStaysHarmless}
 use Rattle.stm_journal.specs.declared.fault.JournalFault.{JournalFault}

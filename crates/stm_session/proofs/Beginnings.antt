@@ -6,18 +6,18 @@ use Rattle.stm_wire.specs.Chip.{ChipData}
 use Rattle.stm_wire.specs.UniqueId.{IsUniqueId}
 use Rattle.stm_wire.specs.Device.{Device, IsSettled}
 use Rattle.stm_wire.specs.Moments.{LeavesOnly}
-use Rattle.stm_wire.specs.MomentLaws.{weaker}
+use Rattle.stm_wire.specs.lemmas.MomentLaws.{weaker}
 use Rattle.stm_wire.specs.Rig.{RigState, IsModel, LeftByAppend}
 use Rattle.stm_journal.specs.declared.entry.Entry.{Entry}
 use Rattle.stm_journal.specs.declared.fault.JournalFault.{JournalFault}
 use Rattle.stm_journal.specs.declared.fault.JournalFault.TheVariants.{File, Bad, OtherDevice, OtherBoard, Memory}
 use Rattle.stm_journal.specs.declared.header.JournalHeader.{JournalHeader}
 use Rattle.stm_journal.specs.Beginnings.{BeginningsAreGood, EntriesLead}
-use Rattle.stm_journal.specs.CallEntries.{allowed-begin, board-begin, printable-begin, stack-begin, names-begin}
+use Rattle.stm_journal.specs.lemmas.CallEntries.{allowed-begin, board-begin, printable-begin, stack-begin, names-begin}
 use Rattle.stm_journal.specs.Calls.{Appends}
 use Rattle.stm_journal.specs.Fits.{AllFit}
 use Rattle.stm_journal.specs.Flashes.{flashes_before_segments}
-use Rattle.stm_journal.specs.ForgetLaws.{begin_entries-forgets, names_other-forgets}
+use Rattle.stm_journal.specs.lemmas.ForgetLaws.{begin_entries-forgets, names_other-forgets}
 use Rattle.stm_journal.specs.Journals.{Loaded, journal_of, good, added_bytes, begin_entries, loaded_after, version_for, LeavesUnbegun}
 use Rattle.stm_journal.specs.Newest.{HasBegun}
 use Rattle.stm_journal.specs.States.{StateData, SegmentData, fresh_segment, is_ended_stage, is_unfinished, names_other, names_other_board, newest_has}

@@ -2,15 +2,15 @@
 use Rattle.std.proofs.Common.{◌≡◌, ◌⊎◌, inl, inr, ℕ, Bool, List, [], ◌∷◌, ◌++◌, length, take, Result, Ok, Err, IsErrAnd, refl, sym, ap, ◌∙◌, subst, IsTrue}
 use Rattle.stm_wire.specs.Device.{Device, IsSettled}
 use Rattle.stm_wire.specs.Moments.{LeavesOnly}
-use Rattle.stm_wire.specs.MomentLaws.{weaker}
+use Rattle.stm_wire.specs.lemmas.MomentLaws.{weaker}
 use Rattle.stm_wire.specs.Rig.{RigState, IsModel, LeftByAppend}
 use Rattle.stm_journal.specs.declared.entry.Entry.{Entry}
 use Rattle.stm_journal.specs.declared.entry.Entry.TheVariants.{Ends}
 use Rattle.stm_journal.specs.declared.fault.JournalFault.{JournalFault}
 use Rattle.stm_journal.specs.Added.{HasAdded}
-use Rattle.stm_journal.specs.CallEntries.{allowed-end}
+use Rattle.stm_journal.specs.lemmas.CallEntries.{allowed-end}
 use Rattle.stm_journal.specs.Calls.{Appends}
-use Rattle.stm_journal.specs.ForgetLaws.{newest_is_open-forgets}
+use Rattle.stm_journal.specs.lemmas.ForgetLaws.{newest_is_open-forgets}
 use Rattle.stm_journal.specs.Journals.{Loaded, journal_of, good, added_bytes, loaded_after, LeavesLoaded}
 use Rattle.stm_journal.specs.Newest.{HasEnded}
 use Rattle.stm_journal.specs.States.{StateData, newest_is_open, IsSound}

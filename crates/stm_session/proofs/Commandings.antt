@@ -2,7 +2,7 @@
 use Rattle.std.proofs.Common.{◌≡◌, inl, inr, ℕ, ◌+◌, true, List, ◌∷◌, ◌++◌, length, take, Result, Ok, Err, IsErrAnd, sym, ap, ◌∙◌, subst}
 use Rattle.std.proofs.lemmas.Bool.{true≢false}
 use Rattle.stm_wire.specs.Device.{Device}
-use Rattle.stm_wire.specs.MomentLaws.{joined, weaker}
+use Rattle.stm_wire.specs.lemmas.MomentLaws.{joined, weaker}
 use Rattle.stm_wire.specs.Rig.{RigState, IsModel}
 use Rattle.stm_journal.specs.declared.entry.Entry.{Entry}
 use Rattle.stm_journal.specs.Journals.{Loaded}

@@ -11,7 +11,7 @@ use Rattle.stm_wire.specs.Dialogue.{GoesOn}
 use Rattle.stm_wire.specs.Frames.{read_turns}
 use Rattle.stm_wire.specs.Intents.{InPage}
 use Rattle.stm_wire.specs.Parts.{IsPart}
-use Rattle.stm_wire.specs.PartLaws.{part_longer, parts_join}
+use Rattle.stm_wire.specs.lemmas.PartLaws.{part_longer, parts_join}
 use Rattle.stm_wire.specs.Rig.{RigState}
 use Rattle.stm_session.specs.declared.fault.Fault.{Fault}
 use Rattle.stm_session.specs.declared.reading.Block.{Block}

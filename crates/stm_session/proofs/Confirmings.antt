@@ -9,10 +9,10 @@ use Rattle.stm_wire.specs.Call.{Call}
 use Rattle.stm_wire.specs.Chip.{ChipData}
 use Rattle.stm_wire.specs.Device.{Device, IsDevice}
 use Rattle.stm_wire.specs.Dialogue.{Turn, GoesOn, IsBrokenOff, sent_bytes}
-use Rattle.stm_wire.specs.DialogueLaws.{read_sends}
+use Rattle.stm_wire.specs.lemmas.DialogueLaws.{read_sends}
 use Rattle.stm_wire.specs.Frames.{read_frame, read_turns}
 use Rattle.stm_wire.specs.Parts.{IsPart}
-use Rattle.stm_wire.specs.PartLaws.{broken_is_part, held_is_part, part_longer}
+use Rattle.stm_wire.specs.lemmas.PartLaws.{broken_is_part, held_is_part, part_longer}
 use Rattle.stm_wire.specs.Refused.{IsRefusedRead, at_address, at_code, at_count, IsTold, ReadsOrIsRefused}
 use Rattle.stm_wire.specs.Rig.{RigState}
 use Rattle.stm_wire.specs.SentList.{IsFrame, IsHeadOfRead, tells}

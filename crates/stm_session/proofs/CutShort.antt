@@ -7,7 +7,7 @@ use Rattle.stm_wire.specs.declared.fault.WireFault.TheVariants.{Line, Nack, Quie
 use Rattle.stm_wire.specs.Call.{Call}
 use Rattle.stm_wire.specs.Chip.{ChipData, page_size}
 use Rattle.stm_wire.specs.Dialogue.{Turn, GoesOn, IsBrokenOff}
-use Rattle.stm_wire.specs.DialogueLaws.{GoesOn-append, GoesOn-nothing, GoesOn-weaker, broken_off_is_cut_short}
+use Rattle.stm_wire.specs.lemmas.DialogueLaws.{GoesOn-append, GoesOn-nothing, GoesOn-weaker, broken_off_is_cut_short}
 use Rattle.stm_wire.specs.Frames.{read_turns, write_turns}
 use Rattle.stm_wire.specs.Rig.{RigState}
 use Rattle.stm_chip.specs.declared.plan.Frame.{Frame}

@@ -19,7 +19,7 @@ use Rattle.stm_journal.specs.declared.entry.Entry.{Entry}
 use Rattle.stm_journal.specs.declared.entry.Entry.TheVariants.{Erases, Programs}
 use Rattle.stm_journal.specs.declared.fault.JournalFault.{JournalFault}
 use Rattle.stm_journal.specs.States.{StateData, newest_keeps, IsSound}
-use Rattle.stm_journal.specs.CallEntries.{allowed-intend_erase, allowed-intend_program}
+use Rattle.stm_journal.specs.lemmas.CallEntries.{allowed-intend_erase, allowed-intend_program}
 use Rattle.stm_journal.specs.Newest.{HasIntended}
 use Rattle.stm_journal.specs.Added.{HasAdded}
 use Rattle.stm_journal.specs.Journals.{Loaded, IsLoaded, LeavesLoaded, added_bytes, loaded_after}

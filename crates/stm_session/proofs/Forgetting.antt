@@ -6,7 +6,7 @@ use Rattle.stm_wire.specs.Chip.{ChipData, page_count, page_size}
 use Rattle.stm_journal.specs.declared.kept.Kept.{Kept}
 use Rattle.stm_journal.specs.States.{StateData, SegmentData, names_other, names_other_board}
 use Rattle.stm_journal.specs.InMemory.{forget_kept, forget_segment, forget_state}
-use Rattle.stm_journal.specs.ForgetLaws.{depth-forgets, is_unfinished-forgets}
+use Rattle.stm_journal.specs.lemmas.ForgetLaws.{depth-forgets, is_unfinished-forgets}
 use Rattle.stm_journal.specs.Journals.{good}
 use Rattle.stm_session.specs.declared.fault.Fault.{Fault}
 use Rattle.stm_session.specs.declared.fault.Fault.TheVariants.{BadJournal, Unfinished, OtherBoard, OtherDevice, InSession}

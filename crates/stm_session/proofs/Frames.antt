@@ -2,7 +2,7 @@
 use Rattle.std.proofs.Common.{◌≡◌, ℕ, zero, suc, ◌+◌, ◌<◌, ◌≤◌, List, [], ◌∷◌, ◌++◌, length, get_or, take, drop, replicate, refl, ◌∙◌, ap, arith, rules}
 use Rattle.std.proofs.lemmas.List.{places, same_lists, take_more}
 use Rattle.stm_wire.specs.Chip.{with_bytes}
-use Rattle.stm_wire.specs.PageLaws.{length-with_bytes}
+use Rattle.stm_wire.specs.lemmas.PageLaws.{length-with_bytes}
 use Rattle.stm_chip.specs.declared.plan.Frame.{Frame}
 use Rattle.stm_journal.specs.declared.entry.Entry.TheVariants.{Programs}
 use Rattle.stm_session.specs.Lines.{program_entries}

@@ -11,7 +11,7 @@ use Rattle.stm_wire.specs.Command.{with_rest}
 use Rattle.stm_wire.specs.Chip.{ChipData}
 use Rattle.stm_wire.specs.Device.{Device, IsSettled}
 use Rattle.stm_wire.specs.Dialogue.{GoesOn}
-use Rattle.stm_wire.specs.DialogueLaws.{GoesOn-weaker}
+use Rattle.stm_wire.specs.lemmas.DialogueLaws.{GoesOn-weaker}
 use Rattle.stm_wire.specs.Harmless.{Harmless}
 use Rattle.stm_wire.specs.Intents.{settling_byte}
 use Rattle.stm_wire.specs.SentList.{IsSettlingRun}

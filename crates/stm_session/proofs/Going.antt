@@ -8,8 +8,8 @@ use Rattle.stm_wire.specs.Chip.{ChipData, flash_size, page_of, with_page}
 use Rattle.stm_wire.specs.Device.{Device, IsDevice, IsSettled}
 use Rattle.stm_wire.specs.Dialogue.{Turn}
 use Rattle.stm_wire.specs.Moments.{LeavesOnly, LeftBySending}
-use Rattle.stm_wire.specs.MomentLaws.{joined, weaker}
-use Rattle.stm_wire.specs.PageLaws.{put_page}
+use Rattle.stm_wire.specs.lemmas.MomentLaws.{joined, weaker}
+use Rattle.stm_wire.specs.lemmas.PageLaws.{put_page}
 use Rattle.stm_wire.specs.Rig.{RigState, IsModel, LeftByAppend}
 use Rattle.stm_wire.specs.Sending.{IsHeldToEnd, BreaksOff}
 use Rattle.stm_wire.specs.Stopped.{IsFrameUnder}

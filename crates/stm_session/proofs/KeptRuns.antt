@@ -7,7 +7,7 @@ use Rattle.std.proofs.lemmas.List.{length-replicate}
 use Rattle.stm_image.specs.Lay.{lay}
 use Rattle.stm_image.specs.Pairs.{Pairs}
 use Rattle.stm_wire.specs.Chip.{ChipData, erased_byte, erased_page, page_count, page_offset, page_size}
-use Rattle.stm_wire.specs.DialogueLaws.{GoesOn-weaker}
+use Rattle.stm_wire.specs.lemmas.DialogueLaws.{GoesOn-weaker}
 use Rattle.stm_wire.specs.Rig.{RigState}
 use Rattle.stm_wire.specs.Dialogue.{GoesOn}
 use Rattle.stm_chip.specs.Plan.{frames_of}

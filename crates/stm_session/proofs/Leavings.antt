@@ -10,10 +10,10 @@ use Rattle.stm_wire.specs.Device.{Device}
 use Rattle.stm_wire.specs.Dialogue.{Turn, Adds, GoesOn, calls_of}
 use Rattle.stm_wire.specs.Exchange.{is_listed}
 use Rattle.stm_wire.specs.Moments.{FedAndTaken, LeavesOnly, LeftBySending, PartlyFed}
-use Rattle.stm_wire.specs.MomentLaws.{joined, weaker}
+use Rattle.stm_wire.specs.lemmas.MomentLaws.{joined, weaker}
 use Rattle.stm_wire.specs.Rig.{RigState}
 use Rattle.stm_wire.specs.Sending.{BreaksOff, IsHeldToEnd}
-use Rattle.stm_wire.specs.DialogueLaws.{GoesOn-adds, GoesOn-append}
+use Rattle.stm_wire.specs.lemmas.DialogueLaws.{GoesOn-adds, GoesOn-append}
 use Rattle.stm_wire.specs.Settling.{SettlesWithin}
 use Rattle.stm_wire.specs.SettlingCalls.{EndsSettled}
 use Rattle.stm_wire.specs.Stopped.{LossStaysHarmless}

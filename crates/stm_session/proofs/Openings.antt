@@ -7,12 +7,12 @@ use Rattle.std.specs.Prelude.{Contains}
 use Rattle.stm_wire.specs.Chip.{ChipData}
 use Rattle.stm_wire.specs.Device.{Device, LosesOwed}
 use Rattle.stm_wire.specs.Moments.{LeavesOnly}
-use Rattle.stm_wire.specs.MomentLaws.{joined, weaker}
+use Rattle.stm_wire.specs.lemmas.MomentLaws.{joined, weaker}
 use Rattle.stm_wire.specs.Rig.{RigState}
 use Rattle.stm_wire.specs.Stopped.{LossStaysHarmless}
 use Rattle.stm_journal.specs.States.{StateData, is_unfinished, names_other}
 use Rattle.stm_journal.specs.InMemory.{forget_state}
-use Rattle.stm_journal.specs.ForgetLaws.{is_unfinished-forgets}
+use Rattle.stm_journal.specs.lemmas.ForgetLaws.{is_unfinished-forgets}
 use Rattle.stm_session.proofs.Forgetting.{device-forgets}
 use Rattle.stm_journal.specs.Journals.{JournalData, Loaded, IsLoaded, journal_of, good, bad}
 use Rattle.stm_journal.specs.declared.fault.JournalFault.{JournalFault}

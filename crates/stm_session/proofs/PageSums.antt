@@ -9,10 +9,10 @@ use Rattle.stm_wire.specs.Call.{Call}
 use Rattle.stm_wire.specs.Chip.{ChipData, flash_size, page_count, page_size, IsChip}
 use Rattle.stm_wire.specs.Dialogue.{GoesOn}
 use Rattle.stm_wire.specs.Parts.{IsPart}
-use Rattle.stm_wire.specs.PartLaws.{part_longer}
+use Rattle.stm_wire.specs.lemmas.PartLaws.{part_longer}
 use Rattle.stm_journal.specs.declared.kept.Kept.{Kept}
 use Rattle.stm_journal.specs.Fits.{AllKeptFit}
-use Rattle.stm_journal.specs.FitsLaws.{fits-exists}
+use Rattle.stm_journal.specs.lemmas.FitsLaws.{fits-exists}
 use Rattle.stm_journal.specs.States.{LacksPage, PagesOnce}
 use Rattle.stm_session.specs.Sending.{most_of_command}
 use Rattle.stm_session.proofs.SentParts.{part_after}

@@ -8,7 +8,7 @@ use Rattle.stm_wire.specs.Chip.{ChipData, flash_size, page_offset}
 use Rattle.stm_wire.specs.Device.{Device}
 use Rattle.stm_wire.specs.Harmless.{SameOutside}
 use Rattle.stm_wire.specs.Intents.{settling_byte}
-use Rattle.stm_wire.specs.PageLaws.{length-with_page, page_put-other}
+use Rattle.stm_wire.specs.lemmas.PageLaws.{length-with_page, page_put-other}
 use Rattle.stm_wire.specs.Stopped.{FreshIsHarmless, LossStaysHarmless, SameOutsideNoneIsSame}
 use Rattle.stm_journal.specs.declared.stage.Stage.{Stage}
 use Rattle.stm_journal.specs.declared.stage.Stage.TheVariants.{Open, Ended, Returning}

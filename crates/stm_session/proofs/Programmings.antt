@@ -12,7 +12,7 @@ use Rattle.stm_wire.specs.Device.{Device, IsSettled}
 use Rattle.stm_wire.specs.Dialogue.{GoesOn, Turn}
 use Rattle.stm_wire.specs.Frames.{write_frame}
 use Rattle.stm_wire.specs.Intents.{InPage}
-use Rattle.stm_wire.specs.PageLaws.{page_within, put_in}
+use Rattle.stm_wire.specs.lemmas.PageLaws.{page_within, put_in}
 use Rattle.stm_wire.specs.FlashLaws.{IsErasedAt, writes_erased}
 use Rattle.stm_wire.specs.Rig.{RigState, IsModel}
 use Rattle.stm_wire.specs.Sending.{IsHeldToEnd, BreaksOff}

@@ -10,9 +10,9 @@ use Rattle.stm_wire.specs.Device.{IsSettled}
 use Rattle.stm_wire.specs.Dialogue.{GoesOn}
 use Rattle.stm_wire.specs.Frames.{read_turns}
 use Rattle.stm_wire.specs.Intents.{InPage}
-use Rattle.stm_wire.specs.PageLaws.{page_end}
+use Rattle.stm_wire.specs.lemmas.PageLaws.{page_end}
 use Rattle.stm_wire.specs.Parts.{IsPart}
-use Rattle.stm_wire.specs.PartLaws.{part_longer, parts_join}
+use Rattle.stm_wire.specs.lemmas.PartLaws.{part_longer, parts_join}
 use Rattle.stm_wire.specs.Rig.{RigState}
 use Rattle.stm_session.specs.declared.fault.Fault.{Fault}
 use Rattle.stm_session.specs.Asking.{Asks}

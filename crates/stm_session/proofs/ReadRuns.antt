@@ -5,7 +5,7 @@ use Rattle.std.proofs.lemmas.Bool.{true≢false}
 use Rattle.std.proofs.lemmas.Bool.Decides.{nat_tests}
 use Rattle.stm_wire.specs.Chip.{ChipData}
 use Rattle.stm_wire.specs.Device.{Device}
-use Rattle.stm_wire.specs.MomentLaws.{weaker}
+use Rattle.stm_wire.specs.lemmas.MomentLaws.{weaker}
 use Rattle.stm_wire.specs.Rig.{RigState}
 use Rattle.stm_journal.specs.Journals.{JournalData, bad, good, journal_of}
 use Rattle.stm_journal.specs.States.{StateData, IsSound}

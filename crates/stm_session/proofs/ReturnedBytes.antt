@@ -4,7 +4,7 @@ use Rattle.std.specs.Prelude.{slice_get, option_and_then, nat_le, ◌&&◌}
 use Rattle.stm_wire.specs.Chip.{ChipData, page_count, page_size}
 use Rattle.stm_journal.specs.declared.kept.Kept.{Kept}
 use Rattle.stm_journal.specs.Fits.{AllFit, AllKeptFit}
-use Rattle.stm_journal.specs.FitsLaws.{fits-exists}
+use Rattle.stm_journal.specs.lemmas.FitsLaws.{fits-exists}
 use Rattle.stm_journal.specs.Newest.{pages_of_segments}
 use Rattle.stm_journal.specs.States.{StateData, SegmentData, kept_at, segment_of}
 use Rattle.stm_session.specs.declared.fault.Fault.{Fault}

@@ -5,17 +5,17 @@ use Rattle.std.specs.List.{list_any}
 use Rattle.std.specs.Option.{option_map_or}
 use Rattle.std.proofs.lemmas.Bool.{false≢true, eq-eqb}
 use Rattle.stm_wire.specs.Chip.{ChipData, flash_size, page_count, page_of, page_offset, page_size, with_page}
-use Rattle.stm_wire.specs.PageLaws.{length-with_bytes, other_page, page_within}
+use Rattle.stm_wire.specs.lemmas.PageLaws.{length-with_bytes, other_page, page_within}
 use Rattle.stm_journal.specs.declared.entry.Entry.{Entry}
 use Rattle.stm_journal.specs.declared.kept.Kept.{Kept}
 use Rattle.stm_journal.specs.declared.kept.PagePlace.{PagePlace}
 use Rattle.stm_journal.specs.Fits.{fits_chip, AllKeptFit, AllFit}
-use Rattle.stm_journal.specs.FitsLaws.{fits-exists, fits-size}
-use Rattle.stm_journal.specs.ForgetLaws.{kept_at-forgets, kept_count-forgets, kept_place-forgets}
+use Rattle.stm_journal.specs.lemmas.FitsLaws.{fits-exists, fits-size}
+use Rattle.stm_journal.specs.lemmas.ForgetLaws.{kept_at-forgets, kept_count-forgets, kept_place-forgets}
 use Rattle.stm_journal.specs.Journals.{Loaded, IsLoaded}
 use Rattle.stm_journal.specs.KeptPlaces.{kept_count, kept_entry, kept_place, place_of}
 use Rattle.stm_journal.specs.Newest.{KeepsSame, pages_of_segments}
-use Rattle.stm_journal.specs.NewestLaws.{newest_keeps_kept, segment_of-newest}
+use Rattle.stm_journal.specs.lemmas.NewestLaws.{newest_keeps_kept, segment_of-newest}
 use Rattle.stm_journal.specs.States.{StateData, SegmentData, AllOnce, PagesOnce, kept_at, newest_keeps}
 use Rattle.stm_session.specs.Lines.{return_entries, rewrite_entries}
 use Rattle.stm_session.specs.SegmentUndo.{newest_at, with_pages}

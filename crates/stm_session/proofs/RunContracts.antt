@@ -5,11 +5,11 @@ use Rattle.std.proofs.lemmas.Bool.{cases_Bool}
 use Rattle.stm_wire.specs.Chip.{ChipData}
 use Rattle.stm_wire.specs.Device.{Device}
 use Rattle.stm_wire.specs.Dialogue.{GoesOn}
-use Rattle.stm_wire.specs.MomentLaws.{weaker}
+use Rattle.stm_wire.specs.lemmas.MomentLaws.{weaker}
 use Rattle.stm_wire.specs.Rig.{RigState}
 use Rattle.stm_chip.specs.Document.{IsChipWith}
 use Rattle.stm_journal.specs.Calls.{AreFetches, IsUntouched}
-use Rattle.stm_journal.specs.ForgetLaws.{depth-forgets}
+use Rattle.stm_journal.specs.lemmas.ForgetLaws.{depth-forgets}
 use Rattle.stm_journal.specs.Journals.{JournalData, journal_of}
 use Rattle.stm_journal.specs.States.{StateData}
 use Rattle.stm_session.specs.declared.opening.Opened.{Opened}

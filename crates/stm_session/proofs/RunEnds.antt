@@ -1,7 +1,7 @@
 -- How a run ends: with all its commands, or within one.
 use Rattle.std.proofs.Common.{◌≡◌, ◌⊎◌, inl, inr, ℕ, ◌+◌, Bool, true, false, if◌then◌else◌, List, [], ◌∷◌, ◌++◌, Result, Ok, Err, IsErrAnd, sym, ap, ◌∙◌, subst, refl, append_assoc, append-nil}
 use Rattle.stm_wire.specs.Device.{Device, IsSettled}
-use Rattle.stm_wire.specs.MomentLaws.{joined, weaker}
+use Rattle.stm_wire.specs.lemmas.MomentLaws.{joined, weaker}
 use Rattle.stm_wire.specs.Moments.{LeavesOnly}
 use Rattle.stm_wire.specs.Rig.{RigState, IsModel}
 use Rattle.stm_journal.specs.declared.entry.Entry.{Entry}

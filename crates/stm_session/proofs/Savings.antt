@@ -6,7 +6,7 @@ use Rattle.stm_wire.specs.Chip.{ChipData, page_count, page_of, page_size}
 use Rattle.stm_wire.specs.Rig.{RigState, IsModel}
 use Rattle.stm_journal.specs.declared.entry.Entry.{Entry}
 use Rattle.stm_journal.specs.declared.entry.Entry.TheVariants.{Keeps}
-use Rattle.stm_journal.specs.CallEntries.{allowed-keep_page}
+use Rattle.stm_journal.specs.lemmas.CallEntries.{allowed-keep_page}
 use Rattle.stm_journal.specs.States.{StateData, newest_keeps, newest_may_keep, newest_is_open, newest_has, is_ended_stage, is_open_stage, is_unfinished, IsSound, SegmentData}
 use Rattle.stm_journal.specs.declared.stage.Stage.{Stage}
 use Rattle.stm_journal.specs.declared.stage.Stage.TheVariants.{Open, Ended, Returning}

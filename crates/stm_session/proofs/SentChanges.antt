@@ -10,7 +10,7 @@ use Rattle.stm_wire.specs.declared.chip.EraseKind.{EraseKind}
 use Rattle.stm_wire.specs.declared.chip.EraseKind.TheVariants.{Page, Extended}
 use Rattle.stm_wire.specs.Chip.{ChipData, erased_byte, flash_size, page_count, page_limit, page_offset, page_size, IsChip}
 use Rattle.stm_wire.specs.Dialogue.{GoesOn}
-use Rattle.stm_wire.specs.PageLaws.{offset_within, page_within}
+use Rattle.stm_wire.specs.lemmas.PageLaws.{offset_within, page_within}
 use Rattle.stm_wire.specs.Parts.{IsPart}
 use Rattle.stm_wire.specs.Rig.{RigState}
 use Rattle.stm_chip.specs.Plan.{frames_of}

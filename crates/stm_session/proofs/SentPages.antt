@@ -2,7 +2,7 @@
 use Rattle.std.proofs.Common.{◌≡◌, ℕ, zero, suc, ◌+◌, ◌*◌, ◌/◌, ◌<◌, ◌≤◌, List, [], ◌∷◌, length, take, drop, refl, arith, length-take}
 use Rattle.std.proofs.lemmas.List.{length-drop}
 use Rattle.stm_wire.specs.Chip.{ChipData, page_count, page_size}
-use Rattle.stm_wire.specs.DialogueLaws.{erase_sends, length-erase_turns, length-read_turns, length-write_turns, read_sends, write_sends}
+use Rattle.stm_wire.specs.lemmas.DialogueLaws.{erase_sends, length-erase_turns, length-read_turns, length-write_turns, read_sends, write_sends}
 use Rattle.stm_wire.specs.Frames.{read_turns}
 use Rattle.stm_wire.specs.Intents.{InPage}
 use Rattle.stm_wire.specs.SentList.{erase, read, write}

@@ -4,7 +4,7 @@ use Rattle.stm_wire.specs.Call.{Call}
 use Rattle.stm_wire.specs.Chip.{ChipData}
 use Rattle.stm_wire.specs.Dialogue.{GoesOn, gets_of, puts_of}
 use Rattle.stm_wire.specs.Parts.{IsPart}
-use Rattle.stm_wire.specs.PartLaws.{part_longer, parts_join, silent_is_part}
+use Rattle.stm_wire.specs.lemmas.PartLaws.{part_longer, parts_join, silent_is_part}
 use Rattle.stm_journal.specs.declared.fault.JournalFault.{JournalFault}
 use Rattle.stm_journal.specs.declared.fault.JournalFault.TheVariants.{File, Bad, OtherDevice, OtherBoard, Memory}
 use Rattle.stm_journal.specs.declared.entry.Entry.{Entry}

@@ -6,9 +6,9 @@ use Rattle.stm_wire.specs.declared.fault.WireFault.TheVariants.{Line}
 use Rattle.stm_wire.specs.Call.{Call, Put, Get, Append, Fetch}
 use Rattle.stm_wire.specs.Chip.{ChipData}
 use Rattle.stm_wire.specs.Dialogue.{Turn, GoesOn, IsBrokenOff, calls_of, gets_of, puts_of, sent_bytes}
-use Rattle.stm_wire.specs.DialogueLaws.{GoesOn-weaker}
+use Rattle.stm_wire.specs.lemmas.DialogueLaws.{GoesOn-weaker}
 use Rattle.stm_wire.specs.Parts.{IsPart}
-use Rattle.stm_wire.specs.PartLaws.{broken_is_part, held_is_part, part_longer, parts_join, silent_is_part}
+use Rattle.stm_wire.specs.lemmas.PartLaws.{broken_is_part, held_is_part, part_longer, parts_join, silent_is_part}
 use Rattle.stm_wire.specs.Rig.{RigState}
 use Rattle.stm_wire.specs.SentList.{IsFrame}
 use Rattle.stm_journal.specs.Journals.{Loaded, added_bytes}

@@ -5,7 +5,7 @@ use Rattle.stm_wire.specs.declared.intent.Intent.{Intent}
 use Rattle.stm_wire.specs.Chip.{ChipData}
 use Rattle.stm_wire.specs.Dialogue.{GoesOn}
 use Rattle.stm_wire.specs.Parts.{IsPart, IsSession}
-use Rattle.stm_wire.specs.PartLaws.{session_joins, session_longer, session_of_any, silent_is_session, silent_then_session}
+use Rattle.stm_wire.specs.lemmas.PartLaws.{session_joins, session_longer, session_of_any, silent_is_session, silent_then_session}
 use Rattle.stm_wire.specs.Rig.{RigState}
 use Rattle.stm_chip.specs.Document.{IsChipWith}
 use Rattle.stm_journal.specs.Calls.{AreFetches}

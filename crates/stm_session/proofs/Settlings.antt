@@ -6,11 +6,11 @@ use Rattle.stm_wire.specs.Chip.{ChipData}
 use Rattle.stm_wire.specs.Device.{Device, IsSettled}
 use Rattle.stm_wire.specs.Harmless.{SameOutside}
 use Rattle.stm_wire.specs.Intents.{settling_byte}
-use Rattle.stm_wire.specs.MomentLaws.{weaker}
+use Rattle.stm_wire.specs.lemmas.MomentLaws.{weaker}
 use Rattle.stm_wire.specs.Rig.{RigState, IsModel}
 use Rattle.stm_wire.specs.Awaited.{Awaits}
 use Rattle.stm_wire.specs.Settling.{KeepsSettling, LeftBySettling}
-use Rattle.stm_journal.specs.ForgetLaws.{intent_of-forgets}
+use Rattle.stm_journal.specs.lemmas.ForgetLaws.{intent_of-forgets}
 use Rattle.stm_journal.specs.Journals.{Loaded, IsLoaded, journal_of, good}
 use Rattle.stm_journal.specs.States.{StateData, is_unfinished, intent_of}
 use Rattle.stm_session.specs.declared.fault.Fault.{Fault}

@@ -11,7 +11,7 @@ use Rattle.stm_wire.specs.Frames.{command}
 use Rattle.stm_wire.specs.Harmless.{Harmless}
 use Rattle.stm_wire.specs.Intents.{settling_byte, intended_pages}
 use Rattle.stm_wire.specs.Moments.{LeavesOnly, LeftBySending}
-use Rattle.stm_wire.specs.MomentLaws.{started}
+use Rattle.stm_wire.specs.lemmas.MomentLaws.{started}
 use Rattle.stm_wire.specs.Rig.{RigState, IsModel, LeftByAppend}
 use Rattle.stm_wire.specs.Stopped.{IsFrameUnder, get}
 use Rattle.stm_journal.specs.declared.entry.Entry.{Entry}

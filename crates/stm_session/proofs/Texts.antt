@@ -10,7 +10,7 @@ use Rattle.stm_journal.specs.declared.entry.Entry.TheVariants.{Names, Opens, Kee
 use Rattle.stm_journal.specs.Added.{HasAdded}
 use Rattle.stm_journal.specs.Entries.{line_text}
 use Rattle.stm_journal.specs.Newest.{KeepsSame}
-use Rattle.stm_journal.specs.NewestLaws.{KeepsSame-refl, KeepsSame-trans}
+use Rattle.stm_journal.specs.lemmas.NewestLaws.{KeepsSame-refl, KeepsSame-trans}
 use Rattle.stm_journal.specs.States.{StateData}
 use Rattle.stm_journal.specs.Journals.{mark}
 use Rattle.stm_session.specs.Lines.{is_torn_at, text_added}

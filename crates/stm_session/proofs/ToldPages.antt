@@ -2,7 +2,7 @@
 use Rattle.std.proofs.Common.{Bool, List, ◌++◌, ◌∙◌, ap, subst, Option}
 use Rattle.stm_wire.specs.Call.{Call}
 use Rattle.stm_wire.specs.Dialogue.{GoesOn}
-use Rattle.stm_wire.specs.DialogueLaws.{GoesOn-append, GoesOn-weaker}
+use Rattle.stm_wire.specs.lemmas.DialogueLaws.{GoesOn-append, GoesOn-weaker}
 use Rattle.stm_wire.specs.Rig.{RigState}
 use Rattle.stm_journal.specs.Journals.{Loaded}
 use Rattle.stm_session.specs.Order.{Step, DoesSteps, IsInOrder, acts_of, tells_behind}

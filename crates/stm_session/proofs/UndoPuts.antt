@@ -4,7 +4,7 @@ use Rattle.std.specs.Prelude.{slice_get, bytes_eq, OnOk}
 use Rattle.stm_wire.specs.Chip.{ChipData, erased_byte, flash_size, page_of, with_page}
 use Rattle.stm_wire.specs.Device.{Device, IsSettled}
 use Rattle.stm_wire.specs.Dialogue.{GoesOn}
-use Rattle.stm_wire.specs.MomentLaws.{joined, weaker}
+use Rattle.stm_wire.specs.lemmas.MomentLaws.{joined, weaker}
 use Rattle.stm_wire.specs.Moments.{LeavesOnly}
 use Rattle.stm_wire.specs.Parts.{IsPart}
 use Rattle.stm_wire.specs.Rig.{RigState, IsModel, LeftByAppend}
@@ -16,7 +16,7 @@ use Rattle.stm_journal.specs.declared.fault.JournalFault.{JournalFault}
 use Rattle.stm_journal.specs.declared.kept.Kept.{Kept}
 use Rattle.stm_journal.specs.declared.kept.PagePlace.{PagePlace}
 use Rattle.stm_journal.specs.Added.{HasAdded}
-use Rattle.stm_journal.specs.CallEntries.{allowed-undone}
+use Rattle.stm_journal.specs.lemmas.CallEntries.{allowed-undone}
 use Rattle.stm_journal.specs.Calls.{Appends}
 use Rattle.stm_journal.specs.Fits.{AllKeptFit}
 use Rattle.stm_journal.specs.Flashes.{flashes_before_segments}

@@ -6,7 +6,7 @@ use Rattle.stm_wire.specs.Chip.{ChipData}
 use Rattle.stm_wire.specs.Device.{Device}
 use Rattle.stm_wire.specs.Harmless.{Harmless, SameOutside}
 use Rattle.stm_wire.specs.Moments.{LeavesOnly}
-use Rattle.stm_wire.specs.MomentLaws.{joined}
+use Rattle.stm_wire.specs.lemmas.MomentLaws.{joined}
 use Rattle.stm_wire.specs.Rig.{RigState, IsModel}
 use Rattle.stm_wire.specs.Awaited.{Awaits}
 use Rattle.stm_journal.specs.declared.header.JournalHeader.{JournalHeader}

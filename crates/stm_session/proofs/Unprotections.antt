@@ -8,10 +8,10 @@ use Rattle.stm_wire.specs.Call.{Call}
 use Rattle.stm_wire.specs.Command.{CanProtect}
 use Rattle.stm_wire.specs.Device.{Device, Phase, Receives, IsReady, IsReadyPhase}
 use Rattle.stm_wire.specs.Dialogue.{Adds, GoesOn, calls_of}
-use Rattle.stm_wire.specs.DialogueLaws.{GoesOn-adds, GoesOn-append, GoesOn-weaker, line_calls_are_few}
+use Rattle.stm_wire.specs.lemmas.DialogueLaws.{GoesOn-adds, GoesOn-append, GoesOn-weaker, line_calls_are_few}
 use Rattle.stm_wire.specs.Exchange.{is_listed}
 use Rattle.stm_wire.specs.Moments.{FedAndTaken}
-use Rattle.stm_wire.specs.MomentLaws.{weaker}
+use Rattle.stm_wire.specs.lemmas.MomentLaws.{weaker}
 use Rattle.stm_wire.specs.Protection.{protection_code}
 use Rattle.stm_wire.specs.Rig.{RigState}
 use Rattle.stm_wire.specs.Sending.{BreaksOff, IsHeldToEnd}

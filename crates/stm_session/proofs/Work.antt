@@ -10,15 +10,15 @@ use Rattle.std.proofs.lemmas.List.Elements.{filter_map-append}
 use Rattle.std.proofs.lemmas.List.Sums.{fold-append}
 use Rattle.stm_wire.specs.declared.intent.Intent.{Intent}
 use Rattle.stm_wire.specs.Chip.{ChipData, flash_size, page_count, page_size, with_page}
-use Rattle.stm_wire.specs.PageLaws.{page_end, page_within}
+use Rattle.stm_wire.specs.lemmas.PageLaws.{page_end, page_within}
 use Rattle.stm_journal.specs.declared.header.JournalHeader.{JournalHeader}
 use Rattle.stm_journal.specs.declared.kept.Kept.{Kept}
 use Rattle.stm_journal.specs.declared.kept.PagePlace.{PagePlace}
 use Rattle.stm_journal.specs.Fits.{AllFit}
-use Rattle.stm_journal.specs.FitsLaws.{fits-exists}
+use Rattle.stm_journal.specs.lemmas.FitsLaws.{fits-exists}
 use Rattle.stm_journal.specs.KeptPlaces.{kept_count, kept_entry, kept_place, page_place, place_of}
 use Rattle.stm_journal.specs.Newest.{pages_of_segments}
-use Rattle.stm_journal.specs.NewestLaws.{segment_of-newest}
+use Rattle.stm_journal.specs.lemmas.NewestLaws.{segment_of-newest}
 use Rattle.stm_journal.specs.States.{StateData, SegmentData, AllOnce, IsSound, PagesOnce, intent_of, intent_page, keeps, kept_at, newest_has, newest_intent, newest_keeps, segment_of}
 use Rattle.stm_session.specs.Lines.{rewrite_entries, work_entries}
 use Rattle.stm_session.specs.Refusal.{pages_kept, segment_pages}

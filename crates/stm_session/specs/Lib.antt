@@ -29,7 +29,6 @@ pub mod Unprotecting
 pub mod Promises
 pub mod Events
 pub mod Headline
-pub mod Rows
 pub mod Steps
 pub mod StepLaws
 pub mod SegmentUndo
@@ -49,3 +48,4 @@ pub mod ToldBoard
 pub mod AskedBoard
 pub mod Boards
 pub mod Performs
+pub mod lemmas

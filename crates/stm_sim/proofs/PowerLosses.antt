@@ -4,7 +4,7 @@ use Rattle.std.proofs.lemmas.List.Elements.{All-take, All-append, All-drop}
 use Rattle.stm_wire.specs.Chip.{page_offset, page_size}
 use Rattle.stm_wire.specs.Device.{Device, IsDevice}
 use Rattle.stm_wire.specs.Harmless.{SameOutside}
-use Rattle.stm_wire.specs.PageLaws.{length-with_page, page_put-other}
+use Rattle.stm_wire.specs.lemmas.PageLaws.{length-with_page, page_put-other}
 use Rattle.stm_wire.specs.PowerLoss.{powered_again}
 
 abbrev IsByte : ℕ → Type 0

@@ -11,7 +11,7 @@ use Rattle.stm_wire.specs.Device.{Device}
 use Rattle.stm_wire.specs.Exchange.{complement}
 use Rattle.stm_sim.specs.Memory.{MemoryData, PutsInMemory, GetsInMemory}
 use Rattle.stm_sim.specs.Memory.{AppendsInMemory, FetchesInMemory, count_more}
-use Rattle.stm_sim.specs.Recorded.{calls_told}
+use Rattle.stm_sim.specs.lemmas.Recorded.{calls_told}
 use Rattle.stm_wire.specs.Rig.{RigState}
 use Rattle.stm_sim.specs.Unmodelled.{no_device}
 

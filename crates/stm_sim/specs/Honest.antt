@@ -10,14 +10,14 @@ use Rattle.stm_sim.specs.declared.past.PastStep.TheVariants.{Added, Nothing}
 use Rattle.stm_sim.specs.declared.plan.Plan.{Plan}
 use Rattle.stm_wire.specs.declared.rig.RigCall.TheVariants.{Append, Fetch}
 use Rattle.stm_wire.specs.Device.{Device, LosesOwed}
-use Rattle.stm_sim.specs.SimulatedDevice.{le-or-gt}
+use Rattle.stm_sim.specs.lemmas.SimulatedDevice.{le-or-gt}
 use Rattle.stm_wire.specs.Rig.{Elapses, AppendsHonestly, FetchesHonestly, LeftByGet, LeftByAppend}
 use Rattle.stm_sim.specs.Memory.{MemoryData, IsMemory, rig_state, with_call, with_append}
 use Rattle.stm_sim.specs.Memory.{AppendsInMemory, FetchesInMemory, takes_steps}
 use Rattle.stm_sim.specs.Memory.{counts_append, counts_journal, stopped, steps_left}
-use Rattle.stm_sim.specs.Past.{AddsCall, keeps-call, elapses, beginnings}
-use Rattle.stm_sim.specs.HonestLine.{Idles, idles, idles-entry}
-pub use Rattle.stm_sim.specs.HonestLine.{put-honest, get-honest}
+use Rattle.stm_sim.specs.lemmas.Past.{AddsCall, keeps-call, elapses, beginnings}
+use Rattle.stm_sim.specs.lemmas.HonestLine.{Idles, idles, idles-entry}
+pub use Rattle.stm_sim.specs.lemmas.HonestLine.{put-honest, get-honest}
 
 take-of-take-le : (j k : ℕ) (xs : List ℕ) → j ≤ k → take j (take k xs) ≡ take j xs
 take-of-take-le zero k xs h = refl

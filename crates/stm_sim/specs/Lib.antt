@@ -1,15 +1,7 @@
 pub mod Rest
 pub mod Simulator
-pub mod Recorded
 pub mod Memory
-pub mod Recording
-pub mod SimulatedChange
-pub mod Simulated
-pub mod SimulatedDevice
-pub mod FirstDevice
-pub mod Past
-pub mod HonestLine
 pub mod Honest
 pub mod Unmodelled
 pub mod BadLines
-pub mod BadLineRecords
+pub mod lemmas

@@ -13,7 +13,7 @@ use Rattle.stm_sim.specs.declared.plan.Plan.{Plan}
 use Rattle.stm_sim.specs.declared.plan.Stop.{Stop}
 use Rattle.stm_sim.specs.declared.plan.Stop.TheVariants.{Never, After, Fallen}
 use Rattle.stm_wire.specs.Device.{Device, Fresh, IsDevice, LosesOwed}
-use Rattle.stm_sim.specs.Recorded.{calls_told}
+use Rattle.stm_sim.specs.lemmas.Recorded.{calls_told}
 use Rattle.stm_wire.specs.Rig.{RigState}
 use Rattle.stm_sim.specs.Simulator.{simulated_device, device_of}
 use Rattle.stm_sim.specs.declared.simulator.Stage.TheVariants.{Fresh as StageFresh}

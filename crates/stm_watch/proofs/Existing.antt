@@ -15,10 +15,10 @@ use Rattle.stm_wire.specs.Chip.{ChipData, IsChip, flash_size}
 use Rattle.stm_wire.specs.Exchange.{verdict}
 use Rattle.stm_wire.specs.Effect.{change_of}
 use Rattle.stm_wire.specs.Reply.{ack, nack, step_reply, reply}
-use Rattle.stm_sim.specs.SimulatedChange.{done-change-fits}
+use Rattle.stm_sim.specs.lemmas.SimulatedChange.{done-change-fits}
 use Rattle.stm_wire.specs.Device.{Device, Phase, Connected, Gone, Feeds, Receives, Takes}
 use Rattle.stm_wire.specs.Device.{phase_after, IsDevice}
-use Rattle.stm_sim.specs.Simulated.{open-nothing}
+use Rattle.stm_sim.specs.lemmas.Simulated.{open-nothing}
 use Rattle.stm_watch.specs.Known.{Known, count_read, place_read, told, lost, sight_after, judged}
 use Rattle.stm_watch.specs.Known.{fed_to, fed, may_hold, is_due_of, is_due_in, heard_of}
 use Rattle.stm_watch.specs.Known.{heard_by_sight, heard, known_at_first}

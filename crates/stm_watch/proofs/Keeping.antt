@@ -15,9 +15,9 @@ use Rattle.stm_wire.specs.Chip.{ChipData, IsChip, erased_byte, fits_inside, flas
 use Rattle.stm_wire.specs.Chip.{page_offset, page_size}
 use Rattle.stm_wire.specs.Exchange.{number_of, verdict}
 use Rattle.stm_wire.specs.Effect.{Change, Nothing, ErasePages, EraseAll, Write, change_of}
-use Rattle.stm_wire.specs.PageLaws.{fits_page, fits-end}
-use Rattle.stm_sim.specs.Simulated.{small-change}
-use Rattle.stm_sim.specs.SimulatedChange.{done-change-fits, Small as SmallChange}
+use Rattle.stm_wire.specs.lemmas.PageLaws.{fits_page, fits-end}
+use Rattle.stm_sim.specs.lemmas.Simulated.{small-change}
+use Rattle.stm_sim.specs.lemmas.SimulatedChange.{done-change-fits, Small as SmallChange}
 use Rattle.stm_sim.specs.Simulator.{Fits}
 use Rattle.stm_watch.specs.Known.{Known, with_items, stored_all, erased_known, changed_known}
 use Rattle.stm_watch.specs.Known.{count_of_read, place_of_read, count_read, place_read}

@@ -9,7 +9,7 @@ use Rattle.stm_wire.specs.Chip.{ChipData, IsErasedByte, erased_byte, flash_size}
 use Rattle.stm_wire.specs.Chip.{page_offset, page_size}
 use Rattle.stm_wire.specs.Effect.{Change, Nothing, ErasePages, EraseAll, Write, Effect, Stores}
 use Rattle.stm_wire.specs.Effect.{erased_pages}
-use Rattle.stm_wire.specs.PageLaws.{length-with_page, fits-end}
+use Rattle.stm_wire.specs.lemmas.PageLaws.{length-with_page, fits-end}
 use Rattle.stm_sim.specs.Simulator.{Fits}
 use Rattle.std.proofs.lemmas.List.{length-replicate}
 use Rattle.stm_watch.specs.Known.{with_items, stored, stored_all, erased_known, changed_known}

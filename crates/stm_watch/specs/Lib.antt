@@ -1,5 +1,5 @@
 pub mod Known
 pub mod Seen
 pub mod Watching
-pub mod Watched
 pub mod Laws
+pub mod lemmas

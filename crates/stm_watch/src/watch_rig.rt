@@ -9,7 +9,7 @@ ghost use Rattle.stm_wire.specs.Rig.{FetchesHonestly, entry_of_get};
 ghost use Rattle.stm_watch.specs.Known.{IsFed, lost};
 ghost use Rattle.stm_watch.specs.Seen.{IsSeen};
 ghost use Rattle.stm_watch.specs.Watching.{watched, IsHeard, IsByteRefused};
-ghost use Rattle.stm_watch.specs.Watched.{watched-model, watched-places};
+ghost use Rattle.stm_watch.specs.lemmas.Watched.{watched-model, watched-places};
 
 use crate::Watch;
 use stm_wire::{Patience, Rig, RigFault};

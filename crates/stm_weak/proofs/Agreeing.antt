@@ -8,7 +8,7 @@ use Rattle.std.proofs.lemmas.List.{get_or_past}
 use Rattle.stm_wire.specs.Chip.{ChipData, erased_page, flash_size, page_count, page_offset}
 use Rattle.stm_wire.specs.Chip.{page_size, with_bytes, with_page}
 use Rattle.stm_wire.specs.Effect.{erased_pages}
-use Rattle.stm_wire.specs.PageLaws.{length-erased_page, length-with_page, fits_page}
+use Rattle.stm_wire.specs.lemmas.PageLaws.{length-erased_page, length-with_page, fits_page}
 use Rattle.stm_weak.specs.WeakDevice.{AgreesOutside, IsWeakAt}
 
 pub agrees_same : (chip : ChipData) (weak : ℕ → Bool) (a : List ℕ) → AgreesOutside chip weak a a

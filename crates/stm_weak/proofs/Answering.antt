@@ -12,7 +12,7 @@ use Rattle.stm_wire.specs.Effect.{Nothing, ErasePages, EraseAll, change_of, eras
 use Rattle.stm_wire.specs.Effect.{extended_change, write_change}
 use Rattle.stm_wire.specs.Telling.{readable_bytes, asks_unique, kib_bytes}
 use Rattle.stm_wire.specs.Reply.{answer, commands_answer, id_answer, read_answer}
-use Rattle.stm_wire.specs.PageLaws.{fits-end}
+use Rattle.stm_wire.specs.lemmas.PageLaws.{fits-end}
 use Rattle.stm_weak.specs.WeakDevice.{IsInRead, ReadsPlace}
 use Rattle.stm_weak.proofs.Effects.{AreBytes, IsByte}
 

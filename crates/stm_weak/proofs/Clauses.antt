@@ -3,7 +3,7 @@ use Rattle.std.proofs.Common.{◌⊎◌, inl, inr, ℕ, Bool, true, false, List,
 use Rattle.stm_wire.specs.declared.intent.Intent.{Intent}
 use Rattle.stm_wire.specs.Chip.{ChipData}
 use Rattle.stm_wire.specs.Dialogue.{GoesOn}
-use Rattle.stm_wire.specs.DialogueLaws.{GoesOn-weaker}
+use Rattle.stm_wire.specs.lemmas.DialogueLaws.{GoesOn-weaker}
 use Rattle.stm_wire.specs.Rig.{RigState}
 use Rattle.stm_journal.specs.Newest.{pages_of_segments}
 use Rattle.stm_journal.specs.States.{StateData, intent_of, keeps, newest_has}

@@ -11,7 +11,7 @@ use Rattle.stm_wire.specs.declared.intent.Intent.TheVariants.{Erase, Program}
 use Rattle.stm_wire.specs.Chip.{ChipData, page_size}
 use Rattle.stm_wire.specs.Dialogue.{Turn, sent_bytes}
 use Rattle.stm_wire.specs.Frames.{erase_turns, read_turns, write_turns}
-use Rattle.stm_wire.specs.PageLaws.{page_end}
+use Rattle.stm_wire.specs.lemmas.PageLaws.{page_end}
 use Rattle.stm_wire.specs.Refused.{IsRefusedRead, at_address, at_code, at_count}
 use Rattle.stm_session.specs.Order.{page_address}
 use Rattle.stm_session.specs.Work.{pages_of_intent}

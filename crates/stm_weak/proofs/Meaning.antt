@@ -12,7 +12,7 @@ use Rattle.stm_wire.specs.Effect.{Effect, change_of}
 use Rattle.stm_wire.specs.Exchange.{complement, done_if, is_listed, pair_of, read_verdict, verdict}
 use Rattle.stm_wire.specs.Exchange.{xor}
 use Rattle.stm_wire.specs.Frames.{address_bytes, erase_frame, read_frame, with_checksum}
-use Rattle.stm_wire.specs.PageLaws.{fits-end, length-with_bytes, put_here}
+use Rattle.stm_wire.specs.lemmas.PageLaws.{fits-end, length-with_bytes, put_here}
 use Rattle.stm_wire.specs.Reply.{ack, answer, reply_to}
 use Rattle.stm_wire.specs.Telling.{can_read, is_readable, readable_bytes}
 use Rattle.stm_wire.specs.Device.{Device, Phase, Connected, Feeds, IsDevice, ListsKind, Receives}

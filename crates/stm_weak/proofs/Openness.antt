@@ -11,7 +11,7 @@ use Rattle.stm_wire.specs.declared.verdict.Verdict.TheVariants.{Refused}
 use Rattle.stm_wire.specs.Chip.{ChipData, fits_inside, flash_size, is_inside}
 use Rattle.stm_wire.specs.Exchange.{verdict, command_verdict, after_address, at_end, complement}
 use Rattle.stm_wire.specs.Exchange.{done_if, is_listed, number_of, write_verdict, xor}
-use Rattle.stm_wire.specs.PageLaws.{fits-end}
+use Rattle.stm_wire.specs.lemmas.PageLaws.{fits-end}
 use Rattle.stm_wire.specs.Frames.{address_bytes, command, erase_frame, with_checksum}
 use Rattle.stm_wire.specs.Device.{ListsKind}
 use Rattle.stm_weak.proofs.Unread.{IsOpenTo}

@@ -8,10 +8,10 @@ use Rattle.stm_wire.specs.declared.intent.Intent.{Intent}
 use Rattle.stm_wire.specs.Chip.{ChipData, fits_inside, flash_size, page_size}
 use Rattle.stm_wire.specs.Device.{Device, Connected, IsDevice}
 use Rattle.stm_wire.specs.Dialogue.{Turn, sent_bytes}
-use Rattle.stm_wire.specs.DialogueLaws.{erase_sends, get_id_sends, get_sends, read_sends}
-use Rattle.stm_wire.specs.DialogueLaws.{write_sends}
+use Rattle.stm_wire.specs.lemmas.DialogueLaws.{erase_sends, get_id_sends, get_sends, read_sends}
+use Rattle.stm_wire.specs.lemmas.DialogueLaws.{write_sends}
 use Rattle.stm_wire.specs.Frames.{address_bytes, command, read_frame, with_checksum}
-use Rattle.stm_wire.specs.PageLaws.{page_within}
+use Rattle.stm_wire.specs.lemmas.PageLaws.{page_within}
 use Rattle.stm_wire.specs.Refused.{IsRefusedRead, at_code, at_address, at_count}
 use Rattle.stm_session.specs.Order.{page_address}
 use Rattle.stm_session.specs.Reaching.{place_of_bytes}

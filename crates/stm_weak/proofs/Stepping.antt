@@ -13,7 +13,7 @@ use Rattle.stm_wire.specs.Chip.{ChipData, page_count}
 use Rattle.stm_wire.specs.Device.{Device, Phase, Fresh, Connected, Gone, IsDevice, ListsKind}
 use Rattle.stm_wire.specs.Device.{Receives, Takes}
 use Rattle.stm_wire.specs.Dialogue.{Turn, sent_bytes}
-use Rattle.stm_wire.specs.DialogueLaws.{erase_sends}
+use Rattle.stm_wire.specs.lemmas.DialogueLaws.{erase_sends}
 use Rattle.stm_wire.specs.Frames.{erase_frame, erase_turns}
 use Rattle.stm_session.specs.Order.{Adds, Sends}
 use Rattle.stm_weak.specs.Weak.{WeakEvent, breaks, does, settles, intent_after, weak_after, weak_behind}

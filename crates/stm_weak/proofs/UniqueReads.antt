@@ -10,7 +10,7 @@ use Rattle.stm_wire.specs.Chip.{ChipData, IsChip, fits_inside, flash_size, is_ou
 use Rattle.stm_wire.specs.Chip.{is_size_place, is_unique_place}
 use Rattle.stm_wire.specs.Exchange.{verdict, after_address, at_end, complement}
 use Rattle.stm_wire.specs.Exchange.{done_if, is_listed, read_verdict, xor}
-use Rattle.stm_wire.specs.PageLaws.{fits-end}
+use Rattle.stm_wire.specs.lemmas.PageLaws.{fits-end}
 use Rattle.stm_wire.specs.declared.places.UniquePlace.{UniquePlace}
 use Rattle.stm_wire.specs.Telling.{asks_size, asks_unique, can_read, has_size, has_unique}
 use Rattle.stm_wire.specs.Telling.{is_readable}

@@ -5,7 +5,7 @@ use Rattle.stm_wire.specs.declared.verdict.Verdict.{Verdict}
 use Rattle.stm_wire.specs.declared.verdict.Verdict.TheVariants.{Done, Refused}
 use Rattle.stm_wire.specs.Chip.{ChipData, flash_size}
 use Rattle.stm_wire.specs.Exchange.{verdict}
-use Rattle.stm_wire.specs.PageLaws.{page_within}
+use Rattle.stm_wire.specs.lemmas.PageLaws.{page_within}
 use Rattle.stm_wire.specs.Device.{Device, Phase, Fresh, Connected, Gone, Receives, Takes}
 use Rattle.stm_weak.specs.WeakDevice.{CanBe, IsWeakAt, ReadsPlace, ReadsWeak, WeakDevice, WeakFeeds}
 use Rattle.stm_weak.specs.WeakRuns.{Feed, WeakHappening, HasNoReset, IsNow, IsUnread, Reset, Take}

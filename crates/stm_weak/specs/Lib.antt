@@ -9,4 +9,4 @@ pub mod WeakFrames
 pub mod WeakMeaning
 pub mod WeakBelieved
 pub mod WeakEvents
-pub mod WeakExamples
+pub mod lemmas

@@ -4,7 +4,7 @@ use Rattle.stm_wire.specs.declared.verdict.Verdict.{Verdict}
 use Rattle.stm_wire.specs.declared.verdict.Verdict.TheVariants.{Done, Refused, Loose}
 use Rattle.stm_wire.specs.Exchange.{verdict}
 use Rattle.stm_wire.specs.Reply.{ack}
-use Rattle.stm_wire.specs.MomentLaws.{LosesOwed-trans}
+use Rattle.stm_wire.specs.lemmas.MomentLaws.{LosesOwed-trans}
 use Rattle.stm_wire.specs.Device.{Device, Phase, Fresh, Connected, Gone, Feeds, Fed, Receives, Takes, IsLoose, LosesOwed, is_protection, reply_of, phase_after}
 
 -- what was lost at the front can be lost after bytes came at the end

@@ -4,7 +4,7 @@ use Rattle.std.specs.Prelude.{⊤}
 use Rattle.std.specs.List.{Contains}
 use Rattle.std.proofs.lemmas.List.{length-replicate}
 use Rattle.stm_wire.specs.Chip.{ChipData, flash_size, page_size, page_offset, page_of, with_bytes, erased_byte}
-use Rattle.stm_wire.specs.PageLaws.{page_within, length-with_bytes, other_page}
+use Rattle.stm_wire.specs.lemmas.PageLaws.{page_within, length-with_bytes, other_page}
 use Rattle.stm_wire.specs.Effect.{Change, Nothing, ErasePages, EraseAll, Write, Effect, Stores, erased_pages}
 use Rattle.stm_wire.specs.Harmless.{SameOutside}
 

@@ -6,7 +6,7 @@ use Rattle.stm_wire.specs.declared.fault.WireFault.TheVariants.{Line, Nack, Quie
 use Rattle.stm_wire.specs.Device.{Device, LosesOwed}
 use Rattle.stm_wire.specs.Rig.{RigState, Rises, IsModel}
 use Rattle.stm_wire.specs.Moments.{LeftBySending}
-use Rattle.stm_wire.specs.MomentLaws.{started, joined, weaker, LosesOwed-refl}
+use Rattle.stm_wire.specs.lemmas.MomentLaws.{started, joined, weaker, LosesOwed-refl}
 use Rattle.stm_wire.specs.Dialogue.{Turn, says, step_turns, calls_of, FailsBy, IsBrokenOff, Adds}
 use Rattle.stm_wire.specs.Sending.{KeepsCount, SentHonestly, IsHeldToEnd, BreaksOff}
 use Rattle.stm_wire.proofs.Turns.{FedAndTaken-append, PartlyFed-first, PartlyFed-second, PartlyFed-all, calls_of-append, says-step, broken-first, broken-second, Adds-append, GoesOn-append, GoesOn-weaker, Adds-GoesOn}

@@ -10,7 +10,7 @@ use Rattle.stm_wire.proofs.Flash.{same_flash}
 use Rattle.stm_wire.specs.Awaited.{Awaits, most_for}
 use Rattle.stm_wire.specs.Settling.{IsSettling, IsGoing, LeftBySettling, KeepsSettling, with_nothing_owed}
 use Rattle.stm_wire.specs.Command.{with_rest}
-use Rattle.stm_wire.specs.MomentLaws.{started, joined, elapsed}
+use Rattle.stm_wire.specs.lemmas.MomentLaws.{started, joined, elapsed}
 use Rattle.stm_wire.specs.Reply.{ack, nack}
 use Rattle.stm_wire.proofs.Ending.{at_most, more_suffice}
 use Rattle.stm_wire.proofs.Going.{going, settling_loses, settling_fed, connects, waits, refuses, step, Steps, IsOver, IsNoRefusal, InBatch, batch_step, batch_begins, batch_ends}

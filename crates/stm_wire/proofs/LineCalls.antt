@@ -7,7 +7,7 @@ use Rattle.stm_wire.specs.declared.fault.WireFault.TheVariants.{Line, Nack, Quie
 use Rattle.stm_wire.specs.Device.{Device, LosesOwed}
 use Rattle.stm_wire.specs.Rig.{RigState, HasCause, IsModel, Records, LeftByPut, LeftByGet, PutsHonestly, GetsHonestly, GetsFirst}
 use Rattle.stm_wire.specs.Moments.{LeftBySending}
-use Rattle.stm_wire.specs.MomentLaws.{elapsed, LosesOwed-refl}
+use Rattle.stm_wire.specs.lemmas.MomentLaws.{elapsed, LosesOwed-refl}
 use Rattle.stm_wire.specs.Dialogue.{Turn, Says, Acknowledged, Expects, Learns, says, learns, call_of, FailsBy, IsBrokenOff, Adds, GoesOn}
 use Rattle.stm_wire.specs.Sending.{SentHonestly, IsHeldToEnd, BreaksOff}
 use Rattle.stm_wire.proofs.Turns.{GoesOn-weaker}

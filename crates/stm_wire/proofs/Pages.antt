@@ -2,7 +2,7 @@
 use Rattle.std.proofs.Common.{ℕ, IsTrue, arith}
 use Rattle.std.proofs.lemmas.Bool.Decides.{nat_tests}
 use Rattle.stm_wire.specs.Chip.{ChipData, fits_inside}
-use Rattle.stm_wire.specs.PageLaws.{page_within}
+use Rattle.stm_wire.specs.lemmas.PageLaws.{page_within}
 use Rattle.stm_wire.specs.Intents.{InPage}
 
 -- what lies in a page lies in the flash

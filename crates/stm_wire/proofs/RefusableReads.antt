@@ -25,7 +25,7 @@ use Rattle.stm_wire.specs.Rig.{RigState}
 use Rattle.stm_wire.specs.Device.{Device, Phase, Connected, Fed, Feeds, Receives, Takes, IsDevice, IsSettled}
 use Rattle.stm_wire.specs.Command.{owing, with_rest, OwesFirst, TakesAddress, CanTell, told_bytes}
 use Rattle.stm_wire.specs.Moments.{LeftBySending, PartlyFed}
-use Rattle.stm_wire.specs.MomentLaws.{weaker}
+use Rattle.stm_wire.specs.lemmas.MomentLaws.{weaker}
 use Rattle.stm_wire.specs.Sending.{SentHonestly, PartSentHonestly}
 use Rattle.stm_wire.specs.Refused.{AsksSafely, LeavesAnswer, RefusableReadsChangeNothing, read_head, refusable_frame}
 use Rattle.stm_wire.proofs.Address.{address-waits, addressed, verdict-listed, command-waits, after_address-right, address-first, address-step, number_of-address_bytes, settled-is}

@@ -3,7 +3,7 @@ use Rattle.std.proofs.Common.{◌≡◌, ℕ, ◌+◌, ◌-◌, ◌≤◌, Bool,
 use Rattle.std.proofs.lemmas.Bool.{and_parts, cond_both, eqb-true}
 use Rattle.std.proofs.lemmas.Bool.Decides.{nat_tests}
 use Rattle.stm_wire.specs.Chip.{ChipData, fits_inside, is_inside, flash_size}
-use Rattle.stm_wire.specs.PageLaws.{fits-end}
+use Rattle.stm_wire.specs.lemmas.PageLaws.{fits-end}
 use Rattle.stm_wire.specs.Telling.{asks_size, asks_unique, can_read, has_size, has_unique, is_readable, kib_bytes, readable_bytes}
 
 -- at most as many bytes as were asked for, and two

@@ -6,7 +6,7 @@ use Rattle.stm_wire.specs.Call.{Call}
 use Rattle.stm_wire.specs.declared.fault.WireFault.{WireFault}
 use Rattle.stm_wire.specs.Device.{Device}
 use Rattle.stm_wire.specs.Moments.{FedAndTaken, PartlyFed}
-use Rattle.stm_wire.specs.MomentLaws.{LosesOwed-trans}
+use Rattle.stm_wire.specs.lemmas.MomentLaws.{LosesOwed-trans}
 use Rattle.stm_wire.specs.Dialogue.{Turn, Says, Acknowledged, Learns, says, learns, step_turns, call_of, calls_of, IsBrokenOff, Adds, GoesOn}
 use Rattle.stm_wire.proofs.Feeding.{fed-lost, Fed-append}
 

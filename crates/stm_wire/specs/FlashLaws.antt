@@ -10,8 +10,8 @@ use Rattle.stm_wire.specs.Chip.{ChipData, erased_byte, erased_page, flash_size}
 use Rattle.stm_wire.specs.Chip.{page_count, page_of, page_size, with_bytes, with_page}
 use Rattle.stm_wire.specs.Effect.{Effect, Stores, Write, erased_pages}
 use Rattle.stm_wire.specs.Harmless.{SameOutside}
-use Rattle.stm_wire.specs.PageLaws.{length-erased_page, length-page_of, length-with_page}
-use Rattle.stm_wire.specs.PageLaws.{page_put, page_put-other, put_page, sum-cons}
+use Rattle.stm_wire.specs.lemmas.PageLaws.{length-erased_page, length-page_of, length-with_page}
+use Rattle.stm_wire.specs.lemmas.PageLaws.{page_put, page_put-other, put_page, sum-cons}
 
 nothing : (xs : List ℕ) → length xs ≡ 0 → xs ≡ []
 nothing [] e = refl

@@ -1,11 +1,9 @@
 pub mod UniqueId
 pub mod UniqueIdFields
-pub mod UniqueIdLaws
 pub mod Places
 pub mod Chip
 pub mod Cut
 pub mod Telling
-pub mod PageLaws
 pub mod Exchange
 pub mod Effect
 pub mod Reply
@@ -17,8 +15,6 @@ pub mod Frames
 pub mod Intents
 pub mod SentList
 pub mod Parts
-pub mod PartJoins
-pub mod PartLaws
 pub mod Stopped
 pub mod Refused
 pub mod Settling
@@ -26,11 +22,9 @@ pub mod SettlingCalls
 pub mod Call
 pub mod Rig
 pub mod Dialogue
-pub mod DialogueLaws
 pub mod Moments
-pub mod MomentLaws
 pub mod Sending
 pub mod Command
 pub mod Protection
 pub mod PowerLoss
-pub mod Examples
+pub mod lemmas

@@ -19,7 +19,7 @@ impl Model for UniqueId {
     ghost Value = { List ℕ };
 
     ghost use Rattle.stm_wire.specs.UniqueIdFields.{id_bytes_told, fields_of, AreFields};
-    ghost use Rattle.stm_wire.specs.UniqueIdLaws.{fields-back};
+    ghost use Rattle.stm_wire.specs.lemmas.UniqueIdLaws.{fields-back};
 
     ghost view = { id_bytes_told };
 

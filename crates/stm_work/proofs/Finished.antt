@@ -1,6 +1,6 @@
 -- A journal that was loaded, none of whose writes and erases is unfinished.
 use Rattle.std.proofs.Common.{◌≡◌, ℕ, List, false, sym, ◌∙◌, ap}
-use Rattle.stm_journal.specs.ForgetLaws.{depth-forgets, is_unfinished-forgets}
+use Rattle.stm_journal.specs.lemmas.ForgetLaws.{depth-forgets, is_unfinished-forgets}
 use Rattle.stm_journal.specs.Journals.{IsLoaded, Loaded}
 use Rattle.stm_journal.specs.States.{StateData, depth, is_unfinished}
 use Rattle.stm_work.specs.Keeping.{IsFinished}

@@ -3,7 +3,7 @@
 ghost use Rattle.std.specs.Prelude.{◌≡◌};
 ghost use Rattle.std.proofs.Common.{sym};
 ghost use Rattle.stm_wire.specs.Call.{Put, Fetch};
-ghost use Rattle.stm_sim.specs.Recorded.{length_told};
+ghost use Rattle.stm_sim.specs.lemmas.Recorded.{length_told};
 ghost use Rattle.stm_wire.specs.Rig.{PutsAside, GetsAside, FetchesAside};
 ghost use Rattle.stm_wire.specs.Rig.{HasCause, Records, RecordsAppend, Enters};
 ghost use Rattle.stm_wire.specs.Rig.{EntersAppend, entry_of_get, PutsHonestly};
@@ -11,7 +11,7 @@ ghost use Rattle.stm_wire.specs.Rig.{GetsHonestly};
 ghost use Rattle.stm_wire.specs.Rig.{AppendsHonestly, FetchesHonestly, FetchesWithin};
 ghost use Rattle.stm_sim.specs.Memory.{rig_state, PutsInMemory, GetsInMemory};
 ghost use Rattle.stm_sim.specs.Memory.{AppendsInMemory, FetchesInMemory};
-ghost use Rattle.stm_sim.specs.Past.{model};
+ghost use Rattle.stm_sim.specs.lemmas.Past.{model};
 
 use crate::memory_rig::MemoryRig;
 use stm_wire::{Patience, Rig, RigFault};

@@ -1,5 +1,5 @@
 use Rattle.std.proofs.Common.{rules}
-use Rattle.stm_files.specs.SimulatorFileLaws.{gone}
+use Rattle.stm_files.specs.lemmas.SimulatorFileLaws.{gone}
 use Rattle.stm_files.proofs.restoring.leave.Goals as goal
 
 pub returns : goal.returns

@@ -1,6 +1,6 @@
 use Rattle.std.proofs.Common.{arith, get_or, rules}
 use Rattle.std.proofs.lemmas.List.{take_more}
-use Rattle.stm_files.specs.SimulatorFileLaws.{one_more}
+use Rattle.stm_files.specs.lemmas.SimulatorFileLaws.{one_more}
 use Rattle.stm_files.proofs.restoring.lengthen.Goals as goal
 
 pub loop-byte-preserved : goal.loop-byte-preserved

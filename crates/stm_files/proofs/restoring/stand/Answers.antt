@@ -2,7 +2,7 @@ use Rattle.std.proofs.Common.{◌∙◌, ap, refl, subst, sym}
 use Rattle.std.proofs.lemmas.Result.{IfOk-weaker}
 use Rattle.stm_wire.specs.Device.{Phase, Connected, Gone}
 use Rattle.stm_files.specs.SimulatorFile.{Becomes, standing_at}
-use Rattle.stm_files.specs.SimulatorFileLaws.{connected, settles, from_there}
+use Rattle.stm_files.specs.lemmas.SimulatorFileLaws.{connected, settles, from_there}
 use Rattle.stm_files.specs.Standing.{standing_phase}
 use Rattle.stm_files.proofs.restoring.stand.Goals as goal
 

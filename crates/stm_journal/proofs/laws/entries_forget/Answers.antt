@@ -1,5 +1,5 @@
 use Rattle.stm_journal.proofs.Forgets.{after-forgets}
-use Rattle.stm_journal.specs.ForgetLaws.{allows-forgets}
+use Rattle.stm_journal.specs.lemmas.ForgetLaws.{allows-forgets}
 use Rattle.stm_journal.proofs.laws.entries_forget.Goals as goal
 
 pub returns : goal.returns

@@ -2,7 +2,7 @@
 use Rattle.std.proofs.Common.{rules, ◌≡◌, ◌+◌, ◌-◌, ◌*◌, arith, ap, subst, sym, ◌∙◌, ℕ, Bool, Some, true, false, is_some, refl, drop}
 use Rattle.stm_wire.specs.Dialogue.{GoesOn}
 use Rattle.stm_wire.specs.Parts.{IsPart}
-use Rattle.stm_wire.specs.PartLaws.{nothing_is_part, part_longer}
+use Rattle.stm_wire.specs.lemmas.PartLaws.{nothing_is_part, part_longer}
 use Rattle.stm_session.specs.Answers.{first_difference}
 use Rattle.stm_session.specs.Sending.{most_of_command}
 use Rattle.stm_session.proofs.Asking.{asks_failed, asks_ok, nothing_asked}

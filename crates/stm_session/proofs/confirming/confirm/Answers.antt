@@ -3,9 +3,9 @@ use Rattle.std.specs.Prelude.{◌⊎◌}
 use Rattle.std.proofs.lemmas.Bool.{true≢false}
 use Rattle.stm_wire.specs.declared.places.UniquePlace.{UniquePlace}
 use Rattle.stm_wire.specs.Dialogue.{GoesOn}
-use Rattle.stm_wire.specs.DialogueLaws.{GoesOn-nothing}
+use Rattle.stm_wire.specs.lemmas.DialogueLaws.{GoesOn-nothing}
 use Rattle.stm_wire.specs.Parts.{IsPart}
-use Rattle.stm_wire.specs.PartLaws.{nothing_is_part}
+use Rattle.stm_wire.specs.lemmas.PartLaws.{nothing_is_part}
 use Rattle.stm_session.specs.declared.fault.Fault.TheVariants.{BoardChanged}
 use Rattle.stm_session.specs.Confirming.{TellsAgain}
 use Rattle.stm_session.specs.Fault.{Cause, IsOfLine, cause_of, of_refusal}

@@ -3,7 +3,7 @@ use Rattle.std.proofs.Common.{arith, Bool, None, true, ◌∙◌, ap}
 use Rattle.stm_wire.specs.Device.{Device}
 use Rattle.stm_wire.specs.Dialogue.{GoesOn}
 use Rattle.stm_wire.specs.Parts.{IsPart}
-use Rattle.stm_wire.specs.PartLaws.{part_longer, parts_join}
+use Rattle.stm_wire.specs.lemmas.PartLaws.{part_longer, parts_join}
 use Rattle.stm_session.proofs.Asking.{asks_failed, asks_ok, asks_then, settled_still}
 use Rattle.stm_session.proofs.Sending.{same_fault}
 use Rattle.std.proofs.Common.{◌∷◌, []}

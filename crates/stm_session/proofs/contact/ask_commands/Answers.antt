@@ -3,7 +3,7 @@ use Rattle.std.proofs.Common.{◌<◌, rules, ℕ, List, Bool, None, length, tak
 use Rattle.stm_wire.specs.Dialogue.{GoesOn}
 use Rattle.stm_wire.specs.Frames.{get_turns}
 use Rattle.stm_wire.specs.Parts.{IsPart}
-use Rattle.stm_wire.specs.PartLaws.{get_broken, get_held}
+use Rattle.stm_wire.specs.lemmas.PartLaws.{get_broken, get_held}
 use Rattle.stm_wire.specs.Stopped.{get}
 use Rattle.stm_session.proofs.Asking.{asked, broken_off}
 use Rattle.stm_session.proofs.Sending.{with_fault}

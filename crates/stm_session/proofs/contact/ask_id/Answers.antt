@@ -3,7 +3,7 @@ use Rattle.std.proofs.Common.{◌/◌, ◌%◌, Bool, None, refl}
 use Rattle.stm_wire.specs.Frames.{get_id_turns}
 use Rattle.stm_wire.specs.Dialogue.{GoesOn}
 use Rattle.stm_wire.specs.Parts.{IsPart}
-use Rattle.stm_wire.specs.PartLaws.{get_id_broken, get_id_held}
+use Rattle.stm_wire.specs.lemmas.PartLaws.{get_id_broken, get_id_held}
 use Rattle.stm_wire.specs.Stopped.{get_id}
 use Rattle.stm_session.proofs.Asking.{asked, broken_off}
 use Rattle.stm_session.proofs.Sending.{with_fault}

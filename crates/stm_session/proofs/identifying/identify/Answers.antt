@@ -1,5 +1,5 @@
 use Rattle.std.proofs.Common.{None}
-use Rattle.stm_wire.specs.PartLaws.{silent_is_session, silent_then_session}
+use Rattle.stm_wire.specs.lemmas.PartLaws.{silent_is_session, silent_then_session}
 use Rattle.stm_journal.specs.Calls.{AreFetches}
 use Rattle.stm_wire.specs.Dialogue.{GoesOn}
 use Rattle.stm_session.specs.declared.contact.Told.{Told}

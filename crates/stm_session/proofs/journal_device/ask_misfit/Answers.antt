@@ -1,5 +1,5 @@
 use Rattle.std.proofs.Common.{None, true, arith}
-use Rattle.stm_wire.specs.PartLaws.{part_longer}
+use Rattle.stm_wire.specs.lemmas.PartLaws.{part_longer}
 use Rattle.stm_session.proofs.SentParts.{part_after, part_fails, part_fails_after}
 use Rattle.std.proofs.Common.{◌∷◌, [], refl}
 use Rattle.std.proofs.Common.{◌≡◌, ◌++◌, ℕ, List, ap, subst, rules}

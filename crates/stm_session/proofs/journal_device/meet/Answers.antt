@@ -13,7 +13,7 @@ use Rattle.std.proofs.Common.{◌+◌, ◌*◌, Bool, true, arith}
 use Rattle.stm_wire.specs.Dialogue.{GoesOn}
 use Rattle.stm_session.specs.Fresh.{IsAsSaid, byte_of, limit_of, undo_way}
 use Rattle.stm_wire.specs.Parts.{IsPart, IsSession}
-use Rattle.stm_wire.specs.PartLaws.{session_joins, session_longer, session_weaker, settling_is_session}
+use Rattle.stm_wire.specs.lemmas.PartLaws.{session_joins, session_longer, session_weaker, settling_is_session}
 use Rattle.stm_journal.specs.States.{intent_of}
 use Rattle.stm_session.specs.Sending.{is_whole, most_of_reaching}
 use Rattle.stm_session.proofs.Sending.{same_fault}

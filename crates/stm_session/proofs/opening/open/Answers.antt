@@ -4,7 +4,7 @@ use Rattle.std.proofs.Common.{arith, Bool, None, true, refl}
 use Rattle.stm_session.proofs.Openings.{left_by_loading, opens_all, opens_refused, opens_unreached, opens_unread}
 use Rattle.stm_wire.specs.Dialogue.{GoesOn}
 use Rattle.stm_wire.specs.Parts.{IsSession}
-use Rattle.stm_wire.specs.PartLaws.{session_weaker, silent_is_session, silent_then_session}
+use Rattle.stm_wire.specs.lemmas.PartLaws.{session_weaker, silent_is_session, silent_then_session}
 use Rattle.stm_journal.specs.Calls.{AreFetches}
 use Rattle.stm_session.specs.Sending.{is_whole, most_calls}
 use Rattle.stm_session.proofs.Sending.{fetches_get, fetches_put, same_fault}

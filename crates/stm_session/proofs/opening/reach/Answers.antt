@@ -3,7 +3,7 @@ use Rattle.stm_session.proofs.Unwritings.{settling_appends_nothing, then_appends
 use Rattle.stm_session.proofs.Unbegun.{begins_failed, then_asks}
 use Rattle.stm_session.proofs.Openings.{tells_first}
 use Rattle.std.proofs.Common.{arith, None, true}
-use Rattle.stm_wire.specs.PartLaws.{session_joins, session_longer, settling_is_session}
+use Rattle.stm_wire.specs.lemmas.PartLaws.{session_joins, session_longer, settling_is_session}
 use Rattle.stm_session.specs.Sending.{is_whole, most_calls}
 use Rattle.stm_session.proofs.Orders.{settles_then}
 use Rattle.stm_wire.specs.Dialogue.{GoesOn}

@@ -3,7 +3,7 @@ use Rattle.std.proofs.Common.{true, length, take, drop, subst, sym, ap, ap₂, a
 use Rattle.std.proofs.Math.Seq.{take-append_seam}
 use Rattle.stm_wire.specs.Chip.{erased_byte, page_size, with_page}
 use Rattle.stm_wire.specs.Device.{Device}
-use Rattle.stm_wire.specs.PartLaws.{nothing_is_part}
+use Rattle.stm_wire.specs.lemmas.PartLaws.{nothing_is_part}
 use Rattle.stm_journal.specs.KeptPlaces.{kept_entry, place_of}
 use Rattle.stm_journal.specs.declared.kept.Kept.{Kept}
 use Rattle.stm_chip.specs.declared.plan.Frame.{Frame}

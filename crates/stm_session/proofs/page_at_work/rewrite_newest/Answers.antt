@@ -2,7 +2,7 @@ use Rattle.std.proofs.Common.{◌≡◌, ◌∙◌, ◌∷◌, [], List, ℕ, Re
 use Rattle.stm_wire.specs.Chip.{with_page}
 use Rattle.stm_journal.specs.declared.kept.Kept.{Kept}
 use Rattle.stm_journal.specs.KeptPlaces.{kept_entry, place_of}
-use Rattle.stm_journal.specs.NewestLaws.{KeepsSame-refl}
+use Rattle.stm_journal.specs.lemmas.NewestLaws.{KeepsSame-refl}
 use Rattle.stm_session.specs.Lines.{rewrite_entries, work_entries}
 use Rattle.stm_session.specs.Steps.{Goes, IsSteady}
 use Rattle.stm_session.specs.declared.fault.Fault.{Fault}

@@ -4,7 +4,7 @@ use Rattle.std.proofs.Common.{rules}
 use Rattle.std.specs.Prelude.{bytes_eq}
 use Rattle.stm_wire.specs.Chip.{ChipData, flash_size, page_of, page_size, with_page}
 use Rattle.stm_wire.specs.Device.{Device}
-use Rattle.stm_wire.specs.PageLaws.{length-page_of}
+use Rattle.stm_wire.specs.lemmas.PageLaws.{length-page_of}
 use Rattle.stm_session.specs.ChangeOrder.{IsChanged, IsPageTurn, IsTurnOf}
 use Rattle.stm_session.specs.Changing.{change_entries}
 use Rattle.stm_session.specs.Contents.{IsGiven, content}

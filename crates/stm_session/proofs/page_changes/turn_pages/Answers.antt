@@ -2,7 +2,7 @@ use Rattle.std.proofs.Common.{◌≡◌, ◌∙◌, ◌+◌, ◌<◌, ◌≤◌,
 use Rattle.stm_wire.specs.Chip.{ChipData, flash_size, page_count, page_of}
 use Rattle.stm_wire.specs.FlashLaws.{turned_none, turned_all}
 use Rattle.stm_journal.specs.declared.entry.Entry.{Entry}
-use Rattle.stm_journal.specs.NewestLaws.{newest_may_keep_behind}
+use Rattle.stm_journal.specs.lemmas.NewestLaws.{newest_may_keep_behind}
 use Rattle.stm_session.specs.Answers.{differing_below}
 use Rattle.stm_session.specs.Contents.{IsGiven, command_of, content}
 use Rattle.stm_session.specs.Lines.{page_entries, page_entries_below}

@@ -9,7 +9,7 @@ use Rattle.stm_session.proofs.Programmings.{written_before, chip_still, place_er
 use Rattle.std.proofs.Common.{true}
 use Rattle.stm_wire.specs.Dialogue.{GoesOn}
 use Rattle.std.proofs.Common.{refl, subst}
-use Rattle.stm_wire.specs.DialogueLaws.{GoesOn-nothing}
+use Rattle.stm_wire.specs.lemmas.DialogueLaws.{GoesOn-nothing}
 use Rattle.stm_session.specs.Order.{IsInOrder, write_steps}
 use Rattle.stm_session.proofs.Orders.{writes_next}
 use Rattle.stm_session.proofs.CutShort.{writes_stop}

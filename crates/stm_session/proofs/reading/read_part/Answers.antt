@@ -4,7 +4,7 @@ use Rattle.stm_wire.specs.Stopped.{read}
 use Rattle.stm_session.proofs.Asking.{asked, broken_off}
 use Rattle.stm_wire.specs.Dialogue.{GoesOn}
 use Rattle.stm_wire.specs.Parts.{IsPart}
-use Rattle.stm_wire.specs.PartLaws.{read_broken, read_held}
+use Rattle.stm_wire.specs.lemmas.PartLaws.{read_broken, read_held}
 use Rattle.stm_session.proofs.Sending.{with_fault}
 use Rattle.std.proofs.Common.{◌∷◌, []}
 use Rattle.stm_wire.specs.Frames.{read_turns}

@@ -7,14 +7,14 @@ use Rattle.stm_session.specs.Running.{bytes_at}
 use Rattle.stm_session.proofs.Asking.{asks_failed, asks_ok, memory_refused, nothing_asked}
 use Rattle.stm_session.proofs.Ranges.{block_adds, block_asks, size-limit}
 use Rattle.stm_wire.specs.Dialogue.{GoesOn}
-use Rattle.stm_wire.specs.DialogueLaws.{GoesOn-nothing}
+use Rattle.stm_wire.specs.lemmas.DialogueLaws.{GoesOn-nothing}
 use Rattle.std.specs.List.{AllByRecursion}
 use Rattle.stm_session.specs.Fault.{Cause}
 use Rattle.stm_session.specs.Order.{Step, AreReadsOf, Begin, IsInOrder, Sends, StopsBy}
 use Rattle.stm_session.specs.RunOrder.{IsReading}
 use Rattle.stm_session.proofs.CutShort.{by_fault, memory_stops, reads_begin}
 use Rattle.stm_wire.specs.Parts.{IsPart}
-use Rattle.stm_wire.specs.PartLaws.{nothing_is_part, part_longer}
+use Rattle.stm_wire.specs.lemmas.PartLaws.{nothing_is_part, part_longer}
 use Rattle.stm_session.specs.Sending.{is_whole, most_of_command}
 use Rattle.stm_session.proofs.Sending.{block_in_page, same_fault}
 use Rattle.stm_session.proofs.Ranges.{block_in_few, block_part, block_read, block_stop, blocks_all, blocks_more, blocks_stop}

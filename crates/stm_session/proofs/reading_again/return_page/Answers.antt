@@ -4,7 +4,7 @@ use Rattle.stm_wire.specs.Chip.{page_of, with_page}
 use Rattle.stm_wire.specs.Device.{Device}
 use Rattle.stm_wire.specs.Dialogue.{GoesOn}
 use Rattle.stm_wire.specs.Parts.{IsPart}
-use Rattle.stm_wire.specs.PartLaws.{part_weaker}
+use Rattle.stm_wire.specs.lemmas.PartLaws.{part_weaker}
 use Rattle.stm_session.specs.ChangeOrder.{IsChanged}
 use Rattle.stm_session.specs.Lines.{rewrite_entries}
 use Rattle.stm_session.specs.Order.{Are, AreReadsOf, Begin, DoesSteps, OrMisread, page_address, page_reads, give_back_steps, return_steps}

@@ -11,7 +11,7 @@ use Rattle.stm_session.proofs.Exits.{goes_fault}
 use Rattle.stm_session.proofs.Frames.{no_frames, some_frames, written-none}
 use Rattle.stm_session.proofs.Going.{goes_as, goes_then, goes_failed, goes_ok, at_exit}
 use Rattle.std.proofs.Common.{◌+◌, ◌*◌, true, Some, arith}
-use Rattle.stm_wire.specs.PartLaws.{part_longer}
+use Rattle.stm_wire.specs.lemmas.PartLaws.{part_longer}
 use Rattle.stm_wire.specs.Dialogue.{GoesOn}
 use Rattle.stm_wire.specs.Parts.{IsPart}
 use Rattle.stm_session.proofs.SentPages.{planned_few, planned_inside, put_erase, put_program}

@@ -1,6 +1,6 @@
 use Rattle.stm_session.specs.Fresh.{Settles}
 use Rattle.std.proofs.Common.{◌≡◌, ◌≢◌, ◌+◌, ◌*◌, [], List, ◌∷◌, Bool, None, Some, length, map, true, arith, refl}
-use Rattle.stm_wire.specs.PartLaws.{session_joins, session_longer, session_of_any, session_weaker}
+use Rattle.stm_wire.specs.lemmas.PartLaws.{session_joins, session_longer, session_of_any, session_weaker}
 use Rattle.stm_wire.specs.Dialogue.{GoesOn}
 use Rattle.stm_wire.specs.Parts.{IsSession}
 use Rattle.stm_session.specs.declared.command.Command.{Command}

@@ -2,7 +2,7 @@ use Rattle.std.proofs.Common.{◌<◌, ◌∙◌, sym, refl, ap, arith, List}
 use Rattle.std.proofs.lemmas.List.{take_all}
 use Rattle.stm_journal.specs.declared.kept.Kept.{Kept}
 use Rattle.stm_journal.specs.KeptPlaces.{kept_count}
-use Rattle.stm_journal.specs.NewestLaws.{KeepsSame-refl, KeepsSame-trans}
+use Rattle.stm_journal.specs.lemmas.NewestLaws.{KeepsSame-refl, KeepsSame-trans}
 use Rattle.stm_session.specs.SegmentUndo.{newest_at, give_back_lines, with_pages}
 use Rattle.stm_session.proofs.Going.{goes_as, goes_nowhere, goes_ok}
 use Rattle.stm_session.proofs.Returns.{count_newest, count_text, newest_fits, newest_once, no_place, number_exists, number_kept, place_fits, the_kept}
@@ -10,7 +10,7 @@ use Rattle.stm_session.proofs.UndoPuts.{chip_still, first, return_failed, return
 use Rattle.std.proofs.Common.{◌+◌, Bool, Some, true}
 use Rattle.stm_wire.specs.Dialogue.{GoesOn}
 use Rattle.stm_wire.specs.Parts.{IsPart}
-use Rattle.stm_wire.specs.PartLaws.{nothing_is_part}
+use Rattle.stm_wire.specs.lemmas.PartLaws.{nothing_is_part}
 use Rattle.stm_session.specs.Sending.{most_of_command}
 use Rattle.stm_session.specs.Undoable.{newest_kept}
 use Rattle.stm_session.proofs.PageSums.{pages_next, pages_within}

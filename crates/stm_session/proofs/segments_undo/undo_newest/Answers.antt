@@ -4,7 +4,7 @@ use Rattle.stm_session.proofs.UndoesOfSegments.{undoes_all_newest, undoes_failed
 use Rattle.std.proofs.Common.{◌≤◌, ◌*◌, Bool, Some, true}
 use Rattle.stm_wire.specs.Dialogue.{GoesOn}
 use Rattle.stm_wire.specs.Parts.{IsPart}
-use Rattle.stm_wire.specs.PartLaws.{nothing_is_part}
+use Rattle.stm_wire.specs.lemmas.PartLaws.{nothing_is_part}
 use Rattle.stm_session.specs.Sending.{most_of_command}
 use Rattle.stm_session.proofs.Sending.{same_fault}
 use Rattle.stm_session.proofs.SentParts.{commands_next, commands_within}

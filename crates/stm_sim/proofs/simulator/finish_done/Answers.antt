@@ -1,7 +1,7 @@
 use Rattle.std.proofs.Common.{List, ℕ, sym, subst}
 use Rattle.stm_wire.specs.Effect.{change_of}
 use Rattle.stm_sim.specs.Simulator.{Fits, simulator_codes}
-use Rattle.stm_sim.specs.Simulated.{done-change-fits}
+use Rattle.stm_sim.specs.lemmas.Simulated.{done-change-fits}
 use Rattle.stm_sim.proofs.simulator.finish_done.Goals as goal
 
 pub change_flash-requires-clause-fits : goal.change_flash-requires-clause-fits

@@ -3,7 +3,7 @@ use Rattle.stm_wire.specs.declared.fault.RigFault.TheVariants.{File}
 use Rattle.stm_sim.specs.Memory.{IsMemory}
 use Rattle.stm_wire.specs.Rig.{AppendsHonestly, RecordsAppend}
 use Rattle.stm_files.specs.SimulatorRig.{SimulatorState, AppendsToBoth, AppendsToFile, simulator_rig_state}
-use Rattle.stm_files.specs.SimulatorRigLaws.{appended, append_recorded, refused_at_once}
+use Rattle.stm_files.specs.lemmas.SimulatorRigLaws.{appended, append_recorded, refused_at_once}
 use Rattle.stm_files.proofs.Growing.{taken, failed, to_file}
 use Rattle.stm_files.proofs.simulator_rig.SimulatorRigRig.append.Goals as goal
 use Rattle.stm_files.proofs.simulator_rig.SimulatorRigRig.append.Goals.{in-Ok, in-Err}

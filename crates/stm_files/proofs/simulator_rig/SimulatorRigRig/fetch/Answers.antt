@@ -2,7 +2,7 @@ use Rattle.std.proofs.Common.{◌≡◌, subst}
 use Rattle.stm_sim.specs.Memory.{IsMemory}
 use Rattle.stm_wire.specs.Rig.{FetchesHonestly}
 use Rattle.stm_files.specs.SimulatorRig.{SimulatorState, simulator_rig_state}
-use Rattle.stm_files.specs.SimulatorRigLaws.{fetched}
+use Rattle.stm_files.specs.lemmas.SimulatorRigLaws.{fetched}
 use Rattle.stm_files.proofs.simulator_rig.SimulatorRigRig.fetch.Goals as goal
 
 pub returns-clause-honest : goal.returns-clause-honest

@@ -1,4 +1,4 @@
-use Rattle.stm_sim.specs.BadLineRecords.{flip_append_recorded}
+use Rattle.stm_sim.specs.lemmas.BadLineRecords.{flip_append_recorded}
 use Rattle.stm_sim.proofs.flip_rig.FlipRigRig.append.Goals as goal
 
 pub returns-clause-recorded : goal.returns-clause-recorded

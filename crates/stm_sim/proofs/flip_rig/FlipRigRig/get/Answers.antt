@@ -1,4 +1,4 @@
-use Rattle.stm_sim.specs.BadLineRecords.{flip_get_recorded}
+use Rattle.stm_sim.specs.lemmas.BadLineRecords.{flip_get_recorded}
 use Rattle.stm_sim.proofs.flip_rig.FlipRigRig.get.Goals as goal
 
 pub returns-clause-recorded : goal.returns-clause-recorded

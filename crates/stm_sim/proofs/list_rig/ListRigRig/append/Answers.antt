@@ -1,4 +1,4 @@
-use Rattle.stm_sim.specs.BadLineRecords.{list_append_recorded}
+use Rattle.stm_sim.specs.lemmas.BadLineRecords.{list_append_recorded}
 use Rattle.stm_sim.proofs.list_rig.ListRigRig.append.Goals as goal
 
 pub returns-clause-recorded : goal.returns-clause-recorded

@@ -1,4 +1,4 @@
-use Rattle.stm_sim.specs.BadLineRecords.{list_fetch_recorded}
+use Rattle.stm_sim.specs.lemmas.BadLineRecords.{list_fetch_recorded}
 use Rattle.stm_sim.proofs.list_rig.ListRigRig.fetch.Goals as goal
 
 pub returns-clause-recorded : goal.returns-clause-recorded

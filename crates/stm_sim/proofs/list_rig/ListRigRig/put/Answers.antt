@@ -1,5 +1,5 @@
 use Rattle.std.proofs.Common.{refl}
-use Rattle.stm_sim.specs.BadLineRecords.{list_line_recorded}
+use Rattle.stm_sim.specs.lemmas.BadLineRecords.{list_line_recorded}
 use Rattle.stm_sim.proofs.list_rig.ListRigRig.put.Goals as goal
 
 pub returns-clause-recorded : goal.returns-clause-recorded

@@ -5,7 +5,7 @@ use Rattle.stm_sim.specs.declared.past.PastStep.{PastStep}
 use Rattle.stm_wire.specs.declared.rig.RigCall.TheVariants.{Append}
 use Rattle.stm_sim.specs.declared.past.PastStep.TheVariants.{Added}
 use Rattle.stm_sim.specs.Memory.{memory_of}
-use Rattle.stm_sim.specs.Past.{keeps-call}
+use Rattle.stm_sim.specs.lemmas.Past.{keeps-call}
 use Rattle.stm_sim.proofs.memory_rig.MemoryRig.try_append.Goals as goal
 
 pub invariant_of-self-2 : goal.invariant_of-self-2

@@ -4,7 +4,7 @@ use Rattle.stm_wire.specs.declared.rig.RigCall.{RigCall}
 use Rattle.stm_sim.specs.declared.past.PastStep.{PastStep}
 use Rattle.stm_sim.specs.declared.past.PastStep.TheVariants.{Nothing}
 use Rattle.stm_sim.specs.Memory.{memory_of}
-use Rattle.stm_sim.specs.Past.{keeps-quiet}
+use Rattle.stm_sim.specs.lemmas.Past.{keeps-quiet}
 use Rattle.stm_sim.proofs.memory_rig.MemoryRig.try_enter.Goals as goal
 
 pub invariant_of-self-2 : goal.invariant_of-self-2

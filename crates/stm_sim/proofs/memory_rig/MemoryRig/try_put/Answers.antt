@@ -6,9 +6,9 @@ use Rattle.stm_wire.specs.declared.rig.RigCall.TheVariants.{Put}
 use Rattle.stm_sim.specs.declared.past.PastStep.TheVariants.{Fed}
 use Rattle.stm_wire.specs.Device.{Device, IsDevice}
 use Rattle.stm_sim.specs.Simulator.{simulated_device}
-use Rattle.stm_sim.specs.SimulatedDevice.{simulated_device-IsDevice}
+use Rattle.stm_sim.specs.lemmas.SimulatedDevice.{simulated_device-IsDevice}
 use Rattle.stm_sim.specs.Memory.{MemoryData, memory_of, with_call}
-use Rattle.stm_sim.specs.Past.{keeps-quiet, first-fed, is-with_call}
+use Rattle.stm_sim.specs.lemmas.Past.{keeps-quiet, first-fed, is-with_call}
 use Rattle.stm_sim.proofs.memory_rig.MemoryRig.try_put.Goals as goal
 
 pub invariant_of-self-2 : goal.invariant_of-self-2

@@ -1,7 +1,7 @@
 use Rattle.std.proofs.Common.{List, ℕ, ◌<◌, ◌∙◌, ap₂, arith, sym, subst}
 use Rattle.stm_wire.specs.Device.{Device, IsDevice}
 use Rattle.stm_sim.specs.Simulator.{simulated_device, device_of}
-use Rattle.stm_sim.specs.SimulatedDevice.{simulated_device-IsDevice}
+use Rattle.stm_sim.specs.lemmas.SimulatedDevice.{simulated_device-IsDevice}
 use Rattle.stm_sim.proofs.simulator.Simulator.feed.Goals as goal
 
 pub invariant_of-self-2 : goal.invariant_of-self-2

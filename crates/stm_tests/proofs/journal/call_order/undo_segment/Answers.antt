@@ -1,5 +1,5 @@
 use Rattle.std.proofs.Common.{◌∙◌, sym}
-use Rattle.stm_journal.specs.NewestLaws.{newest_keeps_kept}
+use Rattle.stm_journal.specs.lemmas.NewestLaws.{newest_keeps_kept}
 use Rattle.stm_tests.proofs.journal.call_order.undo_segment.Goals as goal
 
 pub intend_erase-requires : goal.intend_erase-requires

@@ -1,7 +1,7 @@
 use Rattle.std.proofs.Common.{List, ℕ, sym, subst, arith}
 use Rattle.stm_wire.specs.Effect.{change_of}
 use Rattle.stm_sim.specs.Simulator.{Fits}
-use Rattle.stm_sim.specs.SimulatedChange.{done-change-fits}
+use Rattle.stm_sim.specs.lemmas.SimulatedChange.{done-change-fits}
 use Rattle.stm_watch.specs.Known.{Known}
 use Rattle.stm_watch.proofs.watch.Watch.finish.Goals as goal
 

@@ -1,5 +1,5 @@
 use Rattle.stm_sim.specs.Honest.{get-honest}
-use Rattle.stm_sim.specs.Recording.{get_recorded, get_entered}
+use Rattle.stm_sim.specs.lemmas.Recording.{get_recorded, get_entered}
 use Rattle.stm_sim.proofs.memory_rig.rig.MemoryRigRig.get.Goals as goal
 
 pub returns-clause-honest : goal.returns-clause-honest

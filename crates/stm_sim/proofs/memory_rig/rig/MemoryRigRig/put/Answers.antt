@@ -1,6 +1,6 @@
 use Rattle.std.proofs.Common.{◌<◌, arith}
 use Rattle.stm_sim.specs.Honest.{put-honest}
-use Rattle.stm_sim.specs.Recording.{put_recorded, put_entered}
+use Rattle.stm_sim.specs.lemmas.Recording.{put_recorded, put_entered}
 use Rattle.stm_sim.proofs.memory_rig.rig.MemoryRigRig.put.Goals as goal
 
 pub returns-clause-honest : goal.returns-clause-honest

@@ -15,7 +15,7 @@ use Rattle.stm_wire.specs.declared.rig.RigCall.TheVariants.{Append as EnteredApp
 use Rattle.stm_wire.specs.declared.rig.RigCall.TheVariants.{Fetch as EnteredFetch}
 use Rattle.stm_sim.specs.Memory.{MemoryData, PutsInMemory, GetsInMemory, AppendsInMemory}
 use Rattle.stm_sim.specs.Memory.{FetchesInMemory, Fails, steps_left}
-use Rattle.stm_sim.specs.Recorded.{appended, calls_told, quiet_call, told_append, told_entry}
+use Rattle.stm_sim.specs.lemmas.Recorded.{appended, calls_told, quiet_call, told_append, told_entry}
 use Rattle.stm_wire.specs.Rig.{Records, RecordsAppend, entry_of_get}
 
 -- A line that answers from a list:

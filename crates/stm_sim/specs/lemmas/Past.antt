@@ -7,11 +7,11 @@ use Rattle.stm_sim.specs.declared.past.PastStep.{PastStep}
 use Rattle.stm_sim.specs.declared.past.PastStep.TheVariants.{Fed, Taken, Added, Nothing}
 use Rattle.stm_wire.specs.declared.rig.RigCall.{RigCall}
 use Rattle.stm_wire.specs.Device.{Device, IsDevice, LosesOwed}
-use Rattle.stm_sim.specs.SimulatedDevice.{le-or-gt}
+use Rattle.stm_sim.specs.lemmas.SimulatedDevice.{le-or-gt}
 use Rattle.stm_wire.specs.Rig.{Elapses, IsModel}
 use Rattle.stm_sim.specs.Memory.{MemoryData, IsMemory, KeepsOfPast, rig_state, after_past_step, replay, added_by}
-pub use Rattle.stm_sim.specs.FirstDevice.{restored, first-fed, taken-step, taken-rest}
-pub use Rattle.stm_sim.specs.FirstDevice.{taken-first, owed-device, taken-device, is-with_call}
+pub use Rattle.stm_sim.specs.lemmas.FirstDevice.{restored, first-fed, taken-step, taken-rest}
+pub use Rattle.stm_sim.specs.lemmas.FirstDevice.{taken-first, owed-device, taken-device, is-with_call}
 
 replay-append : (past : List PastStep) (s : PastStep) (d : Device)
     → replay (past ++ s ∷ []) d ≡ after_past_step s (replay past d)

@@ -11,7 +11,7 @@ use Rattle.std.proofs.lemmas.List.{length-replicate}
 use Rattle.stm_wire.specs.declared.verdict.Verdict.{Verdict}
 use Rattle.stm_wire.specs.declared.verdict.Verdict.TheVariants.{Done, Refused, Loose}
 use Rattle.stm_wire.specs.Chip.{ChipData, IsErasedByte, erased_byte, flash_size}
-use Rattle.stm_wire.specs.PageLaws.{fits-end}
+use Rattle.stm_wire.specs.lemmas.PageLaws.{fits-end}
 use Rattle.stm_wire.specs.Exchange.{verdict, IsOpen}
 use Rattle.stm_wire.specs.Effect.{Change, Nothing, ErasePages, EraseAll}
 use Rattle.stm_wire.specs.Effect.{Write, Effect, Stores, change_of}
@@ -20,7 +20,7 @@ use Rattle.stm_wire.specs.Device.{IsDevice, Feeds, Receives, Takes, IsLoose, is_
 use Rattle.stm_wire.specs.Reply.{ack, nack, reply_to}
 use Rattle.stm_sim.specs.Simulator.{simulated_device, Fits, stored_byte, stored_bytes}
 use Rattle.stm_sim.specs.Simulator.{changed_flash, after_loose, after_verdict, after_byte}
-pub use Rattle.stm_sim.specs.SimulatedChange.{done-change-fits, Small, small-change}
+pub use Rattle.stm_sim.specs.lemmas.SimulatedChange.{done-change-fits, Small, small-change}
 
 pub small-tail : (x : ℕ) (xs : List ℕ) → All (λ b. b < 256) (x ∷ xs) → All (λ b. b < 256) xs
 small-tail x xs all k d h = all (suc k) d (suc-le-suc h)

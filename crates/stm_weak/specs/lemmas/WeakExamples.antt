@@ -7,7 +7,7 @@ use Rattle.stm_wire.specs.declared.chip.EraseKind.TheVariants.{Page}
 use Rattle.stm_wire.specs.Chip.{ChipData, chip_of, page_offset}
 use Rattle.stm_wire.specs.Device.{Connected}
 use Rattle.stm_wire.specs.Effect.{change_of}
-use Rattle.stm_wire.specs.Examples.{medium_codes}
+use Rattle.stm_wire.specs.lemmas.Examples.{medium_codes}
 use Rattle.stm_wire.specs.Frames.{erase_frame, read_frame, write_frame}
 use Rattle.stm_wire.specs.Telling.{can_read, is_readable}
 use Rattle.stm_weak.specs.WeakDevice.{ErasesPage, Heals, IsWeakAt, ReadsPlace, ReadsWeak}

@@ -9,7 +9,7 @@ use Rattle.stm_wire.specs.declared.verdict.Verdict.{Verdict}
 use Rattle.stm_wire.specs.declared.verdict.Verdict.TheVariants.{Done, Refused, Loose}
 use Rattle.stm_wire.specs.Chip.{ChipData, IsErasedByte, erased_byte}
 use Rattle.stm_wire.specs.Chip.{flash_size, page_offset, page_size, with_bytes}
-use Rattle.stm_wire.specs.PageLaws.{length-with_bytes, fits-end}
+use Rattle.stm_wire.specs.lemmas.PageLaws.{length-with_bytes, fits-end}
 use Rattle.stm_wire.specs.FlashLaws.{length-erased_pages}
 use Rattle.stm_wire.specs.Exchange.{verdict, IsOpen}
 use Rattle.stm_wire.specs.Effect.{erased_pages, Change, Nothing}
@@ -19,8 +19,8 @@ use Rattle.stm_wire.specs.Device.{IsOpenPhase, IsDevice, reply_of, phase_after}
 use Rattle.stm_wire.specs.Reply.{ack, nack}
 use Rattle.stm_sim.specs.Simulator.{simulated_device, Fits, stored_bytes, changed_flash}
 use Rattle.stm_sim.specs.Simulator.{after_loose, after_verdict, after_byte}
-use Rattle.stm_sim.specs.Simulated.{Small, small-tail, small-change, done-change-fits}
-use Rattle.stm_sim.specs.Simulated.{open-nothing, bytes-erased, stored_byte-small}
+use Rattle.stm_sim.specs.lemmas.Simulated.{Small, small-tail, small-change, done-change-fits}
+use Rattle.stm_sim.specs.lemmas.Simulated.{open-nothing, bytes-erased, stored_byte-small}
 
 abbrev pub IsByte : ℕ → Type 0
 IsByte b = b < 256

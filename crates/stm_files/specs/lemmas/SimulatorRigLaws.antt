@@ -10,7 +10,7 @@ use Rattle.stm_wire.specs.Rig.{RigState, IsModel, Elapses, LeftByPut, LeftByGet,
 use Rattle.stm_wire.specs.Rig.{PutsHonestly, GetsHonestly, AppendsHonestly, FetchesHonestly}
 use Rattle.stm_wire.specs.Rig.{RecordsAppend}
 use Rattle.stm_sim.specs.Memory.{MemoryData, IsMemory, rig_state}
-use Rattle.stm_sim.specs.Past.{model}
+use Rattle.stm_sim.specs.lemmas.Past.{model}
 use Rattle.stm_files.specs.SimulatorRig.{SimulatorState, simulator_rig_state}
 
 -- what a Rig tells, with another count of journal failures and no room in its record

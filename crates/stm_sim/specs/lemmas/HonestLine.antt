@@ -11,12 +11,12 @@ use Rattle.stm_wire.specs.declared.rig.RigCall.{RigCall}
 use Rattle.stm_wire.specs.declared.rig.RigCall.TheVariants.{Put, Get}
 use Rattle.stm_wire.specs.Device.{Device, LosesOwed}
 use Rattle.stm_sim.specs.Simulator.{simulated_device}
-use Rattle.stm_sim.specs.Simulated.{simulated_device-feeds}
-use Rattle.stm_sim.specs.SimulatedDevice.{simulated_device-IsDevice}
+use Rattle.stm_sim.specs.lemmas.Simulated.{simulated_device-feeds}
+use Rattle.stm_sim.specs.lemmas.SimulatedDevice.{simulated_device-IsDevice}
 use Rattle.stm_wire.specs.Rig.{Elapses, PutsHonestly, GetsHonestly, LeftByPut, LeftByGet}
 use Rattle.stm_sim.specs.Memory.{MemoryData, IsMemory, rig_state, with_call, Fails, PutsInMemory}
 use Rattle.stm_sim.specs.Memory.{GetsInMemory, takes_steps, counts_put, counts_get}
-use Rattle.stm_sim.specs.Past.{AddsCall, keeps-quiet, elapses, beginnings, model, owed-device}
+use Rattle.stm_sim.specs.lemmas.Past.{AddsCall, keeps-quiet, elapses, beginnings, model, owed-device}
 
 -- one call more, that left the journal as it was, from a device of which what may be lost is known
 quiet-time : (call : RigCall) (s : PastStep) (m n : MemoryData) (is_m : IsMemory m)

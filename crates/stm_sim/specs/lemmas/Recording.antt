@@ -11,7 +11,7 @@ use Rattle.stm_wire.specs.declared.rig.RigCall.TheVariants.{Append as EnteredApp
 use Rattle.stm_wire.specs.declared.rig.RigCall.TheVariants.{Fetch as EnteredFetch}
 use Rattle.stm_sim.specs.Memory.{MemoryData, rig_state, Fails, PutsInMemory, GetsInMemory}
 use Rattle.stm_sim.specs.Memory.{AppendsInMemory, FetchesInMemory, steps_left}
-use Rattle.stm_sim.specs.Recorded.{appended, calls_told, quiet_call, told_append, told_entry}
+use Rattle.stm_sim.specs.lemmas.Recorded.{appended, calls_told, quiet_call, told_append, told_entry}
 use Rattle.stm_wire.specs.Rig.{Records, RecordsAppend, Enters, EntersAppend, entry_of_get}
 
 abbrev record_of : MemoryData → Option (List Call)

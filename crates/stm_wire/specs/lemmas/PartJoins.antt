@@ -7,8 +7,8 @@ use Rattle.std.proofs.lemmas.List.Folds.{concat-append}
 use Rattle.stm_wire.specs.Call.{Call}
 use Rattle.stm_wire.specs.Chip.{ChipData}
 use Rattle.stm_wire.specs.Dialogue.{GoesOn, puts_of, gets_of}
-use Rattle.stm_wire.specs.DialogueLaws.{GoesOn-append, GoesOn-nothing, GoesOn-weaker}
-use Rattle.stm_wire.specs.DialogueLaws.{gets_of-append, line_calls_are_few, puts_of-append}
+use Rattle.stm_wire.specs.lemmas.DialogueLaws.{GoesOn-append, GoesOn-nothing, GoesOn-weaker}
+use Rattle.stm_wire.specs.lemmas.DialogueLaws.{gets_of-append, line_calls_are_few, puts_of-append}
 use Rattle.stm_wire.specs.Parts.{AreFew, IsPart, IsSession}
 use Rattle.stm_wire.specs.SentList.{IsFrame, get, get_id, read, write, erase, tells, IsSettlingRun}
 use Rattle.stm_wire.specs.Settling.{Talks}

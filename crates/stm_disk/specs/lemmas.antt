@@ -1,0 +1,2 @@
+pub mod MemoryFileLaws
+pub mod DiskRigLaws

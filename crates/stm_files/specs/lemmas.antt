@@ -1,0 +1,2 @@
+pub mod SimulatorFileLaws
+pub mod SimulatorRigLaws

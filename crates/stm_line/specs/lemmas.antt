@@ -1,0 +1,2 @@
+pub mod ReplayedLaws
+pub mod RecordedLaws

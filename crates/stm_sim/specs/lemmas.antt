@@ -1,0 +1,9 @@
+pub mod Recorded
+pub mod Recording
+pub mod SimulatedChange
+pub mod Simulated
+pub mod SimulatedDevice
+pub mod FirstDevice
+pub mod Past
+pub mod HonestLine
+pub mod BadLineRecords

@@ -1,0 +1,7 @@
+pub mod UniqueIdLaws
+pub mod PageLaws
+pub mod PartJoins
+pub mod PartLaws
+pub mod DialogueLaws
+pub mod MomentLaws
+pub mod Examples
