@@ -141,6 +141,28 @@ class Pages(Place):
                 with self.subTest(name=name):
                     self.assertTrue("/" + name.rstrip("/") in ends)
 
+    def test_a_name_is_defined_once(self):
+        """No two modules of specs define the same name; and undo is one word in the code."""
+        defined, named = {}, []
+        for path in glob.glob(os.path.join(TOP, "crates", "*", "specs", "**", "*.antt"), recursive=True):
+            for name in re.findall(r"^(?:pub )?(?:abbrev|record|data)(?: pub)? (\S+)", held(path), re.M):
+                defined.setdefault(name, set()).add(path)
+        for path in glob.glob(os.path.join(TOP, "crates", "*", "s*", "**", "*.*t*"), recursive=True):
+            named += re.findall(r"\b\w*(?:[Tt]ake[ns]?_?[Bb]ack|[Gg]oe?s?_?[Bb]ack)\w*", re.sub(r"(--|//).*", "", held(path)))
+        self.assertGreater(len(defined), 2000)
+        self.assertEqual([it for it, paths in defined.items() if len(paths) > 1], [])
+        self.assertEqual(named, [])
+
+    def test_contracts_cite_no_lemma_s_definition(self):
+        """What is defined in specs/lemmas serves a lemma there: no clause names it."""
+        for path in glob.glob(os.path.join(TOP, "crates", "*", "specs", "lemmas", "*.antt")):
+            crate, module = path.split(os.sep)[-4], os.path.basename(path)[:-5]
+            own = set(re.findall(r"^(?:pub )?(?:abbrev|record|data)(?: pub)? (\S+)", held(path), re.M))
+            for code in glob.glob(os.path.join(TOP, "crates", "*", "src", "**", "*.rt"), recursive=True):
+                for names in re.findall(rf"Rattle\.{crate}\.specs\.lemmas\.{module}\.{{([^}}]*)}}", held(code)):
+                    with self.subTest(module=module, code=code):
+                        self.assertFalse(own & set(re.findall(r"[^\s,]+", names)))
+
     def test_the_words_are_in_use(self):
         """WORDS has some thirty, in their order; README and MAP lead to it. Each is in two more pages at least, or its parts are."""
         words = re.findall(r"^\| ((?!Word \|)[\w, ]+) \|", held("docs", "WORDS.md"), re.M)

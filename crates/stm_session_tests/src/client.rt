@@ -177,7 +177,7 @@ const BOTH: &[Ask] = &[Ask::Write(0x0800_03FF, &[0xA5, 0x5A]), Ask::Erase(&[1, 3
 
 /// How many segments are taken back after both that were stopped after so many steps, and whether
 /// the flash is back.
-fn taken_back(
+fn undone_behind(
     rt: &HostRuntime,
     table: &Table,
     commands: &[Command],
@@ -212,7 +212,7 @@ fn all_segments_are_undone(
 ) -> Result<(), Fail> {
     for (steps, taken) in STOPS {
         let due = (Some(taken), true);
-        let is_right = taken_back(rt, table, commands, steps)? == due
+        let is_right = undone_behind(rt, table, commands, steps)? == due
             && undone_unpowered(rt, table, commands, steps)? == due;
         if !is_right {
             return Err(failed_at(steps));

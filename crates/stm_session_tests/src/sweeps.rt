@@ -93,7 +93,7 @@ fn befall(rt: &HostRuntime, rig: &mut MemoryRig, between: Between) -> Result<(),
 
 /// Whether an undo takes back as many of the segments as it was asked for, all of them where that is
 /// 0 or more than there are, and leaves the flash as it was before the oldest.
-fn takes_back(
+fn undoes(
     rt: &HostRuntime,
     table: &Table,
     rig: &mut MemoryRig,
@@ -133,8 +133,8 @@ fn are_undone(
     count: u32,
     depth: u32,
 ) -> bool {
-    takes_back(rt, table, rig, case, count, depth)
-        && takes_back(rt, table, rig, case, 0, left_of(depth, count))
+    undoes(rt, table, rig, case, count, depth)
+        && undoes(rt, table, rig, case, 0, left_of(depth, count))
 }
 
 /// What befalls the device behind each stop, of how many segments the first undo is, and which

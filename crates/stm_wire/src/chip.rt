@@ -219,7 +219,7 @@ impl Chip {
     }
 
     /// The address of the first byte of page `n`. It walks the pages before it.
-    #[tactic(auto, using(crate::specs::PageLaws::offset_within, crate::specs::PageLaws::page_within))]
+    #[tactic(auto, using(crate::specs::lemmas::PageLaws::offset_within, crate::specs::lemmas::PageLaws::page_within))]
     pub fn page_start(&self, n: u16) -> u32
         requires { n < page_count self.now }
         ensures address { result ≡ self.now.base + page_offset self.now n }

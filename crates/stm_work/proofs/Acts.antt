@@ -77,7 +77,7 @@ turn-attempts work before turn most failure acts came is =
       arith,
       ap attempts is.acts_are,
       attempts-append is.back rest,
-      back-attempts before is.back is.taken is.takes_back,
+      back-attempts before is.back is.taken is.undoes,
       retries-attempts work failure is.taken is.next came is.retries,
     )
 

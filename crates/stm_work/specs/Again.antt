@@ -62,7 +62,7 @@ pub record IsTurn (work : Work) (before : Standing) (turn most : ℕ) (failure :
     (acts : List Act) (came : Result Steps Failure) : Type 0 where
   pub back : List Act
   pub taken : Result ℕ Failure
-  pub takes_back : UndoesSince before back taken
+  pub undoes : UndoesSince before back taken
   pub next : List Act
   pub retries : Retries work failure taken next came
   pub acts_are : acts ≡ back ++ ToldTurn turn most failure taken ∷ next

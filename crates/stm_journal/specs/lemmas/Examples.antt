@@ -45,10 +45,10 @@ opened_twice : journal_of (begun ++ codes "end 1" ++ LF ++ codes "open 1" ++ LF)
 unfolding hex_on_literals
 opened_twice = refl
 
-abbrev taken_back : List ℕ
-taken_back = begun ++ codes "page 0 00" ++ LF ++ codes "end 1" ++ LF ++ codes "erase 0" ++ LF
+abbrev half_undone : List ℕ
+half_undone = begun ++ codes "page 0 00" ++ LF ++ codes "end 1" ++ LF ++ codes "erase 0" ++ LF
 
-returning : journal_of taken_back
+returning : journal_of half_undone
     ≡ good (record {
       header = Some (record { version = 1; id = 0x412; unique = []; line = 1 });
       stack = record {
@@ -59,7 +59,7 @@ returning : journal_of taken_back
 unfolding hex_on_literals
 returning = refl
 
-undone : journal_of (taken_back ++ codes "undone 1" ++ LF)
+undone : journal_of (half_undone ++ codes "undone 1" ++ LF)
     ≡ good (record { header = Some (record { version = 1; id = 0x412; unique = []; line = 1 }); stack = [] })
 unfolding hex_on_literals
 undone = refl

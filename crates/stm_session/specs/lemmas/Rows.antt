@@ -119,12 +119,12 @@ kept_one = record { page = 1; bytes = replicate 256 0; line = 3; at = 0 }
 abbrev kept_none : Kept
 kept_none = record { page = 0; bytes = replicate 256 0xFF; line = 4; at = 0 }
 
-taken_back : undo_entries one 1
+entries_undone : undo_entries one 1
     (record { pages = kept_one ∷ kept_none ∷ []; stage = Open (Some (Erase 1)) } ∷ [])
     (replicate 512 0xFF)
     ≡ Erases 1 ∷ Programs 1 ∷ Undoes 1 ∷ []
 unfolding frames_of used_length
-taken_back = refl
+entries_undone = refl
 
 -- the page of the intent is written before any other, also where it reads as it was;
 -- without an intent it is left

@@ -12,7 +12,7 @@ use stm_sim::MemoryRig;
 use stm_wire::{Rig, UniqueId};
 
 /// One page of a command is written.
-#[tactic(auto, using(stm_journal::specs::NewestLaws::newest_may_keep_behind))]
+#[tactic(auto, using(stm_journal::specs::lemmas::NewestLaws::newest_may_keep_behind))]
 fn write_page<R: Rig>(
     journal: &mut Journal,
     rig: &mut R,

@@ -17,7 +17,7 @@ returns-in-Ok g c =
       record {
         back = back;
         taken = taken;
-        takes_back = takes;
+        undoes = takes;
         next = next;
         retries = (let P : Result ℕ Failure
             → Type 0 = λ x. Retries c.args.work.now c.args.failure x next c.attempt_copy.result in
@@ -36,7 +36,7 @@ returns-in-Err g c =
       record {
         back = back;
         taken = taken;
-        takes_back = takes;
+        undoes = takes;
         next = [];
         retries = (let P : Result ℕ Failure
             → Type 0 = λ x. Retries c.args.work.now c.args.failure x []
