@@ -3,6 +3,7 @@
 import os
 import pty
 import re
+import signal
 import subprocess
 import time
 
@@ -27,6 +28,8 @@ NEW = b"note: journal journal is new\r\n"
 # and behind what began one at a board that told no unique id
 NAMELESS = b"note: this board told no unique id: use journal journal at no other\r\n"
 ERASES = (b"\x43\xbc", b"\x44\xbb")
+# what a line of a terminal says while pages are changed
+STOPPED = "; if stopped: undo 1"
 
 
 class Progress(Place):
@@ -105,6 +108,44 @@ class Progress(Place):
                 text = b"%s page %d, %d of 64 pages" % (doing, page, page + 1)
                 self.assertTrue(any(text in line for line in lines), text)
         self.assertEqual(self.on_terminal(lambda err: self.write(err, "--quiet")), (plain, b""))
+
+    def test_what_is_read_says_nothing_of_a_stop(self):
+        """No line of a read or of a verify; and none behind two pages that were read in a row, as where a write is verified."""
+        self.assertEqual(self.on_terminal(self.write)[0][0][0], 0)
+        for words in (("read", "out"), ("verify", "-f", "-S", "0x08000000", "image")):
+            shown = self.on_terminal(lambda err: self.run_shown(err, *words))[1]
+            self.assertTrue(b"reading page 63" in shown and STOPPED.encode() not in shown, shown)
+        shown = self.on_terminal(lambda err: self.write(err, "-v"))[1].split(b"\x1b[K\r")
+        told = [STOPPED.encode() in line for line in shown if b" page " in line]
+        self.assertEqual((told[:3], told[-62:]), ([False, True, True], [False] * 62))
+
+    def test_a_signal_leaves_what_to_do(self):
+        """The last that a terminal shows of a write that Ctrl-C ended; and it is what brings all back."""
+        flash = bytes(range(256)) * 512
+        self.store("flash", flash)
+        here, there = pty.openpty()
+        files = ("--table", "table", "--device", self.device, "--journal", "journal")
+        with subprocess.Popen(["stmflash", "write", *files, "-f", "-S", "0x08000000", "image"], executable=program(), cwd=self.folder,
+                              env={}, stdin=subprocess.DEVNULL, stdout=subprocess.DEVNULL, stderr=there) as writing:
+            os.close(there)
+            shown = b""
+            # it waits as soon as the terminal has no more room
+            while b"writing page 3," not in shown:
+                shown += os.read(here, 256)
+            writing.send_signal(signal.SIGINT)
+        while True:
+            try:
+                piece = os.read(here, 4096)
+            except OSError:
+                break
+            if not piece:
+                break
+            shown += piece
+        os.close(here)
+        self.assertEqual(writing.returncode, -signal.SIGINT)
+        self.assertTrue(self.unwrapped(shown).endswith(STOPPED.encode() + b"\x1b[K"), shown[-80:])
+        self.assertEqual(self.run_shown(subprocess.DEVNULL, *STOPPED.split(": ")[1].split()), (0, b"undone 1\n"))
+        self.assertEqual(self.held("flash"), flash)
 
     def shows_note(self, image, *words):
         """Whether the note stands before all else that a terminal shows of a write of this image."""
@@ -359,9 +400,10 @@ class Small(Place):
         self.assertEqual((status, shown), (3, "page 0 written, 1 of 3 pages\nstmflash: stopped\n"))
 
     def test_a_terminal(self):
-        """One line, written over for each page and what is done with it, and cleared; before and behind it the notes."""
-        lines = "".join(f"\r{doing} page {page}, {page + 1} of 3 pages\x1b[K" for page in range(3)
-                        for doing in ("reading", "erasing", "writing"))
+        """One line, written over for each page and what is done with it, and cleared; before and behind it the notes. From the
+        first page that is erased it says what to do where the program is stopped."""
+        lines = "".join(f"\r{doing} page {page}, {page + 1} of 3 pages{STOPPED if page or doing != 'reading' else ''}\x1b[K"
+                        for page in range(3) for doing in ("reading", "erasing", "writing"))
         for words, before, behind in (((), NEW, NAMELESS), (("--quiet",), b"", b"")):
             with self.subTest(words=words):
                 shown = lines + CLEAR.decode() if not words else ""

@@ -144,9 +144,19 @@ FAULTS = {
         "test_progress.Small.test_a_terminal"),
     "lines of a terminal are not written over": (
         "stm_work/src/progress_screen.rt",
-        '"\\x1b[?7l\\r{status}\\x1b[K\\x1b[?7h"',
-        '"\\x1b[?7l{}{status}\\x1b[K\\x1b[?7h", if @on { "\\n" } else { "\\r" }',
+        '"\\x1b[?7l\\r{status}{hint}\\x1b[K\\x1b[?7h"',
+        '"\\x1b[?7l{}{status}{hint}\\x1b[K\\x1b[?7h", if @on { "\\n" } else { "\\r" }',
         "test_progress.Small.test_a_terminal"),
+    "a terminal's line says nothing of a stop": (
+        "stm_work/src/progress_screen.rt",
+        'let hint = if self.is_changing { IF_STOPPED } else { "" };',
+        'let hint = if self.is_changing && !@on { IF_STOPPED } else { "" };',
+        "test_progress.Progress.test_a_signal_leaves_what_to_do"),
+    "a read says what to do where it is stopped": (
+        "stm_work/src/progress_screen.rt",
+        "self.is_changing = place.doing != Doing::Reading || self.is_changing && !is_read(before);",
+        "self.is_changing = @on || place.doing != Doing::Reading || self.is_changing && !is_read(before);",
+        "test_progress.Progress.test_what_is_read_says_nothing_of_a_stop"),
     "a line that is wider than the terminal is wrapped": (
         "stm_work/src/progress_screen.rt",
         "let _ = self.out.write_all(text.as_bytes());",

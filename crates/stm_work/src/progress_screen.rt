@@ -6,6 +6,7 @@ ghost use Rattle.stm_work.specs.declared.progress_screen.Style.TheVariants.{Hidd
 use crate::otherwise::Watched;
 use crate::progress_course::Place;
 use crate::progress_text::Status;
+use crate::progress_watch::Doing;
 use std::alloc::Global;
 use std::fs;
 use std::fs::Files;
@@ -58,6 +59,10 @@ const STAYS: u128 = 200;
 /// How many milliseconds have to be gone before it is told how many are left.
 const TELLING: u128 = 1000;
 
+/// What stands behind a page's line on a terminal once pages are changed. A program that is stopped
+/// by Ctrl-C says nothing more, and leaves this line there.
+const IF_STOPPED: &str = "; if stopped: undo 1";
+
 /// Where a session is shown as it goes on. What can't be written, or has no memory, is left out.
 #[derive(Drop)]
 pub struct Screen<'a, W: Drop, C> {
@@ -75,6 +80,8 @@ pub struct Screen<'a, W: Drop, C> {
     written: Option<Instant>,
     /// When the first page was begun.
     began: Option<Instant>,
+    /// Pages are changed now, not read one after the other.
+    is_changing: bool,
 }
 
 /// The milliseconds from one time to another; none where one of them isn't known.
@@ -83,6 +90,14 @@ fn between(from: Option<Instant>, to: Option<Instant>) -> Option<u128> {
         return None;
     };
     Some(to.duration_since(from).as_millis())
+}
+
+/// Whether a page was read there.
+fn is_read(place: Option<Place>) -> bool {
+    match place {
+        Some(place) => place.doing == Doing::Reading,
+        None => false,
+    }
 }
 
 /// How many seconds are left, where so many of so many pages took this time.
@@ -108,6 +123,7 @@ impl<'a, W: Write + Drop, C: Clock> Screen<'a, W, C> {
             came: None,
             written: None,
             began: None,
+            is_changing: false,
         };
         if style != Style::Hidden {
             screen.came = screen.now();
@@ -182,6 +198,7 @@ impl<'a, W: Write + Drop, C: Clock> Screen<'a, W, C> {
         if is_begun && place.turn <= 1 {
             self.began = self.now();
         }
+        self.is_changing = place.doing != Doing::Reading || self.is_changing && !is_read(before);
         if self.style == Style::Line {
             let left = self.left(place, place.turn.saturating_sub(1));
             self.write(&Status::At(place, left));
@@ -213,7 +230,10 @@ impl<'a, W: Write + Drop, C: Clock> Screen<'a, W, C> {
     {
         let text = match self.style {
             Style::Hidden => return,
-            Style::Line => format!(in self.alloc; "\x1b[?7l\r{status}\x1b[K\x1b[?7h"),
+            Style::Line => {
+                let hint = if self.is_changing { IF_STOPPED } else { "" };
+                format!(in self.alloc; "\x1b[?7l\r{status}{hint}\x1b[K\x1b[?7h")
+            }
             Style::Lines => format!(in self.alloc; "{status}\n"),
         };
         if let Ok(text) = text {
