@@ -8,7 +8,7 @@ use Rattle.toml.specs.Data.{Data, string, integer, float, boolean, datetime, arr
 use Rattle.toml.specs.View.{items_of, items_view, view}
 use Rattle.toml.specs.declared.value.Value.{Value}
 use Rattle.stm_wire.specs.Chip.{ChipData}
-use Rattle.stm_chip.specs.Document.Reads.{none, more}
+use Rattle.stm_chip.specs.Document.ReadsEntries.{none, more}
 use Rattle.stm_chip.specs.Document.{HasEntries, HaveOwnIds, IsChipWith, IsNewId, IsNextChip, IsFlaw, HasFlaw, ReadsEntries, IsDocument, IsTableFaultOf}
 use Rattle.stm_chip.specs.declared.fault.TableFault.{TableFault}
 use Rattle.stm_chip.specs.declared.fault.TableFault.TheVariants.{Syntax, Missing, Limit, TwiceId, Memory}

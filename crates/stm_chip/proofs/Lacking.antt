@@ -8,7 +8,7 @@ use Rattle.toml.specs.declared.value.Value.{Value}
 use Rattle.stm_wire.specs.Chip.{ChipData}
 use Rattle.stm_chip.specs.Entry.{Keys, PlaceKeys, PageRun, keys_from, keys_of}
 use Rattle.stm_chip.specs.Tried.{tried_of}
-use Rattle.stm_chip.specs.Document.Reads.{none, more}
+use Rattle.stm_chip.specs.Document.ReadsEntries.{none, more}
 use Rattle.stm_chip.specs.Document.{HasEntries, HasId, IsDocument, IsNewId, IsTableOf, LacksChip, ReadsEntries}
 use Rattle.stm_chip.specs.declared.tried.TriedBoard.{TriedBoard}
 use Rattle.stm_chip.proofs.Documents.{items_of_same}

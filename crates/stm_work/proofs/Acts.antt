@@ -8,10 +8,10 @@ use Rattle.stm_work.specs.declared.work.Work.{Work}
 use Rattle.stm_work.specs.Again.{Act, DoesAgain, AreActsDone, IsLast, IsTurn, LeadTo, Retries, UndoesSince}
 use Rattle.stm_work.specs.Again.{TellsStanding, Turns, attempts, last_behind}
 use Rattle.stm_work.specs.Again.Act.{Attempted, Read, ToldStanding, ToldTurn, Undone}
-use Rattle.stm_work.specs.Again.IsDone.{in_turns, no_memory, once, unread as unread_first}
+use Rattle.stm_work.specs.Again.AreActsDone.{in_turns, no_memory, once, unread as unread_first}
 use Rattle.stm_work.specs.Again.Retries.{again, no_memory as no_memory_behind, not_again, not_taken}
 use Rattle.stm_work.specs.Again.UndoesGiven.{nothing, undone, unread}
-use Rattle.stm_work.specs.Again.Tells.{nothing as nothing_told, told, unread as unread_last}
+use Rattle.stm_work.specs.Again.TellsStanding.{nothing as nothing_told, told, unread as unread_last}
 use Rattle.stm_work.specs.Again.Turns.{first, more}
 
 module _ {A : Type 0} (Does : Act → A → A → Type 0) where

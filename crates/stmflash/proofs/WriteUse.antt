@@ -9,7 +9,7 @@ use Rattle.stm_work.specs.declared.work.Work.{Work}
 use Rattle.stm_work.specs.Action.{IsDoneAgain}
 use Rattle.stm_work.specs.Again.{Act, AreActsDone, IsTurn, LeadTo, Retries, Turns}
 use Rattle.stm_work.specs.Again.Act.{ToldTurn}
-use Rattle.stm_work.specs.Again.IsDone.{in_turns, no_memory, once, unread}
+use Rattle.stm_work.specs.Again.AreActsDone.{in_turns, no_memory, once, unread}
 use Rattle.stm_work.specs.Again.Retries.{again, no_memory as no_memory_behind, not_again, not_taken}
 use Rattle.stm_work.specs.Again.Turns.{first, more}
 use Rattle.stmflash.specs.DeviceUse.{UsesOnce}

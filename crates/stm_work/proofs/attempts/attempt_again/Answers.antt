@@ -2,7 +2,7 @@ use Rattle.std.proofs.Common.{[], ◌∷◌, ◌++◌, Ok, Err, Option, refl, su
 use Rattle.stm_work.specs.declared.work.Work.{Work}
 use Rattle.stm_work.specs.Action.{IsDoneAgain}
 use Rattle.stm_work.specs.Again.Act.{Attempted, Read}
-use Rattle.stm_work.specs.Again.IsDone.{in_turns, no_memory, once, unread}
+use Rattle.stm_work.specs.Again.AreActsDone.{in_turns, no_memory, once, unread}
 use Rattle.stm_work.proofs.Acts.{does-again, lead-append}
 use Rattle.stm_work.proofs.attempts.attempt_again.Goals as goal
 

@@ -3,7 +3,7 @@ use Rattle.stm_work.specs.declared.failure.Failure.{Failure}
 use Rattle.stm_work.specs.declared.steps.Steps.{Steps}
 use Rattle.stm_work.specs.Again.{TellsStanding}
 use Rattle.stm_work.specs.Again.Act.{Read, ToldStanding}
-use Rattle.stm_work.specs.Again.Tells.{nothing, told, unread}
+use Rattle.stm_work.specs.Again.TellsStanding.{nothing, told, unread}
 use Rattle.stm_work.proofs.attempts.tell_failed.Goals as goal
 
 pub returns-in-Ok : goal.returns-in-Ok
