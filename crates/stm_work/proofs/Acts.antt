@@ -10,7 +10,7 @@ use Rattle.stm_work.specs.Again.{TellsStanding, Turns, attempts, last_behind}
 use Rattle.stm_work.specs.Again.Act.{Attempted, Read, ToldStanding, ToldTurn, Undone}
 use Rattle.stm_work.specs.Again.AreActsDone.{in_turns, no_memory, once, unread as unread_first}
 use Rattle.stm_work.specs.Again.Retries.{again, no_memory as no_memory_behind, not_again, not_taken}
-use Rattle.stm_work.specs.Again.UndoesGiven.{nothing, undone, unread}
+use Rattle.stm_work.specs.Again.UndoesSince.{nothing, undone, unread}
 use Rattle.stm_work.specs.Again.TellsStanding.{nothing as nothing_told, told, unread as unread_last}
 use Rattle.stm_work.specs.Again.Turns.{first, more}
 

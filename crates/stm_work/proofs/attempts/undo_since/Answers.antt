@@ -1,6 +1,6 @@
 use Rattle.std.proofs.Common.{[], ◌∷◌, ◌≤◌, ◌≡◌, ◌+◌, Ok, Err, refl, sym, ◌∙◌, arith}
 use Rattle.stm_work.specs.Again.Act.{Read, Undone}
-use Rattle.stm_work.specs.Again.UndoesGiven.{nothing, undone, unread}
+use Rattle.stm_work.specs.Again.UndoesSince.{nothing, undone, unread}
 use Rattle.stm_work.proofs.attempts.undo_since.Goals as goal
 
 pub returns-in-Err : goal.returns-in-Err
