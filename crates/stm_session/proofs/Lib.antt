@@ -12,7 +12,7 @@ pub mod Ranges
 pub mod OutcomeKinds
 pub mod Sending
 pub mod Unbegun
-pub mod Undoing
+pub mod CanBeUndone
 mod Unrefused
 mod PowerLosses
 pub mod RunHistories

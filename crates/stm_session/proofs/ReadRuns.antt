@@ -27,7 +27,7 @@ use Rattle.stm_session.specs.Runs.{AmidRun, RunFails, Runs, answers_from, flashe
 use Rattle.stm_session.specs.Undoable.{is_unfinished_at}
 use Rattle.stm_session.proofs.CommandLists.{entries-none}
 use Rattle.stm_session.proofs.Openings.{alone}
-use Rattle.stm_session.proofs.Undoing.{finished_is_safe}
+use Rattle.stm_session.proofs.CanBeUndone.{finished_is_safe}
 
 both : (a b : Bool) → (a && b) ≡ true → (a ≡ true) × (b ≡ true)
 both true b e = (refl, e)

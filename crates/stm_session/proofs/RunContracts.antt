@@ -29,7 +29,7 @@ use Rattle.stm_session.specs.Undoable.{Undoable, is_unfinished_at, state_at}
 use Rattle.stm_session.proofs.Openings.{alone, device_is_no_memory, has_chip, refused_nothing, unfinished_refused, unsent_is_first}
 use Rattle.stm_session.proofs.RunEnds.{outside_fails}
 use Rattle.stm_session.proofs.RunStarts.{enters, runs_from, unbegun_amid}
-use Rattle.stm_session.proofs.Undoing.{finished_is_safe}
+use Rattle.stm_session.proofs.CanBeUndone.{finished_is_safe}
 
 -- what the opening refuses is refused first
 opening_first : (j : JournalData) (d : Device) (table : List ChipData) (commands : List CommandData) (e : Fault) → opening_refusal j d table ≡ Some e → run_refusal j d table commands ≡ Some e

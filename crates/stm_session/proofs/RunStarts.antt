@@ -17,7 +17,7 @@ use Rattle.stm_session.specs.Steps.{IsSteady, KeepsFlashes}
 use Rattle.stm_session.specs.Undoable.{Undoable, is_unfinished_at, state_at}
 use Rattle.stm_session.proofs.Keeping.{keeps_same}
 use Rattle.stm_session.proofs.Standing.{makes_then}
-use Rattle.stm_session.proofs.Undoing.{unbegun_is_undoable}
+use Rattle.stm_session.proofs.CanBeUndone.{unbegun_is_undoable}
 
 -- where no segment was begun, none of a run's was
 pub unbegun_amid : (commands : List CommandData) (flashes : List (List ℕ)) (old : RigState) → Undoable flashes old.device old.journal → is_unfinished_at old.journal ≡ false → (d : Device) (journal : List ℕ) → IsUnbegun old d journal

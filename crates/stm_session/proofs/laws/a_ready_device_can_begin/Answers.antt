@@ -1,4 +1,4 @@
-use Rattle.stm_session.proofs.Undoing.{empty_is_undoable, ready_is_safe}
+use Rattle.stm_session.proofs.CanBeUndone.{empty_is_undoable, ready_is_safe}
 use Rattle.stm_session.proofs.laws.a_ready_device_can_begin.Goals as goal
 
 pub returns-clause-safe : goal.returns-clause-safe

@@ -1,4 +1,4 @@
-use Rattle.stm_session.proofs.Undoing.{reset_is_undoable}
+use Rattle.stm_session.proofs.CanBeUndone.{reset_is_undoable}
 use Rattle.stm_session.proofs.laws.a_reset_keeps_what_can_be_undone.Goals as goal
 
 pub returns : goal.returns

@@ -1,4 +1,4 @@
-use Rattle.stm_session.proofs.Undoing.{finished_is_safe, unbegun_is_undoable}
+use Rattle.stm_session.proofs.CanBeUndone.{finished_is_safe, unbegun_is_undoable}
 use Rattle.stm_session.proofs.laws.asking_keeps_what_can_be_undone.Goals as goal
 
 pub returns-clause-safe : goal.returns-clause-safe
