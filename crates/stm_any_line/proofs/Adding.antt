@@ -1,5 +1,5 @@
 -- The lines that a run adds: none of them takes a segment off.
-use Rattle.std.proofs.Common.{◌≡◌, ◌⊎◌, inl, inr, ℕ, zero, suc, ◌+◌, ◌*◌, ◌/◌, ◌==◌, ◌&&◌, Bool, true, false, if◌then◌else◌, List, [], ◌∷◌, ◌++◌, length, take, drop, refl, sym, subst}
+use Rattle.std.proofs.Common.{◌≡◌, inl, inr, ℕ, zero, suc, ◌+◌, ◌*◌, ◌/◌, ◌==◌, ◌&&◌, Bool, true, false, if◌then◌else◌, List, [], ◌∷◌, ◌++◌, length, take, drop, sym, subst}
 use Rattle.std.specs.Prelude.{bytes_eq, is_none}
 use Rattle.std.specs.List.{AllByRecursion}
 use Rattle.stm_wire.specs.Chip.{ChipData, erased_byte, page_count, page_size}

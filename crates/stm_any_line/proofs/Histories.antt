@@ -1,5 +1,5 @@
 -- Calls of a session one behind another, with one journal.
-use Rattle.std.proofs.Common.{◌≡◌, inl, inr, ℕ, Bool, List, [], ◌∷◌, ◌++◌, length, Option, Some, None, refl, sym, subst}
+use Rattle.std.proofs.Common.{◌≡◌, ℕ, List, [], ◌∷◌, ◌++◌, length, Option, Some, None, sym, subst}
 use Rattle.stm_image.specs.Lay.{lay}
 use Rattle.stm_image.specs.Pairs.{Pairs}
 use Rattle.stm_wire.specs.Call.{Call}
@@ -9,7 +9,7 @@ use Rattle.stm_journal.specs.declared.entry.Entry.{Entry}
 use Rattle.stm_journal.specs.Journals.{Loaded}
 use Rattle.stm_session.specs.Order.{Step, Adds, Sends, step_in}
 use Rattle.stm_any_line.specs.Segments.{segments_behind, segments_behind_steps}
-use Rattle.stm_any_line.specs.Texts.{IsLoadedAs, IsJournalText, appended_in, lines_of, nothing}
+use Rattle.stm_any_line.specs.Texts.{IsLoadedAs, IsJournalText, lines_of, nothing}
 use Rattle.stm_any_line.specs.Tracks.{MaySayAll, Tracks}
 use Rattle.stm_any_line.specs.Calls.{DoesBehind, RunSays, UndoSays}
 use Rattle.stm_any_line.specs.History.{AllTrack, AreHonest, Deed, Happens, Visit, left_of, ran, run_stopped, says_of, undid, undo_stopped}
@@ -43,13 +43,13 @@ module _ (lengths : (set : Pairs) (address : ℕ) (bytes : List ℕ) → length 
       (calls : List Call) (deed : Deed R) (before : List Step) (tail : List ℕ)
       → IsLoadedAs l (lines_of before) tail → Happens view chip l calls deed
       → DoesBehind (says_of deed) chip before l.is_torn calls
-  happens_does view chip l calls (ran table commands old new) before tail loaded happens =
+  happens_does view chip l calls (ran is_fresh table commands old new) before tail loaded happens =
       let session = happens.0.0 in
       let own = happens.0.1 in
       does_as RunSays session.chip chip session.journal l before calls own.0 own.1
-      (run_does lengths table commands (view old) (view new) calls before session happens.1)
-  happens_does view chip l calls (run_stopped table commands old new fault) before tail loaded happens =
-      run_stops_do lengths table commands (view old) (view new) fault calls before chip l
+      (run_does lengths is_fresh table commands (view old) (view new) calls before session happens.1)
+  happens_does view chip l calls (run_stopped is_fresh table commands old new fault) before tail loaded happens =
+      run_stops_do lengths is_fresh table commands (view old) (view new) fault calls before chip l
       happens.0.0 happens.0.1 happens.1
   happens_does view chip l calls (undid is_fresh table old new) before tail loaded happens =
       let session = happens.0.0 in

@@ -1,5 +1,5 @@
 -- Reads, and a page's new bytes, step by step.
-use Rattle.std.proofs.Common.{◌≡◌, ℕ, zero, suc, ◌+◌, ◌-◌, ◌*◌, ◌/◌, ◌≤◌, ◌==◌, Bool, true, false, List, [], ◌∷◌, ◌++◌, length, take, drop, refl, sym, ◌∙◌, ap, subst, arith, length-take}
+use Rattle.std.proofs.Common.{◌≡◌, ℕ, zero, suc, ◌+◌, ◌-◌, ◌*◌, ◌/◌, ◌≤◌, ◌==◌, Bool, true, false, List, [], ◌∷◌, ◌++◌, length, take, drop, refl, ◌∙◌, subst, arith, length-take}
 use Rattle.std.specs.List.{AllByRecursion}
 use Rattle.std.proofs.lemmas.List.{length-drop}
 use Rattle.stm_wire.specs.Chip.{ChipData, erased_byte, page_size}
@@ -7,9 +7,9 @@ use Rattle.stm_wire.specs.Frames.{read_turns, write_turns}
 use Rattle.stm_chip.specs.declared.plan.Frame.{Frame}
 use Rattle.stm_chip.specs.Plan.{block_of, cut_length, frame_of, frames_of, used_length}
 use Rattle.stm_session.specs.Kept.{reads, erases, writes}
-use Rattle.stm_session.specs.Order.{Step, Adds, Sends, page_address, read_steps, rewrite_steps, write_steps}
+use Rattle.stm_session.specs.Order.{Step, Sends, page_address, read_steps, rewrite_steps, write_steps}
 use Rattle.stm_any_line.specs.Segments.{IsNewest, segments_behind_steps}
-use Rattle.stm_any_line.specs.Tracks.{MayPut, sends, SendReads, Tracks}
+use Rattle.stm_any_line.specs.Tracks.{sends, SendReads, Tracks}
 use Rattle.stm_any_line.proofs.Tracking.{Segments, behind-append, reads-then, tracks_then}
 
 -- reads

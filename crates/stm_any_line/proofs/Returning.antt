@@ -1,10 +1,10 @@
 -- The steps of an undo change only pages that the newest segment of the lines keeps.
-use Rattle.std.proofs.Common.{◌≡◌, ◌<◌, ◌+◌, Contains, ℕ, zero, suc, List, [], ◌∷◌, ◌++◌, length, map, slice_index, inl, inr, refl, sym, ◌∙◌, ap, subst, arith}
+use Rattle.std.proofs.Common.{◌≡◌, ◌+◌, Contains, ℕ, zero, suc, List, [], ◌∷◌, ◌++◌, length, map, inl, inr, refl, ap, subst, arith}
 use Rattle.std.specs.List.{AllByRecursion}
 use Rattle.stm_wire.specs.Chip.{ChipData}
 use Rattle.stm_wire.specs.Dialogue.{Turn}
 use Rattle.stm_journal.specs.declared.entry.Entry.{Entry}
-use Rattle.stm_journal.specs.declared.entry.Entry.TheVariants.{Erases, Programs, Undoes}
+use Rattle.stm_journal.specs.declared.entry.Entry.TheVariants.{Undoes}
 use Rattle.stm_journal.specs.declared.kept.Kept.{Kept}
 use Rattle.stm_session.specs.Kept.{IsOfNewest, MaySend, MayTake, PutsBack, erases, erasing, programming, reads, undoing, writes}
 use Rattle.stm_session.specs.Order.{Step, Adds, Sends}

@@ -1,5 +1,5 @@
 -- The steps of a run: each page is kept as it was read, before it is changed.
-use Rattle.std.proofs.Common.{◌≡◌, ◌⊎◌, inl, inr, ℕ, zero, ◌+◌, ◌/◌, ◌<◌, ◌≤◌, ◌==◌, ◌&&◌, Bool, true, false, not, if◌then◌else◌, List, [], ◌∷◌, ◌++◌, length, refl, sym, ◌∙◌, subst, arith}
+use Rattle.std.proofs.Common.{◌≡◌, inl, inr, ℕ, zero, ◌+◌, ◌/◌, ◌<◌, ◌≤◌, ◌==◌, ◌&&◌, Bool, true, false, not, if◌then◌else◌, List, [], ◌∷◌, ◌++◌, length, refl, sym, ◌∙◌, subst, arith}
 use Rattle.std.specs.Prelude.{⊤, bytes_eq, is_none}
 use Rattle.std.specs.List.{AllByRecursion, list_any}
 use Rattle.std.proofs.lemmas.Bool.{and_parts, false≢true}
@@ -7,7 +7,6 @@ use Rattle.std.proofs.lemmas.List.{length-replicate}
 use Rattle.stm_image.specs.Lay.{lay}
 use Rattle.stm_image.specs.Pairs.{Pairs}
 use Rattle.stm_wire.specs.Chip.{ChipData, erased_byte, erased_page, page_count, page_offset, page_size}
-use Rattle.stm_chip.specs.Plan.{frames_of}
 use Rattle.stm_journal.specs.declared.entry.Entry.TheVariants.{Names, Opens, Keeps}
 use Rattle.stm_journal.specs.Journals.{begin_entries, version_for}
 use Rattle.stm_journal.specs.States.{StateData}
@@ -23,7 +22,7 @@ use Rattle.stm_session.specs.RunOrder.{AreBegun, AreDoneInOrder, none as nothing
 use Rattle.stm_session.specs.Kept.{reads}
 use Rattle.stm_session.specs.Undoable.{has_companion}
 use Rattle.stm_any_line.specs.Segments.{IsNewest, saved, segments_behind_steps, with_saved_page}
-use Rattle.stm_any_line.specs.Tracks.{IsJustRead, MayPut, sends, SendReads, Tracks}
+use Rattle.stm_any_line.specs.Tracks.{IsJustRead, sends, SendReads, Tracks}
 use Rattle.stm_any_line.proofs.Tracking.{Segments, IsBegun, behind-append, begun-more, just_read, just_then, newest-more, newest-new, reads-then, tracks_as, tracks_front, tracks_then}
 use Rattle.stm_any_line.proofs.Pieces.{reads_leave, reads_only, reads_track, rewrite_stays}
 

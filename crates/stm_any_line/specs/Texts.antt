@@ -6,7 +6,7 @@ use Rattle.stm_journal.specs.Entries.{line_of, line_text}
 use Rattle.stm_journal.specs.Journals.{Loaded}
 use Rattle.stm_journal.specs.Newest.{pages_of_segments}
 use Rattle.stm_session.specs.Order.{Step, Adds, Sends}
-use Rattle.stm_any_line.specs.Segments.{SavedPage, segments_behind_lines}
+use Rattle.stm_any_line.specs.Segments.{segments_behind_lines}
 
 -- The text is just these lines, each whole, and behind them a torn tail: the beginning of a line,
 -- and perhaps the first byte of the mark that makes it void. A tail that was marked is no line.

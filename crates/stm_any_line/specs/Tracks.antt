@@ -1,6 +1,6 @@
 -- What a journal keeps of the pages that are changed, step by step: which frames and lines may come
 -- behind which, and which bytes a line may keep.
-use Rattle.std.specs.Prelude.{◌≡◌, ◌⊎◌, ℕ, List, [], ◌∷◌, ◌++◌, length}
+use Rattle.std.specs.Prelude.{◌≡◌, ℕ, List, [], ◌∷◌, ◌++◌, length}
 use Rattle.stm_wire.specs.Chip.{ChipData, page_size}
 use Rattle.stm_wire.specs.Dialogue.{Turn}
 use Rattle.stm_wire.specs.Frames.{get_id_turns, get_turns, read_turns}

@@ -10,7 +10,7 @@ ghost use Rattle.stm_session.specs.declared.fault.Fault.{Fault};
 ghost use Rattle.stm_session.specs.Kept.{UndoPutsBack, UndoStopsBack};
 ghost use Rattle.stm_session.specs.Meaning.{CommandData};
 ghost use Rattle.stm_session.specs.Order.{Step};
-ghost use Rattle.stm_session.specs.RunOrder.{RunStops, RunsInOrder};
+ghost use Rattle.stm_session.specs.RunOrder.{RunStopsFrom, RunsInOrderFrom};
 ghost use Rattle.stm_any_line.specs.Calls.{DoesBehind, IsOfIfAny, Made, RunSays, UndoSays};
 ghost use Rattle.stm_any_line.specs.History.{HistoriesTrack, TextsGoOn};
 ghost use Rattle.stm_any_line.specs.Remembered.{ChangedIsKept, KeptWasRead};
@@ -25,14 +25,14 @@ use stm_wire::Rig;
 /// is in keeps the page by then. It sends no other frames but those that ask and read, and it takes no
 /// segment off.
 pub fn a_run_keeps_pages_as_they_were_read<R: Rig>()
-    ensures done { (table : List ChipData) (commands : List CommandData) (old new : R)
-        (calls : List Call) (before : List Step)
-        → (ran : RunsInOrder table commands (R.view old) (R.view new))
+    ensures done { (is_fresh : Bool) (table : List ChipData) (commands : List CommandData)
+        (old new : R) (calls : List Call) (before : List Step)
+        → (ran : RunsInOrderFrom is_fresh table commands (R.view old) (R.view new))
         → Made calls (R.view old) (R.view new)
         → DoesBehind RunSays ran.chip before ran.journal.is_torn calls }
-    ensures stopped { (table : List ChipData) (commands : List CommandData) (old new : R)
-        (fault : Fault) (calls : List Call) (before : List Step) (chip : ChipData) (l : Loaded)
-        → (stop : RunStops table commands (R.view old) (R.view new) fault)
+    ensures stopped { (is_fresh : Bool) (table : List ChipData) (commands : List CommandData)
+        (old new : R) (fault : Fault) (calls : List Call) (before : List Step) (chip : ChipData)
+        (l : Loaded) → (stop : RunStopsFrom is_fresh table commands (R.view old) (R.view new) fault)
         → IsOfIfAny chip l stop → Made calls (R.view old) (R.view new)
         → DoesBehind RunSays chip before l.is_torn calls }
 {

@@ -19,8 +19,10 @@ pub fn change_kept<R: Rig>(
     table: &Table,
     commands: &[Command],
 ) -> Result<Report, Fault>
-    ensures done { OnOk result (RunKeeps table.now (R.view rig.old) (R.view rig.new)) }
-    ensures stopped { IfErr result (RunStopsKept table.now (R.view rig.old) (R.view rig.new)) }
+    ensures done { let old = R.view rig.old in let new = R.view rig.new in
+        OnOk result (RunKeeps false table.now old new) }
+    ensures stopped { let old = R.view rig.old in let new = R.view rig.new in
+        IfErr result (RunStopsKept false table.now old new) }
 {
     a_run_keeps_pages_before_it_changes_them::<R>();
     run(alloc, rig, table, commands)

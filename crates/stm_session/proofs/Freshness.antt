@@ -20,7 +20,7 @@ use Rattle.stm_wire.specs.Settling.{IsSettling, PutsPart, SettlesWithin}
 use Rattle.stm_wire.specs.SettlingCalls.{EndsUnder}
 use Rattle.stm_wire.specs.Rig.{RigState}
 use Rattle.stm_journal.specs.States.{intent_of}
-use Rattle.stm_session.specs.Fresh.{Connects, EndsWell, byte_of, limit_for, limit_of, settling_limit, settling_way, undo_way}
+use Rattle.stm_session.specs.Fresh.{Connects, EndsWell, IsAsSaid, byte_of, limit_for, limit_of, settling_limit, settling_way, undo_way}
 use Rattle.stm_session.specs.StepLaws.{StepLaws}
 use Rattle.stm_session.specs.Undoable.{state_at}
 use Rattle.stm_session.specs.Undoes.{IsWithinLimit, byte_at_journal, risked_at}
@@ -33,6 +33,10 @@ fresh_way false kind o h = absurd (false≢true h)
 pub said_fresh : (f : Bool) (o : Option Intent) → (f && is_some o) ≡ true → f ≡ true
 said_fresh true o h = refl
 said_fresh false o h = absurd (false≢true h)
+
+-- what is said of a device is said of the same one later
+pub said_still : (f : Bool) (old new : Device) → new ≡ old → IsAsSaid f old → IsAsSaid f new
+said_still f old new same said = subst (λ (d : Device). IsAsSaid f d) (sym same) said
 
 -- what is sent, and how it ends, is said of the way
 pub way_sends : (kind : EraseKind) (o : Option Intent) (a b : Option (List Call)) → GoesOn (SettlesWithin (settling_byte o) (settling_limit kind o)) a b

@@ -8,7 +8,7 @@ use Rattle.stm_journal.specs.Journals.{Loaded, IsLoaded, good, journal_of}
 use Rattle.stm_journal.specs.States.{StateData, names_other_board}
 use Rattle.stm_session.specs.declared.fault.Fault.{Fault}
 use Rattle.stm_session.specs.Fault.{cause_of}
-use Rattle.stm_session.specs.Fresh.{Settles}
+use Rattle.stm_session.specs.Fresh.{contact_way}
 use Rattle.stm_session.specs.Reaching.{ReachesInPart}
 
 -- The journal that was loaded names no other board than that of this chip of the table.
@@ -19,10 +19,11 @@ pub record IsOfItsBoard (table : List ChipData) (old : RigState) : Type 0 where
   pub listed : IsChipWith table chip.id chip
   pub board : names_other_board chip.unique journal.state ≡ false
 
--- the device was settled by 7F and asked, or a part of that, and nothing else was sent or appended
-abbrev pub OnlyAsks : RigState → RigState → Fault → Type 0
-OnlyAsks old new fault = (torn : Bool)
-    → GoesOn (ReachesInPart (Settles 0x7F 131072) (cause_of fault) torn) old.calls new.calls
+-- the device was settled by 7F, or connected, and asked, or a part of that, and nothing else was
+-- sent or appended
+abbrev pub OnlyAsks : Bool → RigState → RigState → Fault → Type 0
+OnlyAsks is_fresh old new fault = (torn : Bool)
+    → GoesOn (ReachesInPart (contact_way is_fresh) (cause_of fault) torn) old.calls new.calls
 
 -- the journal names a board, and no chip of the table is of that one
 pub record IsForeign (table : List ChipData) (journal : List ℕ) : Type 0 where

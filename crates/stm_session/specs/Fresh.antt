@@ -44,6 +44,12 @@ EndsWell (Settles byte limit) calls = EndsSettled byte limit calls
 EndsWell (SettlesInBatches byte limit) calls = EndsInBatches byte limit calls
 EndsWell Connects calls = IsConnected calls
 
+-- how a session whose journal has no intent settles its device: with 7F; one that is said to be
+-- fresh is connected
+abbrev pub contact_way : Bool → Way
+contact_way false = Settles 0x7F 131072
+contact_way true = Connects
+
 -- How often a byte of an intent is sent at most where pages have numbers of two bytes: behind 44 BB
 -- the byte twice is a count of 257 * byte + 1 pages. 7F is also the byte of a host without an
 -- intent.

@@ -75,15 +75,15 @@ KeepsFirst chip kept (Sends turns ∷ steps) =
     MaySend chip (λ n. IsKept n kept) turns × KeepsFirst chip kept steps
 
 -- a run, at Ok: its steps are such, and none of its segments is left unfinished
-abbrev pub RunKeeps : List ChipData → RigState → RigState → Type 0
-RunKeeps table old new = RunDoes (λ chip s steps. KeepsFirst chip None steps
+abbrev pub RunKeeps : Bool → List ChipData → RigState → RigState → Type 0
+RunKeeps is_fresh table old new = RunDoes is_fresh (λ chip s steps. KeepsFirst chip None steps
     × (kept_behind_steps None steps ≡ None)) table old new
 
 -- a run, at a fault: nothing was sent but to settle and ask the device; or such steps were done,
 -- each whole but the last, which failed
-abbrev pub RunStopsKept : List ChipData → RigState → RigState → Fault → Type 0
-RunStopsKept table old new fault =
-    RunDoesInPart (λ chip s. KeepsFirst chip None) table old new fault
+abbrev pub RunStopsKept : Bool → List ChipData → RigState → RigState → Fault → Type 0
+RunStopsKept is_fresh table old new fault =
+    RunDoesInPart is_fresh (λ chip s. KeepsFirst chip None) table old new fault
 
 -- Of an undo. There are the pages of the segments that aren't taken off yet, the newest first:
 

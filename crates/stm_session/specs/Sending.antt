@@ -14,7 +14,7 @@ use Rattle.stm_chip.specs.Document.{IsChipWith}
 use Rattle.stm_journal.specs.Calls.{AreFetches}
 use Rattle.stm_session.specs.declared.fault.Fault.{Fault}
 use Rattle.stm_session.specs.Fault.{Cause, of_line, of_protocol, cause_of}
-use Rattle.stm_session.specs.Fresh.{Connects, Way, byte_of, limit_of, undo_way}
+use Rattle.stm_session.specs.Fresh.{Connects, Way, byte_of, contact_way, limit_of, undo_way}
 
 -- puts and gets of one command at most: each byte of the greatest flash, read by a frame of its own
 abbrev pub most_of_command : ℕ
@@ -28,13 +28,15 @@ most_calls n = 4100 * 131076 + 268 + n * most_of_command
 abbrev pub most_of_confirming : ℕ
 most_of_confirming = 44
 
--- of a run of so many commands
-abbrev pub most_of_run : ℕ → ℕ
-most_of_run n = most_calls 0 + (most_of_confirming + n * most_of_command)
-
 -- of settling with so many bytes at most, Get and Get ID
 abbrev pub most_of_reaching : ℕ → ℕ
 most_of_reaching limit = 4100 * (limit + 4) + 268
+
+-- of a run of so many commands, on a device that may be said to be fresh from reset
+abbrev pub most_of_run : Bool → ℕ → ℕ
+most_of_run is_fresh n =
+    most_of_reaching (limit_of (contact_way is_fresh))
+    + (most_of_confirming + n * most_of_command)
 
 -- of an undo of so many segments, once its device is known: the pages at work are written first, and
 -- together they are no larger than the greatest flash
@@ -64,12 +66,19 @@ abbrev pub IsOfTable : List ChipData → Option ChipData → Type 0
 IsOfTable table None = Unit {0}
 IsOfTable table (Some chip) = IsChipWith table chip.id chip
 
--- Settling with 7F, and then frames of one chip of the table, in few calls.
-pub record SendsAsRun (table : List ChipData) (whole : Bool) (n : ℕ)
+-- Settling with 7F, or 7F once where the device is said to be fresh, and then frames of one chip of
+-- the table, in few calls.
+pub record SendsAsRunFrom (is_fresh : Bool) (table : List ChipData) (whole : Bool) (n : ℕ)
     (old new : RigState) : Type 0 where
   pub chip : Option ChipData
   pub listed : IsOfTable table chip
-  pub calls : GoesOn (IsSession chip 0x7F 131072 whole (most_of_run n)) old.calls new.calls
+  pub calls : let way = contact_way is_fresh in
+      GoesOn (IsSession chip (byte_of way) (limit_of way) whole (most_of_run is_fresh n))
+      old.calls new.calls
+
+-- settling
+abbrev pub SendsAsRun : List ChipData → Bool → ℕ → RigState → RigState → Type 0
+SendsAsRun table whole n old new = SendsAsRunFrom false table whole n old new
 
 -- how an undo settles its device, whose journal is one of this chip; where there is none
 -- it sends no settling byte

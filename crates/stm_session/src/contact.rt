@@ -4,10 +4,12 @@ ghost use Rattle.stm_wire.specs.Device.{IsSettled};
 ghost use Rattle.stm_wire.specs.Dialogue.{GoesOn};
 ghost use Rattle.stm_wire.specs.Frames.{get_turns};
 ghost use Rattle.stm_wire.specs.Parts.{IsPart};
-ghost use Rattle.stm_wire.specs.Settling.{SettlesWithin};
-ghost use Rattle.stm_wire.specs.SettlingCalls.{EndsSettled};
+ghost use Rattle.stm_wire.specs.Settling.{PutsPart, SettlesWithin};
+ghost use Rattle.stm_wire.specs.SettlingCalls.{EndsSettled, IsConnected};
 ghost use Rattle.stm_session.specs.Unwritten.{AppendsNothing};
 ghost use Rattle.stm_session.specs.Fault.{HasSessionCause, IsOfLine};
+ghost use Rattle.stm_session.specs.Fresh.{EndsWell, IsAsSaid, IsReset, byte_of, contact_way};
+ghost use Rattle.stm_session.specs.Fresh.{limit_of};
 ghost use Rattle.stm_session.specs.Asking.{Asks};
 ghost use Rattle.stm_session.specs.Moments.{BeginsNothing, IsSafe};
 ghost use Rattle.stm_session.specs.Opening.{AreCommandsOf, TellsItself};
@@ -16,8 +18,9 @@ ghost use Rattle.stm_session.specs.Reaching.{AsksInOrder, IsAsking, IsGet, IsGet
 ghost use Rattle.stm_session.specs.Sending.{is_whole};
 
 use crate::Fault;
+use crate::laws::a_ready_device_can_begin;
 use stm_wire::{
-    Commands, Rig, get_commands, get_id, pages_are_the_flash, sending_is_harmless, settle,
+    Commands, Rig, connect, get_commands, get_id, pages_are_the_flash, sending_is_harmless, settle,
 };
 
 /// The byte that connects a fresh device (AN3155, section 2), and that ends what was begun where no
@@ -44,6 +47,50 @@ pub fn settle_safe<R: Rig>(rig: &mut R) -> Result<(), Fault>
     pages_are_the_flash();
     settle(rig, CONNECT, SETTLING_LIMIT)?;
     Ok(())
+}
+
+/// Connects a device that was reset, with one 7F.
+pub fn connect_fresh<R: Rig>(rig: &mut R) -> Result<(), Fault>
+    ensures cause { let old = R.view rig.old in let new = R.view rig.new in
+        HasSessionCause old new result }
+    ensures calls { let old = R.view rig.old in let new = R.view rig.new in
+        GoesOn (PutsPart (0x7F ∷ []) 4099) old.calls new.calls }
+    ensures connected { let old = R.view rig.old in let new = R.view rig.new in
+        OnOk result (GoesOn IsConnected old.calls new.calls) }
+    ensures sent { IfErr result IsOfLine }
+    ensures kept { let old = R.view rig.old in let new = R.view rig.new in
+        old.is_honest → new.journal ≡ old.journal }
+    ensures honest { let old = R.view rig.old in let new = R.view rig.new in
+        old.is_honest → IsReset old.device → BeginsNothing old new result (λ _. ⊤) }
+{
+    pages_are_the_flash();
+    a_ready_device_can_begin();
+    connect(rig)?;
+    Ok(())
+}
+
+/// Settles a device with 7F, which is known to do it no harm. One that is said to be fresh from
+/// reset is connected, with 7F once.
+pub fn settle_or_connect<R: Rig>(rig: &mut R, is_fresh: bool) -> Result<(), Fault>
+    ensures cause { let old = R.view rig.old in let new = R.view rig.new in
+        HasSessionCause old new result }
+    ensures calls { let way = contact_way is_fresh in
+        GoesOn (SettlesWithin (byte_of way) (limit_of way)) (R.view rig.old).calls
+        (R.view rig.new).calls }
+    ensures settled { let way = contact_way is_fresh in
+        OnOk result (GoesOn (EndsWell way) (R.view rig.old).calls (R.view rig.new).calls) }
+    ensures sent { IfErr result IsOfLine }
+    ensures kept { let old = R.view rig.old in let new = R.view rig.new in
+        old.is_honest → new.journal ≡ old.journal }
+    ensures honest { let old = R.view rig.old in let new = R.view rig.new in
+        old.is_honest → IsAsSaid is_fresh old.device → IsSafe old.device
+        → BeginsNothing old new result (λ _. ⊤) }
+{
+    if is_fresh {
+        connect_fresh(rig)
+    } else {
+        settle_safe(rig)
+    }
 }
 
 /// Asks a settled device for its commands.

@@ -31,7 +31,7 @@ ghost use Rattle.stm_session.specs.PowerLoss.{
 ghost use Rattle.stm_session.specs.Refusal.{chip_with, misfit_refusal, opening_refusal};
 ghost use Rattle.stm_session.specs.Refusals.{is_in_flash, run_refusal};
 ghost use Rattle.stm_session.specs.Running.{RunsReads, is_reading};
-ghost use Rattle.stm_session.specs.RunOrder.{RunStops, RunsInOrder};
+ghost use Rattle.stm_session.specs.RunOrder.{RunStopsFrom, RunsInOrderFrom};
 ghost use Rattle.stm_session.specs.Runs.{Runs};
 ghost use Rattle.stm_session.specs.Undoable.{IsJournalOf, Undoable, has_companion};
 ghost use Rattle.stm_session.specs.Undoable.{is_unfinished_at, state_at};
@@ -158,12 +158,13 @@ pub fn reads_in_the_flash_are_not_refused()
 /// and it sends no other frames but those that read. It ends a segment behind the last of these,
 /// each of which was acknowledged. That holds of all that was done, and of what failed.
 pub fn a_run_keeps_pages_before_it_changes_them<R: Rig>()
-    ensures done { (table : List ChipData) (commands : List CommandData) (old new : R)
-        → RunsInOrder table commands (R.view old) (R.view new)
-        → RunKeeps table (R.view old) (R.view new) }
-    ensures stopped { (table : List ChipData) (commands : List CommandData) (old new : R)
-        (fault : Fault) → RunStops table commands (R.view old) (R.view new) fault
-        → RunStopsKept table (R.view old) (R.view new) fault }
+    ensures done { (is_fresh : Bool) (table : List ChipData) (commands : List CommandData)
+        (old new : R) → RunsInOrderFrom is_fresh table commands (R.view old) (R.view new)
+        → RunKeeps is_fresh table (R.view old) (R.view new) }
+    ensures stopped { (is_fresh : Bool) (table : List ChipData) (commands : List CommandData)
+        (old new : R) (fault : Fault)
+        → RunStopsFrom is_fresh table commands (R.view old) (R.view new) fault
+        → RunStopsKept is_fresh table (R.view old) (R.view new) fault }
 {
     laying_by_parts();
 }
@@ -194,12 +195,13 @@ pub fn an_undo_changes_only_pages_that_it_undoes<R: Rig>()
 /// Rig's own journal; so one of which no chip of the table is the board is left alone with its
 /// device.
 pub fn a_session_changes_only_its_own_board<R: Rig>()
-    ensures run { (table : List ChipData) (commands : List CommandData) (old new : R)
-        → RunsInOrder table commands (R.view old) (R.view new)
+    ensures run { (is_fresh : Bool) (table : List ChipData) (commands : List CommandData)
+        (old new : R) → RunsInOrderFrom is_fresh table commands (R.view old) (R.view new)
         → IsOfItsBoard table (R.view old) }
-    ensures run_stops { (table : List ChipData) (commands : List CommandData) (old new : R)
-        (fault : Fault) → RunStops table commands (R.view old) (R.view new) fault
-        → OnlyAsks (R.view old) (R.view new) fault ⊎ IsOfItsBoard table (R.view old) }
+    ensures run_stops { (is_fresh : Bool) (table : List ChipData) (commands : List CommandData)
+        (old new : R) (fault : Fault)
+        → RunStopsFrom is_fresh table commands (R.view old) (R.view new) fault
+        → OnlyAsks is_fresh (R.view old) (R.view new) fault ⊎ IsOfItsBoard table (R.view old) }
     ensures undo { (is_fresh : Bool) (table : List ChipData) (taken : ℕ) (old new : R)
         → UndoesInOrderFrom is_fresh table taken (R.view old) (R.view new)
         → IsOfItsBoard table (R.view old) }

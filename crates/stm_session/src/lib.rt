@@ -58,7 +58,7 @@ pub use go_and_protect::{go, protect};
 pub use headline::{a_session_can_be_undone, the_first_difference_is_the_first};
 pub use identifying::identify;
 pub use information::Info;
-pub use inspect::info;
+pub use inspect::{info, info_fresh};
 pub use laws::{
     a_chip_is_looked_up_by_its_id, a_journal_of_the_chip_is_not_refused,
     a_power_loss_keeps_what_can_be_undone, a_ready_device_can_begin,
@@ -70,6 +70,6 @@ pub use laws::{
 };
 pub use outcome::{Outcome, Report};
 pub use returned::Returned;
-pub use running::run;
+pub use running::{run, run_fresh};
 pub use undoing::{undo, undo_fresh, undo_verified, undo_verified_fresh};
 pub use unprotecting::unprotect_fresh;

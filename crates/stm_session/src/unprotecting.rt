@@ -1,24 +1,21 @@
 // Write Unprotect within a session: a board whose pages are write-protected refuses the erases and
 // writes of an undo, so that a session on it could neither go on nor be taken back.
-ghost use Rattle.std.specs.Prelude.{◌≡◌, ◌≢◌, ⊤, ◌∷◌, [], IfErr, OnOk, true};
+ghost use Rattle.std.specs.Prelude.{◌≡◌, ◌≢◌, [], IfErr, OnOk, true};
 ghost use Rattle.stm_wire.specs.Dialogue.{GoesOn};
-ghost use Rattle.stm_wire.specs.Settling.{PutsPart};
-ghost use Rattle.stm_wire.specs.SettlingCalls.{IsConnected};
 ghost use Rattle.stm_journal.specs.Calls.{AreFetches};
 ghost use Rattle.stm_journal.specs.Journals.{journal_of};
-ghost use Rattle.stm_session.specs.Fault.{HasSessionCause, IsOfLine};
-ghost use Rattle.stm_session.specs.Fresh.{IsReset};
-ghost use Rattle.stm_session.specs.Moments.{BeginsNothing};
+ghost use Rattle.stm_session.specs.Fault.{HasSessionCause};
 ghost use Rattle.stm_session.specs.Opening.{LoadsUnless};
 ghost use Rattle.stm_session.specs.Sending.{is_whole_at};
 ghost use Rattle.stm_session.specs.Unprotecting.{IsUnprotected, IsUnprotecting};
 ghost use Rattle.stm_session.specs.Unprotecting.{UnprotectContract, bad_refusal};
 
 use crate::Fault;
+use crate::contact::connect_fresh;
 use crate::laws::a_ready_device_can_begin;
 use std::alloc::Global;
 use stm_journal::Journal;
-use stm_wire::{Protection, Rig, connect, harmless_is_kept, pages_are_the_flash, protect};
+use stm_wire::{Protection, Rig, harmless_is_kept, protect};
 
 /// Reads the journal, which may be open and unfinished, but must have no bad line.
 fn check_good<R: Rig>(alloc: Global, rig: &mut R) -> Result<(), Fault>
@@ -32,26 +29,6 @@ fn check_good<R: Rig>(alloc: Global, rig: &mut R) -> Result<(), Fault>
         old.is_honest → old.journal ≡ [] → IfErr result (λ fault. fault ≢ Fault.Memory) }
 {
     let _journal = Journal::load(alloc, rig)?;
-    Ok(())
-}
-
-/// Connects a device that was reset, with one 7F.
-fn connect_fresh<R: Rig>(rig: &mut R) -> Result<(), Fault>
-    ensures cause { let old = R.view rig.old in let new = R.view rig.new in
-        HasSessionCause old new result }
-    ensures calls { let old = R.view rig.old in let new = R.view rig.new in
-        GoesOn (PutsPart (0x7F ∷ []) 4099) old.calls new.calls }
-    ensures connected { let old = R.view rig.old in let new = R.view rig.new in
-        OnOk result (GoesOn IsConnected old.calls new.calls) }
-    ensures sent { IfErr result IsOfLine }
-    ensures kept { let old = R.view rig.old in let new = R.view rig.new in
-        old.is_honest → new.journal ≡ old.journal }
-    ensures honest { let old = R.view rig.old in let new = R.view rig.new in
-        old.is_honest → IsReset old.device → BeginsNothing old new result (λ _. ⊤) }
-{
-    pages_are_the_flash();
-    a_ready_device_can_begin();
-    connect(rig)?;
     Ok(())
 }
 

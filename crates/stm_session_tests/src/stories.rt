@@ -6,8 +6,8 @@ use crate::devices::{
 use std::test::Fail;
 use stm_chip::Table;
 use stm_session::{
-    Command, Fault, Outcome, Returned, go, identify, info, protect, run, undo, undo_fresh,
-    undo_verified, undo_verified_fresh, unprotect_fresh,
+    Command, Fault, Outcome, Report, Returned, go, identify, info, info_fresh, protect, run,
+    run_fresh, undo, undo_fresh, undo_verified, undo_verified_fresh, unprotect_fresh,
 };
 use stm_sim::MemoryRig;
 use stm_wire::{Protection, RigCall};
@@ -38,6 +38,8 @@ pub enum Told {
 #[derive(Clone, Copy)]
 pub enum Act {
     Run(&'static [Ask], Result<&'static [Told], Fault>),
+    /// The same behind a reset.
+    RunFresh(&'static [Ask], Result<&'static [Told], Fault>),
     Undo(u32, Result<u32, Fault>),
     /// An undo of all behind a reset.
     UndoFresh(Result<u32, Fault>),
@@ -45,6 +47,8 @@ pub enum Act {
     UndoVerified(Result<Returned, Fault>),
     UndoVerifiedFresh(Result<Returned, Fault>),
     Info(Option<Fault>),
+    /// The same behind a reset.
+    InfoFresh(Option<Fault>),
     Identify(Option<Fault>),
     Go(Option<Fault>),
     Protect(Protection, Option<Fault>),
@@ -141,20 +145,34 @@ fn are_told(outcomes: &[Outcome], told: &[Told], flash: &[u8]) -> bool {
     outcomes.len() == told.len()
 }
 
+/// Whether a run answered what is due.
+fn has_run(
+    answer: Result<Report, Fault>,
+    due: Result<&'static [Told], Fault>,
+    flash: &[u8],
+) -> bool {
+    match (answer, due) {
+        (Ok(report), Ok(told)) => are_told(&report.outcomes, told, flash),
+        (Err(fault), Err(due)) => fault == due,
+        _ => false,
+    }
+}
+
 fn runs(
     rt: &HostRuntime,
     table: &Table,
     rig: &mut MemoryRig,
     asks: &[Ask],
+    is_fresh: bool,
     due: Result<&'static [Told], Fault>,
 ) -> Result<bool, Fail> {
     let commands = commands_of(rt, asks)?;
-    let answer = run(rt.alloc(), rig, table, &commands);
-    Ok(match (answer, due) {
-        (Ok(report), Ok(told)) => are_told(&report.outcomes, told, rig.flash()),
-        (Err(fault), Err(due)) => fault == due,
-        _ => false,
-    })
+    let answer = if is_fresh {
+        run_fresh(rt.alloc(), rig, table, &commands)
+    } else {
+        run(rt.alloc(), rig, table, &commands)
+    };
+    Ok(has_run(answer, due, rig.flash()))
 }
 
 /// Whether the bytes put in these calls end with these.
@@ -181,12 +199,14 @@ fn is_answered(
     act: &Act,
 ) -> Result<bool, Fail> {
     Ok(match act {
-        Act::Run(asks, due) => runs(rt, table, rig, asks, *due)?,
+        Act::Run(asks, due) => runs(rt, table, rig, asks, false, *due)?,
+        Act::RunFresh(asks, due) => runs(rt, table, rig, asks, true, *due)?,
         Act::Undo(count, due) => undo(rt.alloc(), rig, table, *count) == *due,
         Act::UndoFresh(due) => undo_fresh(rt.alloc(), rig, table, 0) == *due,
         Act::UndoVerified(due) => undo_verified(rt.alloc(), rig, table, 0) == *due,
         Act::UndoVerifiedFresh(due) => undo_verified_fresh(rt.alloc(), rig, table, 0) == *due,
         Act::Info(due) => info(rt.alloc(), rig, table).err() == *due,
+        Act::InfoFresh(due) => info_fresh(rt.alloc(), rig, table).err() == *due,
         Act::Identify(due) => identify(rt.alloc(), rig).err() == *due,
         Act::Go(due) => go(rt.alloc(), rig, 0x0800_0000).err() == *due,
         Act::Protect(which, due) => protect(rt.alloc(), rig, *which).err() == *due,

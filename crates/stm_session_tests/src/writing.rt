@@ -2,7 +2,8 @@
 // what stands in the flash.
 use crate::old_journals::WRONG;
 use crate::stories::Act::{
-    Ends, Fetches, Flash, Journal, Length, Never, Puts, Rest, Run, StopAfter, Undo,
+    Begins, Ends, Fetches, Flash, InfoFresh, Journal, Length, Never, Puts, PutsAll, Reset, Rest,
+    Run, RunFresh, StopAfter, Undo,
 };
 use crate::stories::Ask::{Erase, Read, Verify, Write};
 use crate::stories::{Act, Ask, Story, Told, all_go_right, all_go_right_with};
@@ -41,6 +42,40 @@ const STORIES: &[Story] = &[
                 (&[0xAA, 0xAA], 1),
             ]),
             Flash(&[(b"\xFF", 32767), (b"\xAA", 1)]),
+        ],
+    ),
+    // 7F once, Get, and Get ID; what is connected takes 7F for the first byte of a pair.
+    (
+        "a device that was reset is sent 7F once",
+        (0x0412, 0xFF, &[]),
+        &[
+            RunFresh(&[Write(0x0800_7FFF, &[0xAA])], Ok(&[Told::Written(1, 1)])),
+            Begins(&[
+                (0x7F, 1),
+                (0x00, 1),
+                (0xFF, 1),
+                (0x02, 1),
+                (0xFD, 1),
+                (0x11, 1),
+            ]),
+            Flash(&[(b"\xFF", 32767), (b"\xAA", 1)]),
+            RunFresh(&[Read(0x0800_0000, 4)], Err(Fault::Device)),
+            PutsAll(&[0x7F]),
+            Reset,
+            RunFresh(&[Read(0x0800_7FFC, 4)], Ok(&[Told::Read(0x7FFC, 4)])),
+            Begins(&[
+                (0x7F, 1),
+                (0x00, 1),
+                (0xFF, 1),
+                (0x02, 1),
+                (0xFD, 1),
+                (0x11, 1),
+            ]),
+            Reset,
+            InfoFresh(None),
+            PutsAll(&[0x7F, 0x00, 0xFF, 0x02, 0xFD]),
+            Undo(0, Ok(1)),
+            Flash(&[(b"\xFF", 32768)]),
         ],
     ),
     (

@@ -18,8 +18,8 @@ use Rattle.stm_weak.proofs.Stepping.{AmongThese, events_from}
 
 module _ (R : Type 0) (view : R → RigState) where
   at_ok : (deed : WeakDeed R view) (P Q : Type 0) → (P → Q) → AtOk deed P → AtOk deed Q
-  at_ok (ran table commands old new session) P Q f p = f p
-  at_ok (run_stopped table commands old new fault whole stop) P Q f p = tt
+  at_ok (ran is_fresh table commands old new session) P Q f p = f p
+  at_ok (run_stopped is_fresh table commands old new fault whole stop) P Q f p = tt
   at_ok (undid is_fresh table taken old new session) P Q f p = f p
   at_ok (undid_verified is_fresh table returned old new session) P Q f p = f p
   at_ok (undo_stopped is_fresh again table count old new fault whole stop) P Q f p = tt

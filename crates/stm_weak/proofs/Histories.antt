@@ -12,12 +12,12 @@ use Rattle.stm_journal.specs.Newest.{pages_of_segments}
 use Rattle.stm_journal.specs.States.{IsSound, StateData, intent_of}
 use Rattle.stm_session.specs.declared.fault.Fault.{Fault}
 use Rattle.stm_session.specs.Fault.{cause_of}
-use Rattle.stm_session.specs.Fresh.{Settles, undo_way}
+use Rattle.stm_session.specs.Fresh.{contact_way, undo_way}
 use Rattle.stm_session.specs.Meaning.{CommandData}
 use Rattle.stm_session.specs.Order.{Step, AreAllUndone, Begin, IsAfter, OrMisread, untold}
 use Rattle.stm_session.specs.Reaching.{IsConfirmedInPart, ReachesAndStops, ReachesInPart, StepsOf}
 use Rattle.stm_session.specs.Reaching.{confirming}
-use Rattle.stm_session.specs.RunOrder.{AreBegun, AreDoneSomehow, RunsInOrder}
+use Rattle.stm_session.specs.RunOrder.{AreBegun, AreDoneSomehow, RunsInOrderFrom}
 use Rattle.stm_session.specs.Undoable.{IsJournalOf, has_companion}
 use Rattle.stm_session.specs.UndoOrder.{AreUndoneInOrder, AreTakenWhole, BeginTaking, UndoDoes}
 use Rattle.stm_session.specs.Work.{pages_at_work, pages_of_intent}
@@ -40,15 +40,15 @@ WorkIs = (chip : ChipData) (s : StateData) → IsSound s → IsJournalOf chip s
 module _ (lengths : (set : Pairs) (address : ℕ) (bytes : List ℕ) → length
     (lay set address bytes) ≡ length bytes) (work_is : WorkIs) where
   -- runs
-  ran_leaves : (table : List ChipData) (commands : List CommandData) (old new : RigState)
-      (session : RunsInOrder table commands old new) (W : ℕ → Type 0)
+  ran_leaves : (is_fresh : Bool) (table : List ChipData) (commands : List CommandData) (old new : RigState)
+      (session : RunsInOrderFrom is_fresh table commands old new) (W : ℕ → Type 0)
       → AreAtWork (has_companion session.chip) W None
       → Leaves session.chip W None
-      (done_events None (Settles 0x7F 131072) session.chip.id session.journal.is_torn
+      (done_events None (contact_way is_fresh) session.chip.id session.journal.is_torn
       (IsAfter (confirming session.chip)
       (AreDoneSomehow commands session.chip session.journal.state))
       old new session.does)
-  ran_leaves table commands old new session W now =
+  ran_leaves is_fresh table commands old new session W now =
       let chip = session.chip in
       let does = session.does in
       let own = does.3.0 in
@@ -59,17 +59,17 @@ module _ (lengths : (set : Pairs) (address : ℕ) (bytes : List ℕ) → length
       (has_companion chip) commands done.0 session.journal.state done.1 own done.2))
       (λ W1 now1. free_none chip own W1 now1)
 
-  stopped_run : (table : List ChipData) (commands : List CommandData) (old new : RigState)
+  stopped_run : (is_fresh : Bool) (table : List ChipData) (commands : List CommandData) (old new : RigState)
       (fault : Fault) (whole : ℕ) (chip : ChipData) (l : Loaded)
-      (reached : ReachesAndStops (Settles 0x7F 131072) chip.id l.is_torn
+      (reached : ReachesAndStops (contact_way is_fresh) chip.id l.is_torn
       (IsConfirmedInPart chip (AreBegun fault chip commands l.state)) (cause_of fault) old new)
       (W : ℕ → Type 0) → AreAtWork (has_companion chip) W None
       → NoneBelieved chip (has_companion chip) W None
-      (stopped_events None whole (Settles 0x7F 131072) chip.id l.is_torn
+      (stopped_events None whole (contact_way is_fresh) chip.id l.is_torn
       (IsConfirmedInPart chip (AreBegun fault chip commands l.state))
       (cause_of fault) old new reached)
-  stopped_run table commands old new fault whole chip l reached W now =
-      stopped_believed chip W None whole (Settles 0x7F 131072) l.is_torn (cause_of fault)
+  stopped_run is_fresh table commands old new fault whole chip l reached W now =
+      stopped_believed chip W None whole (contact_way is_fresh) l.is_torn (cause_of fault)
       (AreBegun fault chip commands l.state) old new reached now
       (λ xs are. free_own chip xs (begun_free lengths chip
       (has_companion chip) fault commands l.state xs are))
@@ -139,30 +139,30 @@ module _ (lengths : (set : Pairs) (address : ℕ) (bytes : List ℕ) → length
 
   good : {R : Type 0} {view : R → RigState} (chip : ChipData) (W : ℕ → Type 0) (o : Option Intent)
       (deed : WeakDeed R view) → Finds chip o deed → Good W o deed chip
-  good {R = R} {view = view} chip W o (ran table commands old new session)
+  good {R = R} {view = view} chip W o (ran is_fresh table commands old new session)
       (same, intent, finished) =
-      let deed : WeakDeed R view = ran table commands old new session in
+      let deed : WeakDeed R view = ran is_fresh table commands old new session in
       let P : ChipData → Type 0 = λ c. Good W o deed c in
       let Q : Option Intent → Type 0 = λ i. Good W i deed session.chip in
       let none : None ≡ o = sym (no_intent session.journal.state finished) ∙ intent in
       subst P same
       (subst Q none
       (λ now.
-      (let leaves = ran_leaves table commands (view old) (view new) session W now in
+      (let leaves = ran_leaves is_fresh table commands (view old) (view new) session W now in
       (leaves.believed, leaves.none))))
-  good {R = R} {view = view} chip W o (run_stopped table commands old new fault whole
+  good {R = R} {view = view} chip W o (run_stopped is_fresh table commands old new fault whole
       (inl unreached)) finds =
       λ now. (tt, tt)
-  good {R = R} {view = view} chip W o (run_stopped table commands old new fault whole
+  good {R = R} {view = view} chip W o (run_stopped is_fresh table commands old new fault whole
       (inr session)) (same, intent, finished) =
-      let deed : WeakDeed R view = run_stopped table commands old new fault whole (inr session) in
+      let deed : WeakDeed R view = run_stopped is_fresh table commands old new fault whole (inr session) in
       let P : ChipData → Type 0 = λ c. Good W o deed c in
       let Q : Option Intent → Type 0 = λ i. Good W i deed session.chip in
       let none : None ≡ o = sym (no_intent session.journal.state finished) ∙ intent in
       subst P same
       (subst Q none
       (λ now. (
-        stopped_run table commands (view old) (view new) fault whole session.chip session.journal
+        stopped_run is_fresh table commands (view old) (view new) fault whole session.chip session.journal
             session.does W now,
         tt,
       )))

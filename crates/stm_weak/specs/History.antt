@@ -14,12 +14,12 @@ use Rattle.stm_session.specs.declared.fault.Fault.{Fault}
 use Rattle.stm_session.specs.declared.returned.Returned.{Returned}
 use Rattle.stm_session.specs.AskingBoard.{AnswersInOrder, AskingStops, AsksForBoard}
 use Rattle.stm_session.specs.Fault.{Cause, cause_of}
-use Rattle.stm_session.specs.Fresh.{Settles, Way, undo_way}
+use Rattle.stm_session.specs.Fresh.{Way, contact_way, undo_way}
 use Rattle.stm_session.specs.Meaning.{CommandData}
 use Rattle.stm_session.specs.Order.{Step, Adds, Sends, AreCutShort, IsAfter}
 use Rattle.stm_session.specs.Reaching.{ReachesAndDoes, ReachesAndStops}
 use Rattle.stm_session.specs.Reaching.{ReachesInPart, Session, SettlesThen, asking_steps}
-use Rattle.stm_session.specs.RunOrder.{RunStops, RunsInOrder}
+use Rattle.stm_session.specs.RunOrder.{RunStopsFrom, RunsInOrderFrom}
 use Rattle.stm_session.specs.Undoable.{IsJournalOf, has_companion}
 use Rattle.stm_session.specs.UndoOrder.{GivesBackInOrder, UndoStopsAs, UndoesInOrderFrom}
 use Rattle.stm_weak.specs.Believed.{NoneBelieved}
@@ -78,10 +78,11 @@ undo_events intent whole way id torn P cause old new (inr reached) =
 -- does before each other. Of one that was stopped so many lines of an append that failed stand. An
 -- undo that finds nothing to take back is one that was stopped before it did anything.
 pub data WeakDeed (R : Type 0) (view : R → RigState) : Type 0 where
-  ran : (table : List ChipData) (commands : List CommandData) (old new : R)
-      → RunsInOrder table commands (view old) (view new) → WeakDeed R view
-  run_stopped : (table : List ChipData) (commands : List CommandData) (old new : R) (fault : Fault)
-      (whole : ℕ) → RunStops table commands (view old) (view new) fault → WeakDeed R view
+  ran : (is_fresh : Bool) (table : List ChipData) (commands : List CommandData) (old new : R)
+      → RunsInOrderFrom is_fresh table commands (view old) (view new) → WeakDeed R view
+  run_stopped : (is_fresh : Bool) (table : List ChipData) (commands : List CommandData)
+      (old new : R) (fault : Fault) (whole : ℕ)
+      → RunStopsFrom is_fresh table commands (view old) (view new) fault → WeakDeed R view
   undid : (is_fresh : Bool) (table : List ChipData) (taken : ℕ) (old new : R)
       → UndoesInOrderFrom is_fresh table taken (view old) (view new) → WeakDeed R view
   undid_verified : (is_fresh : Bool) (table : List ChipData) (returned : Returned) (old new : R)
@@ -95,18 +96,20 @@ pub data WeakDeed (R : Type 0) (view : R → RigState) : Type 0 where
   asking_stopped : (is_fresh : Bool) (table : List ChipData) (old new : R) (fault : Fault)
       → AskingStops table is_fresh (view old) (view new) fault → WeakDeed R view
 
--- What befell the device in it. A run settles under no intent, with 7F, which changes no page. A
--- call that didn't reach the device, or was stopped before it had asked it, did no more than to
--- settle it. Of one that asks for the board no more is told: its frames change nothing, and read
--- where the board is told.
+-- What befell the device in it. A run settles under no intent, with 7F, which changes no page, and
+-- so it does where 7F connects the device. A call that didn't reach the device, or was stopped
+-- before it had asked it, did no more than to settle it. Of one that asks for the board no more is
+-- told: its frames change nothing, and read where the board is told.
 abbrev pub events_in : {R : Type 0} {view : R → RigState} → WeakDeed R view → List WeakEvent
-events_in {R = R} {view = view} (ran table commands old new session) =
-    done_events None (Settles 0x7F 131072) session.chip.id session.journal.is_torn _
+events_in {R = R} {view = view} (ran is_fresh table commands old new session) =
+    done_events None (contact_way is_fresh) session.chip.id session.journal.is_torn _
     (view old) (view new) session.does
-events_in {R = R} {view = view} (run_stopped table commands old new fault whole (inl unreached)) =
+events_in {R = R} {view = view}
+    (run_stopped is_fresh table commands old new fault whole (inl unreached)) =
     []
-events_in {R = R} {view = view} (run_stopped table commands old new fault whole (inr session)) =
-    stopped_events None whole (Settles 0x7F 131072) session.chip.id session.journal.is_torn _
+events_in {R = R} {view = view}
+    (run_stopped is_fresh table commands old new fault whole (inr session)) =
+    stopped_events None whole (contact_way is_fresh) session.chip.id session.journal.is_torn _
     (cause_of fault) (view old) (view new) session.does
 events_in {R = R} {view = view} (undid is_fresh table taken old new session) =
     let intent = intent_of session.journal.state in
@@ -144,9 +147,10 @@ UndoFinds chip intent session = (session.chip ≡ chip) × (intent_of session.jo
 
 abbrev pub Finds : {R : Type 0} {view : R → RigState} → ChipData → Option Intent → WeakDeed R view
     → Type 0
-Finds chip intent (ran table commands old new session) = RunFinds chip intent session
-Finds chip intent (run_stopped table commands old new fault whole (inl unreached)) = Unit {0}
-Finds chip intent (run_stopped table commands old new fault whole (inr session)) =
+Finds chip intent (ran is_fresh table commands old new session) = RunFinds chip intent session
+Finds chip intent (run_stopped is_fresh table commands old new fault whole (inl unreached)) =
+    Unit {0}
+Finds chip intent (run_stopped is_fresh table commands old new fault whole (inr session)) =
     RunFinds chip intent session
 Finds chip intent (undid is_fresh table taken old new session) = UndoFinds chip intent session
 Finds chip intent (undid_verified is_fresh table returned old new session) =
@@ -170,8 +174,8 @@ AllFind chip intent (deed ∷ deeds) =
 
 -- where a run or an undo answered Ok, this holds behind it
 abbrev pub AtOk : {R : Type 0} {view : R → RigState} → WeakDeed R view → Type 0 → Type 0
-AtOk (ran table commands old new session) P = P
-AtOk (run_stopped table commands old new fault whole stop) P = Unit {0}
+AtOk (ran is_fresh table commands old new session) P = P
+AtOk (run_stopped is_fresh table commands old new fault whole stop) P = Unit {0}
 AtOk (undid is_fresh table taken old new session) P = P
 AtOk (undid_verified is_fresh table returned old new session) P = P
 AtOk (undo_stopped is_fresh again table count old new fault whole stop) P = Unit {0}

@@ -1,3 +1,4 @@
+use Rattle.std.proofs.Common.{false}
 use Rattle.std.proofs.lemmas.Result.{IfErr-weaker, on_ok_weaker}
 use Rattle.stm_session.specs.Kept.{RunStopsKept}
 use Rattle.stm_session.specs.Meaning.{commands_in}
@@ -10,7 +11,7 @@ returns-clause-done g c =
     let commands = commands_in c.args.commands.now in
     let old = c.args.rig.now in
     let new = c.run.new.rig in
-    on_ok_weaker c.run.result (c.a_run_keeps_pages_before_it_changes_them.ensures.done table commands old new) c.run.ensures.order
+    on_ok_weaker c.run.result (c.a_run_keeps_pages_before_it_changes_them.ensures.done false table commands old new) c.run.ensures.order
 
 pub returns-clause-stopped : goal.returns-clause-stopped
 returns-clause-stopped g c =
@@ -19,4 +20,4 @@ returns-clause-stopped g c =
     let commands = commands_in c.args.commands.now in
     let old = c.args.rig.now in
     let new = c.run.new.rig in
-    IfErr-weaker c.run.result (RunStops table commands (V old) (V new)) (RunStopsKept table (V old) (V new)) (c.a_run_keeps_pages_before_it_changes_them.ensures.stopped table commands old new) c.run.ensures.stops
+    IfErr-weaker c.run.result (RunStops table commands (V old) (V new)) (RunStopsKept false table (V old) (V new)) (c.a_run_keeps_pages_before_it_changes_them.ensures.stopped false table commands old new) c.run.ensures.stops

@@ -3,10 +3,10 @@ use Rattle.stm_session.proofs.Foreign.{foreign_none, return_own, run_own, run_st
 use Rattle.stm_session.proofs.laws.a_session_changes_only_its_own_board.Goals as goal
 
 pub returns-clause-run : goal.returns-clause-run
-returns-clause-run g c table commands old new does = let V = g.R.Rig.view in run_own table commands (V old) (V new) does
+returns-clause-run g c is_fresh table commands old new does = let V = g.R.Rig.view in run_own is_fresh table commands (V old) (V new) does
 
 pub returns-clause-run_stops : goal.returns-clause-run_stops
-returns-clause-run_stops g c table commands old new fault stops = let V = g.R.Rig.view in run_stops_own table commands (V old) (V new) fault stops
+returns-clause-run_stops g c is_fresh table commands old new fault stops = let V = g.R.Rig.view in run_stops_own is_fresh table commands (V old) (V new) fault stops
 
 pub returns-clause-undo : goal.returns-clause-undo
 returns-clause-undo g c is_fresh table taken old new does = let V = g.R.Rig.view in undo_own is_fresh table taken (V old) (V new) does

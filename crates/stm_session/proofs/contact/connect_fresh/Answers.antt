@@ -2,7 +2,7 @@ use Rattle.std.proofs.Common.{[]}
 use Rattle.stm_session.proofs.Freshness.{connected_is_settled, settling_starts}
 use Rattle.stm_session.proofs.Unbegun.{settled_safely, stopped_safely}
 use Rattle.stm_session.proofs.Unprotections.{reset_is_ready}
-use Rattle.stm_session.proofs.unprotecting.connect_fresh.Goals as goal
+use Rattle.stm_session.proofs.contact.connect_fresh.Goals as goal
 
 pub returns-in_err-connect-clause-honest : goal.returns-in_err-connect-clause-honest
 returns-in_err-connect-clause-honest g c h is =
