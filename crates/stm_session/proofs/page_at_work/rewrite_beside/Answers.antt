@@ -1,4 +1,4 @@
-use Rattle.std.proofs.Common.{◌≡◌, ◌∷◌, [], List, ℕ, Ok, Result, true, refl, sym, subst}
+use Rattle.std.proofs.Common.{◌≡◌, ◌∷◌, [], List, ℕ, Ok, Result, refl, sym, subst}
 use Rattle.std.proofs.Common.{arith, append-nil}
 use Rattle.stm_journal.specs.States.{newest_keeps}
 use Rattle.stm_session.specs.declared.fault.Fault.{Fault}

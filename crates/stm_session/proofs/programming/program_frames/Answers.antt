@@ -6,7 +6,6 @@ use Rattle.stm_wire.specs.Chip.{with_page, erased_page}
 use Rattle.stm_session.proofs.Frames.{next_frame, written-none}
 use Rattle.stm_session.proofs.Going.{goes_nowhere, goes_ok, goes_failed}
 use Rattle.stm_session.proofs.Programmings.{written_before, chip_still, place_erased, under_next, write_next, flash_next}
-use Rattle.std.proofs.Common.{true}
 use Rattle.stm_wire.specs.Dialogue.{GoesOn}
 use Rattle.std.proofs.Common.{refl, subst}
 use Rattle.stm_wire.specs.lemmas.DialogueLaws.{GoesOn-nothing}

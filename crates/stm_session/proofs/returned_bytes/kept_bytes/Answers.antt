@@ -1,7 +1,6 @@
-use Rattle.std.proofs.Common.{◌≡◌, ◌+◌, ◌-◌, ◌<◌, ◌∙◌, ℕ, suc, length, sym, ap, arith}
-use Rattle.stm_journal.specs.Newest.{pages_of_segments}
+use Rattle.std.proofs.Common.{◌-◌, ◌<◌, ℕ, length, ap, arith}
 use Rattle.stm_session.specs.Refusal.{segment_pages}
-use Rattle.stm_session.specs.ReturnedBytes.{bytes_of_pages, kept_bytes}
+use Rattle.stm_session.specs.ReturnedBytes.{bytes_of_pages}
 use Rattle.stm_session.proofs.ReturnedBytes.{kept_more}
 use Rattle.stm_session.proofs.returned_bytes.kept_bytes.Goals as goal
 

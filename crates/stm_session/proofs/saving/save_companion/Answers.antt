@@ -1,4 +1,4 @@
-use Rattle.std.proofs.Common.{◌≡◌, ◌+◌, ◌∙◌, ◌∷◌, [], ◌++◌, List, ℕ, length, ap}
+use Rattle.std.proofs.Common.{◌≡◌, ◌∙◌, ◌∷◌, [], ◌++◌, List, ℕ, length, ap}
 use Rattle.std.proofs.Common.{refl, sym, rules}
 use Rattle.stm_wire.specs.Chip.{page_of, page_size}
 use Rattle.stm_wire.specs.Device.{Device}
