@@ -59,6 +59,7 @@ pub mod Misfitting
 pub mod Unread
 pub mod UndoStarts
 pub mod Undone
+pub mod SentReturns
 pub mod SentUndo
 pub mod Savings
 pub mod SentChanges

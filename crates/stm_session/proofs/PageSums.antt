@@ -1,21 +1,15 @@
 -- The pages that a segment keeps are no more than the flash.
-use Rattle.std.proofs.Common.{◌≡◌, ◌≢◌, ℕ, zero, suc, ◌+◌, ◌*◌, ◌<◌, ◌≤◌, Bool, true, false, ◌||◌, ◌==◌, List, [], ◌∷◌, length, take, set, get_or, Option, Some, None, refl, sym, ◌∙◌, ap, subst, arith}
-use Rattle.std.specs.Prelude.{slice_get, sum}
+use Rattle.std.proofs.Common.{◌≡◌, ◌≢◌, ℕ, ◌+◌, ◌<◌, ◌≤◌, Bool, true, false, ◌||◌, ◌==◌, List, [], ◌∷◌, length, set, get_or, refl, sym, ◌∙◌, subst, arith}
+use Rattle.std.specs.Prelude.{sum}
 use Rattle.std.specs.List.{list_any}
 use Rattle.std.proofs.lemmas.Bool.{false≢true, eq-eqb}
 use Rattle.std.proofs.lemmas.List.{length-set, get_or-set_other}
 use Rattle.std.proofs.lemmas.List.Sums.{sum_by-set}
-use Rattle.stm_wire.specs.Call.{Call}
-use Rattle.stm_wire.specs.Chip.{ChipData, flash_size, page_count, page_size, IsChip}
-use Rattle.stm_wire.specs.Dialogue.{GoesOn}
-use Rattle.stm_wire.specs.Parts.{IsPart}
-use Rattle.stm_wire.specs.lemmas.PartLaws.{part_longer}
+use Rattle.stm_wire.specs.Chip.{ChipData, flash_size, page_count}
 use Rattle.stm_journal.specs.declared.kept.Kept.{Kept}
 use Rattle.stm_journal.specs.Fits.{AllKeptFit}
 use Rattle.stm_journal.specs.lemmas.FitsLaws.{fits-exists}
 use Rattle.stm_journal.specs.States.{LacksPage, PagesOnce}
-use Rattle.stm_session.specs.Sending.{most_of_command}
-use Rattle.stm_session.proofs.SentParts.{part_after}
 
 -- how many bytes these pages have together, of a flash whose pages have these sizes
 abbrev sizes_of : List ℕ → List Kept → ℕ
@@ -59,41 +53,6 @@ within sizes (kept ∷ pages) (lacks, once) (lt, below) =
 abbrev pub kept_size : ChipData → List Kept → ℕ
 kept_size chip pages = sizes_of chip.sizes pages
 
--- one page more
-pub size_next : (chip : ChipData) (pages : List Kept) (i : ℕ) (kept : Kept) → slice_get pages i ≡ Some kept → kept_size chip (take (i + 1) pages) ≡ kept_size chip (take i pages) + page_size chip kept.page
-size_next chip pages i kept is = let one : suc i ≡ i + 1 = omega arith in ap (λ (m : ℕ). kept_size chip (take m pages)) (sym one) ∙ next pages i is
-  where
-    next : (pages : List Kept) (i : ℕ) → slice_get pages i ≡ Some kept → kept_size chip (take (suc i) pages) ≡ kept_size chip (take i pages) + page_size chip kept.page
-    next [] i is = absurd (let h : None ≡ Some kept = is in cc)
-    next (x ∷ pages) zero is =
-        let some : Some x ≡ Some kept = is in
-        let same : x ≡ kept = cc in
-        let size : get_or chip.sizes x.page 0 ≡ page_size chip kept.page = ap (λ (k : Kept). page_size chip k.page) same in
-        omega (arith, size)
-    next (x ∷ pages) (suc i) is = let h : kept_size chip (take (suc i) pages) ≡ kept_size chip (take i pages) + page_size chip kept.page = next pages i is in omega (arith, h)
-
--- some of the pages of a segment are no more than the flash
-pub kept_within : (chip : ChipData) (pages : List Kept) (i : ℕ) → PagesOnce pages → AllKeptFit chip pages → kept_size chip (take i pages) ≤ flash_size chip
-kept_within chip pages i once fit = let all = within chip.sizes pages once (are_below chip pages fit) in omega (arith, all, front pages i)
-  where
-    front : (pages : List Kept) (i : ℕ) → kept_size chip (take i pages) ≤ kept_size chip pages
-    front pages zero = omega arith
-    front [] (suc i) = omega arith
-    front (x ∷ pages) (suc i) = let h : kept_size chip (take i pages) ≤ kept_size chip pages = front pages i in omega (arith, h)
-
--- The pages of the newest segment are put back, one after another.
-module _ (chip : ChipData) (pages : List Kept) (once : PagesOnce pages) (fit : AllKeptFit chip pages) (limits : IsChip chip) (whole : Bool) where
-  pub pages_within : (i : ℕ) (a b : Option (List Call)) → GoesOn (IsPart (Some chip) whole (13 * kept_size chip (take i pages))) a b → GoesOn (IsPart (Some chip) whole most_of_command) a b
-  pages_within i a b p =
-      let some = kept_size chip (take i pages) in
-      let le : some ≤ flash_size chip = kept_within chip pages i once fit in
-      part_longer (Some chip) whole (13 * some) most_of_command a b (omega (arith, le, limits.size)) p
-
-  pub pages_next : (i : ℕ) (kept : Kept) (n : ℕ) (a b c : Option (List Call)) → slice_get pages i ≡ Some kept → kept.page ≡ n → GoesOn (IsPart (Some chip) true (13 * kept_size chip (take i pages))) a b
-      → GoesOn (IsPart (Some chip) whole (13 * page_size chip n)) b c → GoesOn (IsPart (Some chip) whole (13 * kept_size chip (take (i + 1) pages))) a c
-  pages_next i kept n a b c is number p q =
-      let now = kept_size chip (take i pages) in
-      let next = kept_size chip (take (i + 1) pages) in
-      let more : next ≡ now + page_size chip kept.page = size_next chip pages i kept is in
-      let size : page_size chip kept.page ≡ page_size chip n = ap (λ (m : ℕ). page_size chip m) number in
-      part_after (Some chip) whole (13 * now) (13 * page_size chip n) (13 * next) a b c (omega (arith, more, size)) p q
+-- the pages of a segment are no more than the flash
+pub kept_within : (chip : ChipData) (pages : List Kept) → PagesOnce pages → AllKeptFit chip pages → kept_size chip pages ≤ flash_size chip
+kept_within chip pages once fit = within chip.sizes pages once (are_below chip pages fit)

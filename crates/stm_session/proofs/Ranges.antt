@@ -42,14 +42,7 @@ bytes_at-more chip flash start done size low =
     take-add done size (drop (start - chip.base) flash)
     ∙ ap (λ rest. bytes_at chip flash start done ++ take size rest) (drop-drop done (start - chip.base) flash ∙ ap (λ n. drop n flash) from)
 
--- Bytes of one page are read in blocks of 256, but for the last.
-pub record IsReadInPage (chip : ChipData) (size done : ℕ) (old new : RigState) : Type 0 where
-  pub most : ℕ
-  pub within : most ≤ 12 + 2 * done
-  pub blocks : done < size → most ≤ 2 * done
-  pub parts : GoesOn (IsPart (Some chip) true most) old.calls new.calls
-
--- those blocks are read, rising
+-- blocks of 256 bytes are read, rising
 pub record AreBlocksRead (start done : ℕ) (bytes : List ℕ) (torn : Bool) (old new : RigState) : Type 0 where
   pub blocks : ℕ
   pub is : done ≡ 256 * blocks
@@ -63,7 +56,6 @@ pub record IsReadSoFar (chip : ChipData) (start size done : ℕ) (bytes : List �
   pub journal : new.journal_failures ≡ old.journal_failures
   pub stays : old.is_honest → new.is_honest
   pub parts : GoesOn (IsPart (Some chip) true (13 * done)) old.calls new.calls
-  pub few : (page : ℕ) → InPage chip page start size → IsReadInPage chip size done old new
   pub reads : OnlyReads chip (ComeInBlocks start bytes) old new
   pub order : (page : ℕ) → InPage chip page start size → size % 256 ≡ 0 → (torn : Bool) → AreBlocksRead start done bytes torn old new
   pub honest : old.is_honest → IsSettled old.device → old.device.chip ≡ chip
@@ -118,23 +110,6 @@ rest_of_page chip page address rest here low high is = by_order (cases_order is.
     by_order (inl same) = is.ends ∙ ap (λ (p : ℕ). chip.base + page_offset chip p + page_size chip p) same
     by_order (inr (inl lt)) = absurd (omega (arith, is.ends, is.some, low, page_end chip.sizes is.page page lt is.exists))
     by_order (inr (inr gt)) = absurd (omega (arith, is.begins, high, page_end chip.sizes page is.page gt here))
-
-module _ (chip : ChipData) (start size done block page : ℕ) (old mid new : RigState) (more : done < size) (so_far : IsReadInPage chip size done old mid) (is : IsBlock chip (start + done) (size - done) block)
-    (within : InPage chip page start size) (reads : (page : ℕ) → InPage chip page (start + done) block → GoesOn (IsPart (Some chip) true (12 + block)) mid.calls new.calls) where
-  in_page : (page : ℕ) × InPage chip page (start + done) block
-  in_page = block_in_page chip (start + done) (size - done) block is
-
-  left : start + done + is.rest ≡ chip.base + page_offset chip page + page_size chip page
-  left = rest_of_page chip page (start + done) is.rest within.exists (omega (arith, within.begins)) (omega (arith, within.ends, more)) is.is_rest
-
-  pub block_in_few : IsReadInPage chip size (done + block) old new
-  block_in_few =
-      record {
-        most = so_far.most + (12 + block);
-        within = omega (arith, so_far.blocks more);
-        blocks = λ (lt : done + block < size). omega (arith, so_far.blocks more, lt, is.cut, left, within.ends);
-        parts = parts_join (Some chip) true so_far.most (12 + block) old.calls mid.calls new.calls so_far.parts (reads in_page.0 in_page.1);
-      }
 
 -- one block of 256 bytes more
 module _ (chip : ChipData) (start size done block page : ℕ) (torn : Bool) (bytes : List ℕ) (old mid new : RigState) (more : done < size) (so_far : AreBlocksRead start done bytes torn old mid) (is : IsBlock chip (start + done) (size - done) block)

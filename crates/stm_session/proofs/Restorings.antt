@@ -1,27 +1,21 @@
 -- The steps and lines by which a page is given other bytes, or none where it holds them.
-use Rattle.std.proofs.Common.{◌≡◌, ◌∙◌, ◌+◌, ◌-◌, ◌*◌, ◌/◌, ◌<◌, ◌++◌, [], List, ℕ, Bool, true}
-use Rattle.std.proofs.Common.{false, if◌then◌else◌, length, take, drop, Some, Result, ap, ap₂, sym, arith}
-use Rattle.std.specs.Prelude.{OnOk, bytes_eq}
-use Rattle.stm_wire.specs.Chip.{ChipData, erased_byte, page_count, page_of, page_offset, page_size}
-use Rattle.stm_wire.specs.Dialogue.{GoesOn}
-use Rattle.stm_wire.specs.Parts.{IsPart}
+use Rattle.std.proofs.Common.{◌≡◌, ◌∙◌, ◌+◌, ◌-◌, ◌/◌, ◌++◌, [], List, ℕ, Bool, true}
+use Rattle.std.proofs.Common.{false, if◌then◌else◌, length, take, drop, ap, ap₂, sym, arith}
+use Rattle.std.specs.Prelude.{bytes_eq}
+use Rattle.stm_wire.specs.Chip.{ChipData, erased_byte, page_of, page_offset, page_size}
 use Rattle.stm_wire.specs.Rig.{RigState}
 use Rattle.stm_chip.specs.Plan.{frames_of}
 use Rattle.stm_journal.specs.declared.entry.Entry.{Entry}
 use Rattle.stm_journal.specs.declared.kept.Kept.{Kept}
 use Rattle.stm_journal.specs.Journals.{Loaded}
-use Rattle.stm_session.specs.declared.fault.Fault.{Fault}
 use Rattle.stm_session.specs.ChangeOrder.{IsChanged, IsChangedUnless}
 use Rattle.stm_session.specs.Changing.{change_entries}
 use Rattle.stm_session.specs.Lines.{rewrite_entries, return_entries}
-use Rattle.stm_session.specs.Order.{Step, Are, Begin, DoesSteps, Follows, FaultEnds, give_back_steps}
+use Rattle.stm_session.specs.Order.{Step, Are, Begin, DoesSteps, Follows, give_back_steps}
 use Rattle.stm_session.specs.Order.{rewrite_steps}
 use Rattle.stm_session.specs.Running.{bytes_at}
-use Rattle.stm_session.specs.Sending.{is_whole}
 use Rattle.stm_session.proofs.CutShort.{begin_as}
 use Rattle.stm_session.proofs.Orders.{does_as}
-use Rattle.stm_session.proofs.SentChanges.{put_rewritten}
-use Rattle.stm_session.proofs.SentSteps.{PutFew, put_as, put_front, put_none, steps_put}
 
 -- A page that is kept is changed by the steps that give it back,
 module _ (chip : ChipData) (n : ℕ) (held page : List ℕ) where
@@ -45,30 +39,6 @@ module _ (chip : ChipData) (n : ℕ) (held page : List ℕ) where
   pub kept_begun : (steps : List Step) → Begin (IsChanged true chip n held page) steps
       → Begin (Are (give_back_steps chip n held page)) steps
   kept_begun = begin_as (IsChanged true chip n held page) _ kept_steps
-
-  -- which put few bytes,
-  pub kept_puts : {T : Type 0} (l l2 : Loaded) (a b : RigState) (result : Result T Fault)
-      → n < page_count chip → length page ≡ page_size chip n
-      → OnOk result (Follows (IsChanged true chip n held page) l l2 a b)
-      → FaultEnds (Begin (IsChanged true chip n held page)) l.is_torn a b result
-      → GoesOn (IsPart (Some chip) (is_whole result) (9 + 2 * length page)) a.calls b.calls
-  kept_puts l l2 a b result exists size =
-      let Made = IsChanged true chip n held page in
-      let most = 9 + 2 * length page in
-      steps_put chip most (λ _. Made) (Begin Made) l l2 a b result (λ _. few)
-      (λ xs begun. put_front chip most xs begun.0 (few (xs ++ begun.0) begun.1))
-    where
-      by_same : (same : Bool) → PutFew chip (9 + 2 * length page) (if same then []
-          else rewrite_steps chip n page (frames_of (erased_byte chip) page (length page / 256)))
-      by_same true = put_none chip (9 + 2 * length page)
-      by_same false = put_rewritten chip n page exists size
-
-      few : (xs : List Step) → IsChanged true chip n held page xs
-          → PutFew chip (9 + 2 * length page) xs
-      few xs made =
-          let most = 9 + 2 * length page in
-          put_as chip most most _ xs (omega arith) (kept_steps xs made)
-          (by_same (bytes_eq held page))
 
   -- and by its lines.
   pub kept_lines : (flash : List ℕ) → held ≡ page_of chip flash n

@@ -7,7 +7,6 @@ use Rattle.stm_wire.specs.Frames.{read_turns}
 use Rattle.stm_wire.specs.Intents.{InPage}
 use Rattle.stm_wire.specs.SentList.{erase, read, write}
 use Rattle.stm_chip.specs.declared.plan.Frame.{Frame}
-use Rattle.stm_chip.specs.Plan.{AreFrames}
 use Rattle.stm_session.specs.Order.{Sends, erase_steps, page_address, page_reads, program_steps, read_steps, write_steps}
 use Rattle.stm_session.proofs.KeptSteps.{AreInside, bytes_inside}
 use Rattle.stm_session.proofs.SentSteps.{PutFew, put_as, put_none, put_then}
@@ -56,12 +55,3 @@ module _ (chip : ChipData) (n : ℕ) (exists : n < page_count chip) where
 
   pub put_erase : PutFew chip 9 (erase_steps chip n)
   put_erase = record { sent = (erase chip n refl exists (erase_sends chip.kind n), tt); few = omega (arith, length-erase_turns chip.kind n) }
-
--- frames of a plan lie in its page
-pub planned_inside : (from size : ℕ) (frames : List Frame) → AreFrames from size frames → AreInside size frames
-planned_inside from size [] are = tt
-planned_inside from size (f ∷ frames) (is, are) = ((is.inside, is.some, is.limit), planned_inside (f.offset + 256) size frames are)
-
-pub planned_few : (from size : ℕ) (frames : List Frame) → from ≤ size → AreFrames from size frames → from + 256 * length frames ≤ size
-planned_few from size [] le are = omega (arith, le)
-planned_few from size (f ∷ frames) le (is, are) = omega (arith, is.after, planned_few (f.offset + 256) size frames is.inside are)

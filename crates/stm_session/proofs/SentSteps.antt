@@ -14,7 +14,7 @@ use Rattle.stm_wire.specs.SentList.{IsFrame}
 use Rattle.stm_journal.specs.Journals.{Loaded, added_bytes}
 use Rattle.stm_session.specs.declared.fault.Fault.{Fault}
 use Rattle.stm_session.specs.Fault.{Cause, cause_of, of_line, of_protocol, of_file, of_memory, of_session, of_refusal}
-use Rattle.stm_session.specs.Order.{Step, Adds, Are, Begin, Sends, AreCutShort, DoesSteps, StepFailsBy, Follows, IsInOrder, FaultEnds, StopsBy, acts_of, acts_of_steps, step_in, torn_behind}
+use Rattle.stm_session.specs.Order.{Step, Adds, Sends, AreCutShort, DoesSteps, StepFailsBy, Follows, IsInOrder, FaultEnds, StopsBy, acts_of, acts_of_steps, step_in, torn_behind}
 use Rattle.stm_session.specs.Sending.{is_whole, is_whole_at, leaves_whole}
 
 -- how many calls their frames are
@@ -33,17 +33,17 @@ pub record PutFew (chip : ChipData) (most : ℕ) (steps : List Step) : Type 0 wh
   pub sent : AreSent chip steps
   pub few : count_of steps ≤ most
 
-sent_then : (chip : ChipData) (xs ys : List Step) → AreSent chip xs → AreSent chip ys → AreSent chip (xs ++ ys)
+pub sent_then : (chip : ChipData) (xs ys : List Step) → AreSent chip xs → AreSent chip ys → AreSent chip (xs ++ ys)
 sent_then chip [] ys p q = q
 sent_then chip (Adds entries ∷ xs) ys p q = sent_then chip xs ys p q
 sent_then chip (Sends turns ∷ xs) ys (first, p) q = (first, sent_then chip xs ys p q)
 
-sent_parts : (chip : ChipData) (xs ys : List Step) → AreSent chip (xs ++ ys) → AreSent chip xs × AreSent chip ys
+pub sent_parts : (chip : ChipData) (xs ys : List Step) → AreSent chip (xs ++ ys) → AreSent chip xs × AreSent chip ys
 sent_parts chip [] ys p = (tt, p)
 sent_parts chip (Adds entries ∷ xs) ys p = sent_parts chip xs ys p
 sent_parts chip (Sends turns ∷ xs) ys (first, p) = let parts = sent_parts chip xs ys p in ((first, parts.0), parts.1)
 
-count-append : (xs ys : List Step) → count_of (xs ++ ys) ≡ count_of xs + count_of ys
+pub count-append : (xs ys : List Step) → count_of (xs ++ ys) ≡ count_of xs + count_of ys
 count-append [] ys = omega arith
 count-append (Adds entries ∷ xs) ys = count-append xs ys
 count-append (Sends turns ∷ xs) ys = omega (arith, count-append xs ys)
@@ -161,10 +161,6 @@ pub stopped_puts : (chip : ChipData) (most : ℕ) (Q : List Step → Type 0) (e 
 stopped_puts chip most Q e torn a b few stops =
     GoesOn-weaker (λ calls. AreCutShort Q (cause_of e) torn (acts_of calls)) (IsPart (Some chip) (is_whole_at e) most) a.calls b.calls stops
     (λ calls short. acts_part (Some chip) (is_whole_at e) most calls (cut_part chip (cause_of e) torn most Q (acts_of calls) few short))
-
-pub begun_puts : (chip : ChipData) (most : ℕ) (steps : List Step) (e : Fault) (torn : Bool) (a b : RigState) → PutFew chip most steps → StopsBy (Begin (Are steps)) (cause_of e) torn a b
-    → GoesOn (IsPart (Some chip) (is_whole_at e) most) a.calls b.calls
-begun_puts chip most steps e torn a b few = stopped_puts chip most (Begin (Are steps)) e torn a b (λ xs begun. put_front chip most xs begun.0 (put_as chip most most steps (xs ++ begun.0) (omega arith) begun.1 few))
 
 -- by the answer.
 pub steps_put : {T : Type 0} (chip : ChipData) (most : ℕ) (P : T → List Step → Type 0) (Q : List Step → Type 0) (l l2 : Loaded) (a b : RigState) (result : Result T Fault)

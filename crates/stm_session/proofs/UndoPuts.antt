@@ -1,12 +1,10 @@
 -- The newest segment is taken back: its pages are put back one after another, and then it is gone.
-use Rattle.std.proofs.Common.{◌≡◌, ◌⊎◌, inl, inr, ℕ, suc, ◌+◌, ◌*◌, ◌<◌, ◌≤◌, ◌/◌, Bool, true, false, if◌then◌else◌, List, [], ◌∷◌, ◌++◌, length, get_or, take, drop, Some, Result, Ok, Err, IsErrAnd, refl, sym, ◌∙◌, ap, subst, arith, IsTrue}
+use Rattle.std.proofs.Common.{◌≡◌, ◌⊎◌, inl, inr, ℕ, suc, ◌+◌, ◌<◌, ◌≤◌, ◌/◌, Bool, true, false, if◌then◌else◌, List, [], ◌∷◌, ◌++◌, length, get_or, take, drop, Some, Result, Ok, Err, IsErrAnd, refl, sym, ◌∙◌, ap, subst, arith, IsTrue}
 use Rattle.std.specs.Prelude.{slice_get, bytes_eq, OnOk}
 use Rattle.stm_wire.specs.Chip.{ChipData, erased_byte, flash_size, page_of, with_page}
 use Rattle.stm_wire.specs.Device.{Device, IsSettled}
-use Rattle.stm_wire.specs.Dialogue.{GoesOn}
 use Rattle.stm_wire.specs.lemmas.MomentLaws.{joined, weaker}
 use Rattle.stm_wire.specs.Moments.{LeavesOnly}
-use Rattle.stm_wire.specs.Parts.{IsPart}
 use Rattle.stm_wire.specs.Rig.{RigState, IsModel, LeftByAppend}
 use Rattle.stm_chip.specs.declared.plan.Frame.{Frame}
 use Rattle.stm_chip.specs.Plan.{frames_of}
@@ -34,7 +32,6 @@ use Rattle.stm_session.specs.SegmentUndo.{AmidSegmentUndo, UndoesSegment, newest
 use Rattle.stm_session.specs.Undoable.{newest_kept, state_at}
 use Rattle.stm_session.proofs.Going.{at_exit, goes_as, goes_failed, goes_ok, goes_then, stands_later, stands_more}
 use Rattle.stm_session.proofs.Keeping.{depth_text, good_at, keeps_undone, unfinished_is}
-use Rattle.stm_session.proofs.PageSums.{kept_size}
 use Rattle.stm_session.proofs.Returns.{entry_newest, kept_in_text, lines_all, lines_by, lines_next, newest_fits, newest_once, page_until, pages_next}
 use Rattle.stm_session.proofs.Standing.{journal_outside, loses_nothing, makes_then, same_make, settled_undoable}
 use Rattle.stm_session.proofs.Texts.{adds_then, intents_then, lines_later}
@@ -61,7 +58,6 @@ pub record IsGivenBackSoFar (again : Bool) (chip : ChipData) (Told : Tells) (i :
   pub line : new.line_failures ≡ old.line_failures
   pub journal : new.journal_failures ≡ old.journal_failures
   pub stays : old.is_honest → new.is_honest
-  pub puts : GoesOn (IsPart (Some chip) true (13 * kept_size chip (take i (newest_kept l.state.stack)))) old.calls new.calls
   pub order : Follows (AreGivenBack again chip Told (take i (newest_kept l.state.stack))) l l2 old new
   pub honest : (flashes : List (List ℕ)) → IsSteady flashes l old → old.device.chip ≡ chip
       → Goes {T = Unit {0}} flashes (give_back_lines chip old.device.flash (take i (newest_at old.journal))) l2 old new (Ok tt)

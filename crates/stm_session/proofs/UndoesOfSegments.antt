@@ -1,12 +1,10 @@
 -- Segments are taken back, one after another.
-use Rattle.std.proofs.Common.{Bool, ◌≡◌, inl, inr, ℕ, zero, suc, ◌+◌, ◌*◌, ◌<◌, ◌≤◌, true, Some, List, [], ◌∷◌, ◌++◌, length, take, drop, get_or, Result, Ok, Err, IsErrAnd, refl, sym, ◌∙◌, ap, ap₂, subst, arith, append_assoc}
+use Rattle.std.proofs.Common.{Bool, ◌≡◌, inl, inr, ℕ, zero, suc, ◌+◌, ◌<◌, ◌≤◌, List, [], ◌∷◌, ◌++◌, length, take, drop, get_or, Result, Ok, Err, IsErrAnd, refl, sym, ◌∙◌, ap, ap₂, subst, arith, append_assoc}
 use Rattle.std.proofs.lemmas.List.{length-map, length-drop, drop-drop}
 use Rattle.stm_wire.specs.Chip.{ChipData}
 use Rattle.stm_wire.specs.Device.{Device}
-use Rattle.stm_wire.specs.Dialogue.{GoesOn}
 use Rattle.stm_wire.specs.lemmas.MomentLaws.{joined, weaker}
 use Rattle.stm_wire.specs.Moments.{LeavesOnly}
-use Rattle.stm_wire.specs.Parts.{IsPart}
 use Rattle.stm_wire.specs.Rig.{RigState, IsModel}
 use Rattle.stm_journal.specs.declared.entry.Entry.{Entry}
 use Rattle.stm_journal.specs.declared.entry.Entry.TheVariants.{Undoes}
@@ -21,7 +19,6 @@ use Rattle.stm_session.specs.Fault.{IsOutsideFault}
 use Rattle.stm_session.specs.SegmentsUndo.{AmidNewest, UndoesNewest, going_lines}
 use Rattle.stm_session.specs.Lines.{is_torn_at, text_added, taken_entries}
 use Rattle.stm_session.specs.Order.{Follows, AreSegmentsUndone, Tells}
-use Rattle.stm_session.specs.Sending.{most_of_command}
 use Rattle.stm_session.specs.StepLaws.{StepLaws}
 use Rattle.stm_session.specs.Steps.{IsSteady, Stands, torn_after}
 use Rattle.stm_session.specs.SegmentUndo.{AmidSegmentUndo, UndoesSegment, give_back_lines, taking_lines}
@@ -254,6 +251,5 @@ pub record IsBackSoFar (again : Bool) (chip : ChipData) (Told : Tells) (i : ℕ)
   pub line : new.line_failures ≡ old.line_failures
   pub journal : new.journal_failures ≡ old.journal_failures
   pub stays : old.is_honest → new.is_honest
-  pub puts : GoesOn (IsPart (Some chip) true (i * most_of_command)) old.calls new.calls
   pub order : Follows (AreSegmentsUndone again chip Told i (pages_of_segments l.state.stack)) l l2 old new
   pub honest : (flashes : List (List ℕ)) → IsSteady flashes l old → old.device.chip ≡ chip → UndoesNewest {T = Unit {0}} i flashes l2 old new (Ok tt)

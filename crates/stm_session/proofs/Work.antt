@@ -179,13 +179,18 @@ both_within chip n = by_page (cases_eq n 1)
         let most : (if n == 1 then 3 * page_size chip 257 else 0) ≡ 0 = ap (λ (b : Bool). if b then 3 * page_size chip 257 else 0) (ne_eqb n 1 other) in
         omega (arith, most, page_within chip.sizes n)
 
+-- a page that the newest segment keeps is one of the chip's
+pub newest_exists : (chip : ChipData) (stack : List SegmentData) (n : ℕ) → AllFit chip stack → newest_has (λ segment. keeps segment n) stack ≡ true → n < page_count chip
+newest_exists chip [] n fits h = absurd (false≢true h)
+newest_exists chip (segment ∷ below) n fits h =
+    let r = found segment.pages n h in
+    let P : ℕ → Type 0 = λ m. m < page_count chip in
+    subst P r.4 (fits-exists chip r.0 (fits_line chip segment.pages r.1 r.0 fits.0 r.3))
+
 -- in a journal of a chip page 257 is at work with page 1 where the chip has it
 has_one : (chip : ChipData) (stack : List SegmentData) → AllFit chip stack → newest_has (λ segment. keeps segment 257) stack ≡ true → has_companion chip ≡ true
-has_one chip [] fits h = absurd (false≢true h)
-has_one chip (segment ∷ below) fits h =
-    let r = found segment.pages 257 h in
-    let P : ℕ → Type 0 = λ m. m < page_count chip in
-    let many : 257 < page_count chip = subst P r.4 (fits-exists chip r.0 (fits_line chip segment.pages r.1 r.0 fits.0 r.3)) in
+has_one chip stack fits h =
+    let many : 257 < page_count chip = newest_exists chip stack 257 fits h in
     grind (arith, nat_tests)
 
 pub work_by_chip : (chip : ChipData) (s : StateData) → IsSound s → IsJournalOf chip s → pages_at_work s.stack ≡ pages_of_intent (intent_of s) (has_companion chip)

@@ -1,5 +1,5 @@
 // The pages at work, which aren't believed: they are written before any other.
-ghost use Rattle.std.specs.Prelude.{◌≡◌, ◌<◌, ◌*◌, ◌==◌, [], ◌∷◌, List, ℕ, Some, OnOk};
+ghost use Rattle.std.specs.Prelude.{◌≡◌, ◌<◌, [], ◌∷◌, List, ℕ, Some, OnOk};
 ghost use Rattle.std.specs.Prelude.{IsTrue, if◌then◌else◌};
 ghost use Rattle.stm_wire.specs.Chip.{page_count, page_size, with_page};
 ghost use Rattle.stm_journal.specs.declared.kept.Kept.{Kept};
@@ -15,7 +15,6 @@ ghost use Rattle.stm_session.specs.Told.{ToldIn};
 ghost use Rattle.stm_session.specs.Undoable.{state_at};
 ghost use Rattle.stm_session.specs.Work.{beside, kept_at_work, kept_of, pages_at_work};
 ghost use Rattle.stm_session.specs.Work.{with_work};
-ghost use Rattle.stm_session.specs.Sending.{PutsAtMost};
 
 use crate::Fault;
 use crate::laws_of_steps::step_laws;
@@ -51,8 +50,6 @@ fn rewrite_line<R: Rig>(
     requires size { place.length ≡ page_size chip.now n }
     ensures same { OnOk result (KeepsSame journal.old.state journal.new.state) }
     ensures cause { HasSessionCause (R.view rig.old) (R.view rig.new) result }
-    ensures puts { let old = R.view rig.old in let new = R.view rig.new in
-        PutsAtMost chip.now (3 * page_size chip.now n) old new result }
     ensures order { let old = R.view rig.old in let new = R.view rig.new in
         let Told = ToldIn R.view journal.old.is_torn old new in
         OnOk result (Follows (IsRewritten chip.now Told n) journal.old journal.new old new) }
@@ -88,8 +85,6 @@ fn rewrite_newest<R: Rig>(
     requires kept { IsTrue (newest_keeps n journal.old.state) }
     ensures same { OnOk result (KeepsSame journal.old.state journal.new.state) }
     ensures cause { HasSessionCause (R.view rig.old) (R.view rig.new) result }
-    ensures puts { let old = R.view rig.old in let new = R.view rig.new in
-        PutsAtMost chip.now (3 * page_size chip.now n) old new result }
     ensures order { let old = R.view rig.old in let new = R.view rig.new in
         let Told = ToldIn R.view journal.old.is_torn old new in
         OnOk result (Follows (IsRewritten chip.now Told n) journal.old journal.new old new) }
@@ -123,9 +118,6 @@ fn rewrite_beside<R: Rig>(
     requires fits { AllFit chip.now journal.old.state.stack }
     ensures same { OnOk result (KeepsSame journal.old.state journal.new.state) }
     ensures cause { HasSessionCause (R.view rig.old) (R.view rig.new) result }
-    ensures puts { let old = R.view rig.old in let new = R.view rig.new in
-        let most = if n == 1 then 3 * page_size chip.now 257 else 0 in
-        PutsAtMost chip.now most old new result }
     ensures order { let old = R.view rig.old in let new = R.view rig.new in
         let Told = ToldIn R.view journal.old.is_torn old new in
         let pages = beside n (newest_keeps 257 journal.old.state) in
@@ -166,7 +158,6 @@ pub fn rewrite_at_work<R: Rig>(
     requires fits { AllFit chip.now journal.old.state.stack }
     ensures same { OnOk result (KeepsSame journal.old.state journal.new.state) }
     ensures cause { HasSessionCause (R.view rig.old) (R.view rig.new) result }
-    ensures puts { PutsAtMost chip.now (3 * 2097152) (R.view rig.old) (R.view rig.new) result }
     ensures order { let old = R.view rig.old in let new = R.view rig.new in
         let Told = ToldIn R.view journal.old.is_torn old new in
         let Rewritten = AreRewritten chip.now Told (pages_at_work journal.old.state.stack) in
@@ -183,7 +174,6 @@ pub fn rewrite_at_work<R: Rig>(
         (λ _. new.device.flash ≡ with_work chip.now kept old.device.flash) }
 {
     step_laws();
-    chip.keeps_limits();
     let _depth = journal.depth();
     let Some(intent) = journal.last_intent() else {
         return Ok(());

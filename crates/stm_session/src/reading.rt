@@ -1,5 +1,5 @@
 // Reads any part of the flash, in calls that the bootloader takes.
-ghost use Rattle.std.specs.Prelude.{◌≡◌, ℕ, Bool, ◌+◌, ◌-◌, ◌*◌, ◌/◌, ◌%◌, ◌∷◌, [], ◌<◌, ◌≤◌, ◌||◌};
+ghost use Rattle.std.specs.Prelude.{◌≡◌, ℕ, Bool, ◌+◌, ◌-◌, ◌/◌, ◌%◌, ◌<◌, ◌≤◌, ◌||◌};
 ghost use Rattle.std.specs.Prelude.{◌==◌, ◌++◌, IsTrue, IfErr, IfOk, OnOk, length, vec_len};
 ghost use Rattle.std.specs.Prelude.{List};
 ghost use Rattle.std.specs.List.{AllByRecursion};
@@ -155,10 +155,6 @@ pub fn read_range<R: Rig>(
     requires { IsTrue (size == 0 || fits_inside chip.now start size) }
     ensures size { IfOk result (λ bytes. vec_len bytes ≡ size) }
     ensures puts { PutsAtMost chip.now most_of_command (R.view rig.old) (R.view rig.new) result }
-    // Bytes of one page are read in blocks of 256, but for the last.
-    ensures few { let old = R.view rig.old in let new = R.view rig.new in
-        (page : ℕ) → InPage chip.now page start size
-        → PutsAtMost chip.now (12 + 2 * size) old new result }
     ensures order { let old = R.view rig.old in let new = R.view rig.new in
         (page : ℕ) → InPage chip.now page start size → size % 256 ≡ 0 → (torn : Bool)
         → IfOk result (λ bytes. let steps = read_steps start (size / 256) bytes.items in

@@ -1,5 +1,5 @@
 // Reading a page again behind its return.
-ghost use Rattle.std.specs.Prelude.{◌≡◌, ◌<◌, ◌+◌, ◌*◌, [], List, ℕ, Bool, ⊤, length, bytes_eq};
+ghost use Rattle.std.specs.Prelude.{◌≡◌, ◌<◌, [], List, ℕ, Bool, ⊤, length, bytes_eq};
 ghost use Rattle.std.specs.Prelude.{if◌then◌else◌, OnOk, IsTrue};
 ghost use Rattle.stm_wire.specs.Chip.{page_count, page_size, page_of, with_page};
 ghost use Rattle.stm_wire.specs.Device.{IsSettled};
@@ -12,7 +12,6 @@ ghost use Rattle.stm_session.specs.Lines.{rewrite_entries};
 ghost use Rattle.stm_session.specs.Order.{Are, AreReadsOf, Begin, DoesSteps, IsInOrder, OrMisread};
 ghost use Rattle.stm_session.specs.Order.{FaultEnds, page_address, page_reads, return_steps};
 ghost use Rattle.stm_session.specs.Steps.{IsSteady, Goes};
-ghost use Rattle.stm_session.specs.Sending.{PutsAtMost};
 
 use crate::Fault;
 use crate::changing::change_page;
@@ -40,8 +39,6 @@ fn read_again<R: Rig>(
     requires exists { n < page_count chip.now }
     requires size { length page.now ≡ page_size chip.now n }
     ensures cause { HasSessionCause (R.view rig.old) (R.view rig.new) result }
-    ensures puts { let old = R.view rig.old in let new = R.view rig.new in
-        PutsAtMost chip.now (12 + 2 * length page.now) old new result }
     // At Ok just its bytes came.
     ensures order { let old = R.view rig.old in let new = R.view rig.new in
         (torn : Bool) → OnOk result
@@ -81,8 +78,6 @@ pub fn return_page<R: Rig>(
     requires kept { IsTrue (newest_keeps n journal.old.state) }
     ensures same { OnOk result (KeepsSame journal.old.state journal.new.state) }
     ensures cause { HasSessionCause (R.view rig.old) (R.view rig.new) result }
-    ensures puts { let old = R.view rig.old in let new = R.view rig.new in
-        PutsAtMost chip.now (21 + 4 * length page.now) old new result }
     ensures order { let old = R.view rig.old in let new = R.view rig.new in
         let steps = return_steps again chip.now n held.now page.now in
         OnOk result (DoesSteps steps journal.old journal.new old new) }

@@ -1,5 +1,5 @@
 // Giving back what the newest segment keeps.
-ghost use Rattle.std.specs.Prelude.{◌≡◌, ◌<◌, ◌*◌, List, ℕ, Some, OnOk, IsTrue};
+ghost use Rattle.std.specs.Prelude.{◌≡◌, ◌<◌, List, ℕ, Some, OnOk, IsTrue};
 ghost use Rattle.stm_wire.specs.Chip.{page_count, page_size, with_page};
 ghost use Rattle.stm_journal.specs.declared.kept.Kept.{Kept};
 ghost use Rattle.stm_journal.specs.States.{newest_keeps};
@@ -11,7 +11,6 @@ ghost use Rattle.stm_session.specs.Order.{BeginTold, Follows, IsGivenBack, OrMis
 ghost use Rattle.stm_session.specs.Steps.{IsSteady, Goes};
 ghost use Rattle.stm_session.specs.Told.{ToldIn};
 ghost use Rattle.stm_session.specs.Undoable.{state_at};
-ghost use Rattle.stm_session.specs.Sending.{PutsAtMost};
 
 use crate::Fault;
 use crate::laws_of_steps::step_laws;
@@ -38,8 +37,6 @@ pub fn give_back_line<R: Rig>(
     requires size { place.length ≡ page_size chip.now n }
     ensures same { OnOk result (KeepsSame journal.old.state journal.new.state) }
     ensures cause { HasSessionCause (R.view rig.old) (R.view rig.new) result }
-    ensures puts { let old = R.view rig.old in let new = R.view rig.new in
-        PutsAtMost chip.now (13 * page_size chip.now n) old new result }
     ensures order { let old = R.view rig.old in let new = R.view rig.new in
         let Told = ToldIn R.view journal.old.is_torn old new in
         OnOk result (Follows (IsGivenBack again chip.now Told n) journal.old journal.new old new) }

@@ -1,5 +1,5 @@
 // Giving a page that the journal keeps new bytes.
-ghost use Rattle.std.specs.Prelude.{◌≡◌, ◌≢◌, ◌<◌, ◌≤◌, ◌+◌, ◌*◌, ◌∷◌, List, ℕ, length, OnOk};
+ghost use Rattle.std.specs.Prelude.{◌≡◌, ◌≢◌, ◌<◌, ◌∷◌, List, ℕ, length, OnOk};
 ghost use Rattle.std.specs.Prelude.{IsTrue, IfErr};
 ghost use Rattle.stm_wire.specs.Chip.{page_count, page_size, with_page, erased_page};
 ghost use Rattle.stm_chip.specs.Plan.{AreFrames, written};
@@ -10,7 +10,6 @@ ghost use Rattle.stm_session.specs.Fault.{HasSessionCause};
 ghost use Rattle.stm_session.specs.Lines.{program_entries};
 ghost use Rattle.stm_session.specs.Order.{Are, Begin, DoesSteps, FaultEnds, rewrite_steps};
 ghost use Rattle.stm_session.specs.Steps.{IsSteady, Goes};
-ghost use Rattle.stm_session.specs.Sending.{PutsAtMost};
 
 use crate::Fault;
 use crate::erasing::erase_kept;
@@ -39,8 +38,6 @@ pub fn rewrite_kept<R: Rig>(
         (newest_is_open journal.new.state ≡ newest_is_open journal.old.state) }
     ensures cause { HasSessionCause (R.view rig.old) (R.view rig.new) result }
     ensures named { IfErr result (λ fault. fault ≢ Fault.Unfinished) }
-    ensures puts { let old = R.view rig.old in let new = R.view rig.new in
-        PutsAtMost chip.now (9 + 2 * length page.now) old new result }
     ensures order { let old = R.view rig.old in let new = R.view rig.new in
         let steps = rewrite_steps chip.now n page.now frames.now in
         OnOk result (DoesSteps steps journal.old journal.new old new) }

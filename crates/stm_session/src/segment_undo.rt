@@ -7,7 +7,6 @@ ghost use Rattle.stm_session.specs.Order.{BeginTold, Follows, AreGivenBack, IsSe
 ghost use Rattle.stm_session.specs.Order.{OrMisread, FaultEnds};
 ghost use Rattle.stm_session.specs.Told.{ToldIn};
 ghost use Rattle.stm_session.specs.Undoable.{newest_kept};
-ghost use Rattle.stm_session.specs.Sending.{PutsAtMost, most_of_command};
 ghost use Rattle.stm_session.specs.Steps.{IsSteady, Goes};
 ghost use Rattle.stm_session.specs.SegmentUndo.{UndoesSegment, newest_at, give_back_lines, taking_lines};
 ghost use Rattle.stm_session.specs.SegmentUndo.{with_pages};
@@ -31,7 +30,6 @@ pub fn give_back_segment<R: Rig>(
     requires fits { AllFit chip.now journal.old.state.stack }
     ensures same { OnOk result (KeepsSame journal.old.state journal.new.state) }
     ensures cause { HasSessionCause (R.view rig.old) (R.view rig.new) result }
-    ensures puts { PutsAtMost chip.now most_of_command (R.view rig.old) (R.view rig.new) result }
     ensures order { let old = R.view rig.old in let new = R.view rig.new in
         let pages = newest_kept journal.old.state.stack in
         let Told = ToldIn R.view journal.old.is_torn old new in
@@ -49,7 +47,6 @@ pub fn give_back_segment<R: Rig>(
         (λ _. new.device.flash ≡ with_pages chip.now pages old.device.flash) }
 {
     step_laws();
-    chip.keeps_limits();
     let newest = journal.depth();
     let count = journal.kept_count(newest);
     for i in 0..count {
@@ -77,7 +74,6 @@ pub fn undo_segment<R: Rig>(
     ensures rest { let pages = pages_of_segments journal.old.state.stack in
         OnOk result (pages_of_segments journal.new.state.stack ≡ drop 1 pages) }
     ensures cause { HasSessionCause (R.view rig.old) (R.view rig.new) result }
-    ensures puts { PutsAtMost chip.now most_of_command (R.view rig.old) (R.view rig.new) result }
     ensures order { let old = R.view rig.old in let new = R.view rig.new in
         let stack = journal.old.state.stack in
         let Told = ToldIn R.view journal.old.is_torn old new in

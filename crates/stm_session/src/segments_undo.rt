@@ -1,5 +1,5 @@
 // Taking the newest segments back, one after another, and before them the pages at work.
-ghost use Rattle.std.specs.Prelude.{◌≡◌, ◌≤◌, ◌+◌, ◌*◌, List, ℕ, length, OnOk};
+ghost use Rattle.std.specs.Prelude.{◌≡◌, ◌≤◌, ◌+◌, List, ℕ, length, OnOk};
 ghost use Rattle.stm_journal.specs.Fits.{AllFit};
 ghost use Rattle.stm_journal.specs.Newest.{pages_of_segments};
 ghost use Rattle.stm_session.specs.Fault.{HasSessionCause};
@@ -8,7 +8,7 @@ ghost use Rattle.stm_session.specs.Order.{BeginTold, Follows, AreAllUndone, AreS
 ghost use Rattle.stm_session.specs.Order.{IsAfter, OrMisread, FaultEnds};
 ghost use Rattle.stm_session.specs.Reaching.{IsConfirmedInPart, confirming};
 ghost use Rattle.stm_session.specs.Told.{ToldIn, behind_confirming};
-ghost use Rattle.stm_session.specs.Sending.{PutsAtMost, most_of_command, most_of_confirming};
+ghost use Rattle.stm_session.specs.Sending.{PutsAtMost, most_of_confirming};
 ghost use Rattle.stm_session.specs.Sending.{most_of_undo};
 ghost use Rattle.stm_session.specs.Steps.{IsSteady};
 ghost use Rattle.stm_session.specs.Work.{pages_at_work};
@@ -34,9 +34,6 @@ pub fn undo_newest<R: Rig>(
     requires some { taken ≤ length journal.old.state.stack }
     requires fits { AllFit chip.now journal.old.state.stack }
     ensures cause { HasSessionCause (R.view rig.old) (R.view rig.new) result }
-    ensures puts { let old = R.view rig.old in let new = R.view rig.new in
-        let most = taken * most_of_command in
-        PutsAtMost chip.now most old new result }
     ensures order { let old = R.view rig.old in let new = R.view rig.new in
         let segments = pages_of_segments journal.old.state.stack in
         let Told = ToldIn R.view journal.old.is_torn old new in
@@ -72,9 +69,6 @@ pub fn undo_settled<R: Rig>(
     requires some { taken ≤ length journal.old.state.stack }
     requires fits { AllFit chip.now journal.old.state.stack }
     ensures cause { HasSessionCause (R.view rig.old) (R.view rig.new) result }
-    ensures puts { let old = R.view rig.old in let new = R.view rig.new in
-        let most = most_of_undo taken in
-        PutsAtMost chip.now most old new result }
     ensures order { let old = R.view rig.old in let new = R.view rig.new in
         let work = pages_at_work journal.old.state.stack in
         let segments = pages_of_segments journal.old.state.stack in
@@ -132,6 +126,8 @@ pub fn undo_confirmed<R: Rig>(
         → UndoesBy (undo_lines taken old) taken flashes journal.new old new result }
 {
     step_laws();
+    chip.keeps_limits();
+    let _depth = journal.depth();
     confirm(rig, chip)?;
     undo_settled(alloc, rig, journal, chip, taken, again)?;
     Ok(())

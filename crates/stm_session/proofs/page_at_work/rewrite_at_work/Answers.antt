@@ -1,7 +1,6 @@
-use Rattle.std.proofs.Common.{◌≡◌, ◌∙◌, ◌+◌, ◌*◌, ◌≤◌, ◌==◌, ◌++◌, ◌∷◌, [], List, ℕ, Result, Some}
-use Rattle.std.proofs.Common.{None, Ok, true, refl, sym, ap, subst, arith, if◌then◌else◌}
+use Rattle.std.proofs.Common.{◌≡◌, ◌∙◌, ◌++◌, ◌∷◌, [], List, ℕ, Result}
+use Rattle.std.proofs.Common.{None, Ok, refl, sym, ap, subst}
 use Rattle.stm_wire.specs.Call.{Call}
-use Rattle.stm_wire.specs.Chip.{page_size}
 use Rattle.stm_journal.specs.States.{intent_of, newest_keeps}
 use Rattle.stm_session.specs.declared.fault.Fault.{Fault}
 use Rattle.stm_session.specs.Fault.{cause_of}
@@ -18,12 +17,11 @@ use Rattle.stm_session.proofs.Going.{at_exit, goes_as, goes_failed, goes_nowhere
 use Rattle.stm_session.proofs.GoingAll.{work_intends}
 use Rattle.stm_session.proofs.Keeping.{keeps_text}
 use Rattle.stm_session.proofs.Orders.{does_then}
-use Rattle.stm_session.proofs.SentParts.{part_after, part_fails, part_fails_after}
 use Rattle.stm_session.proofs.Settlings.{intent_text}
 use Rattle.stm_session.proofs.Tellings.{rewritten_as, work_as}
 use Rattle.stm_session.proofs.ToldPages.{told_on, told_then}
 use Rattle.stm_session.proofs.UndoOrders.{first_begun, others_begun}
-use Rattle.stm_session.proofs.Work.{both_within, no_pages, work-flash, work-lines, work_kept}
+use Rattle.stm_session.proofs.Work.{no_pages, work-flash, work-lines, work_kept}
 use Rattle.stm_session.proofs.Work.{work_pages}
 use Rattle.stm_session.proofs.page_at_work.rewrite_at_work.Given as given
 use Rattle.stm_session.proofs.page_at_work.rewrite_at_work.Goals as goal
@@ -145,35 +143,6 @@ returns-clause-honest g c flashes steady chip =
     (V c.rewrite_beside.new.rig) _ (tt {0})
     (rewritten g last flashes steady chip _ (c.in_ok-rewrite_beside.ensures.honest flashes))
     (λ p. p)
-
-pub returns-in_err-rewrite_newest-clause-puts : goal.returns-in_err-rewrite_newest-clause-puts
-returns-in_err-rewrite_newest-clause-puts g c =
-    let V = g.R.Rig.view in
-    let chip = c.args.chip.now in
-    let size = page_size chip c.intent_page-n.result in
-    let most : 3 * size ≤ 6291456 = omega (arith, both_within chip c.intent_page-n.result, c.keeps_limits.ensures.chip.size) in
-    part_fails (Some chip) (3 * size) 6291456 (V c.args.rig.now).calls (V c.rewrite_newest.new.rig).calls _ c.from_residual.result most c.from_residual.ensures.1 c.in_err-rewrite_newest.ensures.puts
-
-pub returns-in_err-rewrite_beside-clause-puts : goal.returns-in_err-rewrite_beside-clause-puts
-returns-in_err-rewrite_beside-clause-puts g c =
-    let V = g.R.Rig.view in
-    let chip = c.args.chip.now in
-    let n = c.intent_page-n.result in
-    let size = page_size chip n in
-    let other : ℕ = if n == 1 then 3 * page_size chip 257 else 0 in
-    let most : 3 * size + other ≤ 6291456 = omega (arith, both_within chip n, c.keeps_limits.ensures.chip.size) in
-    part_fails_after (Some chip) (3 * size) other 6291456 (V c.args.rig.now).calls (V c.rewrite_newest.new.rig).calls (V c.rewrite_beside.new.rig).calls _ c.from_residual-in_err-rewrite_beside.result most
-    c.from_residual-in_err-rewrite_beside.ensures.1 c.in_ok-rewrite_newest.ensures.puts c.in_err-rewrite_beside.ensures.puts
-
-pub returns-clause-puts : goal.returns-clause-puts
-returns-clause-puts g c =
-    let V = g.R.Rig.view in
-    let chip = c.args.chip.now in
-    let n = c.intent_page-n.result in
-    let size = page_size chip n in
-    let other : ℕ = if n == 1 then 3 * page_size chip 257 else 0 in
-    let most : 3 * size + other ≤ 6291456 = omega (arith, both_within chip n, c.keeps_limits.ensures.chip.size) in
-    part_after (Some chip) true (3 * size) other 6291456 (V c.args.rig.now).calls (V c.rewrite_newest.new.rig).calls (V c.rewrite_beside.new.rig).calls most c.in_ok-rewrite_newest.ensures.puts c.in_ok-rewrite_beside.ensures.puts
 
 pub returns-clause-order : goal.returns-clause-order
 returns-clause-order g c =

@@ -1,9 +1,8 @@
-use Rattle.std.proofs.Common.{◌≡◌, ◌∙◌, ◌+◌, ◌*◌, ◌/◌, ◌≤◌, ◌++◌, ◌∷◌, [], List, ℕ, Result, Some}
-use Rattle.std.proofs.Common.{true, length, take, drop, subst, sym, ap, ap₂, arith, rules}
+use Rattle.std.proofs.Common.{◌≡◌, ◌∙◌, ◌/◌, ◌++◌, ◌∷◌, [], List, ℕ, Result, Some}
+use Rattle.std.proofs.Common.{length, take, drop, subst, sym, ap, ap₂, arith, rules}
 use Rattle.std.proofs.Math.Seq.{take-append_seam}
 use Rattle.stm_wire.specs.Chip.{erased_byte, page_size, with_page}
 use Rattle.stm_wire.specs.Device.{Device}
-use Rattle.stm_wire.specs.lemmas.PartLaws.{nothing_is_part}
 use Rattle.stm_journal.specs.KeptPlaces.{kept_entry, place_of}
 use Rattle.stm_journal.specs.declared.kept.Kept.{Kept}
 use Rattle.stm_chip.specs.declared.plan.Frame.{Frame}
@@ -25,7 +24,6 @@ use Rattle.stm_session.proofs.Fetchings.{fetch_goes, fetch_fails}
 use Rattle.stm_session.proofs.Going.{goes_as, goes_nowhere, goes_ok, goes_refused, goes_then}
 use Rattle.stm_session.proofs.Keeping.{good_at}
 use Rattle.stm_session.proofs.Orders.{does_fetch, does_then}
-use Rattle.stm_session.proofs.SentParts.{fetch_part, part_after, part_fails_after}
 use Rattle.stm_session.proofs.CutShort.{begin_as, memory_stops, then_stops}
 use Rattle.stm_session.proofs.Orders.{does_nothing}
 use Rattle.stm_session.proofs.ToldPages.{some_calls}
@@ -39,13 +37,6 @@ use Rattle.stm_session.proofs.page_at_work.rewrite_line.Goals.{After-rewrite_kep
 page_size_is : (g : given.Over) (c : goal.After-rewrite_kept g)
     → length c.deref-2.result.now ≡ page_size c.args.chip.now c.args.n
 page_size_is g c = search rules
-
--- what is put fits
-fits : (g : given.Over) (c : goal.After-rewrite_kept g)
-    → 0 + (9 + 2 * length c.deref-2.result.now) ≤ 3 * page_size c.args.chip.now c.args.n
-fits g c =
-    let many = page_size_is g c in
-    omega (arith, many, c.page_size-size.ensures.bytes, c.page_size-size.ensures.blocks.0)
 
 -- it gets what was fetched
 page_same : (g : given.Over) (c : goal.After-rewrite_kept g)
@@ -182,43 +173,6 @@ returns-clause-honest g c flashes k i kept steady chip entry place number =
     c.rewrite_kept.new.journal (V c.args.rig.now) (V c.rewrite_kept.new.rig) _ (tt {0})
     (rewritten g last flashes k i kept steady chip entry place number _
     (c.in_ok-rewrite_kept.ensures.honest flashes)) (λ p. p)
-
-pub returns-in_err-page-clause-puts : goal.returns-in_err-page-clause-puts
-returns-in_err-page-clause-puts g c = nothing_is_part (Some c.args.chip.now) _ (3 * page_size c.args.chip.now c.args.n) (g.R.Rig.view c.args.rig.now).calls
-
-pub returns-in_err-fetch_page-clause-puts : goal.returns-in_err-fetch_page-clause-puts
-returns-in_err-fetch_page-clause-puts g c =
-    let V = g.R.Rig.view in
-    fetch_part (Some c.args.chip.now) _ (3 * page_size c.args.chip.now c.args.n) (V c.args.rig.now).calls (V c.fetch_page.new.rig).calls c.in_err-fetch_page.ensures.calls
-
-pub returns-in_err-frames-clause-puts : goal.returns-in_err-frames-clause-puts
-returns-in_err-frames-clause-puts g c =
-    let V = g.R.Rig.view in
-    fetch_part (Some c.args.chip.now) _ (3 * page_size c.args.chip.now c.args.n) (V c.args.rig.now).calls (V c.fetch_page.new.rig).calls c.in_ok-fetch_page.ensures.calls
-
-pub returns-in_err-rewrite_kept-clause-puts : goal.returns-in_err-rewrite_kept-clause-puts
-returns-in_err-rewrite_kept-clause-puts g c =
-    let V = g.R.Rig.view in
-    let chip = Some c.args.chip.now in
-    let a = (V c.args.rig.now).calls in
-    let b = (V c.fetch_page.new.rig).calls in
-    let most = fits g (goal.at.returns-in_err-rewrite_kept-clause-puts g c).After-rewrite_kept in
-    part_fails_after chip 0 (9 + 2 * length c.deref-2.result.now)
-    (3 * page_size c.args.chip.now c.args.n) a b (V c.rewrite_kept.new.rig).calls _
-    c.from_residual-in_err-rewrite_kept.result most c.from_residual-in_err-rewrite_kept.ensures.1
-    (fetch_part chip true 0 a b c.in_ok-fetch_page.ensures.calls)
-    c.in_err-rewrite_kept.ensures.puts
-
-pub returns-clause-puts : goal.returns-clause-puts
-returns-clause-puts g c =
-    let V = g.R.Rig.view in
-    let chip = Some c.args.chip.now in
-    let a = (V c.args.rig.now).calls in
-    let b = (V c.fetch_page.new.rig).calls in
-    let most = fits g (goal.at.returns-clause-puts g c).After-rewrite_kept in
-    part_after chip true 0 (9 + 2 * length c.deref-2.result.now)
-    (3 * page_size c.args.chip.now c.args.n) a b (V c.rewrite_kept.new.rig).calls most
-    (fetch_part chip true 0 a b c.in_ok-fetch_page.ensures.calls) c.in_ok-rewrite_kept.ensures.puts
 
 pub returns-clause-order : goal.returns-clause-order
 returns-clause-order g c =

@@ -16,10 +16,9 @@ use Rattle.stm_session.proofs.CutShort.{by_fault, memory_stops, reads_begin}
 use Rattle.stm_wire.specs.Parts.{IsPart}
 use Rattle.stm_wire.specs.lemmas.PartLaws.{nothing_is_part, part_longer}
 use Rattle.stm_session.specs.Sending.{is_whole, most_of_command}
-use Rattle.stm_session.proofs.Sending.{block_in_page, same_fault}
-use Rattle.stm_session.proofs.Ranges.{block_in_few, block_part, block_read, block_stop, blocks_all, blocks_more, blocks_stop}
+use Rattle.stm_session.proofs.Sending.{same_fault}
+use Rattle.stm_session.proofs.Ranges.{block_part, block_read, block_stop, blocks_all, blocks_more, blocks_stop}
 use Rattle.stm_session.proofs.RunOrders.{reads_nothing}
-use Rattle.stm_session.proofs.SentParts.{part_fails_after}
 use Rattle.stm_session.proofs.reading.read_range.Goals as goal
 
 pub returns-in_err-bytes-clause-honest : goal.returns-in_err-bytes-clause-honest
@@ -38,7 +37,6 @@ loop-done-init g c =
         journal = refl;
         stays = λ h. h;
         parts = nothing_is_part (Some c.args.chip.now) true 0 (V c.args.rig.now).calls;
-        few = λ page within. record { most = 0; within = omega arith; blocks = λ lt. omega arith; parts = nothing_is_part (Some c.args.chip.now) true 0 (V c.args.rig.now).calls };
         reads = reads_nothing c.args.chip.now (ComeInBlocks c.args.start c.in_ok-bytes.bytes.items) (V c.args.rig.now) c.in_ok-bytes.ensures.items;
         order = λ page within even torn. record { blocks = 0; is = refl; many = omega (arith, c.in_ok-bytes.ensures.len); steps = GoesOn-nothing (IsInOrder torn []) (V c.args.rig.now).calls refl };
         honest = λ h settled chip. nothing_asked c.sending_is_harmless.ensures.asking (V c.args.rig.now) (tt {0}) _ h (g.met.R.Rig.model c.args.rig.now h) settled c.in_ok-bytes.ensures.items;
@@ -58,9 +56,6 @@ loop-done-preserved g c =
         stays = λ h. c.in_ok-read_block.ensures.cause.honest (so_far.stays h);
         parts = block_part c.args.chip.now c.args.start c.args.size c.loop-done.done c.block_size-block.result c.loop-done.bytes.items (V c.args.rig.now) (V c.loop-done.rig) (V c.read_block.new.rig) true
             c.loop-done-test.true so_far c.block_size-block.ensures c.in_ok-read_block.ensures.puts;
-        few = λ page within.
-            block_in_few c.args.chip.now c.args.start c.args.size c.loop-done.done c.block_size-block.result page (V c.args.rig.now) (V c.loop-done.rig) (V c.read_block.new.rig)
-            c.loop-done-test.true (so_far.few page within) c.block_size-block.ensures within c.in_ok-read_block.ensures.puts;
         reads =
             let start = c.args.start in
             let address = c.args.start + c.loop-done.done in
@@ -126,27 +121,6 @@ returns-clause-puts g c =
     let so_far = c.loop-done.invariant.1 in
     let limit : c.args.size ≤ 2097152 = size-limit c.args.chip.now c.args.start c.args.size c.keeps_limits.ensures.chip c.requires in
     part_longer (Some c.args.chip.now) true (13 * c.loop-done.done) most_of_command (V c.args.rig.now).calls (V c.loop-done.rig).calls (omega (arith, limit, so_far.within)) so_far.parts
-
-pub returns-in_err-bytes-clause-few : goal.returns-in_err-bytes-clause-few
-returns-in_err-bytes-clause-few g c page within = nothing_is_part (Some c.args.chip.now) (is_whole c.from_residual.result) (12 + 2 * c.args.size) (g.R.Rig.view c.args.rig.now).calls
-
-pub returns-in_err-read_block-clause-few : goal.returns-in_err-read_block-clause-few
-returns-in_err-read_block-clause-few g c page within =
-    let V = g.R.Rig.view in
-    let chip = c.args.chip.now in
-    let done = c.loop-done.done in
-    let block = c.block_size-block.result in
-    let so_far = c.loop-done.invariant.1.few page within in
-    let here = block_in_page chip (c.args.start + done) (c.args.size - done) block c.block_size-block.ensures in
-    let last = so_far.blocks c.loop-done-test.true in
-    part_fails_after (Some chip) so_far.most (12 + block) (12 + 2 * c.args.size) (V c.args.rig.now).calls (V c.loop-done.rig).calls (V c.read_block.new.rig).calls _ c.from_residual-in_err-read_block.result
-    (omega (arith, last, c.loop-done-test.true, c.block_size-block.ensures.cut)) c.from_residual-in_err-read_block.ensures.1 so_far.parts (c.in_err-read_block.ensures.puts here.0 here.1)
-
-pub returns-clause-few : goal.returns-clause-few
-returns-clause-few g c page within =
-    let V = g.R.Rig.view in
-    let so_far = c.loop-done.invariant.1.few page within in
-    part_longer (Some c.args.chip.now) true so_far.most (12 + 2 * c.args.size) (V c.args.rig.now).calls (V c.loop-done.rig).calls (omega (arith, so_far.within, c.loop-done.invariant.1.within)) so_far.parts
 
 pub returns-clause-order : goal.returns-clause-order
 returns-clause-order g c page within even torn =

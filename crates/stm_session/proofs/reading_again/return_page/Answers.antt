@@ -1,10 +1,7 @@
-use Rattle.std.proofs.Common.{◌≡◌, ◌∙◌, ◌+◌, ◌*◌, ◌++◌, if◌then◌else◌, [], List, ℕ, Bool, Some, Ok, Err, true, false, length, ap, append-nil, refl, sym, subst, arith, rules}
+use Rattle.std.proofs.Common.{◌≡◌, ◌∙◌, ◌++◌, if◌then◌else◌, [], List, ℕ, Bool, Ok, true, false, ap, append-nil, refl, sym, subst, rules}
 use Rattle.std.specs.Prelude.{bytes_eq}
 use Rattle.stm_wire.specs.Chip.{page_of, with_page}
 use Rattle.stm_wire.specs.Device.{Device}
-use Rattle.stm_wire.specs.Dialogue.{GoesOn}
-use Rattle.stm_wire.specs.Parts.{IsPart}
-use Rattle.stm_wire.specs.lemmas.PartLaws.{part_weaker}
 use Rattle.stm_session.specs.ChangeOrder.{IsChanged}
 use Rattle.stm_session.specs.Lines.{rewrite_entries}
 use Rattle.stm_session.specs.Order.{Are, AreReadsOf, Begin, DoesSteps, OrMisread, page_address, page_reads, give_back_steps, return_steps}
@@ -15,9 +12,8 @@ use Rattle.stm_session.proofs.Exits.{goes_fault}
 use Rattle.stm_session.proofs.Going.{asks_fail, asks_on, at_exit, goes_as, goes_ok, goes_then}
 use Rattle.stm_session.proofs.Misreads.{may_be, may_misread}
 use Rattle.stm_session.proofs.Orders.{does_as, does_then}
-use Rattle.stm_session.proofs.Restorings.{kept_begun, kept_does, kept_lines, kept_puts}
+use Rattle.stm_session.proofs.Restorings.{kept_begun, kept_does, kept_lines}
 use Rattle.stm_session.proofs.Rereadings.{holds_put, restore_begun, return_is, return_whole}
-use Rattle.stm_session.proofs.SentParts.{part_after, part_fails, part_fails_after}
 use Rattle.stm_session.proofs.reading_again.return_page.Given as given
 use Rattle.stm_session.proofs.reading_again.return_page.Goals as goal
 use Rattle.stm_session.proofs.reading_again.return_page.Goals.{After-read_again}
@@ -40,16 +36,6 @@ first g c flashes steady chip read =
     (kept_lines c.args.chip.now c.args.n c.args.held.now c.args.page.now a.device.flash read)
     (goes_ok flashes _ l2 a b _ (tt {0})
     (c.in_ok-change_page.ensures.performs.honest flashes steady (chip, read)) (λ p. p))
-
--- what it put
-gave : (g : given.Over) (c : After-read_again g)
-    → GoesOn (IsPart (Some c.args.chip.now) true (9 + 2 * length c.args.page.now))
-    (g.R.Rig.view c.args.rig.now).calls (g.R.Rig.view c.change_page.new.rig).calls
-gave g c =
-    kept_puts c.args.chip.now c.args.n c.args.held.now c.args.page.now c.args.journal.now
-    c.change_page.new.journal (g.R.Rig.view c.args.rig.now) (g.R.Rig.view c.change_page.new.rig)
-    (Ok c.in_ok-change_page.field-0) c.requires.exists c.requires.size
-    c.in_ok-change_page.ensures.performs.order tt
 
 -- and did
 given_back : (g : given.Over) (c : After-read_again g)
@@ -97,16 +83,6 @@ returns-in_err-change_page-clause-honest g c flashes steady chip read =
     (c.in_err-change_page.ensures.performs.honest flashes steady (chip, read))
     c.from_residual.ensures.1)
 
-pub returns-in_err-change_page-clause-puts : goal.returns-in_err-change_page-clause-puts
-returns-in_err-change_page-clause-puts g c =
-    let V = g.R.Rig.view in
-    let size = length c.args.page.now in
-    part_fails (Some c.args.chip.now) (9 + 2 * size) (21 + 4 * size) (V c.args.rig.now).calls (V c.change_page.new.rig).calls _ c.from_residual.result (omega arith) c.from_residual.ensures.1
-    (kept_puts c.args.chip.now c.args.n c.args.held.now c.args.page.now {T = Bool}
-    c.args.journal.now c.change_page.new.journal (V c.args.rig.now) (V c.change_page.new.rig)
-    (Err c.in_err-change_page.field-0.0) c.requires.exists c.requires.size tt
-    c.in_err-change_page.ensures.performs.stops)
-
 pub returns-in_err-change_page-clause-stops : goal.returns-in_err-change_page-clause-stops
 returns-in_err-change_page-clause-stops g c =
     let V = g.R.Rig.view in
@@ -131,16 +107,6 @@ returns-then-not-again-clause-honest g c flashes steady chip read =
     (goes_ok flashes _ l2 a b _ (tt {0})
     (c.in_ok-change_page.ensures.performs.honest flashes steady (chip, read)) (λ p. p))
 
-pub returns-then-not-again-clause-puts : goal.returns-then-not-again-clause-puts
-returns-then-not-again-clause-puts g c =
-    let V = g.R.Rig.view in
-    let size = length c.args.page.now in
-    part_weaker (Some c.args.chip.now) true (9 + 2 * size) (21 + 4 * size) (V c.args.rig.now).calls (V c.change_page.new.rig).calls (omega arith)
-    (kept_puts c.args.chip.now c.args.n c.args.held.now c.args.page.now c.args.journal.now
-    c.change_page.new.journal (V c.args.rig.now) (V c.change_page.new.rig)
-    (Ok c.in_ok-change_page.field-0) c.requires.exists c.requires.size
-    c.in_ok-change_page.ensures.performs.order tt)
-
 pub returns-then-not-again-clause-order : goal.returns-then-not-again-clause-order
 returns-then-not-again-clause-order g c =
     let V = g.R.Rig.view in
@@ -150,23 +116,6 @@ returns-then-not-again-clause-order g c =
     (kept_does c.args.chip.now c.args.n c.args.held.now c.args.page.now c.args.journal.now
     c.change_page.new.journal (V c.args.rig.now) (V c.change_page.new.rig)
     c.in_ok-change_page.ensures.performs.order)
-
-pub returns-in_err-read_again-clause-puts : goal.returns-in_err-read_again-clause-puts
-returns-in_err-read_again-clause-puts g c =
-    let V = g.R.Rig.view in
-    let size = length c.args.page.now in
-    part_fails_after (Some c.args.chip.now) (9 + 2 * size) (12 + 2 * size) (21 + 4 * size) (V c.args.rig.now).calls (V c.change_page.new.rig).calls (V c.read_again.new.rig).calls _ c.from_residual-in_err-read_again.result
-    (omega arith) c.from_residual-in_err-read_again.ensures.1
-    (gave g (goal.at.returns-in_err-read_again-clause-puts g c).After-read_again)
-    c.in_err-read_again.ensures.puts
-
-pub returns-clause-puts : goal.returns-clause-puts
-returns-clause-puts g c =
-    let V = g.R.Rig.view in
-    let size = length c.args.page.now in
-    part_after (Some c.args.chip.now) true (9 + 2 * size) (12 + 2 * size) (21 + 4 * size) (V c.args.rig.now).calls (V c.change_page.new.rig).calls (V c.read_again.new.rig).calls
-    (omega arith) (gave g (goal.at.returns-clause-puts g c).After-read_again)
-    c.in_ok-read_again.ensures.puts
 
 pub returns-in_err-read_again-clause-stops : goal.returns-in_err-read_again-clause-stops
 returns-in_err-read_again-clause-stops g c =

@@ -1,13 +1,11 @@
-use Rattle.std.proofs.Common.{◌≡◌, ◌∙◌, ◌+◌, ◌*◌, ◌≤◌, ◌++◌, if◌then◌else◌, [], List, ℕ, Result}
-use Rattle.std.proofs.Common.{Some, Ok, true, length, take, drop, ap, ap₂, append-nil, refl, sym}
+use Rattle.std.proofs.Common.{◌≡◌, ◌∙◌, ◌++◌, if◌then◌else◌, [], List, ℕ, Result}
+use Rattle.std.proofs.Common.{Some, Ok, length, take, drop, ap, ap₂, append-nil, refl, sym}
 use Rattle.std.proofs.Common.{subst, arith, rules}
 use Rattle.std.proofs.Math.Seq.{take-append_seam}
 use Rattle.std.specs.Prelude.{bytes_eq}
 use Rattle.stm_wire.specs.Chip.{page_of, page_size, with_page}
 use Rattle.stm_wire.specs.Device.{Device}
 use Rattle.stm_wire.specs.Dialogue.{GoesOn}
-use Rattle.stm_wire.specs.lemmas.PartLaws.{part_weaker}
-use Rattle.stm_wire.specs.Parts.{IsPart}
 use Rattle.stm_wire.specs.Rig.{RigState}
 use Rattle.stm_journal.specs.Calls.{AreFetches}
 use Rattle.stm_journal.specs.declared.kept.Kept.{Kept}
@@ -21,7 +19,6 @@ use Rattle.stm_journal.specs.PageFetching.{Brings}
 use Rattle.stm_session.specs.Fault.{cause_of}
 use Rattle.stm_session.specs.Order.{Step, Are, AreCutShort, AreReadsOf, Begin, BeginTold, DoesSteps, IsInOrder, IsGivenBack, Tells, acts_of, page_reads, OrMisread, return_steps, so_far}
 use Rattle.stm_session.specs.Told.{ToldIn}
-use Rattle.stm_session.specs.Sending.{is_whole}
 use Rattle.stm_session.specs.Steps.{Goes, IsSteady}
 use Rattle.stm_session.specs.Undoable.{state_at}
 use Rattle.stm_session.proofs.Causes.{cause_behind}
@@ -33,18 +30,12 @@ use Rattle.stm_session.proofs.Keeping.{good_at}
 use Rattle.stm_session.proofs.Misreads.{may_after, may_be}
 use Rattle.stm_session.proofs.Orders.{does_as, does_fetch, does_then}
 use Rattle.stm_session.proofs.Restorings.{lines_same, page_read}
-use Rattle.stm_session.proofs.SentParts.{fetch_part, part_after, part_fails, part_fails_after}
 use Rattle.stm_session.proofs.ToldPages.{some_calls}
 use Rattle.stm_session.proofs.UndoOrders.{journal_stops, return_read, return_reading}
 use Rattle.stm_session.proofs.returning.give_back_line.Given as given
 use Rattle.stm_session.proofs.returning.give_back_line.Goals as goal
-use Rattle.stm_session.proofs.returning.give_back_line.Goals.{After-read_range, In_ok-held}
+use Rattle.stm_session.proofs.returning.give_back_line.Goals.{In_ok-held}
 use Rattle.stm_session.proofs.returning.give_back_line.Goals.{After-return_page}
-
--- reading the page fits
-read_fits : (g : given.Over) (c : goal.After-read_range g)
-    → 12 + 2 * c.page_size-size.result ≤ 13 * page_size c.args.chip.now c.args.n
-read_fits g c = omega (arith, c.page_size-size.ensures.bytes, c.page_size-size.ensures.blocks.0)
 
 -- What the exits behind the read share.
 
@@ -59,27 +50,6 @@ asked g c flashes steady chip =
     asks_on c.step_laws.ensures flashes c.args.journal.now (V c.args.rig.now)
     (V c.read_range.new.rig) steady c.in_ok-held.held
     (c.in_ok-held.ensures.honest steady.honest steady.settled chip)
-
--- what it puts
-few : (g : given.Over) (c : goal.In_ok-held g)
-    → GoesOn (IsPart (Some c.args.chip.now) true (12 + 2 * c.page_size-size.result))
-    (g.R.Rig.view c.args.rig.now).calls (g.R.Rig.view c.read_range.new.rig).calls
-few g c =
-    c.in_ok-held.ensures.few c.args.n
-    (in_page c.args.chip.now c.args.n c.page_start-start.result c.page_size-size.result
-    c.requires.exists c.page_start-start.ensures.address c.page_size-size.ensures.bytes)
-
--- and nothing is put where the journal is read behind it
-sent : (g : given.Over) (c : goal.In_ok-held g) (d : RigState)
-    → GoesOn AreFetches (g.R.Rig.view c.read_range.new.rig).calls d.calls
-    → GoesOn (IsPart (Some c.args.chip.now) true (12 + 2 * c.page_size-size.result))
-    (g.R.Rig.view c.args.rig.now).calls d.calls
-sent g c d fetches =
-    let chip = Some c.args.chip.now in
-    let most = 12 + 2 * c.page_size-size.result in
-    let b = (g.R.Rig.view c.read_range.new.rig).calls in
-    part_after chip true most 0 most (g.R.Rig.view c.args.rig.now).calls b d.calls (omega arith)
-    (few g c) (fetch_part chip true 0 b d.calls fetches)
 
 -- its steps, and these are all where the journal is read behind it
 was_read : (g : given.Over) (c : goal.In_ok-held g) (held : List ℕ) → held ≡ c.in_ok-held.held.items
@@ -115,14 +85,6 @@ held_size g c = search rules
 given_size : (g : given.Over) (c : goal.After-return_page g)
     → length c.deref-2.result.now ≡ page_size c.args.chip.now c.args.n
 given_size g c = search rules
-
--- what is put fits
-fits : (g : given.Over) (c : goal.After-return_page g)
-    → (12 + 2 * c.page_size-size.result) + (21 + 4 * length c.deref-2.result.now)
-    ≤ 13 * page_size c.args.chip.now c.args.n
-fits g c =
-    let many = given_size g c in
-    omega (arith, many, c.page_size-size.ensures.bytes, c.page_size-size.ensures.blocks.0)
 
 -- it gets what was fetched
 page_same : (g : given.Over) (c : goal.After-return_page g)
@@ -290,64 +252,6 @@ returns-clause-honest g c flashes k i kept steady chip entry place number =
     c.return_page.new.journal a (V c.return_page.new.rig) _ (tt {0})
     (given_back g last flashes k i kept steady chip entry place number _
     (c.in_ok-return_page.ensures.honest flashes)) (λ p. p)
-
-pub returns-in_err-held-clause-puts : goal.returns-in_err-held-clause-puts
-returns-in_err-held-clause-puts g c =
-    let V = g.R.Rig.view in
-    let size = c.page_size-size.result in
-    let here = in_page c.args.chip.now c.args.n c.page_start-start.result size c.requires.exists
-    c.page_start-start.ensures.address c.page_size-size.ensures.bytes in
-    let fits = read_fits g (goal.at.returns-in_err-held-clause-puts g c).After-read_range in
-    part_fails (Some c.args.chip.now) (12 + 2 * size) (13 * page_size c.args.chip.now c.args.n)
-    (V c.args.rig.now).calls (V c.read_range.new.rig).calls _ c.from_residual.result fits
-    c.from_residual.ensures.1 (c.in_err-held.ensures.few c.args.n here)
-
-pub returns-in_err-page-clause-puts : goal.returns-in_err-page-clause-puts
-returns-in_err-page-clause-puts g c =
-    let V = g.R.Rig.view in
-    let read = (goal.at.returns-in_err-page-clause-puts g c).After-read_range in
-    let held = (goal.at.returns-in_err-page-clause-puts g c).In_ok-held in
-    part_weaker (Some c.args.chip.now) (is_whole c.from_residual-in_err-page.result)
-    (12 + 2 * c.page_size-size.result) (13 * page_size c.args.chip.now c.args.n)
-    (V c.args.rig.now).calls (V c.read_range.new.rig).calls (read_fits g read) (few g held)
-
-pub returns-in_err-fetch_page-clause-puts : goal.returns-in_err-fetch_page-clause-puts
-returns-in_err-fetch_page-clause-puts g c =
-    let V = g.R.Rig.view in
-    let read = (goal.at.returns-in_err-fetch_page-clause-puts g c).After-read_range in
-    let held = (goal.at.returns-in_err-fetch_page-clause-puts g c).In_ok-held in
-    let chip = Some c.args.chip.now in
-    let first = 12 + 2 * c.page_size-size.result in
-    let all = 13 * page_size c.args.chip.now c.args.n in
-    let b = (V c.read_range.new.rig).calls in
-    let d = (V c.fetch_page.new.rig).calls in
-    let whole = is_whole c.from_residual-in_err-fetch_page.result in
-    let most : first + 0 ≤ all = omega (arith, read_fits g read) in
-    part_after chip whole first 0 all (V c.args.rig.now).calls b d most (few g held)
-    (fetch_part chip whole 0 b d c.in_err-fetch_page.ensures.calls)
-
-pub returns-in_err-return_page-clause-puts : goal.returns-in_err-return_page-clause-puts
-returns-in_err-return_page-clause-puts g c =
-    let V = g.R.Rig.view in
-    let held = (goal.at.returns-in_err-return_page-clause-puts g c).In_ok-held in
-    let last = (goal.at.returns-in_err-return_page-clause-puts g c).After-return_page in
-    let before = sent g held (V c.fetch_page.new.rig) c.in_ok-fetch_page.ensures.calls in
-    part_fails_after (Some c.args.chip.now) (12 + 2 * c.page_size-size.result)
-    (21 + 4 * length c.deref-2.result.now) (13 * page_size c.args.chip.now c.args.n)
-    (V c.args.rig.now).calls (V c.fetch_page.new.rig).calls (V c.return_page.new.rig).calls _
-    c.from_residual-in_err-return_page.result (fits g last)
-    c.from_residual-in_err-return_page.ensures.1 before c.in_err-return_page.ensures.puts
-
-pub returns-clause-puts : goal.returns-clause-puts
-returns-clause-puts g c =
-    let V = g.R.Rig.view in
-    let held = (goal.at.returns-clause-puts g c).In_ok-held in
-    let last = (goal.at.returns-clause-puts g c).After-return_page in
-    let before = sent g held (V c.fetch_page.new.rig) c.in_ok-fetch_page.ensures.calls in
-    part_after (Some c.args.chip.now) true (12 + 2 * c.page_size-size.result)
-    (21 + 4 * length c.deref-2.result.now) (13 * page_size c.args.chip.now c.args.n)
-    (V c.args.rig.now).calls (V c.fetch_page.new.rig).calls (V c.return_page.new.rig).calls
-    (fits g last) before c.in_ok-return_page.ensures.puts
 
 pub returns-clause-order : goal.returns-clause-order
 returns-clause-order g c =

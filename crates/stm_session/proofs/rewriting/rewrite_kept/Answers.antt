@@ -10,13 +10,6 @@ use Rattle.stm_session.specs.Steps.{Goes, IsSteady}
 use Rattle.stm_session.proofs.Exits.{goes_fault}
 use Rattle.stm_session.proofs.Frames.{no_frames, some_frames, written-none}
 use Rattle.stm_session.proofs.Going.{goes_as, goes_then, goes_failed, goes_ok, at_exit}
-use Rattle.std.proofs.Common.{◌+◌, ◌*◌, true, Some, arith}
-use Rattle.stm_wire.specs.lemmas.PartLaws.{part_longer}
-use Rattle.stm_wire.specs.Dialogue.{GoesOn}
-use Rattle.stm_wire.specs.Parts.{IsPart}
-use Rattle.stm_session.proofs.SentPages.{planned_few, planned_inside, put_erase, put_program}
-use Rattle.stm_session.proofs.SentSteps.{PutFew, begun_puts, done_puts, put_as}
-use Rattle.stm_session.proofs.SentParts.{part_after, part_fails, part_fails_after}
 use Rattle.std.proofs.Common.{◌++◌, append-nil}
 use Rattle.stm_session.specs.Order.{Adds, Step, erase_steps, program_steps, rewrite_steps, write_steps, Are, Begin}
 use Rattle.stm_session.proofs.Orders.{does_as, does_then, some_program}
@@ -112,56 +105,6 @@ returns-then-is_empty-clause-honest g c flashes steady chip =
     (goes_ok flashes (Erases c.args.n ∷ []) c.erase_kept.new.journal (V c.args.rig.now) (V c.erase_kept.new.rig) _ (tt {0}) (c.in_ok-erase_kept.ensures.performs.honest flashes steady chip)
     (λ done. done ∙ ap (λ (xs : List ℕ). with_page c.args.chip.now c.args.n xs (V c.args.rig.now).device.flash)
     (sym (ap (λ (fs : List Frame). written c.args.page.now fs (erased_page c.args.chip.now c.args.n)) none ∙ written-none c.args.page.now (erased_page c.args.chip.now c.args.n)) ∙ c.requires.gives)))
-
--- what erasing put, and what programming may
-was_erased : (g : given.Over) (c : goal.After-program_kept g)
-    → GoesOn (IsPart (Some c.args.chip.now) true 9) (g.R.Rig.view c.args.rig.now).calls
-    (g.R.Rig.view c.erase_kept.new.rig).calls
-was_erased g c =
-    done_puts c.args.chip.now 9 _ c.args.journal.now c.erase_kept.new.journal
-    (g.R.Rig.view c.args.rig.now) (g.R.Rig.view c.erase_kept.new.rig)
-    (put_erase c.args.chip.now c.args.n c.requires.exists) (does_of c.in_ok-erase_kept.ensures.performs.order)
-
-will_program : (g : given.Over) (c : goal.After-program_kept g)
-    → PutFew c.args.chip.now (2 * length c.args.page.now)
-    (Adds (Programs c.args.n ∷ [])
-    ∷ write_steps c.args.chip.now c.args.n c.args.page.now c.args.frames.now)
-will_program g c =
-    let size = length c.args.page.now in
-    let frames = c.args.frames.now in
-    put_as c.args.chip.now (2 * size) (2 * size) _ _ (omega arith) (programs_are g c)
-    (put_program c.args.chip.now c.args.n c.requires.exists c.args.page.now c.requires.size frames
-    (planned_inside 0 size frames c.requires.frames)
-    (omega (arith, planned_few 0 size frames (omega arith) c.requires.frames)))
-
-pub returns-in_err-erase_kept-clause-puts : goal.returns-in_err-erase_kept-clause-puts
-returns-in_err-erase_kept-clause-puts g c =
-    let V = g.R.Rig.view in
-    part_fails (Some c.args.chip.now) 9 (9 + 2 * length c.args.page.now) (V c.args.rig.now).calls (V c.erase_kept.new.rig).calls _ c.from_residual.result (omega arith) c.from_residual.ensures.1
-    (begun_puts c.args.chip.now 9 _ _ c.args.journal.now.is_torn (V c.args.rig.now) (V c.erase_kept.new.rig) (put_erase c.args.chip.now c.args.n c.requires.exists) c.in_err-erase_kept.ensures.performs.stops)
-
-pub returns-then-is_empty-clause-puts : goal.returns-then-is_empty-clause-puts
-returns-then-is_empty-clause-puts g c =
-    let V = g.R.Rig.view in
-    part_longer (Some c.args.chip.now) true 9 (9 + 2 * length c.args.page.now) (V c.args.rig.now).calls (V c.erase_kept.new.rig).calls (omega arith)
-    (done_puts c.args.chip.now 9 _ c.args.journal.now c.erase_kept.new.journal (V c.args.rig.now) (V c.erase_kept.new.rig) (put_erase c.args.chip.now c.args.n c.requires.exists) (does_of c.in_ok-erase_kept.ensures.performs.order))
-
-pub returns-in_err-program_kept-clause-puts : goal.returns-in_err-program_kept-clause-puts
-returns-in_err-program_kept-clause-puts g c =
-    let V = g.R.Rig.view in
-    let last = (goal.at.returns-in_err-program_kept-clause-puts g c).After-program_kept in
-    let more = 2 * length c.args.page.now in
-    part_fails_after (Some c.args.chip.now) 9 more (9 + more) (V c.args.rig.now).calls (V c.erase_kept.new.rig).calls (V c.program_kept.new.rig).calls _ c.from_residual-in_err-program_kept.result (omega arith)
-    c.from_residual-in_err-program_kept.ensures.1 (was_erased g last)
-    (begun_puts c.args.chip.now more _ _ c.erase_kept.new.journal.is_torn (V c.erase_kept.new.rig) (V c.program_kept.new.rig) (will_program g last) (c.in_err-program_kept.ensures.performs []).stops)
-
-pub returns-clause-puts : goal.returns-clause-puts
-returns-clause-puts g c =
-    let V = g.R.Rig.view in
-    let last = (goal.at.returns-clause-puts g c).After-program_kept in
-    let more = 2 * length c.args.page.now in
-    part_after (Some c.args.chip.now) true 9 more (9 + more) (V c.args.rig.now).calls (V c.erase_kept.new.rig).calls (V c.program_kept.new.rig).calls (omega arith) (was_erased g last)
-    (done_puts c.args.chip.now more _ c.erase_kept.new.journal c.program_kept.new.journal (V c.erase_kept.new.rig) (V c.program_kept.new.rig) (will_program g last) (does_of (c.in_ok-program_kept.ensures.performs []).order))
 
 pub returns-then-is_empty-clause-order : goal.returns-then-is_empty-clause-order
 returns-then-is_empty-clause-order g c =

@@ -5,16 +5,9 @@ use Rattle.stm_journal.specs.KeptPlaces.{kept_count}
 use Rattle.stm_journal.specs.lemmas.NewestLaws.{KeepsSame-refl, KeepsSame-trans}
 use Rattle.stm_session.specs.SegmentUndo.{newest_at, give_back_lines, with_pages}
 use Rattle.stm_session.proofs.Going.{goes_as, goes_nowhere, goes_ok}
-use Rattle.stm_session.proofs.Returns.{count_newest, count_text, newest_fits, newest_once, no_place, number_exists, number_kept, place_fits, the_kept}
+use Rattle.stm_session.proofs.Returns.{count_newest, count_text, no_place, number_exists, number_kept, place_fits, the_kept}
 use Rattle.stm_session.proofs.UndoPuts.{chip_still, first, return_failed, returned, the_line}
-use Rattle.std.proofs.Common.{◌+◌, Bool, Some, true}
-use Rattle.stm_wire.specs.Dialogue.{GoesOn}
-use Rattle.stm_wire.specs.Parts.{IsPart}
-use Rattle.stm_wire.specs.lemmas.PartLaws.{nothing_is_part}
-use Rattle.stm_session.specs.Sending.{most_of_command}
 use Rattle.stm_session.specs.Undoable.{newest_kept}
-use Rattle.stm_session.proofs.PageSums.{pages_next, pages_within}
-use Rattle.stm_session.proofs.Sending.{same_fault}
 use Rattle.std.proofs.Common.{[], ℕ, ◌++◌, subst}
 use Rattle.std.proofs.Common.{take}
 use Rattle.stm_wire.specs.Call.{Call}
@@ -37,7 +30,6 @@ loop-i-init g c =
       line = refl;
       journal = refl;
       stays = λ h. h;
-      puts = nothing_is_part (Some c.args.chip.now) true _ (V c.args.rig.now).calls;
       order = ([], refl, does_nothing c.args.journal.now (V c.args.rig.now));
       honest = λ flashes steady chip. goes_nowhere c.step_laws.ensures flashes c.args.journal.now (V c.args.rig.now) (tt {0}) _ (g.met.R.Rig.model c.args.rig.now steady.honest) steady refl;
     }
@@ -93,13 +85,6 @@ loop-i-preserved g c =
       line = c.in_ok-give_back_line.ensures.cause.line_done ∙ so_far.line;
       journal = c.in_ok-give_back_line.ensures.cause.journal_done ∙ so_far.journal;
       stays = λ h. c.in_ok-give_back_line.ensures.cause.honest (so_far.stays h);
-      puts =
-          let lt : c.loop-i.i < kept_count c.args.journal.now.state c.depth-newest.result = omega (arith, c.loop-i-test.true, c.kept_count-count.ensures) in
-          let kept = the_kept c.args.journal.now.state c.loop-i.journal.state c.depth-newest.result c.loop-i.i so_far.same c.depth-newest.ensures.value lt c.args.chip.now c.in-Some-kept.n c.in-Some-kept.field-0-1
-          c.requires.fits (sym c.in-Some-kept.ensures) in
-          pages_next c.args.chip.now (newest_kept c.args.journal.now.state.stack) (newest_once c.args.journal.now.state.stack c.depth-newest.ensures.sound.once)
-          (newest_fits c.args.chip.now c.args.journal.now.state.stack c.requires.fits) c.keeps_limits.ensures.chip true c.loop-i.i kept.0 c.in-Some-kept.n a.calls b.calls (V c.give_back_line.new.rig).calls
-          kept.1 kept.2 so_far.puts c.in_ok-give_back_line.ensures.puts;
       order =
           let lt : c.loop-i.i < kept_count c.args.journal.now.state c.depth-newest.result = omega (arith, c.loop-i-test.true, c.kept_count-count.ensures) in
           let kept = the_kept c.args.journal.now.state c.loop-i.journal.state c.depth-newest.result c.loop-i.i so_far.same c.depth-newest.ensures.value lt c.args.chip.now c.in-Some-kept.n c.in-Some-kept.field-0-1
@@ -143,32 +128,6 @@ returns-clause-honest g c flashes steady chip =
     (ap (λ (pages : List Kept). give_back_lines c.args.chip.now a.device.flash pages) all)
     (goes_ok flashes _ c.loop-i.journal a (V c.loop-i.rig) (tt {0}) (tt {0}) (c.loop-i.invariant.honest flashes steady chip)
     (λ done. done ∙ ap (λ (pages : List Kept). with_pages c.args.chip.now pages a.device.flash) all))
-
-pub returns-in_err-give_back_line-clause-puts : goal.returns-in_err-give_back_line-clause-puts
-returns-in_err-give_back_line-clause-puts g c =
-    let V = g.R.Rig.view in
-    let chip = c.args.chip.now in
-    let stack = c.args.journal.now.state.stack in
-    let so_far = c.loop-i.invariant in
-    let a = (V c.args.rig.now).calls in
-    let b = (V c.loop-i.rig).calls in
-    let d = (V c.give_back_line.new.rig).calls in
-    let lt : c.loop-i.i < kept_count c.args.journal.now.state c.depth-newest.result = omega (arith, c.loop-i-test.true, c.kept_count-count.ensures) in
-    let kept = the_kept c.args.journal.now.state c.loop-i.journal.state c.depth-newest.result c.loop-i.i so_far.same c.depth-newest.ensures.value lt chip c.in-Some-kept.n c.in-Some-kept.field-0-1
-    c.requires.fits (sym c.in-Some-kept.ensures) in
-    let once = newest_once stack c.depth-newest.ensures.sound.once in
-    let fit = newest_fits chip stack c.requires.fits in
-    let P : Bool → Type 0 = λ w. GoesOn (IsPart (Some chip) w most_of_command) a d in
-    same_fault P _ c.from_residual.result c.from_residual.ensures.1
-    (pages_within chip (newest_kept stack) once fit c.keeps_limits.ensures.chip _ (c.loop-i.i + 1) a d
-    (pages_next chip (newest_kept stack) once fit c.keeps_limits.ensures.chip _ c.loop-i.i kept.0 c.in-Some-kept.n a b d kept.1 kept.2 so_far.puts c.in_err-give_back_line.ensures.puts))
-
-pub returns-clause-puts : goal.returns-clause-puts
-returns-clause-puts g c =
-    let V = g.R.Rig.view in
-    let stack = c.args.journal.now.state.stack in
-    pages_within c.args.chip.now (newest_kept stack) (newest_once stack c.depth-newest.ensures.sound.once) (newest_fits c.args.chip.now stack c.requires.fits) c.keeps_limits.ensures.chip true c.loop-i.i
-    (V c.args.rig.now).calls (V c.loop-i.rig).calls c.loop-i.invariant.puts
 
 pub returns-clause-order : goal.returns-clause-order
 returns-clause-order g c =

@@ -1,4 +1,4 @@
-use Rattle.std.proofs.Common.{◌≡◌, ◌<◌, ◌∙◌, ◌∷◌, [], ◌++◌, List, ℕ, Some, Result, true, length, ap}
+use Rattle.std.proofs.Common.{◌≡◌, ◌<◌, ◌∙◌, ◌∷◌, [], ◌++◌, List, ℕ, Result, length, ap}
 use Rattle.std.proofs.Common.{refl, subst, sym, arith}
 use Rattle.stm_wire.specs.Chip.{ChipData}
 use Rattle.stm_wire.specs.Rig.{IsModel}
@@ -12,7 +12,6 @@ use Rattle.stm_journal.specs.Journals.{added_bytes}
 use Rattle.stm_session.specs.Order.{Step, Adds, Are, AreGivenBack, Begin, BeginTold, Follows, IsSegmentUndone, OrMisread, FaultEnds, StopsBy}
 use Rattle.stm_session.specs.Told.{ToldIn}
 use Rattle.stm_session.specs.SegmentUndo.{UndoesSegment, newest_at, give_back_lines, taking_lines}
-use Rattle.stm_session.specs.Sending.{is_whole, most_of_command}
 use Rattle.stm_session.specs.Steps.{IsSteady}
 use Rattle.stm_session.specs.Undoable.{newest_kept, state_at}
 use Rattle.stm_session.proofs.Misreads.{may_as, may_be}
@@ -22,7 +21,6 @@ use Rattle.stm_session.proofs.Orders.{does_add, does_then}
 use Rattle.stm_session.proofs.Tellings.{pages_as}
 use Rattle.stm_session.proofs.ToldPages.{told_on}
 use Rattle.stm_session.proofs.UndoOrders.{pages_begun, undoes_begun}
-use Rattle.stm_session.proofs.SentParts.{line_part, part_after, part_fails}
 use Rattle.stm_session.proofs.UndoPuts.{back_failed, back_then, first_flash, intents_returns}
 use Rattle.stm_session.proofs.UndoPuts.{takes_as, undone_fails, undone_goes}
 use Rattle.stm_session.proofs.segment_undo.undo_segment.Given.{Over}
@@ -109,30 +107,6 @@ returns-clause-honest g c flash flashes steady chip =
     (good_at l2 b.journal still.loaded) (good_at l3 d.journal appends.loaded) in
     undone_goes c.step_laws.ensures flash flashes l2 l3 (length l2.state.stack) b d model still
     k_is some restored _ (tt {0}) appends call.after has)
-
-pub returns-in_err-give_back_segment-clause-puts : goal.returns-in_err-give_back_segment-clause-puts
-returns-in_err-give_back_segment-clause-puts g c =
-    let V = g.R.Rig.view in
-    part_fails (Some c.args.chip.now) most_of_command most_of_command (V c.args.rig.now).calls (V c.give_back_segment.new.rig).calls _ c.from_residual.result (omega arith) c.from_residual.ensures.1 c.in_err-give_back_segment.ensures.puts
-
-pub returns-in_err-undone-clause-puts : goal.returns-in_err-undone-clause-puts
-returns-in_err-undone-clause-puts g c =
-    let V = g.R.Rig.view in
-    let l = c.give_back_segment.new.journal in
-    let b = (V c.give_back_segment.new.rig).calls in
-    let d = (V c.undone.new.rig).calls in
-    let whole = is_whole c.from_residual-in_err-undone.result in
-    part_after (Some c.args.chip.now) whole most_of_command 0 most_of_command (V c.args.rig.now).calls b d (omega arith) c.in_ok-give_back_segment.ensures.puts
-    (line_part (Some c.args.chip.now) whole 0 l (Undoes (length l.state.stack) ∷ []) c.undone.result b d c.undone.ensures.calls)
-
-pub returns-clause-puts : goal.returns-clause-puts
-returns-clause-puts g c =
-    let V = g.R.Rig.view in
-    let l = c.give_back_segment.new.journal in
-    let b = (V c.give_back_segment.new.rig).calls in
-    let d = (V c.undone.new.rig).calls in
-    part_after (Some c.args.chip.now) true most_of_command 0 most_of_command (V c.args.rig.now).calls b d (omega arith) c.in_ok-give_back_segment.ensures.puts
-    (line_part (Some c.args.chip.now) true 0 l (Undoes (length l.state.stack) ∷ []) c.undone.result b d c.undone.ensures.calls)
 
 pub returns-clause-order : goal.returns-clause-order
 returns-clause-order g c =

@@ -12,6 +12,8 @@ use Rattle.stm_session.proofs.CutShort.{part_stops, then_stops}
 use Rattle.stm_session.proofs.Misreads.{may_as}
 use Rattle.stm_session.proofs.Orders.{does_then}
 use Rattle.stm_session.proofs.SentParts.{part_after, part_fails, part_fails_after}
+use Rattle.stm_session.proofs.SentReturns.{put_undone, put_undone_in_part}
+use Rattle.stm_session.proofs.SentSteps.{done_puts, stopped_puts}
 use Rattle.stm_session.proofs.Tellings.{all_as}
 use Rattle.stm_session.proofs.ToldPages.{told_then}
 use Rattle.stm_session.proofs.segments_undo.undo_confirmed.Goals as goal
@@ -25,16 +27,27 @@ returns-in_err-confirm-clause-puts g c =
 pub returns-in_err-undo_settled-clause-puts : goal.returns-in_err-undo_settled-clause-puts
 returns-in_err-undo_settled-clause-puts g c =
     let V = g.R.Rig.view in
+    let chip = c.args.chip.now in
+    let l = c.args.journal.now in
+    let b = V c.confirm.new.rig in
+    let d = V c.undo_settled.new.rig in
     let more = most_of_undo c.args.taken in
-    part_fails_after (Some c.args.chip.now) most_of_confirming more (most_of_confirming + more) (V c.args.rig.now).calls (V c.confirm.new.rig).calls (V c.undo_settled.new.rig).calls _ c.from_residual-in_err-undo_settled.result
-    (omega arith) c.from_residual-in_err-undo_settled.ensures.1 c.in_ok-confirm.ensures.puts c.in_err-undo_settled.ensures.puts
+    let few = put_undone_in_part chip c.keeps_limits.ensures.chip l.state c.depth-depth.ensures.sound c.requires.fits c.args.again (ToldIn V l.is_torn b d) c.args.taken in
+    part_fails_after (Some chip) most_of_confirming more (most_of_confirming + more) (V c.args.rig.now).calls b.calls d.calls _ c.from_residual-in_err-undo_settled.result (omega arith)
+    c.from_residual-in_err-undo_settled.ensures.1 c.in_ok-confirm.ensures.puts (stopped_puts chip more _ _ l.is_torn b d few c.in_err-undo_settled.ensures.stops)
 
 pub returns-clause-puts : goal.returns-clause-puts
 returns-clause-puts g c =
     let V = g.R.Rig.view in
+    let chip = c.args.chip.now in
+    let l = c.args.journal.now in
+    let b = V c.confirm.new.rig in
+    let d = V c.undo_settled.new.rig in
     let more = most_of_undo c.args.taken in
-    part_after (Some c.args.chip.now) true most_of_confirming more (most_of_confirming + more) (V c.args.rig.now).calls (V c.confirm.new.rig).calls (V c.undo_settled.new.rig).calls
-    (omega arith) c.in_ok-confirm.ensures.puts c.in_ok-undo_settled.ensures.puts
+    let back = c.in_ok-undo_settled.ensures.order in
+    let few = put_undone chip c.keeps_limits.ensures.chip l.state c.depth-depth.ensures.sound c.requires.fits c.args.again (ToldIn V l.is_torn b d) c.args.taken back.0 back.1 in
+    part_after (Some chip) true most_of_confirming more (most_of_confirming + more) (V c.args.rig.now).calls b.calls d.calls (omega arith) c.in_ok-confirm.ensures.puts
+    (done_puts chip more back.0 l c.undo_settled.new.journal b d few back.2)
 
 pub returns-clause-order : goal.returns-clause-order
 returns-clause-order g c =

@@ -1,13 +1,7 @@
 use Rattle.std.proofs.Common.{◌≡◌, ◌∙◌, ◌+◌, ◌<◌, length, refl, arith}
 use Rattle.stm_session.proofs.Going.{at_exit}
 use Rattle.stm_session.proofs.UndoesOfSegments.{undoes_all_newest, undoes_failed, undoes_more, undoes_nowhere, next_flash, rest_depth, rest_fits, rest_next, some_left, steady_split}
-use Rattle.std.proofs.Common.{◌≤◌, ◌*◌, Bool, Some, true}
-use Rattle.stm_wire.specs.Dialogue.{GoesOn}
-use Rattle.stm_wire.specs.Parts.{IsPart}
-use Rattle.stm_wire.specs.lemmas.PartLaws.{nothing_is_part}
-use Rattle.stm_session.specs.Sending.{most_of_command}
-use Rattle.stm_session.proofs.Sending.{same_fault}
-use Rattle.stm_session.proofs.SentParts.{commands_next, commands_within}
+use Rattle.std.proofs.Common.{◌≤◌}
 use Rattle.std.proofs.Common.{[], ℕ, ◌++◌, drop, sym, subst}
 use Rattle.stm_journal.specs.Newest.{pages_of_segments}
 use Rattle.stm_wire.specs.Call.{Call}
@@ -60,7 +54,6 @@ loop-i-init g c =
       line = refl;
       journal = refl;
       stays = λ h. h;
-      puts = nothing_is_part (Some c.args.chip.now) true _ (V c.args.rig.now).calls;
       order = ([], refl, does_nothing c.args.journal.now (V c.args.rig.now));
       honest = λ flashes steady chip. undoes_nowhere c.step_laws.ensures flashes c.args.journal.now (V c.args.rig.now) (g.met.R.Rig.model c.args.rig.now steady.honest) steady;
     }
@@ -112,7 +105,6 @@ loop-i-preserved g c =
       line = c.in_ok-undo_segment.ensures.cause.line_done ∙ c.loop-i.invariant.line;
       journal = c.in_ok-undo_segment.ensures.cause.journal_done ∙ c.loop-i.invariant.journal;
       stays = λ h. c.in_ok-undo_segment.ensures.cause.honest (c.loop-i.invariant.stays h);
-      puts = commands_next c.args.chip.now i true a.calls b.calls d.calls c.loop-i.invariant.puts c.in_ok-undo_segment.ensures.puts;
       order =
           let all = pages_of_segments l.state.stack in
           let below = pages_of_segments (drop 1 l2.state.stack) in
@@ -144,24 +136,6 @@ returns-clause-honest g c flashes steady chip =
     let V = g.R.Rig.view in
     let all : c.loop-i.i ≡ c.args.taken = omega (arith, c.loop-i-test.false, c.loop-i.auto.i-end) in
     undoes_all_newest c.loop-i.i c.args.taken flashes c.loop-i.journal (V c.args.rig.now) (V c.loop-i.rig) all (c.loop-i.invariant.honest flashes steady chip)
-
-pub returns-in_err-undo_segment-clause-puts : goal.returns-in_err-undo_segment-clause-puts
-returns-in_err-undo_segment-clause-puts g c =
-    let V = g.R.Rig.view in
-    let chip = c.args.chip.now in
-    let i = c.loop-i.i in
-    let a = (V c.args.rig.now).calls in
-    let d = (V c.undo_segment.new.rig).calls in
-    let le : i + 1 ≤ c.args.taken = omega (arith, c.loop-i-test.true) in
-    let P : Bool → Type 0 = λ w. GoesOn (IsPart (Some chip) w (c.args.taken * most_of_command)) a d in
-    same_fault P _ c.from_residual.result c.from_residual.ensures.1
-    (commands_within chip (i + 1) c.args.taken _ a d le (commands_next chip i _ a (V c.loop-i.rig).calls d c.loop-i.invariant.puts c.in_err-undo_segment.ensures.puts))
-
-pub returns-clause-puts : goal.returns-clause-puts
-returns-clause-puts g c =
-    let V = g.R.Rig.view in
-    let all : c.loop-i.i ≡ c.args.taken = omega (arith, c.loop-i-test.false, c.loop-i.auto.i-end) in
-    commands_within c.args.chip.now c.loop-i.i c.args.taken true (V c.args.rig.now).calls (V c.loop-i.rig).calls (omega (arith, all)) c.loop-i.invariant.puts
 
 pub returns-clause-order : goal.returns-clause-order
 returns-clause-order g c =

@@ -1,12 +1,10 @@
-use Rattle.std.proofs.Common.{◌≡◌, ◌∙◌, ◌*◌, ◌≤◌, ◌++◌, List, ℕ, Some, true, refl, subst, arith}
+use Rattle.std.proofs.Common.{◌≡◌, ◌∙◌, ◌≤◌, ◌++◌, List, ℕ, refl, subst, arith}
 use Rattle.stm_journal.specs.declared.kept.Kept.{Kept}
 use Rattle.stm_session.specs.Order.{AreSegmentsUndone, Step, AreAllUndone, AreCutShort, AreRewritten, BeginTold, IsInOrder, OrMisread, acts_of, tells_behind}
-use Rattle.stm_session.specs.Sending.{most_of_command, most_of_undo}
 use Rattle.stm_session.proofs.Going.{at_exit}
 use Rattle.stm_session.proofs.GoingAll.{all_back, all_failed, work_failed}
 use Rattle.stm_session.proofs.Keeping.{fits_pages}
 use Rattle.stm_session.proofs.Orders.{does_then}
-use Rattle.stm_session.proofs.SentParts.{part_after, part_fails, part_fails_after}
 use Rattle.std.proofs.Common.{◌≤◌, length, arith}
 use Rattle.stm_journal.specs.Newest.{pages_of_segments}
 use Rattle.stm_wire.specs.Call.{Call}
@@ -68,26 +66,6 @@ returns-clause-honest g c flashes steady chip =
     c.undo_newest.new.journal model first
     (c.in_ok-undo_newest.ensures.honest flashes first.steady
     (still g last flashes steady chip))
-
-pub returns-in_err-rewrite_at_work-clause-puts : goal.returns-in_err-rewrite_at_work-clause-puts
-returns-in_err-rewrite_at_work-clause-puts g c =
-    let V = g.R.Rig.view in
-    let most : 6291456 ≤ most_of_undo c.args.taken = omega arith in
-    part_fails (Some c.args.chip.now) 6291456 (most_of_undo c.args.taken) (V c.args.rig.now).calls (V c.rewrite_at_work.new.rig).calls _ c.from_residual.result most c.from_residual.ensures.1 c.in_err-rewrite_at_work.ensures.puts
-
-pub returns-in_err-undo_newest-clause-puts : goal.returns-in_err-undo_newest-clause-puts
-returns-in_err-undo_newest-clause-puts g c =
-    let V = g.R.Rig.view in
-    let more = c.args.taken * most_of_command in
-    part_fails_after (Some c.args.chip.now) 6291456 more (most_of_undo c.args.taken) (V c.args.rig.now).calls (V c.rewrite_at_work.new.rig).calls (V c.undo_newest.new.rig).calls _ c.from_residual-in_err-undo_newest.result
-    (omega arith) c.from_residual-in_err-undo_newest.ensures.1 c.in_ok-rewrite_at_work.ensures.puts c.in_err-undo_newest.ensures.puts
-
-pub returns-clause-puts : goal.returns-clause-puts
-returns-clause-puts g c =
-    let V = g.R.Rig.view in
-    let more = c.args.taken * most_of_command in
-    part_after (Some c.args.chip.now) true 6291456 more (most_of_undo c.args.taken) (V c.args.rig.now).calls (V c.rewrite_at_work.new.rig).calls (V c.undo_newest.new.rig).calls
-    (omega arith) c.in_ok-rewrite_at_work.ensures.puts c.in_ok-undo_newest.ensures.puts
 
 pub returns-clause-order : goal.returns-clause-order
 returns-clause-order g c =
