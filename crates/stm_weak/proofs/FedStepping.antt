@@ -129,7 +129,7 @@ fed_from (settles own ∷ events) old new d chip MayBe both intent same is can a
     (settled_stands events own intent mid left (λ none. none_without chip both
     (λ n. weak_after chip MayBe (settles own) n) intent mid
     (chip_along s.happenings old mid s.led ∙ sym can.chip ∙ same) (none ∙ believed.0) believed.1
-    after) waits) led in
+    after) (waits unread)) led in
     record {
       end = rest.end;
       ordinary = (unread, (one.0, one.1, rest.ordinary));

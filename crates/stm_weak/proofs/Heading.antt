@@ -13,19 +13,18 @@ use Rattle.stm_session.specs.Events.{left_refused, refusal_stopped, unprotected,
 use Rattle.stm_session.specs.Events.{kept, was_reset, lost_owed, lost_power}
 use Rattle.stm_session.specs.Headline.{AllIsUndone, IsStart, oldest_after, oldest_of, oldest_start}
 use Rattle.stm_session.specs.Order.{Adds, Sends}
-use Rattle.stm_session.specs.UndoOrder.{UndoesInOrderFrom}
 use Rattle.stm_weak.specs.Weak.{NoneIs, WeakEvent, breaks, does, intent_behind, settles}
 use Rattle.stm_weak.specs.Weak.{weak_behind}
 use Rattle.stm_weak.specs.FedAsking.{AreQuestionsAsOrdinary, FedQuestions}
 use Rattle.stm_weak.specs.FedEvents.{AreFedAsOrdinary, FedEvents}
 use Rattle.stm_weak.specs.FedHistory.{DeedIsFedAsOrdinary, FedDeed, FedDeeds}
-use Rattle.stm_weak.specs.History.{AllFind, AllHeal, HistoriesHeal, WeakDeed, events_in}
+use Rattle.stm_weak.specs.History.{AllFind, AllHeal, AtOk, HistoriesHeal, WeakDeed, events_in}
 use Rattle.stm_weak.specs.History.{ran as deed_ran, run_stopped as deed_run_stopped, undid as deed_undid}
 use Rattle.stm_weak.specs.History.{undid_verified as deed_undid_verified, undo_stopped as deed_undo_stopped}
 use Rattle.stm_weak.specs.History.{asked as deed_asked, asking_stopped as deed_asking_stopped}
 use Rattle.stm_weak.specs.WeakDevice.{CanBe, NoneIsWeak, WeakDevice}
 use Rattle.stm_weak.specs.WeakHeadline.{AreFedUnread, AreQuestionsUnread, DeedIsUnread}
-use Rattle.stm_weak.specs.WeakHeadline.{FollowsUnread, IsNotKept, NoneIsKept, UndoFollowsUnread}
+use Rattle.stm_weak.specs.WeakHeadline.{FollowsUnread, IsNotKept, IsUndone, NoneIsKept}
 use Rattle.stm_weak.specs.WeakHeadline.{WeakHeadline}
 use Rattle.stm_weak.proofs.Calming.{IsSafeFor}
 use Rattle.stm_weak.proofs.FedDealing.{can_be_itself, deed_from, no_weak}
@@ -140,11 +139,21 @@ module _ (R : Type 0) (view : R → RigState) where
     unread : DeedIsUnread deed mid new undone
     sound : NoneIsWeak new
 
-  module _ (is_fresh : Bool) (table : List ChipData) (taken : ℕ) (before after : R)
-      (session : UndoesInOrderFrom is_fresh table taken (view before) (view after)) where
-    abbrev last : WeakDeed R view
-    last = deed_undid is_fresh table taken before after session
+  -- what holds behind an undo that answered Ok
+  at_undone : (before after : R) (last : WeakDeed R view) (P : Type 0) → IsUndone before after last
+      → AtOk last P → P
+  at_undone before after (deed_ran table commands old new session) P is ok = absurd is
+  at_undone before after (deed_run_stopped table commands old new fault whole stop) P is ok =
+      absurd is
+  at_undone before after (deed_undid is_fresh table taken old new session) P is ok = ok
+  at_undone before after (deed_undid_verified is_fresh table returned old new session) P is ok = ok
+  at_undone before after (deed_undo_stopped is_fresh again table count old new fault whole stop) P is
+      ok = absurd is
+  at_undone before after (deed_asked is_fresh table board old new asks) P is ok = absurd is
+  at_undone before after (deed_asking_stopped is_fresh table old new fault stop) P is ok = absurd is
 
+  module _ (before after : R) (last : WeakDeed R view) (is_undone : IsUndone before after last)
+    where
     through : (deeds : List (WeakDeed R view)) (old mid new : WeakDevice) (d : Device)
         (chip : ChipData) (MayBe : ℕ → Type 0) (intent : Option Intent) → d.chip ≡ chip
         → IsDevice d → CanBe old d → AmongThese chip MayBe old
@@ -166,7 +175,8 @@ module _ (R : Type 0) (view : R → RigState) where
           lead = subst L (sym nothing) tt;
           ends = ap (λ (xs : List (Happening R)). end_of xs w) nothing ∙ sym stays;
           unread = deed_unread last mid new undone d one.end one.ordinary;
-          sound = no_weak R view chip Behind new one.end one.can one.same one.among heal.1;
+          sound = no_weak R view chip Behind new one.end one.can one.same one.among
+              (at_undone before after last (NoneIs Behind) is_undone heal.1);
         }
     through (deed ∷ deeds) old mid new d chip MayBe intent same is can among heal safe
         (next, led, more) undone w w2 history (own, rest, joined, leads, follows) =
@@ -188,12 +198,11 @@ module _ (R : Type 0) (view : R → RigState) where
 
 pub weak_headline : {R : Type 0} (view : R → RigState) → HistoriesHeal view → AllIsUndone view
     → WeakHeadline view
-weak_headline {R} view heal undone_all deeds is_fresh table taken before after session old mid new w
-    w2 history is none start find led undone follows kept_none undo =
+weak_headline {R} view heal undone_all deeds last old mid new w w2 history is none start find led
+    undone follows kept_none undo =
     let d = old.device in
     let first : World = record { device = d; journal = [] } in
-    let last : WeakDeed R view = deed_undid is_fresh table taken before after session in
-    let x = through R view is_fresh table taken before after session deeds old mid new d d.chip
+    let x = through R view undo.before undo.after last undo.is deeds old mid new d d.chip
     (λ n. ⊥) None refl is (can_be_itself old is) none (heal d.chip (deeds ++ last ∷ []) find)
     (inr none) led undone first w history follows in
     let A : World → Type 0 = λ v. AllLead view undo.own v in
@@ -203,8 +212,9 @@ weak_headline {R} view heal undone_all deeds is_fresh table taken before after s
     let at : end_of undo.own w ≡ end_of all first =
     sym (end_on R view history undo.own first
     ∙ ap (λ (v : World). end_of undo.own v) x.ends) in
-    let B : World → Type 0 = λ v. Leads view (undid table 0 before after (Ok undo.count)) v w2 in
-    let back = undone_all all first [] start lead table before after undo.count w2
+    let B : World → Type 0 =
+    λ v. Leads view (undid undo.table 0 undo.before undo.after (Ok undo.count)) v w2 in
+    let back = undone_all all first [] start lead undo.table undo.before undo.after undo.count w2
     (subst B at (undo.undoes x.unread)) in
     let ordinary : w2.device ≡ new.device = one_is_left new w2.device x.sound (undo.can x.unread) in
     (

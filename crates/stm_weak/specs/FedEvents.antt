@@ -48,13 +48,15 @@ abbrev pub WaitsIfIntended : Option Intent → List WeakEvent → WeakDevice →
 WaitsIfIntended None events w = Unit {0}
 WaitsIfIntended (Some intent) events w = WaitsForMore events w
 
--- These events befall it. Where anything follows a settling under an intent, it waits for a command,
--- as `settle_under` promises of its device at Ok. Behind a frame that was broken off, or a read that
--- was refused, nothing comes in a session.
+-- These events befall it. Where anything follows a settling under an intent of which no byte
+-- completed a read of a weak page, it waits for a command, as `settle_under` promises at Ok of a
+-- device that follows the model. Behind a frame that was broken off, or a read that was refused,
+-- nothing comes in a session.
 abbrev pub FedEvents : List WeakEvent → WeakDevice → WeakDevice → Type 0
 FedEvents [] old new = new ≡ old
 FedEvents (settles own ∷ events) old new =
-    (mid : WeakDevice) × IsSettledAlone own old mid × WaitsIfIntended own events mid
+    (mid : WeakDevice) × (settled : IsSettledAlone own old mid)
+    × (IsUnread settled.happenings old mid settled.led → WaitsIfIntended own events mid)
     × FedEvents events mid new
 FedEvents (does (Adds entries) ∷ events) old new = FedEvents events old new
 FedEvents (does (Sends turns) ∷ events) old new =

@@ -1,6 +1,6 @@
 -- The headline over a device with weak pages: an undo of everything that reports success leaves no
 -- page weak, and every byte of the flash as it was.
-use Rattle.std.proofs.Common.{◌≡◌, inr, ℕ, Bool, List, [], ◌∷◌, ◌++◌, None, Ok}
+use Rattle.std.proofs.Common.{◌≡◌, inr, ℕ, List, [], ◌∷◌, ◌++◌, None, Ok}
 use Rattle.stm_wire.specs.Chip.{ChipData}
 use Rattle.stm_wire.specs.Device.{IsDevice}
 use Rattle.stm_wire.specs.Rig.{RigState}
@@ -9,12 +9,12 @@ use Rattle.stm_session.specs.Events.{AllLead, Event, Happening, Leads, World, en
 use Rattle.stm_session.specs.Events.{undid as undid_event}
 use Rattle.stm_session.specs.Headline.{IsStart}
 use Rattle.stm_session.specs.Order.{Adds, Sends}
-use Rattle.stm_session.specs.UndoOrder.{UndoesInOrderFrom}
 use Rattle.stm_weak.specs.Weak.{WeakEvent, breaks, does, settles}
 use Rattle.stm_weak.specs.FedAsking.{FedQuestions, IsAskedAlone}
 use Rattle.stm_weak.specs.FedEvents.{FedEvents}
 use Rattle.stm_weak.specs.FedHistory.{FedDeed, FedDeeds}
 use Rattle.stm_weak.specs.History.{AllFind, WeakDeed, asked, asking_stopped, events_in, undid}
+use Rattle.stm_weak.specs.History.{undid_verified}
 use Rattle.stm_weak.specs.WeakDevice.{CanBe, NoneIsWeak, WeakDevice}
 use Rattle.stm_weak.specs.WeakRuns.{IsUnread}
 
@@ -68,12 +68,23 @@ FollowsUnread {R = R} {view = view} (deed ∷ deeds) old new led w w2 history =
     × (DeedIsUnread deed old led.0 led.1 → AllLead view own w)
     × FollowsUnread deeds led.0 new led.2 (end_of own w) w2 rest
 
--- So does an undo of everything, behind what befell the device since.
+-- an undo that answered Ok, from the one to the other
+abbrev pub IsUndone : {R : Type 0} {view : R → RigState} → R → R → WeakDeed R view → Type 0
+IsUndone before after (undid is_fresh table taken old new session) = (old ≡ before) × (new ≡ after)
+IsUndone before after (undid_verified is_fresh table returned old new session) =
+    (old ≡ before) × (new ≡ after)
+IsUndone before after deed = ⊥
+
+-- So does an undo of everything that reports success, behind what befell the device since: it leads
+-- to an ordinary device that the one with weak pages can be taken for.
 pub record UndoFollowsUnread {R : Type 0} (view : R → RigState) (deed : WeakDeed R view)
-    (table : List ChipData) (before after : R) (mid new : WeakDevice) (led : FedDeed deed mid new)
-    (w w2 : World) : Type 0 where
-  pub own : List (Happening R)
+    (mid new : WeakDevice) (led : FedDeed deed mid new) (w w2 : World) : Type 0 where
+  pub table : List ChipData
+  pub before : R
+  pub after : R
   pub count : ℕ
+  pub is : IsUndone before after deed
+  pub own : List (Happening R)
   pub none_kept : NoneIsKept own
   pub leads : DeedIsUnread deed mid new led → AllLead view own w
   pub undoes : DeedIsUnread deed mid new led
@@ -84,16 +95,13 @@ pub record UndoFollowsUnread {R : Type 0} (view : R → RigState) (deed : WeakDe
 -- power: an undo of everything that reports success leaves no page weak, and the flash as it was at
 -- first.
 abbrev pub WeakHeadline : {R : Type 0} → (R → RigState) → Type 0
-WeakHeadline {R} view = (deeds : List (WeakDeed R view)) (is_fresh : Bool) (table : List ChipData)
-    (taken : ℕ) (before after : R)
-    (session : UndoesInOrderFrom is_fresh table taken (view before) (view after))
+WeakHeadline {R} view = (deeds : List (WeakDeed R view)) (last : WeakDeed R view)
     (old mid new : WeakDevice) (w w2 : World) (history : List (Happening R))
-    → (let last : WeakDeed R view = undid is_fresh table taken before after session in
-    IsDevice old.device → NoneIsWeak old
+    → IsDevice old.device → NoneIsWeak old
     → IsStart [] (record { device = old.device; journal = [] })
     → AllFind old.device.chip None (deeds ++ last ∷ [])
     → (led : FedDeeds deeds old mid) → (undone : FedDeed last mid new)
     → FollowsUnread deeds old mid led (record { device = old.device; journal = [] }) w history
     → NoneIsKept history
-    → UndoFollowsUnread view last table before after mid new undone w w2
-    → NoneIsWeak new × (new.device.flash ≡ old.device.flash))
+    → UndoFollowsUnread view last mid new undone w w2
+    → NoneIsWeak new × (new.device.flash ≡ old.device.flash)
