@@ -1,5 +1,5 @@
 -- Calls one behind another at a device with weak pages, by what is fed to it alone.
-use Rattle.std.proofs.Common.{◌≡◌, ◌⊎◌, inl, inr, ℕ, ◌<◌, Bool, IsTrue, List, [], ◌∷◌, Option, None}
+use Rattle.std.proofs.Common.{◌≡◌, ◌⊎◌, ⊎_elim, inl, inr, ℕ, ◌<◌, Bool, IsTrue, List, [], ◌∷◌, Option, None}
 use Rattle.std.proofs.Common.{refl, sym, ◌∙◌, ap, subst}
 use Rattle.stm_wire.specs.declared.intent.Intent.{Intent}
 use Rattle.stm_wire.specs.Call.{Call}
@@ -12,14 +12,15 @@ use Rattle.stm_journal.specs.States.{intent_of}
 use Rattle.stm_session.specs.Fault.{Cause, cause_of}
 use Rattle.stm_session.specs.Fresh.{Way, undo_way}
 use Rattle.stm_session.specs.Order.{Step}
-use Rattle.stm_session.specs.Reaching.{ReachesAndStops, ReachesInPart}
+use Rattle.stm_session.specs.Reaching.{IsConfirmedInPart, ReachesAndStops, ReachesInPart}
+use Rattle.stm_session.specs.UndoOrder.{BeginTaking}
 use Rattle.stm_session.specs.Undoable.{has_companion}
 use Rattle.stm_weak.specs.Weak.{NoneIs, WeakEvent, intent_behind, settles, weak_behind}
 use Rattle.stm_weak.specs.Believed.{NoneBelieved}
 use Rattle.stm_weak.specs.FedEvents.{AreFedAsOrdinary, FedEvents}
 use Rattle.stm_weak.specs.FedAsking.{IsAskedAlone, IsAskedAsOrdinary}
-use Rattle.stm_weak.specs.FedHistory.{DeedIsFedAsOrdinary, DeedsAreFedAsOrdinary, FedDeed, FedDeeds}
-use Rattle.stm_weak.specs.FedHistory.{FedHistoriesAreOrdinary}
+use Rattle.stm_weak.specs.FedHistory.{DeedsAreFedAsOrdinary, FedAs, FedDeeds, FedHistoriesAreOrdinary}
+use Rattle.stm_weak.specs.FedHistory.{IsFedAsOrdinary, fed_kind, asked_at_most, kind_of_undo}
 use Rattle.stm_weak.specs.History.{AllHeal, AtOk, WeakDeed, HistoriesHeal, events_in, undo_events}
 use Rattle.stm_weak.specs.History.{ran, run_stopped, undid, undid_verified, undo_stopped, asked}
 use Rattle.stm_weak.specs.History.{asking_stopped}
@@ -28,7 +29,8 @@ use Rattle.stm_weak.proofs.Agreeing.{agrees_same}
 use Rattle.stm_weak.proofs.Calming.{IsSafeFor}
 use Rattle.stm_weak.proofs.Dealing.{at_ok, none_left}
 use Rattle.stm_weak.proofs.FedQuestioning.{BoardAskedTo, board_asked}
-use Rattle.stm_weak.proofs.FedStepping.{FedTo, StandsFor, fed_from}
+use Rattle.stm_weak.proofs.FedStepping.{FedTo, fed_from}
+use Rattle.stm_weak.proofs.Mending.{no_page}
 use Rattle.stm_weak.proofs.Stepping.{AmongThese}
 
 -- what a call leads to
@@ -78,23 +80,64 @@ of_asking chip MayBe both intent own old mid asks d same is can among believed s
       safe = subst (λ (b : ℕ). IsSafeFor b mid) byte_is x.safe;
     }
 
--- an undo that was stopped is settled first
-undo_stands : (own : Option Intent) (whole : ℕ) (way : Way) (id : ℕ) (torn : Bool)
-    (P : List Step → Type 0) (cause : Cause) (old new : RigState)
-    (does : GoesOn (ReachesInPart way cause torn) old.calls new.calls
-    ⊎ ReachesAndStops way id torn P cause old new) (intent : Option Intent) (w : WeakDevice)
-    → IsSafeFor (settling_byte intent) w
-    → StandsFor (undo_events own whole way id torn P cause old new does) intent w
-undo_stands own whole way id torn P cause old new (inl unreached) intent w safe = safe
-undo_stands own whole way id torn P cause old new (inr reached) intent w safe = safe
+-- a run that didn't reach its device
+of_none : (chip : ChipData) (MayBe : ℕ → Type 0) (intent : Option Intent) (old mid : WeakDevice)
+    (d : Device) → d.chip ≡ chip → IsDevice d → CanBe old d → AmongThese chip MayBe old
+    → IsSafeFor (settling_byte intent) old → (led : FedAs intent asked_at_most old mid)
+    → DeedTo chip MayBe intent [] (λ e. IsFedAsOrdinary intent asked_at_most old mid led d e) mid
+of_none chip MayBe intent old mid d same is can among safe (inl nothing) = record {
+  end = d;
+  ordinary = refl;
+  can = subst (λ (w : WeakDevice). CanBe w d) (sym nothing) can;
+  is = is;
+  same = same;
+  among = λ n lt weak. among n lt (subst (λ (w : WeakDevice). IsTrue (w.weak n)) nothing weak);
+  safe = subst (IsSafeFor (settling_byte intent)) (sym nothing) safe;
+}
+of_none chip MayBe intent old mid d same is can among safe (inr (none, asks)) =
+    let byte_is : settling_byte intent ≡ settling_byte None =
+    ap (λ (i : Option Intent). settling_byte i) none in
+    let x = board_asked None old mid d chip MayBe same is can among
+    (subst (λ (b : ℕ). IsSafeFor b old) byte_is safe) asks in
+    record {
+      end = x.end;
+      ordinary = x.ordinary;
+      can = x.can;
+      is = x.is;
+      same = x.same;
+      among = λ n lt weak. ⊎_elim (λ (w : MayBe n). w) (λ c. absurd (no_page n c.1))
+          (x.among n lt weak);
+      safe = subst (λ (b : ℕ). IsSafeFor b mid) (sym byte_is) x.safe;
+    }
+
+-- an undo that was stopped
+of_undo : (chip : ChipData) (MayBe : ℕ → Type 0) (both : Bool) (intent own : Option Intent)
+    (whole : ℕ) (way : Way) (id : ℕ) (torn : Bool) (P : List Step → Type 0) (cause : Cause)
+    (before after : RigState)
+    (does : GoesOn (ReachesInPart way cause torn) before.calls after.calls
+    ⊎ ReachesAndStops way id torn P cause before after) (old mid : WeakDevice) (d : Device)
+    → d.chip ≡ chip → IsDevice d → CanBe old d → AmongThese chip MayBe old
+    → (let events = undo_events own whole way id torn P cause before after does in
+    NoneBelieved chip both MayBe intent events → IsSafeFor (settling_byte intent) old
+    → (led : FedAs intent (kind_of_undo own events does) old mid)
+    → DeedTo chip MayBe intent events
+    (λ e. IsFedAsOrdinary intent (kind_of_undo own events does) old mid led d e) mid)
+of_undo chip MayBe both intent own whole way id torn P cause before after (inl unreached) old mid d
+    same is can among believed safe led =
+    of_asking chip MayBe both intent own old mid led d same is can among believed safe
+of_undo chip MayBe both intent own whole way id torn P cause before after (inr reached) old mid d
+    same is can among believed safe led =
+    let events = undo_events own whole way id torn P cause before after (inr reached) in
+    of_events chip MayBe intent events old mid led d
+    (fed_from events old mid d chip MayBe both intent same is can among believed safe led)
 
 module _ (R : Type 0) (view : R → RigState) where
   -- what befalls it in a call
   abbrev pub Leaves : WeakDeed R view → ChipData → (ℕ → Type 0) → Option Intent → WeakDevice
       → WeakDevice → Device → Type 0
-  Leaves deed chip MayBe intent old mid d = (led : FedDeed deed old mid)
-      → DeedTo chip MayBe intent (events_in deed) (λ e. DeedIsFedAsOrdinary deed old mid led d e)
-      mid
+  Leaves deed chip MayBe intent old mid d = (led : FedAs intent (fed_kind deed) old mid)
+      → DeedTo chip MayBe intent (events_in deed)
+      (λ e. IsFedAsOrdinary intent (fed_kind deed) old mid led d e) mid
 
   pub deed_from : (deed : WeakDeed R view) (old mid : WeakDevice) (d : Device) (chip : ChipData)
       (MayBe : ℕ → Type 0) (intent : Option Intent) → d.chip ≡ chip → IsDevice d → CanBe old d
@@ -109,9 +152,7 @@ module _ (R : Type 0) (view : R → RigState) where
       safe led)
   deed_from (run_stopped table commands before after fault whole (inl unreached)) old mid d chip
       MayBe intent same is can among believed safe led =
-      of_events chip MayBe intent [] old mid led d
-      (fed_from [] old mid d chip MayBe (has_companion chip) intent same is can among believed
-      safe led)
+      of_none chip MayBe intent old mid d same is can among safe led
   deed_from (run_stopped table commands before after fault whole (inr session)) old mid d chip MayBe
       intent same is can among believed safe led =
       let events = events_in {R = R} {view = view}
@@ -140,14 +181,13 @@ module _ (R : Type 0) (view : R → RigState) where
       safe led)
   deed_from (undo_stopped is_fresh again table count before after fault whole (inr session)) old mid
       d chip MayBe intent same is can among believed safe led =
-      let events = events_in {R = R} {view = view}
-      (undo_stopped is_fresh again table count before after fault whole (inr session)) in
       let own = intent_of session.journal.state in
-      of_events chip MayBe intent events old mid led d
-      (fed_from events old mid d chip MayBe (has_companion chip) intent same is can among believed
-      (undo_stands own whole (undo_way is_fresh session.chip.kind own) session.chip.id
-      session.journal.is_torn _ (cause_of fault) (view before) (view after) session.does intent old
-      safe) led)
+      of_undo chip MayBe (has_companion chip) intent own whole
+      (undo_way is_fresh session.chip.kind own) session.chip.id session.journal.is_torn
+      (IsConfirmedInPart session.chip
+      (BeginTaking again count session.chip session.journal.state))
+      (cause_of fault) (view before) (view after) session.does old mid d same is can among believed
+      safe led
   deed_from (asked is_fresh table board before after asks) old mid d chip MayBe intent same is can
       among believed safe led =
       of_asking chip MayBe (has_companion chip) intent (intent_of asks.journal.state) old mid led d
@@ -171,8 +211,8 @@ module _ (R : Type 0) (view : R → RigState) where
   deeds_from : (deeds : List (WeakDeed R view)) (old new : WeakDevice) (d : Device)
       (chip : ChipData) (MayBe : ℕ → Type 0) (intent : Option Intent) → d.chip ≡ chip → IsDevice d
       → CanBe old d → AmongThese chip MayBe old → AllHeal chip MayBe intent deeds
-      → IsSafeFor (settling_byte intent) old → (led : FedDeeds deeds old new) → (e : Device)
-      × DeedsAreFedAsOrdinary deeds old new led d e × CanBe new e × IsDevice e
+      → IsSafeFor (settling_byte intent) old → (led : FedDeeds intent deeds old new) → (e : Device)
+      × DeedsAreFedAsOrdinary intent deeds old new led d e × CanBe new e × IsDevice e
   deeds_from [] old new d chip MayBe intent same is can among heal safe led =
       (d, refl, subst (λ (w : WeakDevice). CanBe w d) (sym led) can, is)
   deeds_from (deed ∷ deeds) old new d chip MayBe intent same is can among heal safe

@@ -1,13 +1,15 @@
 -- A device with weak pages is asked which board it is.
 use Rattle.std.proofs.Common.{◌≡◌, inl, inr, ⊎_elim, ℕ, ◌<◌, IsTrue, List, [], ◌∷◌, Option, refl}
-use Rattle.std.proofs.Common.{sym, ◌∙◌, ap, subst}
+use Rattle.std.proofs.Common.{append-nil, sym, ◌∙◌, ap, subst}
 use Rattle.stm_wire.specs.declared.intent.Intent.{Intent}
 use Rattle.stm_wire.specs.Chip.{ChipData}
 use Rattle.stm_wire.specs.Device.{Connected, Device, IsDevice}
 use Rattle.stm_wire.specs.Intents.{intended_pages, settling_byte}
 use Rattle.stm_weak.specs.Weak.{settles, weak_after}
 use Rattle.stm_weak.specs.FedAsking.{AreQuestionsAsOrdinary, FedQuestions, IsAskedAlone}
-use Rattle.stm_weak.specs.FedAsking.{IsAskedAsOrdinary, IsBoardQuestion}
+use Rattle.stm_weak.specs.FedAsking.{IsAskedAsOrdinary, IsBoardQuestion, WaitsForQuestions}
+use Rattle.stm_weak.specs.FedAsking.{WholeIfMore}
+use Rattle.stm_weak.specs.WeakRuns.{fed_bytes}
 use Rattle.stm_weak.specs.WeakDevice.{CanBe, WeakDevice}
 use Rattle.stm_weak.proofs.CalmSending.{calm_frame_unread, frame_left}
 use Rattle.stm_weak.proofs.Calming.{IsSafeFor, settled_safe, settled_sound, settled_unread}
@@ -30,9 +32,9 @@ record AskedTo (chip : ChipData) (MayBe : ℕ → Type 0) (byte : ℕ) (frames :
 
 asked_from : (frames : List (List ℕ)) (old new : WeakDevice) (d : Device) (chip : ChipData)
     (MayBe : ℕ → Type 0) (byte : ℕ) → byte < 256 → d.chip ≡ chip → IsDevice d → CanBe old d
-    → AmongThese chip MayBe old → IsSafeFor byte old → (led : FedQuestions frames old new)
-    → AskedTo chip MayBe byte frames old new led d
-asked_from [] old new d chip MayBe byte small same is can among safe led = record {
+    → AmongThese chip MayBe old → IsSafeFor byte old → WaitsForQuestions frames old
+    → (led : FedQuestions frames old new) → AskedTo chip MayBe byte frames old new led d
+asked_from [] old new d chip MayBe byte small same is can among safe waits led = record {
   end = d;
   ordinary = refl;
   can = subst (λ (w : WeakDevice). CanBe w d) (sym led) can;
@@ -41,8 +43,8 @@ asked_from [] old new d chip MayBe byte small same is can among safe led = recor
   among = λ n lt weak. among n lt (subst (λ (w : WeakDevice). IsTrue (w.weak n)) led weak);
   safe = subst (IsSafeFor byte) (sym led) safe;
 }
-asked_from (frame ∷ frames) old new d chip MayBe byte small same is can among safe
-    (mid, waits, question, part, led) =
+asked_from (frame ∷ frames) old new d chip MayBe byte small same is can among safe waits
+    (mid, question, part, whole, led) =
     let has : Has d.chip d.codes [] old = record {
       same_chip = sym can.chip;
       same_codes = sym can.codes;
@@ -59,7 +61,7 @@ asked_from (frame ∷ frames) old new d chip MayBe byte small same is can among 
     (sound_along part.happenings old mid n part.no_reset part.led part.sound weak) in
     let rest = asked_from frames mid new one.0 chip MayBe byte small
     (chip_led chip part.happenings old mid d part.led same can one) one.3 one.2 after
-    (inl left.calm) led in
+    (inl left.calm) (next frames whole) led in
     record {
       end = rest.end;
       ordinary = (unread, (one.0, one.1, rest.ordinary));
@@ -69,6 +71,20 @@ asked_from (frame ∷ frames) old new d chip MayBe byte small same is can among 
       among = rest.among;
       safe = rest.safe;
     }
+  where
+    next : (more : List (List ℕ)) → WholeIfMore more (fed_bytes part.happenings) frame
+        → WaitsForQuestions more mid
+    next [] all = tt
+    next (question2 ∷ more) all =
+        let Q : ChipData → Type 0 = λ c. IsBoardQuestion c frame in
+        (frame_left d.chip d.codes frame byte part.happenings old mid []
+        (question_calm d frame is (subst Q (sym can.chip) question)) small part.no_reset
+        (append-nil (fed_bytes part.happenings) ∙ all)
+        (record {
+          same_chip = sym can.chip;
+          same_codes = sym can.codes;
+          same_phase = waits;
+        }) part.led).waits refl
 
 -- and all of it
 pub record BoardAskedTo (chip : ChipData) (MayBe : ℕ → Type 0) (intent : Option Intent)
@@ -98,7 +114,8 @@ board_asked intent old new d chip MayBe same is can among safe asked =
     let rest = asked_from asked.frames mid new one.0 chip
     (λ n. weak_after chip MayBe (settles intent) n) byte (byte_small intent)
     (chip_led chip s.happenings old mid d s.led same can one) one.3 one.2 after
-    (settled_safe byte pages s.happenings old mid safe s.led s.alone) asked.questions in
+    (settled_safe byte pages s.happenings old mid safe s.led s.alone) (asked.waits unread)
+    asked.questions in
     record {
       end = rest.end;
       ordinary = (unread, (one.0, one.1, rest.ordinary));

@@ -15,15 +15,18 @@ use Rattle.stm_session.specs.Headline.{AllIsUndone, IsStart, oldest_after, oldes
 use Rattle.stm_session.specs.Order.{Adds, Sends}
 use Rattle.stm_weak.specs.Weak.{NoneIs, WeakEvent, breaks, does, intent_behind, settles}
 use Rattle.stm_weak.specs.Weak.{weak_behind}
-use Rattle.stm_weak.specs.FedAsking.{AreQuestionsAsOrdinary, FedQuestions}
+use Rattle.stm_weak.specs.FedAsking.{AreQuestionsAsOrdinary, FedQuestions, IsAskedAlone}
+use Rattle.stm_weak.specs.FedAsking.{IsAskedAsOrdinary}
 use Rattle.stm_weak.specs.FedEvents.{AreFedAsOrdinary, FedEvents}
-use Rattle.stm_weak.specs.FedHistory.{DeedIsFedAsOrdinary, FedDeed, FedDeeds}
+use Rattle.stm_weak.specs.FedHistory.{FedAs, FedDeeds, FedKind, IsFedAsOrdinary, fed_kind}
+use Rattle.stm_weak.specs.FedHistory.{settled_and_asked, asked_at_most, as_told}
 use Rattle.stm_weak.specs.History.{AllFind, AllHeal, AtOk, HistoriesHeal, WeakDeed, events_in}
 use Rattle.stm_weak.specs.History.{ran as deed_ran, run_stopped as deed_run_stopped, undid as deed_undid}
 use Rattle.stm_weak.specs.History.{undid_verified as deed_undid_verified, undo_stopped as deed_undo_stopped}
 use Rattle.stm_weak.specs.History.{asked as deed_asked, asking_stopped as deed_asking_stopped}
 use Rattle.stm_weak.specs.WeakDevice.{CanBe, NoneIsWeak, WeakDevice}
-use Rattle.stm_weak.specs.WeakHeadline.{AreFedUnread, AreQuestionsUnread, DeedIsUnread}
+use Rattle.stm_weak.specs.WeakHeadline.{AreFedUnread, AreQuestionsUnread, IsAskedUnread, IsFedUnread}
+use Rattle.stm_weak.specs.WeakHeadline.{intent_of_deeds}
 use Rattle.stm_weak.specs.WeakHeadline.{FollowsUnread, IsNotKept, IsUndone, NoneIsKept}
 use Rattle.stm_weak.specs.WeakHeadline.{WeakHeadline}
 use Rattle.stm_weak.proofs.Calming.{IsSafeFor}
@@ -52,43 +55,22 @@ questions_unread [] old new led d e ordinary = tt
 questions_unread (frame ∷ frames) old new led d e (unread, (mid, fed, more)) =
     (unread, questions_unread frames led.0 new led.4 mid e more)
 
-module _ (R : Type 0) (view : R → RigState) where
-  deed_unread : (deed : WeakDeed R view) (old new : WeakDevice) (led : FedDeed deed old new)
-      (d e : Device) → DeedIsFedAsOrdinary deed old new led d e → DeedIsUnread deed old new led
-  deed_unread (deed_ran table commands before after session) old new led d e ordinary =
-      let deed : WeakDeed R view = deed_ran table commands before after session in
-      events_unread (events_in deed) old new led d e ordinary
-  deed_unread (deed_run_stopped table commands before after fault whole (inl unreached)) old new led
-      d e ordinary = tt
-  deed_unread (deed_run_stopped table commands before after fault whole (inr session)) old new led
-      d e ordinary =
-      let deed : WeakDeed R view =
-      deed_run_stopped table commands before after fault whole (inr session) in
-      events_unread (events_in deed) old new led d e ordinary
-  deed_unread (deed_undid is_fresh table taken before after session) old new led d e ordinary =
-      let deed : WeakDeed R view = deed_undid is_fresh table taken before after session in
-      events_unread (events_in deed) old new led d e ordinary
-  deed_unread (deed_undid_verified is_fresh table returned before after session) old new led d e
-      ordinary =
-      let deed : WeakDeed R view =
-      deed_undid_verified is_fresh table returned before after session in
-      events_unread (events_in deed) old new led d e ordinary
-  deed_unread (deed_undo_stopped is_fresh again table count before after fault whole (inl fetched))
-      old new led d e ordinary = tt
-  deed_unread (deed_undo_stopped is_fresh again table count before after fault whole (inr session))
-      old new led d e ordinary =
-      let deed : WeakDeed R view =
-      deed_undo_stopped is_fresh again table count before after fault whole (inr session) in
-      events_unread (events_in deed) old new led d e ordinary
-  deed_unread (deed_asked is_fresh table board before after asks) old new led d e
-      (unread, (mid, fed, more)) =
-      (unread, questions_unread led.frames led.settled new led.questions mid e more)
-  deed_unread (deed_asking_stopped is_fresh table before after fault (inl fetched)) old new led d e
-      ordinary = tt
-  deed_unread (deed_asking_stopped is_fresh table before after fault (inr asks)) old new led d e
-      (unread, (mid, fed, more)) =
-      (unread, questions_unread led.frames led.settled new led.questions mid e more)
+asked_unread : (own : Option Intent) (old new : WeakDevice) (led : IsAskedAlone own old new)
+    (d e : Device) → IsAskedAsOrdinary own old new led d e → IsAskedUnread own old new led
+asked_unread own old new led d e (unread, (mid, fed, more)) =
+    (unread, questions_unread led.frames led.settled new led.questions mid e more)
 
+fed_unread : (intent : Option Intent) (kind : FedKind) (old new : WeakDevice)
+    (led : FedAs intent kind old new) (d e : Device) → IsFedAsOrdinary intent kind old new led d e
+    → IsFedUnread intent kind old new led
+fed_unread intent (settled_and_asked own) old new led d e ordinary = asked_unread own old new led d e ordinary
+fed_unread intent asked_at_most old new (inl nothing) d e ordinary = tt
+fed_unread intent asked_at_most old new (inr (none, led)) d e ordinary =
+    asked_unread None old new led d e ordinary
+fed_unread intent (as_told events) old new led d e ordinary =
+    events_unread events old new led d e ordinary
+
+module _ (R : Type 0) (view : R → RigState) where
   -- Histories, one behind another.
 
   lead_on : (xs ys : List (Happening R)) (w : World) → AllLead view xs w
@@ -132,11 +114,12 @@ module _ (R : Type 0) (view : R → RigState) where
       ∙ same_after x.event x.after flash first
 
   -- Calls that follow the model while unread, and then one.
-  record Through (deed : WeakDeed R view) (mid new : WeakDevice) (undone : FedDeed deed mid new)
-      (w w2 : World) (history : List (Happening R)) : Type 0 where
+  record Through (deed : WeakDeed R view) (intent : Option Intent) (mid new : WeakDevice)
+      (undone : FedAs intent (fed_kind deed) mid new) (w w2 : World)
+      (history : List (Happening R)) : Type 0 where
     lead : AllLead view history w
     ends : end_of history w ≡ w2
-    unread : DeedIsUnread deed mid new undone
+    unread : IsFedUnread intent (fed_kind deed) mid new undone
     sound : NoneIsWeak new
 
   -- what holds behind an undo that answered Ok
@@ -158,9 +141,10 @@ module _ (R : Type 0) (view : R → RigState) where
         (chip : ChipData) (MayBe : ℕ → Type 0) (intent : Option Intent) → d.chip ≡ chip
         → IsDevice d → CanBe old d → AmongThese chip MayBe old
         → AllHeal chip MayBe intent (deeds ++ last ∷ []) → IsSafeFor (settling_byte intent) old
-        → (led : FedDeeds deeds old mid) (undone : FedDeed last mid new) (w w2 : World)
-        (history : List (Happening R)) → FollowsUnread deeds old mid led w w2 history
-        → Through last mid new undone w w2 history
+        → (led : FedDeeds intent deeds old mid)
+        (undone : FedAs (intent_of_deeds intent deeds) (fed_kind last) mid new) (w w2 : World)
+        (history : List (Happening R)) → FollowsUnread intent deeds old mid led w w2 history
+        → Through last (intent_of_deeds intent deeds) mid new undone w w2 history
     through [] old mid new d chip MayBe intent same is can among heal safe led undone w w2 history
         (stays, nothing) =
         let Behind : ℕ → Type 0 = λ n. weak_behind chip MayBe (events_in last) n in
@@ -174,7 +158,7 @@ module _ (R : Type 0) (view : R → RigState) where
         record {
           lead = subst L (sym nothing) tt;
           ends = ap (λ (xs : List (Happening R)). end_of xs w) nothing ∙ sym stays;
-          unread = deed_unread last mid new undone d one.end one.ordinary;
+          unread = fed_unread intent (fed_kind last) mid new undone d one.end one.ordinary;
           sound = no_weak R view chip Behind new one.end one.can one.same one.among
               (at_undone before after last (NoneIs Behind) is_undone heal.1);
         }
@@ -183,8 +167,8 @@ module _ (R : Type 0) (view : R → RigState) where
         let Behind : ℕ → Type 0 = λ n. weak_behind chip MayBe (events_in deed) n in
         let one = deed_from R view deed old next d chip MayBe intent same is can among heal.0 safe
         led in
-        let lead : AllLead view own w = leads (deed_unread deed old next led d one.end one.ordinary)
-        in
+        let lead : AllLead view own w = leads
+        (fed_unread intent (fed_kind deed) old next led d one.end one.ordinary) in
         let x = through deeds next mid new one.end chip Behind
         (intent_behind intent (events_in deed)) one.same one.is one.can one.among heal.2 one.safe
         more undone (end_of own w) w2 rest follows in

@@ -9,7 +9,7 @@ use Rattle.stm_wire.specs.Refused.{read_head}
 use Rattle.stm_wire.specs.Telling.{is_readable}
 use Rattle.stm_weak.specs.FedEvents.{IsFedPart}
 use Rattle.stm_weak.specs.WeakDevice.{WeakDevice}
-use Rattle.stm_weak.specs.WeakRuns.{Befall, IsUnread}
+use Rattle.stm_weak.specs.WeakRuns.{Befall, IsUnread, fed_bytes}
 use Rattle.stm_weak.specs.WeakSettling.{IsSettledAlone}
 
 -- its chip has a place there for the unique id, or for the size of the flash
@@ -28,19 +28,32 @@ pub data IsBoardQuestion (chip : ChipData) (frame : List ℕ) : Type 0 where
   up_to_refused : (address : ℕ) → is_readable chip address ≡ false → frame ≡ read_head address
       → IsBoardQuestion chip frame
 
--- such frames, or beginnings of them: each comes to a device that waits for a command
+-- where another question follows, these are all its bytes
+abbrev pub WholeIfMore : List (List ℕ) → List ℕ → List ℕ → Type 0
+WholeIfMore [] bytes frame = Unit {0}
+WholeIfMore (next ∷ frames) bytes frame = bytes ≡ frame
+
+-- such frames, the last of them whole or in part
 abbrev pub FedQuestions : List (List ℕ) → WeakDevice → WeakDevice → Type 0
 FedQuestions [] old new = new ≡ old
 FedQuestions (frame ∷ frames) old new =
-    (mid : WeakDevice) × (old.device.phase ≡ Connected [])
-    × IsBoardQuestion old.device.chip frame × IsFedPart frame old mid
-    × FedQuestions frames mid new
+    (mid : WeakDevice) × IsBoardQuestion old.device.chip frame × (part : IsFedPart frame old mid)
+    × WholeIfMore frames (fed_bytes part.happenings) frame × FedQuestions frames mid new
 
--- The device is settled, whole or in part, and then asked.
+-- where there is any, the device waits for a command
+abbrev pub WaitsForQuestions : List (List ℕ) → WeakDevice → Type 0
+WaitsForQuestions [] w = Unit {0}
+WaitsForQuestions (frame ∷ frames) w = w.device.phase ≡ Connected []
+
+-- The device is settled, whole or in part, and then asked. Where no byte of that
+-- completed a read of a weak page, it waits for a command, as settling promises at Ok of a device
+-- that follows the model.
 pub record IsAskedAlone (intent : Option Intent) (old new : WeakDevice) : Type 0 where
   pub settled : WeakDevice
   pub settling : IsSettledAlone intent old settled
   pub frames : List (List ℕ)
+  pub waits : IsUnread settling.happenings old settled settling.led
+      → WaitsForQuestions frames settled
   pub questions : FedQuestions frames settled new
 
 -- no byte completed a read of a weak page, and what befell it led an ordinary device from d to e
@@ -48,8 +61,8 @@ abbrev pub AreQuestionsAsOrdinary : (frames : List (List ℕ)) (old new : WeakDe
     → FedQuestions frames old new → Device → Device → Type 0
 AreQuestionsAsOrdinary [] old new led d e = e ≡ d
 AreQuestionsAsOrdinary (frame ∷ frames) old new led d e =
-    IsUnread led.3.happenings old led.0 led.3.led
-    × ((mid : Device) × Befall led.3.happenings d mid
+    IsUnread led.2.happenings old led.0 led.2.led
+    × ((mid : Device) × Befall led.2.happenings d mid
     × AreQuestionsAsOrdinary frames led.0 new led.4 mid e)
 
 abbrev pub IsAskedAsOrdinary : (intent : Option Intent) (old new : WeakDevice)

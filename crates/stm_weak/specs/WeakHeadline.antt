@@ -1,19 +1,20 @@
 -- The headline over a device with weak pages: an undo of everything that reports success leaves no
 -- page weak, and every byte of the flash as it was.
-use Rattle.std.proofs.Common.{◌≡◌, inr, ℕ, List, [], ◌∷◌, ◌++◌, None, Ok}
+use Rattle.std.proofs.Common.{◌≡◌, inl, inr, ℕ, List, [], ◌∷◌, ◌++◌, Option, None, Ok}
+use Rattle.stm_wire.specs.declared.intent.Intent.{Intent}
 use Rattle.stm_wire.specs.Chip.{ChipData}
 use Rattle.stm_wire.specs.Device.{IsDevice}
 use Rattle.stm_wire.specs.Rig.{RigState}
-use Rattle.stm_journal.specs.States.{intent_of}
 use Rattle.stm_session.specs.Events.{AllLead, Event, Happening, Leads, World, end_of, kept}
 use Rattle.stm_session.specs.Events.{undid as undid_event}
 use Rattle.stm_session.specs.Headline.{IsStart}
 use Rattle.stm_session.specs.Order.{Adds, Sends}
-use Rattle.stm_weak.specs.Weak.{WeakEvent, breaks, does, settles}
+use Rattle.stm_weak.specs.Weak.{WeakEvent, breaks, does, intent_behind, settles}
 use Rattle.stm_weak.specs.FedAsking.{FedQuestions, IsAskedAlone}
 use Rattle.stm_weak.specs.FedEvents.{FedEvents}
-use Rattle.stm_weak.specs.FedHistory.{FedDeed, FedDeeds}
-use Rattle.stm_weak.specs.History.{AllFind, WeakDeed, asked, asking_stopped, events_in, undid}
+use Rattle.stm_weak.specs.FedHistory.{FedAs, FedDeeds, FedKind, fed_kind, settled_and_asked, asked_at_most}
+use Rattle.stm_weak.specs.FedHistory.{as_told}
+use Rattle.stm_weak.specs.History.{AllFind, WeakDeed, events_in, undid}
 use Rattle.stm_weak.specs.History.{undid_verified}
 use Rattle.stm_weak.specs.WeakDevice.{CanBe, NoneIsWeak, WeakDevice}
 use Rattle.stm_weak.specs.WeakRuns.{IsUnread}
@@ -35,18 +36,20 @@ abbrev pub AreQuestionsUnread : (frames : List (List ℕ)) (old new : WeakDevice
     → FedQuestions frames old new → Type 0
 AreQuestionsUnread [] old new led = Unit {0}
 AreQuestionsUnread (frame ∷ frames) old new led =
-    IsUnread led.3.happenings old led.0 led.3.led × AreQuestionsUnread frames led.0 new led.4
+    IsUnread led.2.happenings old led.0 led.2.led × AreQuestionsUnread frames led.0 new led.4
 
 -- and of a call.
-abbrev pub DeedIsUnread : {R : Type 0} {view : R → RigState} → (deed : WeakDeed R view)
-    (w w2 : WeakDevice) → FedDeed deed w w2 → Type 0
-DeedIsUnread (asked is_fresh table board old new asks) w w2 led =
+abbrev pub IsAskedUnread : (own : Option Intent) (w w2 : WeakDevice) → IsAskedAlone own w w2 → Type 0
+IsAskedUnread own w w2 led =
     IsUnread led.settling.happenings w led.settled led.settling.led
     × AreQuestionsUnread led.frames led.settled w2 led.questions
-DeedIsUnread (asking_stopped is_fresh table old new fault (inr asks)) w w2 led =
-    IsUnread led.settling.happenings w led.settled led.settling.led
-    × AreQuestionsUnread led.frames led.settled w2 led.questions
-DeedIsUnread deed w w2 led = AreFedUnread (events_in deed) w w2 led
+
+abbrev pub IsFedUnread : (intent : Option Intent) (kind : FedKind) (w w2 : WeakDevice)
+    → FedAs intent kind w w2 → Type 0
+IsFedUnread intent (settled_and_asked own) w w2 led = IsAskedUnread own w w2 led
+IsFedUnread intent asked_at_most w w2 (inl nothing) = Unit {0}
+IsFedUnread intent asked_at_most w w2 (inr (none, led)) = IsAskedUnread None w w2 led
+IsFedUnread intent (as_told events) w w2 led = AreFedUnread events w w2 led
 
 -- the way back isn't given up
 abbrev pub IsNotKept : {R : Type 0} → Event R → Type 0
@@ -60,13 +63,15 @@ NoneIsKept (x ∷ history) = IsNotKept x.event × NoneIsKept history
 -- The line follows the model as long as no byte completes a read of a weak page: then each call,
 -- and what befell the device beside it, are events of a session at an ordinary device, from where
 -- those before it ended; and the one with weak pages can be taken for that.
-abbrev pub FollowsUnread : {R : Type 0} {view : R → RigState} → (deeds : List (WeakDeed R view))
-    (old new : WeakDevice) → FedDeeds deeds old new → World → World → List (Happening R) → Type 0
-FollowsUnread [] old new led w w2 history = (w2 ≡ w) × (history ≡ [])
-FollowsUnread {R = R} {view = view} (deed ∷ deeds) old new led w w2 history =
+abbrev pub FollowsUnread : {R : Type 0} {view : R → RigState} → (intent : Option Intent)
+    (deeds : List (WeakDeed R view)) (old new : WeakDevice) → FedDeeds intent deeds old new → World
+    → World → List (Happening R) → Type 0
+FollowsUnread intent [] old new led w w2 history = (w2 ≡ w) × (history ≡ [])
+FollowsUnread {R = R} {view = view} intent (deed ∷ deeds) old new led w w2 history =
     (own : List (Happening R)) × (rest : List (Happening R)) × (history ≡ own ++ rest)
-    × (DeedIsUnread deed old led.0 led.1 → AllLead view own w)
-    × FollowsUnread deeds led.0 new led.2 (end_of own w) w2 rest
+    × (IsFedUnread intent (fed_kind deed) old led.0 led.1 → AllLead view own w)
+    × FollowsUnread (intent_behind intent (events_in deed)) deeds led.0 new led.2 (end_of own w) w2
+    rest
 
 -- an undo that answered Ok, from the one to the other
 abbrev pub IsUndone : {R : Type 0} {view : R → RigState} → R → R → WeakDeed R view → Type 0
@@ -78,7 +83,8 @@ IsUndone before after deed = ⊥
 -- So does an undo of everything that reports success, behind what befell the device since: it leads
 -- to an ordinary device that the one with weak pages can be taken for.
 pub record UndoFollowsUnread {R : Type 0} (view : R → RigState) (deed : WeakDeed R view)
-    (mid new : WeakDevice) (led : FedDeed deed mid new) (w w2 : World) : Type 0 where
+    (intent : Option Intent) (mid new : WeakDevice) (led : FedAs intent (fed_kind deed) mid new)
+    (w w2 : World) : Type 0 where
   pub table : List ChipData
   pub before : R
   pub after : R
@@ -86,10 +92,16 @@ pub record UndoFollowsUnread {R : Type 0} (view : R → RigState) (deed : WeakDe
   pub is : IsUndone before after deed
   pub own : List (Happening R)
   pub none_kept : NoneIsKept own
-  pub leads : DeedIsUnread deed mid new led → AllLead view own w
-  pub undoes : DeedIsUnread deed mid new led
+  pub leads : IsFedUnread intent (fed_kind deed) mid new led → AllLead view own w
+  pub undoes : IsFedUnread intent (fed_kind deed) mid new led
       → Leads view (undid_event table 0 before after (Ok count)) (end_of own w) w2
-  pub can : DeedIsUnread deed mid new led → CanBe new w2.device
+  pub can : IsFedUnread intent (fed_kind deed) mid new led → CanBe new w2.device
+
+-- the intent of the lines of such calls
+abbrev pub intent_of_deeds : {R : Type 0} {view : R → RigState} → Option Intent
+    → List (WeakDeed R view) → Option Intent
+intent_of_deeds intent [] = intent
+intent_of_deeds intent (deed ∷ deeds) = intent_of_deeds (intent_behind intent (events_in deed)) deeds
 
 -- Whatever runs, undos and questions came, each at success or stopped anywhere, with losses of
 -- power: an undo of everything that reports success leaves no page weak, and the flash as it was at
@@ -100,8 +112,9 @@ WeakHeadline {R} view = (deeds : List (WeakDeed R view)) (last : WeakDeed R view
     → IsDevice old.device → NoneIsWeak old
     → IsStart [] (record { device = old.device; journal = [] })
     → AllFind old.device.chip None (deeds ++ last ∷ [])
-    → (led : FedDeeds deeds old mid) → (undone : FedDeed last mid new)
-    → FollowsUnread deeds old mid led (record { device = old.device; journal = [] }) w history
+    → (led : FedDeeds None deeds old mid)
+    → (undone : FedAs (intent_of_deeds None deeds) (fed_kind last) mid new)
+    → FollowsUnread None deeds old mid led (record { device = old.device; journal = [] }) w history
     → NoneIsKept history
-    → UndoFollowsUnread view last mid new undone w w2
+    → UndoFollowsUnread view last (intent_of_deeds None deeds) mid new undone w w2
     → NoneIsWeak new × (new.device.flash ≡ old.device.flash)
