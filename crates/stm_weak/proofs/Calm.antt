@@ -1,20 +1,17 @@
 -- Lists that one byte goes on with, again and again: none of them is done and reads the flash, and
 -- none has a loose verdict.
-use Rattle.std.proofs.Common.{◌≡◌, ℕ, zero, suc, ◌+◌, ◌*◌, ◌-◌, ◌<◌, ◌≤◌, Bool, true, false, ◌&&◌}
-use Rattle.std.proofs.Common.{◌==◌, nat_le, if◌then◌else◌, List, [], ◌∷◌, ◌++◌, length, take}
-use Rattle.std.proofs.Common.{get_or, replicate, Option, Some, None, IsTrue, refl, sym, ◌∙◌, ap}
-use Rattle.std.proofs.Common.{subst, arith, ne_eqb, append_assoc, length-append}
-use Rattle.std.proofs.lemmas.Bool.{and_parts, eqb-true, eqb-false, leb-true}
-use Rattle.std.proofs.lemmas.List.{get_or-append_right, get_or-replicate, length-replicate}
+use Rattle.std.proofs.Common.{◌≡◌, ℕ, zero, suc, ◌<◌, Bool, true, false, ◌&&◌}
+use Rattle.std.proofs.Common.{◌==◌, if◌then◌else◌, List, [], ◌∷◌, ◌++◌}
+use Rattle.std.proofs.Common.{replicate, Option, Some, None, IsTrue, refl, sym, ◌∙◌, ap}
+use Rattle.std.proofs.Common.{subst, arith, ne_eqb, append_assoc}
+use Rattle.std.proofs.lemmas.Bool.{eqb-true, eqb-false}
 use Rattle.stm_wire.specs.declared.verdict.Verdict.{Verdict}
 use Rattle.stm_wire.specs.declared.verdict.Verdict.TheVariants.{Done, Refused, Loose}
-use Rattle.stm_wire.specs.Chip.{ChipData, flash_size, fits_inside}
-use Rattle.stm_wire.specs.Exchange.{after_address, all_exist, all_verdict, at_end, command_verdict}
-use Rattle.stm_wire.specs.Exchange.{complement, done_if, erase_verdict, extended_verdict, is_listed}
-use Rattle.stm_wire.specs.Exchange.{number_of, pair_of, pages_verdict, two_byte_numbers, read_verdict}
-use Rattle.stm_wire.specs.Exchange.{verdict, write_verdict, xor}
-use Rattle.stm_wire.specs.Telling.{can_read, is_readable}
-use Rattle.stm_weak.specs.WeakDevice.{IsInRead, ReadsPlace}
+use Rattle.stm_wire.specs.Chip.{ChipData, flash_size}
+use Rattle.stm_wire.specs.Exchange.{at_end, command_verdict}
+use Rattle.stm_wire.specs.Exchange.{complement, done_if, is_listed}
+use Rattle.stm_wire.specs.Exchange.{verdict}
+use Rattle.stm_weak.specs.WeakDevice.{IsInRead}
 use Rattle.stm_weak.proofs.Openness.{verdict_listed}
 use Rattle.stm_weak.proofs.Unread.{IsSilent}
 

@@ -1,25 +1,20 @@
 -- A device that was stopped in a frame, or waits, and how it is settled: no byte of that reads a
 -- weak page.
-use Rattle.std.proofs.Common.{◌≡◌, ◌⊎◌, inl, inr, ⊎_elim, ℕ, ◌<◌, Bool, true, false, ◌==◌}
-use Rattle.std.proofs.Common.{if◌then◌else◌, List, [], ◌∷◌, ◌++◌, drop, Option, Some, None, IsTrue}
-use Rattle.std.proofs.Common.{Contains, refl, sym, ◌∙◌, ap, subst, arith, append_assoc}
+use Rattle.std.proofs.Common.{◌≡◌, ℕ, ◌<◌, Bool, true, false, ◌==◌}
+use Rattle.std.proofs.Common.{if◌then◌else◌, List, [], ◌∷◌, ◌++◌, Option, Some, None}
+use Rattle.std.proofs.Common.{refl, sym, ◌∙◌, ap, subst, arith}
 use Rattle.stm_wire.specs.declared.verdict.Verdict.{Verdict}
 use Rattle.stm_wire.specs.declared.verdict.Verdict.TheVariants.{Done, Refused, Loose}
-use Rattle.stm_wire.specs.Chip.{ChipData, flash_size, page_count}
+use Rattle.stm_wire.specs.Chip.{ChipData, flash_size}
 use Rattle.stm_wire.specs.Device.{Device, Phase, Fresh, Connected, Gone, Receives, Takes}
-use Rattle.stm_wire.specs.Device.{phase_after, reset}
+use Rattle.stm_wire.specs.Device.{phase_after}
 use Rattle.stm_wire.specs.Exchange.{verdict}
 use Rattle.stm_wire.specs.Reply.{ack}
 use Rattle.stm_wire.specs.lemmas.PageLaws.{page_within}
-use Rattle.stm_weak.specs.WeakDevice.{IsWeakAt, NoneIsWeak, ReadsPlace, ReadsWeak, WeakDevice}
+use Rattle.stm_weak.specs.WeakDevice.{NoneIsWeak, ReadsPlace, ReadsWeak, WeakDevice}
 use Rattle.stm_weak.specs.WeakDevice.{WeakFeeds}
-use Rattle.stm_weak.specs.WeakRuns.{Feed, HasNoReset, IsNow, IsUnread, Reset, Take, WeakBefall}
-use Rattle.stm_weak.specs.WeakRuns.{WeakHappening, fed_bytes}
-use Rattle.stm_weak.specs.WeakSettling.{IsFedAlone}
 use Rattle.stm_weak.proofs.Agreeing.{weak_exists}
-use Rattle.stm_weak.proofs.Calm.{IsCalmRest, calm_nothing, calm_on, no_verdict}
-use Rattle.stm_weak.proofs.CalmFrames.{IsCalmAlong, IsEnd}
-use Rattle.stm_weak.proofs.Unread.{Has, IsOpenTo, has_fed}
+use Rattle.stm_weak.proofs.Calm.{IsCalmRest, calm_nothing, calm_on}
 
 -- what it has is calm for this byte
 abbrev pub IsCalmIn : ChipData → List ℕ → ℕ → Phase → Type 0

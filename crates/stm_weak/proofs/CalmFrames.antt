@@ -1,6 +1,6 @@
 -- Frames that a session sends while pages may be weak: wherever the host stops in one, whatever byte
 -- goes on with it reads no flash, and the whole of it ends in a verdict.
-use Rattle.std.proofs.Common.{◌≡◌, ◌⊎◌, inl, inr, ℕ, zero, suc, ◌+◌, ◌*◌, ◌-◌, ◌/◌, ◌%◌, ◌<◌, ◌≤◌}
+use Rattle.std.proofs.Common.{◌≡◌, ◌⊎◌, inl, inr, ℕ, suc, ◌+◌, ◌-◌, ◌/◌, ◌%◌, ◌<◌, ◌≤◌}
 use Rattle.std.proofs.Common.{Bool, true, false, ◌&&◌, ◌==◌, if◌then◌else◌, List, [], ◌∷◌, ◌++◌}
 use Rattle.std.proofs.Common.{length, take, replicate, Option, Some, None, IsTrue, refl, sym, ◌∙◌}
 use Rattle.std.proofs.Common.{ap, subst, arith, eq-eqb, length-append}
@@ -13,13 +13,12 @@ use Rattle.stm_wire.specs.declared.verdict.Verdict.{Verdict}
 use Rattle.stm_wire.specs.declared.verdict.Verdict.TheVariants.{Done, Refused}
 use Rattle.stm_wire.specs.Chip.{ChipData, fits_inside, flash_size, is_inside}
 use Rattle.stm_wire.specs.Device.{Connected, Device, IsDevice, ListsKind, phase_after}
-use Rattle.stm_wire.specs.Exchange.{all_exist, complement, done_if, extended_verdict, is_listed}
-use Rattle.stm_wire.specs.Exchange.{pair_of, two_byte_numbers, read_verdict, verdict, write_verdict, xor}
+use Rattle.stm_wire.specs.Exchange.{all_exist, complement, done_if, is_listed}
+use Rattle.stm_wire.specs.Exchange.{two_byte_numbers, read_verdict, verdict, write_verdict, xor}
 use Rattle.stm_wire.specs.Frames.{address_bytes, command, erase_frame, read_frame, with_checksum}
 use Rattle.stm_wire.specs.Frames.{write_frame}
 use Rattle.stm_wire.specs.Telling.{asks_unique, can_read, has_size, has_unique, is_readable}
 use Rattle.stm_weak.proofs.Calm.{IsCalmRest, IsCalmTail, calm_nothing, rest_one, rest_two}
-use Rattle.stm_weak.proofs.Calm.{no_verdict}
 use Rattle.stm_weak.proofs.Openness.{after_right, inside_if_fits, open_erase, open_write}
 use Rattle.stm_weak.proofs.Openness.{verdict_listed}
 use Rattle.stm_weak.proofs.Tails.{erase_calm, extended_calm, extended_not_loose, get_calm}

@@ -1,24 +1,21 @@
 -- A device is settled: no byte of that reads a weak page.
 use Rattle.std.proofs.Common.{◌≡◌, ◌⊎◌, inl, inr, ⊎_elim, ℕ, ◌<◌, Bool, true, false, ◌==◌}
 use Rattle.std.proofs.Common.{if◌then◌else◌, List, [], ◌∷◌, ◌++◌, drop, Option, Some, None, IsTrue}
-use Rattle.std.proofs.Common.{Contains, refl, sym, ◌∙◌, ap, subst, append_assoc, append-nil}
+use Rattle.std.proofs.Common.{Contains, sym, ◌∙◌, ap, subst}
 use Rattle.stm_wire.specs.declared.verdict.Verdict.{Verdict}
 use Rattle.stm_wire.specs.declared.verdict.Verdict.TheVariants.{Done, Refused, Loose}
 use Rattle.stm_wire.specs.Chip.{ChipData, page_count}
 use Rattle.stm_wire.specs.Device.{Device, Phase, Fresh, Connected, Gone, Receives, Takes}
-use Rattle.stm_wire.specs.Device.{phase_after, reset}
+use Rattle.stm_wire.specs.Device.{reset}
 use Rattle.stm_wire.specs.Exchange.{verdict}
 use Rattle.stm_wire.specs.Reply.{ack}
 use Rattle.stm_weak.specs.WeakDevice.{NoneIsWeak, ReadsWeak, WeakDevice, WeakFeeds}
 use Rattle.stm_weak.specs.WeakEvents.{NoneBecomesWeak}
 use Rattle.stm_weak.specs.WeakRuns.{Feed, HasNoReset, IsNow, IsUnread, Reset, Take, WeakBefall}
-use Rattle.stm_weak.specs.WeakRuns.{WeakHappening, fed_bytes}
+use Rattle.stm_weak.specs.WeakRuns.{WeakHappening}
 use Rattle.stm_weak.specs.WeakSettling.{IsFedAlone}
-use Rattle.stm_weak.proofs.Calm.{calm_nothing, no_verdict}
 use Rattle.stm_weak.proofs.CalmDevices.{IsCalm, IsCalmIn, calm_fed, calm_unread, fresh_fed}
 use Rattle.stm_weak.proofs.CalmDevices.{fresh_unread, sound_unread}
-use Rattle.stm_weak.proofs.CalmFrames.{IsCalmAlong, IsCalmFrame, IsEnd}
-use Rattle.stm_weak.proofs.Unread.{Has, IsOpenTo, has_fed}
 
 -- The make is the same all along.
 

@@ -2,7 +2,6 @@
 use Rattle.std.proofs.Common.{◌≡◌, ◌⊎◌, ⊎_elim, inl, inr, ℕ, ◌<◌, Bool, IsTrue, List, [], ◌∷◌, Option, None}
 use Rattle.std.proofs.Common.{refl, sym, ◌∙◌, ap, subst}
 use Rattle.stm_wire.specs.declared.intent.Intent.{Intent}
-use Rattle.stm_wire.specs.Call.{Call}
 use Rattle.stm_wire.specs.Chip.{ChipData, page_count}
 use Rattle.stm_wire.specs.Device.{Device, IsDevice}
 use Rattle.stm_wire.specs.Dialogue.{GoesOn}
@@ -28,7 +27,7 @@ use Rattle.stm_weak.specs.WeakDevice.{CanBe, NoneIsWeak, WeakDevice}
 use Rattle.stm_weak.proofs.Agreeing.{agrees_same}
 use Rattle.stm_weak.proofs.Calming.{IsSafeFor}
 use Rattle.stm_weak.proofs.Dealing.{at_ok, none_left}
-use Rattle.stm_weak.proofs.FedQuestioning.{BoardAskedTo, board_asked}
+use Rattle.stm_weak.proofs.FedQuestioning.{board_asked}
 use Rattle.stm_weak.proofs.FedStepping.{FedTo, fed_from}
 use Rattle.stm_weak.proofs.Mending.{no_page}
 use Rattle.stm_weak.proofs.Stepping.{AmongThese}

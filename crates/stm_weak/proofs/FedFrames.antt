@@ -1,15 +1,14 @@
 -- A frame that may be sent while pages may be weak, fed to a device that waits, or has no weak page.
-use Rattle.std.proofs.Common.{◌≡◌, ◌⊎◌, inl, inr, ⊎_elim, ℕ, ◌+◌, ◌-◌, ◌<◌, ◌≤◌, Bool, true, false}
-use Rattle.std.proofs.Common.{◌==◌, if◌then◌else◌, IsTrue, List, [], ◌∷◌, ◌++◌, length, Option, Some}
+use Rattle.std.proofs.Common.{◌≡◌, ◌⊎◌, inl, inr, ⊎_elim, ℕ, ◌+◌, ◌<◌, Bool, true, false}
+use Rattle.std.proofs.Common.{◌==◌, if◌then◌else◌, IsTrue, List, [], length, Option, Some}
 use Rattle.std.proofs.Common.{None, refl, sym, ◌∙◌, ap, subst, append-nil, arith}
 use Rattle.std.proofs.lemmas.Bool.{eqb-true}
 use Rattle.stm_wire.specs.declared.intent.Intent.{Intent}
 use Rattle.stm_wire.specs.declared.places.UniquePlace.{UniquePlace}
-use Rattle.stm_wire.specs.Chip.{ChipData, page_count, page_size}
+use Rattle.stm_wire.specs.Chip.{ChipData, page_count}
 use Rattle.stm_wire.specs.Device.{Connected, Device, IsDevice, Phase}
 use Rattle.stm_wire.specs.Dialogue.{Turn, sent_bytes}
 use Rattle.stm_wire.specs.Frames.{command, erase_frame, erase_turns, read_frame, write_frame}
-use Rattle.stm_wire.specs.Refused.{IsRefusedRead}
 use Rattle.stm_wire.specs.lemmas.DialogueLaws.{erase_sends, get_id_sends, get_sends, read_sends}
 use Rattle.stm_wire.specs.lemmas.DialogueLaws.{write_sends}
 use Rattle.stm_session.specs.Order.{page_address}
@@ -18,9 +17,9 @@ use Rattle.stm_weak.specs.Weak.{NoneIs}
 use Rattle.stm_weak.specs.Believed.{MayPutBelieving, confirms, reads, refused}
 use Rattle.stm_weak.specs.Believed.{asks as put_asks, names as put_names, erases as put_erases}
 use Rattle.stm_weak.specs.Believed.{writes as put_writes}
-use Rattle.stm_weak.specs.FedEvents.{IsFedPart, IsFedWhole, IsRefusedDialogue}
+use Rattle.stm_weak.specs.FedEvents.{IsFedPart, IsRefusedDialogue}
 use Rattle.stm_weak.specs.WeakDevice.{CanBe, NoneIsWeak, WeakDevice}
-use Rattle.stm_weak.specs.WeakEvents.{IsFrameBegun, IsSent}
+use Rattle.stm_weak.specs.WeakEvents.{IsFrameBegun}
 use Rattle.stm_weak.specs.WeakFrames.{BeginsOf}
 use Rattle.stm_weak.specs.WeakRuns.{IsUnread, fed_bytes}
 use Rattle.stm_weak.proofs.Calm.{calm_nothing}
@@ -29,7 +28,7 @@ use Rattle.stm_weak.proofs.CalmFrames.{IsCalmFrame, erase_frame_calm, get_frame_
 use Rattle.stm_weak.proofs.CalmFrames.{get_id_frame_calm, unique_frame_calm, write_frame_calm}
 use Rattle.stm_weak.proofs.CalmSending.{frame_left}
 use Rattle.stm_weak.proofs.Calming.{IsSafeFor, none_along}
-use Rattle.stm_weak.proofs.Putting.{begins_further, begins_same, page_fits, refused_begins}
+use Rattle.stm_weak.proofs.Putting.{begins_further, page_fits, refused_begins}
 use Rattle.stm_weak.proofs.Putting.{refused_sends, told_at}
 use Rattle.stm_weak.proofs.Stepping.{AmongThese, begun, chip_along, healed}
 use Rattle.stm_weak.proofs.Unread.{Has}

@@ -1,6 +1,6 @@
 -- The events of a session, by what is fed alone, at a device with weak pages and at an ordinary one
 -- beside it.
-use Rattle.std.proofs.Common.{⊎_elim, true, false, ◌≡◌, ◌⊎◌, inl, inr, ℕ, ◌<◌, Bool, nat_lt}
+use Rattle.std.proofs.Common.{⊎_elim, true, false, ◌≡◌, inl, inr, ℕ, ◌<◌, Bool, nat_lt}
 use Rattle.std.proofs.Common.{if◌then◌else◌, IsTrue, List, [], ◌∷◌, Option, Some, None, Contains}
 use Rattle.std.proofs.Common.{refl, sym, ◌∙◌, ap, subst, arith}
 use Rattle.std.proofs.lemmas.Bool.{ltb-true}
@@ -8,7 +8,7 @@ use Rattle.stm_wire.specs.declared.intent.Intent.{Intent}
 use Rattle.stm_wire.specs.declared.intent.Intent.TheVariants.{Erase, Program}
 use Rattle.stm_wire.specs.Chip.{ChipData, page_count}
 use Rattle.stm_wire.specs.Device.{Connected, Device, IsDevice}
-use Rattle.stm_wire.specs.Dialogue.{Turn, sent_bytes}
+use Rattle.stm_wire.specs.Dialogue.{Turn}
 use Rattle.stm_wire.specs.Frames.{erase_turns}
 use Rattle.stm_wire.specs.Intents.{intended_pages, settling_byte}
 use Rattle.stm_session.specs.Order.{Adds, Sends}

@@ -1,5 +1,5 @@
 -- The headline over a device with weak pages.
-use Rattle.std.proofs.Common.{◌≡◌, inl, inr, ℕ, ◌<◌, Bool, List, [], ◌∷◌, ◌++◌, Option, None, Ok}
+use Rattle.std.proofs.Common.{◌≡◌, inl, inr, ℕ, List, [], ◌∷◌, ◌++◌, Option, None, Ok}
 use Rattle.std.proofs.Common.{refl, sym, ◌∙◌, ap, subst}
 use Rattle.stm_wire.specs.declared.intent.Intent.{Intent}
 use Rattle.stm_wire.specs.Chip.{ChipData}
@@ -11,7 +11,7 @@ use Rattle.stm_session.specs.Events.{run_stopped, informed, info_stopped, identi
 use Rattle.stm_session.specs.Events.{identify_stopped, undid, undo_stopped}
 use Rattle.stm_session.specs.Events.{left_refused, refusal_stopped, unprotected, unprotect_stopped}
 use Rattle.stm_session.specs.Events.{kept, was_reset, lost_owed, lost_power}
-use Rattle.stm_session.specs.Headline.{AllIsUndone, IsStart, oldest_after, oldest_of, oldest_start}
+use Rattle.stm_session.specs.Headline.{AllIsUndone, oldest_after, oldest_of}
 use Rattle.stm_session.specs.Order.{Adds, Sends}
 use Rattle.stm_weak.specs.Weak.{NoneIs, WeakEvent, breaks, does, intent_behind, settles}
 use Rattle.stm_weak.specs.Weak.{weak_behind}
@@ -20,14 +20,15 @@ use Rattle.stm_weak.specs.FedAsking.{IsAskedAsOrdinary}
 use Rattle.stm_weak.specs.FedEvents.{AreFedAsOrdinary, FedEvents}
 use Rattle.stm_weak.specs.FedHistory.{FedAs, FedDeeds, FedKind, IsFedAsOrdinary, fed_kind}
 use Rattle.stm_weak.specs.FedHistory.{settled_and_asked, asked_at_most, as_told}
-use Rattle.stm_weak.specs.History.{AllFind, AllHeal, AtOk, HistoriesHeal, WeakDeed, events_in}
+use Rattle.stm_weak.specs.History.{AllHeal, AtOk, HistoriesHeal, WeakDeed, events_in}
 use Rattle.stm_weak.specs.History.{ran as deed_ran, run_stopped as deed_run_stopped, undid as deed_undid}
 use Rattle.stm_weak.specs.History.{undid_verified as deed_undid_verified, undo_stopped as deed_undo_stopped}
 use Rattle.stm_weak.specs.History.{asked as deed_asked, asking_stopped as deed_asking_stopped}
 use Rattle.stm_weak.specs.WeakDevice.{CanBe, NoneIsWeak, WeakDevice}
 use Rattle.stm_weak.specs.WeakHeadline.{AreFedUnread, AreQuestionsUnread, IsAskedUnread, IsFedUnread}
 use Rattle.stm_weak.specs.WeakHeadline.{intent_of_deeds}
-use Rattle.stm_weak.specs.WeakHeadline.{FollowsUnread, IsNotKept, IsUndone, NoneIsKept}
+use Rattle.stm_weak.specs.WeakHeadline.{FollowsUnread, IsAnsweredOk, IsNotKept, IsUndone, NoneIsKept}
+use Rattle.stm_weak.specs.WeakHeadline.{WeakHistoriesAreSessions}
 use Rattle.stm_weak.specs.WeakHeadline.{WeakHeadline}
 use Rattle.stm_weak.proofs.Calming.{IsSafeFor}
 use Rattle.stm_weak.proofs.FedDealing.{can_be_itself, deed_from, no_weak}
@@ -135,8 +136,17 @@ module _ (R : Type 0) (view : R → RigState) where
   at_undone before after (deed_asked is_fresh table board old new asks) P is ok = absurd is
   at_undone before after (deed_asking_stopped is_fresh table old new fault stop) P is ok = absurd is
 
-  module _ (before after : R) (last : WeakDeed R view) (is_undone : IsUndone before after last)
-    where
+  at_answered : (last : WeakDeed R view) (P : Type 0) → IsAnsweredOk last → AtOk last P → P
+  at_answered (deed_ran table commands old new session) P is ok = ok
+  at_answered (deed_run_stopped table commands old new fault whole stop) P is ok = absurd is
+  at_answered (deed_undid is_fresh table taken old new session) P is ok = ok
+  at_answered (deed_undid_verified is_fresh table returned old new session) P is ok = ok
+  at_answered (deed_undo_stopped is_fresh again table count old new fault whole stop) P is ok =
+      absurd is
+  at_answered (deed_asked is_fresh table board old new asks) P is ok = absurd is
+  at_answered (deed_asking_stopped is_fresh table old new fault stop) P is ok = absurd is
+
+  module _ (last : WeakDeed R view) (at_last : (P : Type 0) → AtOk last P → P) where
     through : (deeds : List (WeakDeed R view)) (old mid new : WeakDevice) (d : Device)
         (chip : ChipData) (MayBe : ℕ → Type 0) (intent : Option Intent) → d.chip ≡ chip
         → IsDevice d → CanBe old d → AmongThese chip MayBe old
@@ -160,7 +170,7 @@ module _ (R : Type 0) (view : R → RigState) where
           ends = ap (λ (xs : List (Happening R)). end_of xs w) nothing ∙ sym stays;
           unread = fed_unread intent (fed_kind last) mid new undone d one.end one.ordinary;
           sound = no_weak R view chip Behind new one.end one.can one.same one.among
-              (at_undone before after last (NoneIs Behind) is_undone heal.1);
+              (at_last (NoneIs Behind) heal.1);
         }
     through (deed ∷ deeds) old mid new d chip MayBe intent same is can among heal safe
         (next, led, more) undone w w2 history (own, rest, joined, leads, follows) =
@@ -186,7 +196,8 @@ weak_headline {R} view heal undone_all deeds last old mid new w w2 history is no
     undone follows kept_none undo =
     let d = old.device in
     let first : World = record { device = d; journal = [] } in
-    let x = through R view undo.before undo.after last undo.is deeds old mid new d d.chip
+    let x = through R view last (λ P ok. at_undone R view undo.before undo.after last P undo.is ok)
+    deeds old mid new d d.chip
     (λ n. ⊥) None refl is (can_be_itself old is) none (heal d.chip (deeds ++ last ∷ []) find)
     (inr none) led undone first w history follows in
     let A : World → Type 0 = λ v. AllLead view undo.own v in
@@ -200,10 +211,24 @@ weak_headline {R} view heal undone_all deeds last old mid new w w2 history is no
     λ v. Leads view (undid undo.table 0 undo.before undo.after (Ok undo.count)) v w2 in
     let back = undone_all all first [] start lead undo.table undo.before undo.after undo.count w2
     (subst B at (undo.undoes x.unread)) in
-    let ordinary : w2.device ≡ new.device = one_is_left new w2.device x.sound (undo.can x.unread) in
-    (
+    let ordinary : w2.device ≡ new.device = one_is_left new w2.device x.sound (undo.can x.unread) in (
       x.sound,
       ap (λ (v : Device). v.flash) (sym ordinary) ∙ back.0
           ∙ oldest_same R view all d.flash (kept_on R view history undo.own kept_none
           undo.none_kept),
+    )
+
+pub weak_sessions : {R : Type 0} (view : R → RigState) → HistoriesHeal view
+    → WeakHistoriesAreSessions view
+weak_sessions {R} view heal deeds last old mid new first w w2 history ok is none find led done
+    follows end =
+    let d = old.device in
+    let x = through R view last (λ P at. at_answered R view last P ok at) deeds old mid new d d.chip
+    (λ n. ⊥) None refl is (can_be_itself old is) none (heal d.chip (deeds ++ last ∷ []) find)
+    (inr none) led done first w history follows in
+    let A : World → Type 0 = λ v. AllLead view end.own v in (
+      lead_on R view history end.own first x.lead (subst A (sym x.ends) (end.leads x.unread)),
+      end_on R view history end.own first ∙ ap (λ (v : World). end_of end.own v) x.ends ∙ end.ends,
+      x.sound,
+      one_is_left new w2.device x.sound (end.can x.unread),
     )

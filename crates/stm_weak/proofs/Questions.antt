@@ -1,7 +1,7 @@
 -- Frames by which a device is asked which board it is are calm.
 use Rattle.std.proofs.Common.{◌≡◌, ⊎_elim, ℕ, ◌+◌, ◌-◌, ◌/◌, ◌%◌, ◌<◌, ◌≤◌, Bool, true, false, ◌&&◌}
-use Rattle.std.proofs.Common.{◌||◌, ◌==◌, if◌then◌else◌, List, [], ◌∷◌, ◌++◌, length, replicate}
-use Rattle.std.proofs.Common.{Option, Some, None, IsTrue, inl, inr, refl, sym, ◌∙◌, ap, ap₂, subst}
+use Rattle.std.proofs.Common.{◌||◌, ◌==◌, if◌then◌else◌, List, [], ◌∷◌, length}
+use Rattle.std.proofs.Common.{Option, Some, None, IsTrue, inr, refl, sym, ◌∙◌, ap₂, subst}
 use Rattle.std.proofs.Common.{arith, eq-eqb}
 use Rattle.std.proofs.lemmas.Bool.{and_parts, eqb-true, false≢true, leb-true, or_cases}
 use Rattle.stm_wire.specs.declared.places.UniquePlace.{UniquePlace}
@@ -10,9 +10,9 @@ use Rattle.stm_wire.specs.declared.verdict.Verdict.TheVariants.{Refused}
 use Rattle.stm_wire.specs.Chip.{ChipData, IsChip, fits_inside, flash_size, is_outside}
 use Rattle.stm_wire.specs.Chip.{is_size_place, is_unique_place}
 use Rattle.stm_wire.specs.Device.{Device, IsDevice}
-use Rattle.stm_wire.specs.Exchange.{after_address, at_end, complement, is_listed, read_verdict}
-use Rattle.stm_wire.specs.Exchange.{verdict, xor}
-use Rattle.stm_wire.specs.Frames.{address_bytes, command, read_frame, with_checksum}
+use Rattle.stm_wire.specs.Exchange.{after_address, at_end, is_listed, read_verdict}
+use Rattle.stm_wire.specs.Exchange.{xor}
+use Rattle.stm_wire.specs.Frames.{address_bytes, with_checksum}
 use Rattle.stm_wire.specs.Refused.{read_head}
 use Rattle.stm_wire.specs.Telling.{asks_size, asks_unique, can_read, has_size, has_unique}
 use Rattle.stm_wire.specs.Telling.{is_readable}
@@ -26,7 +26,6 @@ use Rattle.stm_weak.proofs.CalmFrames.{get_id_frame_calm, read_frame_calm}
 use Rattle.stm_weak.proofs.Openness.{same_number, verdict_listed}
 use Rattle.stm_weak.proofs.Tails.{repeated_read}
 use Rattle.stm_weak.proofs.UniqueReads.{beside_flash}
-use Rattle.stm_weak.proofs.Unread.{IsOpenTo}
 
 -- A place at which a chip tells its board lies beside its flash, whatever is read there.
 
@@ -153,8 +152,20 @@ module _ (chip : ChipData) (codes : List ℕ) (address : ℕ) (listed : IsTrue (
           refl,
           (
             told [],
-            (told (a ∷ []), (told (a ∷ b ∷ []), (told (a ∷ b ∷ c ∷ []), (told (address_bytes
-                address), tt)))),
+            (
+              told (a ∷ []),
+              (
+                told (a ∷ b ∷ []),
+                (
+                  told (a ∷ b ∷ c ∷ []),
+                  (
+                    told (address_bytes
+                        address),
+                    tt,
+                  ),
+                ),
+              ),
+            ),
           ),
         );
         calm = λ byte small. head_along byte;

@@ -1,7 +1,7 @@
 -- What may follow a command's code, so that it is calm: no loose verdict, and no read of the flash.
 use Rattle.std.proofs.Common.{◌≡◌, ℕ, zero, suc, ◌+◌, ◌*◌, ◌-◌, ◌/◌, ◌%◌, ◌<◌, ◌≤◌, Bool, true, false}
 use Rattle.std.proofs.Common.{◌&&◌, ◌==◌, nat_le, if◌then◌else◌, List, [], ◌∷◌, ◌++◌, length, take}
-use Rattle.std.proofs.Common.{get_or, replicate, Option, Some, None, IsTrue, refl, sym, ◌∙◌, ap}
+use Rattle.std.proofs.Common.{get_or, replicate, Option, Some, None, IsTrue, refl, sym, ◌∙◌}
 use Rattle.std.proofs.Common.{subst, arith, length-append}
 use Rattle.std.specs.Prelude.{slice_index}
 use Rattle.std.proofs.lemmas.Bool.{and_parts, eqb-true, eqb-false, leb-true}
@@ -17,7 +17,7 @@ use Rattle.stm_wire.specs.Frames.{address_bytes, with_checksum}
 use Rattle.stm_wire.specs.Telling.{can_read, is_readable}
 use Rattle.stm_weak.specs.WeakDevice.{IsInRead}
 use Rattle.stm_weak.proofs.Openness.{same_number}
-use Rattle.stm_weak.proofs.Calm.{IsCalmTail, at_end_is, no_verdict, refused_not_done}
+use Rattle.stm_weak.proofs.Calm.{IsCalmTail, at_end_is, no_verdict}
 use Rattle.stm_weak.proofs.Calm.{refused_not_loose, done_not_loose, same_verdict, tested_done}
 use Rattle.stm_weak.proofs.Calm.{tested_not_loose, unlike}
 

@@ -45,9 +45,9 @@ abbrev pub WaitsForQuestions : List (List ℕ) → WeakDevice → Type 0
 WaitsForQuestions [] w = Unit {0}
 WaitsForQuestions (frame ∷ frames) w = w.device.phase ≡ Connected []
 
--- The device is settled, whole or in part, and then asked. Where no byte of that
--- completed a read of a weak page, it waits for a command, as settling promises at Ok of a device
--- that follows the model.
+-- The device is settled, whole or in part, and then asked. Where it is asked, and no byte of the
+-- settling completed a read of a weak page, it waits for a command, as settling promises at Ok of a
+-- device that follows the model.
 pub record IsAskedAlone (intent : Option Intent) (old new : WeakDevice) : Type 0 where
   pub settled : WeakDevice
   pub settling : IsSettledAlone intent old settled
@@ -56,7 +56,8 @@ pub record IsAskedAlone (intent : Option Intent) (old new : WeakDevice) : Type 0
       → WaitsForQuestions frames settled
   pub questions : FedQuestions frames settled new
 
--- no byte completed a read of a weak page, and what befell it led an ordinary device from d to e
+-- No byte of questions completed a read of a weak page, and they led an ordinary device from d to
+-- e.
 abbrev pub AreQuestionsAsOrdinary : (frames : List (List ℕ)) (old new : WeakDevice)
     → FedQuestions frames old new → Device → Device → Type 0
 AreQuestionsAsOrdinary [] old new led d e = e ≡ d
@@ -65,6 +66,7 @@ AreQuestionsAsOrdinary (frame ∷ frames) old new led d e =
     × ((mid : Device) × Befall led.2.happenings d mid
     × AreQuestionsAsOrdinary frames led.0 new led.4 mid e)
 
+-- and so did the settling before them
 abbrev pub IsAskedAsOrdinary : (intent : Option Intent) (old new : WeakDevice)
     → IsAskedAlone intent old new → Device → Device → Type 0
 IsAskedAsOrdinary intent old new asked d e =

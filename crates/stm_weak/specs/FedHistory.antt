@@ -34,7 +34,8 @@ fed_kind {R = R} {view = view}
     kind_of_undo (intent_of session.journal.state)
     (events_in {R = R} {view = view}
     (undo_stopped is_fresh again table count old new fault whole (inr session))) session.does
-fed_kind (asked is_fresh table board old new asks) = settled_and_asked (intent_of asks.journal.state)
+fed_kind (asked is_fresh table board old new asks) =
+    settled_and_asked (intent_of asks.journal.state)
 fed_kind (asking_stopped is_fresh table old new fault (inr asks)) =
     settled_and_asked (intent_of asks.journal.state)
 fed_kind deed = as_told (events_in deed)
