@@ -17,7 +17,7 @@ use Rattle.stm_weak.proofs.Leading.{one_is_left}
 use Rattle.stm_weak.proofs.Stepping.{AmongThese, events_from}
 
 module _ (R : Type 0) (view : R → RigState) where
-  at_ok : (deed : WeakDeed R view) (P Q : Type 0) → (P → Q) → AtOk deed P → AtOk deed Q
+  pub at_ok : (deed : WeakDeed R view) (P Q : Type 0) → (P → Q) → AtOk deed P → AtOk deed Q
   at_ok (ran is_fresh table commands old new session) P Q f p = f p
   at_ok (run_stopped is_fresh table commands old new fault whole stop) P Q f p = tt
   at_ok (undid is_fresh table taken old new session) P Q f p = f p
@@ -26,7 +26,7 @@ module _ (R : Type 0) (view : R → RigState) where
   at_ok (asked is_fresh table board old new asks) P Q f p = tt
   at_ok (asking_stopped is_fresh table old new fault stop) P Q f p = tt
 
-  none_left : (chip : ChipData) (MayBe : ℕ → Type 0) (mid : WeakDevice) (e : Device) → CanBe mid e
+  pub none_left : (chip : ChipData) (MayBe : ℕ → Type 0) (mid : WeakDevice) (e : Device) → CanBe mid e
       → e.chip ≡ chip → AmongThese chip MayBe mid → NoneIs MayBe → e ≡ mid.device
   none_left chip MayBe mid e can same among none =
       let R : ChipData → Type 0 = λ c. (n : ℕ) → n < page_count c → IsTrue (mid.weak n) → ⊥ in

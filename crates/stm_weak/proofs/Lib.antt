@@ -25,3 +25,15 @@ mod Meaning
 mod Putting
 mod Stepping
 mod Dealing
+mod Calm
+mod Tails
+mod CalmFrames
+mod CalmDevices
+mod Calming
+mod CalmSending
+mod Questions
+mod FedFrames
+mod FedStepping
+mod FedQuestioning
+mod FedDealing
+mod Heading

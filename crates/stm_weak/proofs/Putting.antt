@@ -42,7 +42,7 @@ none_is_read (Reset ∷ more) old new MayBe none led among = none_is_read more l
     led.2 among
 
 -- what is told of the chip stands where the chip has it
-told_at : (o : Option UniquePlace) (unique : List ℕ) (place : UniquePlace)
+pub told_at : (o : Option UniquePlace) (unique : List ℕ) (place : UniquePlace)
     → place_of_bytes o unique ≡ Some place → o ≡ Some place
 told_at None unique place e = absurd (let h : None ≡ Some place = e in cc)
 told_at (Some p) unique place e = by (length unique == p.length) e
@@ -51,7 +51,7 @@ told_at (Some p) unique place e = by (length unique == p.length) e
     by true e = e
     by false e = absurd (let h : None ≡ Some place = e in cc)
 
-refused_sends : (address size : ℕ) (frame : List ℕ) (turns : List Turn)
+pub refused_sends : (address size : ℕ) (frame : List ℕ) (turns : List Turn)
     → IsRefusedRead address size frame turns → sent_bytes turns ≡ frame
 refused_sends address size frame turns (at_code f t) = ap (λ (l : List Turn). sent_bytes l) t
     ∙ sym f
@@ -61,7 +61,7 @@ refused_sends address size frame turns (at_count f t) = ap (λ (l : List Turn). 
     ∙ sym f
 
 -- it is a beginning of the whole frame
-refused_begins : (address size : ℕ) (frame : List ℕ) (turns : List Turn)
+pub refused_begins : (address size : ℕ) (frame : List ℕ) (turns : List Turn)
     → IsRefusedRead address size frame turns → BeginsOf frame (read_frame address size)
 refused_begins address size frame turns (at_code f t) = (
   with_checksum (address_bytes address) ++ command (size - 1),
@@ -73,13 +73,13 @@ refused_begins address size frame turns (at_address f t) =
 refused_begins address size frame turns (at_count f t) =
     ([], ap (λ xs. xs ++ []) f ∙ append-nil (read_frame address size))
 
-begins_further : (xs ys zs : List ℕ) → BeginsOf xs ys → BeginsOf ys zs → BeginsOf xs zs
+pub begins_further : (xs ys zs : List ℕ) → BeginsOf xs ys → BeginsOf ys zs → BeginsOf xs zs
 begins_further xs ys zs (a, e) (b, f) = (a ++ b, sym (append_assoc xs a b) ∙ ap (λ r. r ++ b) e ∙ f)
 
-begins_same : (xs ys zs : List ℕ) → BeginsOf xs ys → ys ≡ zs → BeginsOf xs zs
+pub begins_same : (xs ys zs : List ℕ) → BeginsOf xs ys → ys ≡ zs → BeginsOf xs zs
 begins_same xs ys zs (a, e) same = (a, e ∙ same)
 
-page_fits : (chip : ChipData) (n offset size : ℕ) → offset + size ≤ page_size chip n
+pub page_fits : (chip : ChipData) (n offset size : ℕ) → offset + size ≤ page_size chip n
     → IsTrue (fits_inside chip (page_address chip n + offset) size)
 page_fits chip n offset size within =
     let h = page_within chip.sizes n in

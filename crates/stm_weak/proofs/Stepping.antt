@@ -31,7 +31,7 @@ use Rattle.stm_weak.proofs.Openness.{open_erase}
 use Rattle.stm_weak.proofs.Unread.{Has, HasBefore, IsOpenTo, has_at_first, has_fed, has_taken}
 
 -- what is weak behind was weak before
-sound_along : (happenings : List WeakHappening) (old new : WeakDevice) (n : ℕ) → HasNoReset happenings
+pub sound_along : (happenings : List WeakHappening) (old new : WeakDevice) (n : ℕ) → HasNoReset happenings
     → (led : WeakBefall happenings old new) → NoneBecomesWeak happenings old new led
     → IsTrue (new.weak n) → IsTrue (old.weak n)
 sound_along [] old new n no_reset led sound weak = subst
@@ -64,12 +64,12 @@ chip_received byte old new (Connected rest) r = chip_taken old new (rest ++ byte
     (verdict old.chip old.codes (rest ++ byte ∷ [])) r
 chip_received byte old new Gone e = ap (λ (d : Device). d.chip) e
 
-chip_fed : (byte : ℕ) (old new : WeakDevice) → WeakFeeds byte old new
+pub chip_fed : (byte : ℕ) (old new : WeakDevice) → WeakFeeds byte old new
     → new.device.chip ≡ old.device.chip
 chip_fed byte old new f = chip_received byte f.now new.device f.now.phase f.feeds.receives
     ∙ f.can_be.chip
 
-chip_along : (happenings : List WeakHappening) (old new : WeakDevice) → WeakBefall happenings old new
+pub chip_along : (happenings : List WeakHappening) (old new : WeakDevice) → WeakBefall happenings old new
     → new.device.chip ≡ old.device.chip
 chip_along [] old new led = ap (λ (w : WeakDevice). w.device.chip) led
 chip_along (Feed byte ∷ more) old new (mid, feeds, led) = chip_along more mid new led
@@ -156,7 +156,7 @@ some_frame : (kind : EraseKind) (n : ℕ) → erase_frame kind n ≡ [] → ⊥
 some_frame Page n e = absurd (cc)
 some_frame Extended n e = absurd (cc)
 
-healed : (d : Device) (old new : WeakDevice) (n : ℕ) (turns : List Turn) → IsDevice d → CanBe old d
+pub healed : (d : Device) (old new : WeakDevice) (n : ℕ) (turns : List Turn) → IsDevice d → CanBe old d
     → n < page_count d.chip → (s : IsSent (sent_bytes turns) old new)
     → turns ≡ erase_turns d.chip.kind n → IsTrue (new.weak n) → ⊥
 healed d old new n turns is can exists s e weak =
@@ -175,17 +175,17 @@ abbrev pub AmongThese : ChipData → (ℕ → Type 0) → WeakDevice → Type 0
 AmongThese chip MayBe w = (n : ℕ) → n < page_count chip → IsTrue (w.weak n) → MayBe n
 
 -- what led the ordinary device: where it is then
-abbrev Led : List WeakHappening → WeakDevice → Device → Type 0
+abbrev pub Led : List WeakHappening → WeakDevice → Device → Type 0
 Led happenings new d = (e : Device) × Befall happenings d e × CanBe new e × IsDevice e
 
-chip_led : (chip : ChipData) (happenings : List WeakHappening) (old new : WeakDevice) (d : Device)
+pub chip_led : (chip : ChipData) (happenings : List WeakHappening) (old new : WeakDevice) (d : Device)
     → WeakBefall happenings old new → d.chip ≡ chip → CanBe old d → (r : Led happenings new d)
     → r.0.chip ≡ chip
 chip_led chip happenings old new d led same can r = r.2.chip ∙ chip_along happenings old new led
     ∙ sym can.chip ∙ same
 
 -- a beginning of a frame that may be sent
-begun : (turns : List Turn) (old mid : WeakDevice) (d : Device) (chip : ChipData)
+pub begun : (turns : List Turn) (old mid : WeakDevice) (d : Device) (chip : ChipData)
     (MayBe : ℕ → Type 0) (intent : Option Intent) → d.chip ≡ chip → IsDevice d → CanBe old d
     → AmongThese chip MayBe old → MayPutBelieving chip MayBe intent turns
     → (b : IsFrameBegun (sent_bytes turns) old mid)

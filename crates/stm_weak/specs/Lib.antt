@@ -9,4 +9,9 @@ pub mod WeakFrames
 pub mod WeakMeaning
 pub mod WeakBelieved
 pub mod WeakEvents
+pub mod WeakSettling
+pub mod FedEvents
+pub mod FedAsking
+pub mod FedHistory
+pub mod WeakHeadline
 pub mod lemmas

@@ -6,6 +6,8 @@ ghost use Rattle.stm_weak.specs.WeakFrames.{FramesAreUnread, FreshSettlingIsUnre
 ghost use Rattle.stm_weak.specs.WeakMeaning.{EraseHeals, ReadsAnything};
 ghost use Rattle.stm_weak.specs.WeakRecord.{VouchedWhileUnread};
 ghost use Rattle.stm_weak.specs.WeakEvents.{EventsAreOrdinary, HistoriesAreOrdinary};
+ghost use Rattle.stm_weak.specs.FedEvents.{StoppedSettlingIsUnread};
+ghost use Rattle.stm_weak.specs.FedHistory.{FedHistoriesAreOrdinary};
 
 use crate::weak_pages_are_at_work;
 use stm_wire::Rig;
@@ -38,6 +40,8 @@ pub fn frames_that_ask_or_change_are_unread()
     ensures may_put { MayPutIsUnread }
     // So is the settling of a device that was reset, or lost its power.
     ensures settling { FreshSettlingIsUnread }
+    // And so is that of one which was stopped in such a frame.
+    ensures stopped { StoppedSettlingIsUnread }
 {}
 
 /// A read of weak places may answer any bytes, so also other ones each time. The last byte of a
@@ -62,6 +66,10 @@ pub fn events_that_believe_no_weak_page_are_ordinary()
 /// byte of its flash.
 pub fn a_history_is_that_of_an_ordinary_device<R: Rig>()
     ensures ordinary { HistoriesAreOrdinary R.view }
+    // The same by what is fed to the device alone: each frame is fed to it whatever it has, and
+    // settling feeds it one byte, or whichever while it is fresh. It is taken to wait for a command
+    // only once it was settled under an intent. Behind each Ok no page is weak.
+    ensures fed { FedHistoriesAreOrdinary R.view }
 {
     weak_pages_are_at_work::<R>();
 }

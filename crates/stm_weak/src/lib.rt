@@ -3,6 +3,7 @@
 #![tactic(auto)]
 
 mod device;
+mod headline;
 mod laws;
 mod undoing;
 
@@ -11,5 +12,6 @@ pub use device::{
     a_weak_page_reads_anything_until_it_is_erased, an_unread_record_is_vouched_for,
     events_that_believe_no_weak_page_are_ordinary, frames_that_ask_or_change_are_unread,
 };
+pub use headline::a_weak_history_can_be_undone;
 pub use laws::{an_undo_believes_no_page_at_work, weak_pages_are_at_work};
 pub use undoing::undo_segment;

@@ -1,0 +1,210 @@
+-- The events of a session, by what is fed alone, at a device with weak pages and at an ordinary one
+-- beside it.
+use Rattle.std.proofs.Common.{⊎_elim, true, false, ◌≡◌, inl, inr, ℕ, ◌<◌, Bool, nat_lt}
+use Rattle.std.proofs.Common.{if◌then◌else◌, IsTrue, List, [], ◌∷◌, Option, Some, None, Contains}
+use Rattle.std.proofs.Common.{refl, sym, ◌∙◌, ap, subst, arith}
+use Rattle.std.proofs.lemmas.Bool.{ltb-true}
+use Rattle.stm_wire.specs.declared.intent.Intent.{Intent}
+use Rattle.stm_wire.specs.declared.intent.Intent.TheVariants.{Erase, Program}
+use Rattle.stm_wire.specs.Chip.{ChipData, page_count}
+use Rattle.stm_wire.specs.Device.{Connected, Device, IsDevice}
+use Rattle.stm_wire.specs.Dialogue.{Turn}
+use Rattle.stm_wire.specs.Frames.{erase_turns}
+use Rattle.stm_wire.specs.Intents.{intended_pages, settling_byte}
+use Rattle.stm_session.specs.Order.{Adds, Sends}
+use Rattle.stm_session.specs.Work.{pages_of_intent}
+use Rattle.stm_weak.specs.Weak.{WeakEvent, breaks, does, settles, intent_after, intent_behind}
+use Rattle.stm_weak.specs.Weak.{weak_after, weak_behind}
+use Rattle.stm_weak.specs.Believed.{AreAtWork, NoneBelieved}
+use Rattle.stm_weak.specs.FedEvents.{AreFedAsOrdinary, FedEvents, IsRefusedDialogue}
+use Rattle.stm_weak.specs.FedEvents.{StoppedSettlingIsUnread, WaitsForMore, WaitsIfIntended}
+use Rattle.stm_weak.specs.WeakDevice.{CanBe, NoneIsWeak, WeakDevice}
+use Rattle.stm_weak.proofs.Calming.{IsSafeFor, settled_safe, settled_sound, settled_unread}
+use Rattle.stm_weak.proofs.FedFrames.{IsReadyFor, leaves_safe, ready_safe}
+use Rattle.stm_weak.proofs.Leading.{led_as_ordinary}
+use Rattle.stm_weak.proofs.Mending.{no_page}
+use Rattle.stm_weak.proofs.Stepping.{AmongThese, chip_along, chip_led, sound_along}
+
+-- what the next event needs of the device
+abbrev pub StandsFor : List WeakEvent → Option Intent → WeakDevice → Type 0
+StandsFor [] intent w = IsSafeFor (settling_byte intent) w
+StandsFor (settles own ∷ events) intent w = IsSafeFor (settling_byte intent) w
+StandsFor (does step ∷ events) intent w = IsReadyFor w
+StandsFor (breaks turns ∷ events) intent w = IsReadyFor w
+
+pub byte_small : (intent : Option Intent) → settling_byte intent < 256
+byte_small None = omega arith
+byte_small (Some (Program n)) = omega arith
+byte_small (Some (Erase n)) = by (nat_lt n 256) refl
+  where
+    by : (t : Bool) → nat_lt n 256 ≡ t → (if t then n else 0x02) < 256
+    by true e = ltb-true n 256 e
+    by false e = omega arith
+
+-- without an intent no page may be weak
+none_without : (chip : ChipData) (both : Bool) (MayBe : ℕ → Type 0) (intent : Option Intent)
+    (w : WeakDevice) → w.device.chip ≡ chip → None ≡ intent → AreAtWork both MayBe intent
+    → AmongThese chip MayBe w → NoneIsWeak w
+none_without chip both MayBe intent w same none at_work among n lt weak =
+    let P : Option Intent → Type 0 = λ i. Contains (pages_of_intent i both) n in
+    no_page n (subst P (sym none)
+    (at_work n (among n (subst (λ (c : ChipData). n < page_count c) same lt) weak)))
+
+-- a device that is ready stands for all
+ready_stands : (events : List WeakEvent) (intent : Option Intent) (w : WeakDevice) → IsReadyFor w
+    → StandsFor events intent w
+ready_stands [] intent w ready = ready_safe w (settling_byte intent) ready
+ready_stands (settles own ∷ events) intent w ready = ready_safe w (settling_byte intent) ready
+ready_stands (does step ∷ events) intent w ready = ready
+ready_stands (breaks turns ∷ events) intent w ready = ready
+
+-- and so does one that is safe, where it waits for more
+safe_stands : (events : List WeakEvent) (intent : Option Intent) (w : WeakDevice)
+    → IsSafeFor (settling_byte intent) w → WaitsForMore events w → StandsFor events intent w
+safe_stands [] intent w safe waits = safe
+safe_stands (settles own ∷ events) intent w safe waits = safe
+safe_stands (does step ∷ events) intent w safe waits = inr waits
+safe_stands (breaks turns ∷ events) intent w safe waits = inr waits
+
+-- settled under an intent it waits, and without one no page is weak
+settled_stands : (events : List WeakEvent) (own intent : Option Intent) (w : WeakDevice)
+    → IsSafeFor (settling_byte intent) w → (None ≡ own → NoneIsWeak w)
+    → WaitsIfIntended own events w → StandsFor events intent w
+settled_stands events None intent w safe none waits =
+    ready_stands events intent w (inl (none refl))
+settled_stands events (Some i) intent w safe none waits = safe_stands events intent w safe waits
+
+-- and one to which a whole frame was sent
+whole_stands : (events : List WeakEvent) (intent : Option Intent) (turns : List Turn)
+    (w : WeakDevice) → ((byte : ℕ) → byte < 256 → IsSafeFor byte w)
+    → ((IsRefusedDialogue turns → w.device.phase ≡ Connected []) → IsReadyFor w)
+    → (IsRefusedDialogue turns → WaitsForMore events w) → StandsFor events intent w
+whole_stands [] intent turns w safe ready waits = safe (settling_byte intent) (byte_small intent)
+whole_stands (settles own ∷ events) intent turns w safe ready waits =
+    safe (settling_byte intent) (byte_small intent)
+whole_stands (does step ∷ events) intent turns w safe ready waits = ready waits
+whole_stands (breaks own ∷ events) intent turns w safe ready waits = ready waits
+
+-- What they lead to.
+pub record FedTo (chip : ChipData) (MayBe : ℕ → Type 0) (intent : Option Intent)
+    (events : List WeakEvent) (old new : WeakDevice) (led : FedEvents events old new)
+    (d : Device) : Type 0 where
+  pub end : Device
+  pub ordinary : AreFedAsOrdinary events old new led d end
+  pub can : CanBe new end
+  pub is : IsDevice end
+  pub same : end.chip ≡ chip
+  pub among : AmongThese chip (λ n. weak_behind chip MayBe events n) new
+  pub safe : IsSafeFor (settling_byte (intent_behind intent events)) new
+
+pub fed_from : (events : List WeakEvent) (old new : WeakDevice) (d : Device) (chip : ChipData)
+    (MayBe : ℕ → Type 0) (both : Bool) (intent : Option Intent) → d.chip ≡ chip → IsDevice d
+    → CanBe old d → AmongThese chip MayBe old → NoneBelieved chip both MayBe intent events
+    → StandsFor events intent old → (led : FedEvents events old new)
+    → FedTo chip MayBe intent events old new led d
+fed_from [] old new d chip MayBe both intent same is can among believed stands led = record {
+  end = d;
+  ordinary = refl;
+  can = subst (λ (w : WeakDevice). CanBe w d) (sym led) can;
+  is = is;
+  same = same;
+  among = λ n lt weak. among n lt (subst (λ (w : WeakDevice). IsTrue (w.weak n)) led weak);
+  safe = subst (IsSafeFor (settling_byte intent)) (sym led) stands;
+}
+fed_from (settles own ∷ events) old new d chip MayBe both intent same is can among believed stands
+    (mid, s, waits, led) =
+    let byte = settling_byte own in
+    let own_is : settling_byte own ≡ settling_byte intent =
+    ap (λ (i : Option Intent). settling_byte i) believed.0 in
+    let safe : IsSafeFor byte old = subst (λ (b : ℕ). IsSafeFor b old) (sym own_is) stands in
+    let unread = settled_unread byte (intended_pages own) s.happenings old mid safe s.led s.alone in
+    let one = led_as_ordinary s.happenings old mid d s.are_bytes is can s.led unread in
+    let after : AmongThese chip (λ n. weak_after chip MayBe (settles own) n) mid =
+    λ n lt weak. ⊎_elim (λ (w : IsTrue (old.weak n)). inl (among n lt w)) (λ c. inr (lt, c))
+    (settled_sound byte (intended_pages own) s.happenings old mid s.led s.alone n weak) in
+    let left : IsSafeFor (settling_byte intent) mid = subst (λ (b : ℕ). IsSafeFor b mid) own_is
+    (settled_safe byte (intended_pages own) s.happenings old mid safe s.led s.alone) in
+    let rest = fed_from events mid new one.0 chip (λ n. weak_after chip MayBe (settles own) n) both
+    intent (chip_led chip s.happenings old mid d s.led same can one) one.3 one.2 after believed.2
+    (settled_stands events own intent mid left (λ none. none_without chip both
+    (λ n. weak_after chip MayBe (settles own) n) intent mid
+    (chip_along s.happenings old mid s.led ∙ sym can.chip ∙ same) (none ∙ believed.0) believed.1
+    after) (waits unread)) led in
+    record {
+      end = rest.end;
+      ordinary = (unread, (one.0, one.1, rest.ordinary));
+      can = rest.can;
+      is = rest.is;
+      same = rest.same;
+      among = rest.among;
+      safe = rest.safe;
+    }
+fed_from (does (Adds entries) ∷ events) old new d chip MayBe both intent same is can among believed
+    stands led =
+    let rest = fed_from events old new d chip (λ n. weak_after chip MayBe (does (Adds entries)) n)
+    both (intent_after intent (does (Adds entries))) same is can among believed.2
+    (ready_stands events (intent_after intent (does (Adds entries))) old stands) led in
+    record {
+      end = rest.end;
+      ordinary = rest.ordinary;
+      can = rest.can;
+      is = rest.is;
+      same = rest.same;
+      among = rest.among;
+      safe = rest.safe;
+    }
+fed_from (does (Sends turns) ∷ events) old new d chip MayBe both intent same is can among believed
+    stands (mid, s, waits, led) =
+    let b = s.part in
+    let leaves = leaves_safe turns old mid d chip MayBe intent same is can among believed.0 b stands
+    in
+    let one = led_as_ordinary b.happenings old mid d b.are_bytes is can b.led leaves.unread in
+    let after : AmongThese chip (λ n. weak_after chip MayBe (does (Sends turns)) n) mid =
+    λ n lt weak. (
+      among n lt (sound_along b.happenings old mid n b.no_reset b.led b.sound weak),
+      (λ e. (let R : ChipData → Type 0 = λ c. n < page_count c in
+          let T : ChipData → Type 0 = λ c. turns ≡ erase_turns c.kind n in
+          let at : chip ≡ old.device.chip = sym same ∙ can.chip in
+          leaves.heals s.whole n (subst R at lt) (subst T at e) weak)),
+    ) in
+    let rest = fed_from events mid new one.0 chip
+    (λ n. weak_after chip MayBe (does (Sends turns)) n) both intent
+    (chip_led chip b.happenings old mid d b.led same can one) one.3 one.2 after believed.2
+    (whole_stands events intent turns mid leaves.safe (leaves.ready s.whole) waits) led in
+    record {
+      end = rest.end;
+      ordinary = (leaves.unread, (one.0, one.1, rest.ordinary));
+      can = rest.can;
+      is = rest.is;
+      same = rest.same;
+      among = rest.among;
+      safe = rest.safe;
+    }
+fed_from (breaks turns ∷ events) old new d chip MayBe both intent same is can among believed stands
+    (mid, b, waits, led) =
+    let leaves = leaves_safe turns old mid d chip MayBe intent same is can among believed.0 b stands
+    in
+    let one = led_as_ordinary b.happenings old mid d b.are_bytes is can b.led leaves.unread in
+    let after : AmongThese chip (λ n. weak_after chip MayBe (breaks turns) n) mid =
+    λ n lt weak. inl (among n lt (sound_along b.happenings old mid n b.no_reset b.led b.sound weak))
+    in
+    let rest = fed_from events mid new one.0 chip (λ n. weak_after chip MayBe (breaks turns) n) both
+    intent (chip_led chip b.happenings old mid d b.led same can one) one.3 one.2 after believed.2
+    (safe_stands events intent mid (leaves.safe (settling_byte intent) (byte_small intent)) waits)
+    led in
+    record {
+      end = rest.end;
+      ordinary = (leaves.unread, (one.0, one.1, rest.ordinary));
+      can = rest.can;
+      is = rest.is;
+      same = rest.same;
+      among = rest.among;
+      safe = rest.safe;
+    }
+
+pub stopped_settling_is_unread : StoppedSettlingIsUnread
+stopped_settling_is_unread old mid new d may_be intent turns byte pages happenings small is can
+    waits among may part led alone =
+    settled_unread byte pages happenings mid new
+    ((leaves_safe turns old mid d d.chip (λ n. IsTrue (may_be n)) intent refl is can among may part
+    (inr waits)).safe byte small) led alone
