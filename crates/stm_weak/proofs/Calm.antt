@@ -71,7 +71,7 @@ tested_done false e = absurd (refused_not_done e)
 pub unlike : (byte : ℕ) → byte ≡ complement byte → ⊥
 unlike byte e = omega (arith, e)
 
-refused_pair : (chip : ChipData) (codes : List ℕ) (code check : ℕ) (rest : List ℕ)
+pub refused_pair : (chip : ChipData) (codes : List ℕ) (code check : ℕ) (rest : List ℕ)
     → (check ≡ complement code → ⊥)
     → verdict chip codes (code ∷ check ∷ rest) ≡ at_end Refused rest
 refused_pair chip codes code check rest ne =

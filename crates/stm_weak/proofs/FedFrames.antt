@@ -6,7 +6,8 @@ use Rattle.std.proofs.lemmas.Bool.{eqb-true}
 use Rattle.stm_wire.specs.declared.intent.Intent.{Intent}
 use Rattle.stm_wire.specs.declared.places.UniquePlace.{UniquePlace}
 use Rattle.stm_wire.specs.Chip.{ChipData, page_count}
-use Rattle.stm_wire.specs.Device.{Connected, Device, IsDevice, Phase}
+use Rattle.stm_wire.specs.Device.{Connected, Device, Fresh, Gone, IsDevice, Phase}
+use Rattle.stm_weak.specs.SettledBatches.{IsTameIn, StoppedIsTame}
 use Rattle.stm_wire.specs.Dialogue.{Turn, sent_bytes}
 use Rattle.stm_wire.specs.Frames.{command, erase_frame, erase_turns, read_frame, write_frame}
 use Rattle.stm_wire.specs.lemmas.DialogueLaws.{erase_sends, get_id_sends, get_sends, read_sends}
@@ -201,3 +202,26 @@ module _ (turns : List Turn) (old mid : WeakDevice) (d : Device) (chip : ChipDat
   pub leaves_safe : IsReadyFor old → LeavesSafe turns old mid part
   leaves_safe (inl none) = of_none none
   leaves_safe (inr waits) = of_waiting waits
+
+-- what has no list that reads, has none that is loose
+tame_in : (chip : ChipData) (codes : List ℕ) (byte : ℕ) (p : Phase) → IsCalmIn chip codes byte p
+    → IsTameIn chip codes byte p
+tame_in chip codes byte Fresh calm = tt
+tame_in chip codes byte (Connected rest) calm = λ k. (calm k).0
+tame_in chip codes byte Gone calm = tt
+
+pub stopped_is_tame : StoppedIsTame
+stopped_is_tame old mid d may_be intent turns byte n small is can waits weak may part =
+    ⊎_elim (λ (none : NoneIs (λ m. IsTrue (may_be m))). absurd (none n weak))
+    (λ (c : IsOfCalm d turns).
+    (let further = begins_further (fed_bytes part.happenings) (sent_bytes turns) c.frame part.begins
+    c.begins in
+    tame_in mid.device.chip mid.device.codes byte mid.device.phase
+    (frame_left d.chip d.codes c.frame byte part.happenings old mid further.0 c.calm small
+    part.no_reset further.1
+    (record {
+      same_chip = sym can.chip;
+      same_codes = sym can.codes;
+      same_phase = waits;
+    }) part.led).calm))
+    (of_calm d (λ m. IsTrue (may_be m)) intent turns is may)

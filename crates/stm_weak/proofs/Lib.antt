@@ -37,3 +37,6 @@ mod FedStepping
 mod FedQuestioning
 mod FedDealing
 mod Heading
+mod ShortReplies
+mod FedSteadily
+mod Batches

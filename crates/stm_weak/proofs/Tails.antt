@@ -18,6 +18,7 @@ use Rattle.stm_wire.specs.Telling.{can_read, is_readable}
 use Rattle.stm_weak.specs.WeakDevice.{IsInRead}
 use Rattle.stm_weak.proofs.Openness.{same_number}
 use Rattle.stm_weak.proofs.Calm.{IsCalmTail, at_end_is, no_verdict}
+use Rattle.stm_weak.proofs.Calm.{refused_not_done}
 use Rattle.stm_weak.proofs.Calm.{refused_not_loose, done_not_loose, same_verdict, tested_done}
 use Rattle.stm_weak.proofs.Calm.{tested_not_loose, unlike}
 
@@ -146,7 +147,7 @@ repeated_extended chip byte (suc (suc k)) small = extended_calm chip
 
 -- A read: its verdict comes with its seventh byte, which has to be the complement of the sixth.
 
-in_read_done : (chip : ChipData) (a b c d check n last : ℕ) (rest : List ℕ)
+pub in_read_done : (chip : ChipData) (a b c d check n last : ℕ) (rest : List ℕ)
     → command_verdict chip 0x11 (a ∷ b ∷ c ∷ d ∷ check ∷ n ∷ last ∷ rest) ≡ Some Done
     → (last ≡ complement n) × (rest ≡ []) × IsTrue (can_read chip (number_of a b c d) (n + 1))
 in_read_done chip a b c d check n last rest e =
@@ -176,7 +177,7 @@ in_read_done chip a b c d check n last rest e =
     by true e = ended rest e
     by false e = absurd (no_verdict Done e)
 
-six_open : (chip : ChipData) (a b c d check n : ℕ)
+pub six_open : (chip : ChipData) (a b c d check n : ℕ)
     → command_verdict chip 0x11 (a ∷ b ∷ c ∷ d ∷ check ∷ n ∷ []) ≡ Some Done → ⊥
 six_open chip a b c d check n e =
     by (check == xor (a ∷ b ∷ c ∷ d ∷ []) && is_readable chip (number_of a b c d)) e
@@ -186,6 +187,17 @@ six_open chip a b c d check n e =
         ≡ Some Done → ⊥
     by true e = no_verdict Done e
     by false e = no_verdict Done e
+
+pub five_open : (chip : ChipData) (a b c d check : ℕ)
+    → command_verdict chip 0x11 (a ∷ b ∷ c ∷ d ∷ check ∷ []) ≡ Some Done → ⊥
+five_open chip a b c d check e =
+    by (check == xor (a ∷ b ∷ c ∷ d ∷ []) && is_readable chip (number_of a b c d)) e
+  where
+    by : (t : Bool)
+        → (if t then read_verdict chip (number_of a b c d) [] else at_end Refused []) ≡ Some Done
+        → ⊥
+    by true e = no_verdict Done e
+    by false e = refused_not_done (same_verdict Refused Done e)
 
 -- where these two bytes are one, it isn't done
 twin_read : (chip : ChipData) (tail : List ℕ) (place : ℕ)

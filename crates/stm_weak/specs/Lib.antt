@@ -14,4 +14,5 @@ pub mod FedEvents
 pub mod FedAsking
 pub mod FedHistory
 pub mod WeakHeadline
+pub mod SettledBatches
 pub mod lemmas

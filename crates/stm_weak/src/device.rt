@@ -8,6 +8,7 @@ ghost use Rattle.stm_weak.specs.WeakRecord.{VouchedWhileUnread};
 ghost use Rattle.stm_weak.specs.WeakEvents.{EventsAreOrdinary, HistoriesAreOrdinary};
 ghost use Rattle.stm_weak.specs.FedEvents.{StoppedSettlingIsUnread};
 ghost use Rattle.stm_weak.specs.FedHistory.{FedHistoriesAreOrdinary};
+ghost use Rattle.stm_weak.specs.SettledBatches.{BatchesLeaveItWaiting, StoppedIsTame};
 
 use crate::weak_pages_are_at_work;
 use stm_wire::Rig;
@@ -42,6 +43,14 @@ pub fn frames_that_ask_or_change_are_unread()
     ensures settling { FreshSettlingIsUnread }
     // And so is that of one which was stopped in such a frame.
     ensures stopped { StoppedSettlingIsUnread }
+{}
+
+/// A device with weak pages that settling in batches leaves at Ok waits for a command and owes
+/// nothing, by what it answered: where no list by which the byte goes on with what it has is loose.
+/// So it is of one that was stopped in a frame which may be sent while some page may be weak.
+pub fn settling_in_batches_leaves_it_waiting()
+    ensures waits { BatchesLeaveItWaiting }
+    ensures tame { StoppedIsTame }
 {}
 
 /// A read of weak places may answer any bytes, so also other ones each time. The last byte of a
