@@ -6,9 +6,9 @@ ghost use Rattle.stm_weak.specs.WeakFrames.{FramesAreUnread, FreshSettlingIsUnre
 ghost use Rattle.stm_weak.specs.WeakMeaning.{EraseHeals, ReadsAnything};
 ghost use Rattle.stm_weak.specs.WeakRecord.{VouchedWhileUnread};
 ghost use Rattle.stm_weak.specs.WeakEvents.{EventsAreOrdinary, HistoriesAreOrdinary};
-ghost use Rattle.stm_weak.specs.FedEvents.{StoppedSettlingIsUnread};
+ghost use Rattle.stm_weak.specs.FedEvents.{StoppedIsTame, StoppedSettlingIsUnread};
 ghost use Rattle.stm_weak.specs.FedHistory.{FedHistoriesAreOrdinary};
-ghost use Rattle.stm_weak.specs.SettledBatches.{BatchesLeaveItWaiting, StoppedIsTame};
+ghost use Rattle.stm_weak.specs.SettledBatches.{BatchesLeaveItWaiting};
 
 use crate::weak_pages_are_at_work;
 use stm_wire::Rig;
