@@ -43,8 +43,8 @@ BatchesLeaveItWaiting = (byte limit : ℕ) (calls : List Call) (old new : WeakDe
     → 2 < limit → IsTameFor byte old → EndsInBatches byte limit calls
     → AnswersAlone byte calls old new → IsSettled new.device
 
--- It was settled so far, and then it answered the calls of a settling in batches that ended well, by
--- which no page became weak.
+-- It was settled so far, and then it answered the calls of a settling in batches that ended well,
+-- by which no page became weak.
 pub record EndsAnswered (intent : Option Intent) (old new : WeakDevice) : Type 0 where
   pub mid : WeakDevice
   pub first : IsSettledAlone intent old mid
