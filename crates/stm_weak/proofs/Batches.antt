@@ -1,11 +1,11 @@
 -- What settling in batches leaves, call by call.
-use Rattle.std.proofs.Common.{◌≡◌, ◌⊎◌, inl, inr, ⊎_elim, ℕ, zero, suc, ◌+◌, ◌-◌, ◌<◌, ◌≤◌, Bool, true}
+use Rattle.std.proofs.Common.{◌≡◌, ◌⊎◌, inl, inr, ⊎_elim, ℕ, zero, suc, ◌-◌, ◌<◌, ◌≤◌, Bool, true}
 use Rattle.std.proofs.Common.{false, ◌||◌, if◌then◌else◌, min, nat_le, nat_lt, List, [], ◌∷◌, ◌++◌}
 use Rattle.std.proofs.Common.{replicate, Some, None, refl, sym, ◌∙◌, ap, subst, arith}
 use Rattle.stm_wire.specs.Call.{Append, Call, Fetch, Get, Put}
 use Rattle.stm_wire.specs.Device.{Connected, Device, IsSettled, Phase}
 use Rattle.stm_wire.specs.Reply.{ack, nack}
-use Rattle.stm_wire.specs.SettlingCalls.{AreBatches, EndsInBatches, EndsSingly, IsBatched}
+use Rattle.stm_wire.specs.SettlingCalls.{AreBatches, EndsSingly, IsBatched}
 use Rattle.stm_wire.specs.SettlingCalls.{IsDrained, IsUnrefused}
 use Rattle.stm_wire.specs.SettlingCalls.{answered, batch_size, ending, more, none, reconnected}
 use Rattle.stm_wire.specs.SettlingCalls.{refused, taken, used_up}

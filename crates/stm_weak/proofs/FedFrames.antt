@@ -7,7 +7,7 @@ use Rattle.stm_wire.specs.declared.intent.Intent.{Intent}
 use Rattle.stm_wire.specs.declared.places.UniquePlace.{UniquePlace}
 use Rattle.stm_wire.specs.Chip.{ChipData, page_count}
 use Rattle.stm_wire.specs.Device.{Connected, Device, Fresh, Gone, IsDevice, Phase}
-use Rattle.stm_weak.specs.SettledBatches.{IsTameIn, StoppedIsTame}
+use Rattle.stm_weak.specs.SettledBatches.{IsTameIn}
 use Rattle.stm_wire.specs.Dialogue.{Turn, sent_bytes}
 use Rattle.stm_wire.specs.Frames.{command, erase_frame, erase_turns, read_frame, write_frame}
 use Rattle.stm_wire.specs.lemmas.DialogueLaws.{erase_sends, get_id_sends, get_sends, read_sends}
@@ -19,6 +19,7 @@ use Rattle.stm_weak.specs.Believed.{MayPutBelieving, confirms, reads, refused}
 use Rattle.stm_weak.specs.Believed.{asks as put_asks, names as put_names, erases as put_erases}
 use Rattle.stm_weak.specs.Believed.{writes as put_writes}
 use Rattle.stm_weak.specs.FedEvents.{IsFedPart, IsRefusedDialogue}
+use Rattle.stm_weak.specs.FedEvents.{StoppedIsTame}
 use Rattle.stm_weak.specs.WeakDevice.{CanBe, NoneIsWeak, WeakDevice}
 use Rattle.stm_weak.specs.WeakEvents.{IsFrameBegun}
 use Rattle.stm_weak.specs.WeakFrames.{BeginsOf}
@@ -204,7 +205,7 @@ module _ (turns : List Turn) (old mid : WeakDevice) (d : Device) (chip : ChipDat
   leaves_safe (inr waits) = of_waiting waits
 
 -- what has no list that reads, has none that is loose
-tame_in : (chip : ChipData) (codes : List ℕ) (byte : ℕ) (p : Phase) → IsCalmIn chip codes byte p
+pub tame_in : (chip : ChipData) (codes : List ℕ) (byte : ℕ) (p : Phase) → IsCalmIn chip codes byte p
     → IsTameIn chip codes byte p
 tame_in chip codes byte Fresh calm = tt
 tame_in chip codes byte (Connected rest) calm = λ k. (calm k).0

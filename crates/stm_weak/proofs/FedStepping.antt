@@ -18,9 +18,12 @@ use Rattle.stm_weak.specs.Weak.{weak_after, weak_behind}
 use Rattle.stm_weak.specs.Believed.{AreAtWork, NoneBelieved}
 use Rattle.stm_weak.specs.FedEvents.{AreFedAsOrdinary, FedEvents, IsRefusedDialogue}
 use Rattle.stm_weak.specs.FedEvents.{StoppedSettlingIsUnread, WaitsForMore, WaitsIfIntended}
+use Rattle.stm_weak.specs.SettledBatches.{EndsAnswered}
 use Rattle.stm_weak.specs.WeakDevice.{CanBe, NoneIsWeak, WeakDevice}
-use Rattle.stm_weak.proofs.Calming.{IsSafeFor, settled_safe, settled_sound, settled_unread}
-use Rattle.stm_weak.proofs.FedFrames.{IsReadyFor, leaves_safe, ready_safe}
+use Rattle.stm_weak.proofs.Batches.{batches_leave_it_waiting}
+use Rattle.stm_weak.proofs.CalmDevices.{IsCalm}
+use Rattle.stm_weak.proofs.Calming.{IsSafeFor, settled_safe, settled_sound, settled_unread, still_none}
+use Rattle.stm_weak.proofs.FedFrames.{IsReadyFor, leaves_safe, ready_safe, tame_in}
 use Rattle.stm_weak.proofs.Leading.{led_as_ordinary}
 use Rattle.stm_weak.proofs.Mending.{no_page}
 use Rattle.stm_weak.proofs.Stepping.{AmongThese, chip_along, chip_led, sound_along}
@@ -74,6 +77,23 @@ settled_stands events None intent w safe none waits =
     ready_stands events intent w (inl (none refl))
 settled_stands events (Some i) intent w safe none waits = safe_stands events intent w safe waits
 
+-- one that answered the calls of a settling waits, or has no weak page
+answered_ready : (intent : Option Intent) (old new : WeakDevice)
+    → new.device.chip ≡ old.device.chip → IsSafeFor (settling_byte intent) old
+    → EndsAnswered intent old new → IsReadyFor new
+answered_ready intent old new same safe a =
+    let byte = settling_byte intent in
+    let mid = a.mid in
+    let f = a.first in
+    ⊎_elim (λ (calm : IsCalm byte mid). (let ready : IsReadyFor new =
+    inr (batches_leave_it_waiting byte a.limit a.calls mid new a.some
+    (tame_in mid.device.chip mid.device.codes byte mid.device.phase calm) a.ends a.answers).phase in
+    ready))
+    (λ (none : NoneIsWeak mid). (let ready : IsReadyFor new =
+    inl (still_none mid new (same ∙ sym (chip_along f.happenings old mid f.led)) a.sound none) in
+    ready))
+    (settled_safe byte (intended_pages intent) f.happenings old mid safe f.led f.alone)
+
 -- and one to which a whole frame was sent
 whole_stands : (events : List WeakEvent) (intent : Option Intent) (turns : List Turn)
     (w : WeakDevice) → ((byte : ℕ) → byte < 256 → IsSafeFor byte w)
@@ -126,10 +146,12 @@ fed_from (settles own ∷ events) old new d chip MayBe both intent same is can a
     (settled_safe byte (intended_pages own) s.happenings old mid safe s.led s.alone) in
     let rest = fed_from events mid new one.0 chip (λ n. weak_after chip MayBe (settles own) n) both
     intent (chip_led chip s.happenings old mid d s.led same can one) one.3 one.2 after believed.2
-    (settled_stands events own intent mid left (λ none. none_without chip both
+    (⊎_elim (λ well. settled_stands events own intent mid left (λ none. none_without chip both
     (λ n. weak_after chip MayBe (settles own) n) intent mid
     (chip_along s.happenings old mid s.led ∙ sym can.chip ∙ same) (none ∙ believed.0) believed.1
-    after) (waits unread)) led in
+    after) (well unread))
+    (λ (a : EndsAnswered own old mid). ready_stands events intent mid
+    (answered_ready own old mid (chip_along s.happenings old mid s.led) safe a)) waits) led in
     record {
       end = rest.end;
       ordinary = (unread, (one.0, one.1, rest.ordinary));

@@ -1,6 +1,6 @@
 -- A session at a device with weak pages, by what is fed to it alone. Nothing is asked of the device
--- but that it waits for a command once it was settled under an intent.
-use Rattle.std.specs.Prelude.{◌≡◌, ℕ, ◌<◌, Bool, IsTrue, List, [], ◌∷◌, Option, Some, None}
+-- but what settling it under an intent leaves.
+use Rattle.std.specs.Prelude.{◌≡◌, ◌⊎◌, ℕ, ◌<◌, Bool, IsTrue, List, [], ◌∷◌, Option, Some, None}
 use Rattle.stm_wire.specs.declared.intent.Intent.{Intent}
 use Rattle.stm_wire.specs.Chip.{page_count}
 use Rattle.stm_wire.specs.Device.{Connected, Device, IsDevice}
@@ -9,6 +9,7 @@ use Rattle.stm_wire.specs.Refused.{IsRefusedRead}
 use Rattle.stm_session.specs.Order.{Adds, Sends}
 use Rattle.stm_weak.specs.Weak.{WeakEvent, breaks, does, settles}
 use Rattle.stm_weak.specs.Believed.{MayPutBelieving}
+use Rattle.stm_weak.specs.SettledBatches.{EndsAnswered, IsTameFor}
 use Rattle.stm_weak.specs.WeakDevice.{CanBe, WeakDevice}
 use Rattle.stm_weak.specs.WeakEvents.{NoneBecomesWeak}
 use Rattle.stm_weak.specs.WeakFrames.{BeginsOf}
@@ -48,15 +49,16 @@ abbrev pub WaitsIfIntended : Option Intent → List WeakEvent → WeakDevice →
 WaitsIfIntended None events w = Unit {0}
 WaitsIfIntended (Some intent) events w = WaitsForMore events w
 
--- These events befall it. Where anything follows a settling under an intent of which no byte
--- completed a read of a weak page, it waits for a command, as `settle_under` promises at Ok of a
--- device that follows the model. Behind a frame that was broken off, or a read that was refused,
--- nothing comes in a session.
+-- These events befall it. Where anything follows a settling under an intent, the device answered
+-- the calls of one in batches that ended well. Or it waits for a command, if no byte completed a
+-- read of a weak page, as `settle_under` promises at Ok of a device that follows the model. Behind a
+-- frame that was broken off, or a read that was refused, nothing comes in a session.
 abbrev pub FedEvents : List WeakEvent → WeakDevice → WeakDevice → Type 0
 FedEvents [] old new = new ≡ old
 FedEvents (settles own ∷ events) old new =
     (mid : WeakDevice) × (settled : IsSettledAlone own old mid)
-    × (IsUnread settled.happenings old mid settled.led → WaitsIfIntended own events mid)
+    × ((IsUnread settled.happenings old mid settled.led → WaitsIfIntended own events mid)
+    ⊎ EndsAnswered own old mid)
     × FedEvents events mid new
 FedEvents (does (Adds entries) ∷ events) old new = FedEvents events old new
 FedEvents (does (Sends turns) ∷ events) old new =
@@ -97,3 +99,12 @@ StoppedSettlingIsUnread = (old mid new : WeakDevice) (d : Device) (may_be : ℕ 
     → IsFedPart (sent_bytes turns) old mid
     → (led : WeakBefall happenings mid new) → IsFedAlone byte pages happenings mid new led
     → IsUnread happenings mid new led
+
+-- A device that was stopped in a frame which may be sent while some page may be weak: no list by
+-- which a byte goes on with what it has is loose.
+abbrev pub StoppedIsTame : Type 0
+StoppedIsTame = (old mid : WeakDevice) (d : Device) (may_be : ℕ → Bool) (intent : Option Intent)
+    (turns : List Turn) (byte n : ℕ) → byte < 256 → IsDevice d → CanBe old d
+    → old.device.phase ≡ Connected [] → IsTrue (may_be n)
+    → MayPutBelieving d.chip (λ m. IsTrue (may_be m)) intent turns
+    → IsFedPart (sent_bytes turns) old mid → IsTameFor byte mid

@@ -1,17 +1,16 @@
 -- What settling in batches leaves, by what a device with weak pages answered.
-use Rattle.std.specs.Prelude.{◌≡◌, ◌⊎◌, ℕ, ◌<◌, suc, Bool, IsTrue, List, [], ◌∷◌, ◌++◌, replicate}
+use Rattle.std.specs.Prelude.{◌≡◌, ◌⊎◌, ℕ, ◌<◌, suc, IsTrue, List, [], ◌∷◌, ◌++◌, replicate}
 use Rattle.std.specs.Prelude.{Option, Some, None}
 use Rattle.stm_wire.specs.declared.intent.Intent.{Intent}
 use Rattle.stm_wire.specs.declared.verdict.Verdict.TheVariants.{Loose}
 use Rattle.stm_wire.specs.Call.{Append, Call, Fetch, Get, Put}
 use Rattle.stm_wire.specs.Chip.{ChipData}
-use Rattle.stm_wire.specs.Device.{Connected, Device, Fresh, Gone, IsDevice, IsSettled, Phase}
-use Rattle.stm_wire.specs.Dialogue.{Turn, sent_bytes}
+use Rattle.stm_wire.specs.Device.{Connected, Fresh, Gone, IsSettled, Phase}
 use Rattle.stm_wire.specs.Exchange.{verdict}
+use Rattle.stm_wire.specs.Intents.{settling_byte}
 use Rattle.stm_wire.specs.SettlingCalls.{EndsInBatches}
-use Rattle.stm_weak.specs.Believed.{MayPutBelieving}
-use Rattle.stm_weak.specs.FedEvents.{IsFedPart}
-use Rattle.stm_weak.specs.WeakDevice.{CanBe, WeakDevice, WeakFeeds}
+use Rattle.stm_weak.specs.WeakDevice.{WeakDevice, WeakFeeds}
+use Rattle.stm_weak.specs.WeakSettling.{IsSettledAlone}
 
 -- no list by which this byte goes on with what came has a loose verdict
 abbrev pub IsTameIn : ChipData → List ℕ → ℕ → Phase → Type 0
@@ -44,11 +43,14 @@ BatchesLeaveItWaiting = (byte limit : ℕ) (calls : List Call) (old new : WeakDe
     → 2 < limit → IsTameFor byte old → EndsInBatches byte limit calls
     → AnswersAlone byte calls old new → IsSettled new.device
 
--- A device that was stopped in a frame which may be sent while some page may be weak: no list by which
--- a byte goes on with what it has is loose.
-abbrev pub StoppedIsTame : Type 0
-StoppedIsTame = (old mid : WeakDevice) (d : Device) (may_be : ℕ → Bool) (intent : Option Intent)
-    (turns : List Turn) (byte n : ℕ) → byte < 256 → IsDevice d → CanBe old d
-    → old.device.phase ≡ Connected [] → IsTrue (may_be n)
-    → MayPutBelieving d.chip (λ m. IsTrue (may_be m)) intent turns
-    → IsFedPart (sent_bytes turns) old mid → IsTameFor byte mid
+-- It was settled so far, and then it answered the calls of a settling in batches that ended well,
+-- by which no page became weak.
+pub record EndsAnswered (intent : Option Intent) (old new : WeakDevice) : Type 0 where
+  pub mid : WeakDevice
+  pub first : IsSettledAlone intent old mid
+  pub limit : ℕ
+  pub some : 2 < limit
+  pub calls : List Call
+  pub ends : EndsInBatches (settling_byte intent) limit calls
+  pub answers : AnswersAlone (settling_byte intent) calls mid new
+  pub sound : (n : ℕ) → IsTrue (new.weak n) → IsTrue (mid.weak n)

@@ -6,9 +6,9 @@ ghost use Rattle.stm_weak.specs.WeakFrames.{FramesAreUnread, FreshSettlingIsUnre
 ghost use Rattle.stm_weak.specs.WeakMeaning.{EraseHeals, ReadsAnything};
 ghost use Rattle.stm_weak.specs.WeakRecord.{VouchedWhileUnread};
 ghost use Rattle.stm_weak.specs.WeakEvents.{EventsAreOrdinary, HistoriesAreOrdinary};
-ghost use Rattle.stm_weak.specs.FedEvents.{StoppedSettlingIsUnread};
+ghost use Rattle.stm_weak.specs.FedEvents.{StoppedIsTame, StoppedSettlingIsUnread};
 ghost use Rattle.stm_weak.specs.FedHistory.{FedHistoriesAreOrdinary};
-ghost use Rattle.stm_weak.specs.SettledBatches.{BatchesLeaveItWaiting, StoppedIsTame};
+ghost use Rattle.stm_weak.specs.SettledBatches.{BatchesLeaveItWaiting};
 
 use crate::weak_pages_are_at_work;
 use stm_wire::Rig;
@@ -76,8 +76,9 @@ pub fn events_that_believe_no_weak_page_are_ordinary()
 pub fn a_history_is_that_of_an_ordinary_device<R: Rig>()
     ensures ordinary { HistoriesAreOrdinary R.view }
     // The same by what is fed to the device alone: each frame is fed to it whatever it has, and
-    // settling feeds it one byte, or whichever while it is fresh. It is taken to wait for a command
-    // only once it was settled under an intent. Behind each Ok no page is weak.
+    // settling feeds it one byte, or whichever while it is fresh. Under an intent it answers as
+    // settling in batches does that ends well, or waits for a command then. Behind each Ok no page
+    // is weak.
     ensures fed { FedHistoriesAreOrdinary R.view }
 {
     weak_pages_are_at_work::<R>();
