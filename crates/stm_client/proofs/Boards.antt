@@ -11,8 +11,8 @@ use Rattle.stm_wire.specs.Rig.{RigState}
 use Rattle.stm_chip.specs.Document.{IsChipWith}
 use Rattle.stm_journal.specs.declared.header.JournalHeader.{JournalHeader}
 use Rattle.stm_journal.specs.Calls.{AreFetches, IsUntouched}
-use Rattle.stm_journal.specs.Journals.{JournalData, good, journal_of}
-use Rattle.stm_journal.specs.States.{StateData, board_of, is_other_board, is_unfinished, names_other, names_other_board}
+use Rattle.stm_journal.specs.Journals.{JournalData, journal_of}
+use Rattle.stm_journal.specs.States.{StateData, is_other_board, is_unfinished, names_other, names_other_board}
 use Rattle.stm_session.specs.declared.fault.Fault.{Fault}
 use Rattle.stm_session.specs.declared.fault.Fault.TheVariants.{OtherBoard, OtherDevice, Unfinished}
 use Rattle.stm_session.specs.declared.information.Info.{Info}

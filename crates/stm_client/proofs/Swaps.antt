@@ -1,13 +1,10 @@
 -- A journal that was carried to another board, where it is refused.
-use Rattle.std.proofs.Common.{◌≡◌, ◌≤◌, ℕ, List, [], ◌∷◌, ◌++◌, Result, refl, sym, ◌∙◌, ap, subst}
+use Rattle.std.proofs.Common.{◌≡◌, ◌≤◌, ℕ, List, Result, sym, ◌∙◌, ap, subst}
 use Rattle.stm_wire.specs.Chip.{ChipData}
-use Rattle.stm_wire.specs.Device.{Device, reset}
-use Rattle.stm_sim.specs.Memory.{MemoryData, rig_state}
+use Rattle.stm_wire.specs.Device.{Device}
 use Rattle.stm_wire.specs.Rig.{RigState}
 use Rattle.stm_chip.specs.Document.{IsChipWith}
 use Rattle.stm_session.specs.declared.fault.Fault.{Fault}
-use Rattle.stm_session.specs.Headline.{IsStart}
-use Rattle.stm_session.specs.Events.{now_of}
 use Rattle.stm_session.specs.Lines.{depth_at}
 use Rattle.stm_session.specs.Moments.{IsSafe}
 use Rattle.stm_session.specs.Undoable.{Undoable}

@@ -1,5 +1,5 @@
 -- A journal that was carried to another board than the one that it is of.
-use Rattle.std.specs.Prelude.{◌≡◌, ◌⊎◌, ℕ, Bool, true, false, ◌∷◌, [], List, bytes_eq, Option, Some}
+use Rattle.std.specs.Prelude.{◌≡◌, ◌⊎◌, ℕ, true, false, List, bytes_eq, Some}
 use Rattle.std.specs.Prelude.{Result, Ok, Err}
 use Rattle.stm_wire.specs.Chip.{ChipData}
 use Rattle.stm_wire.specs.Moments.{LeavesOnly}
@@ -11,7 +11,6 @@ use Rattle.stm_journal.specs.States.{board_of, names_other, names_other_board}
 use Rattle.stm_session.specs.declared.fault.Fault.{Fault}
 use Rattle.stm_session.specs.declared.fault.Fault.TheVariants.{OtherBoard, Unfinished}
 use Rattle.stm_session.specs.Fault.{IsOutsideFault}
-use Rattle.stm_session.specs.Events.{World}
 use Rattle.stm_session.specs.Undoable.{state_at}
 
 -- The journal is of another board with the device's product id; and the table has the device's

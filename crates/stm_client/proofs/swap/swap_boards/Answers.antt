@@ -10,7 +10,7 @@ use Rattle.stm_session.specs.Promises.{UndoContract}
 use Rattle.stm_session.specs.Undoable.{Undoable}
 use Rattle.stm_client.specs.Boards.{AreTwoBoards}
 use Rattle.stm_client.proofs.Histories.{Laws, after_reset, all_back, run_honest, run_make, run_start, same_world, starts_then}
-use Rattle.stm_client.proofs.Resets.{IsReset, was_reset}
+use Rattle.stm_client.proofs.Resets.{was_reset}
 use Rattle.stm_client.proofs.Swaps.{refused_there}
 use Rattle.stm_client.proofs.swap.swap_boards.Goals as goal
 
