@@ -1,14 +1,10 @@
 -- A device is settled: no byte of that reads a weak page.
-use Rattle.std.proofs.Common.{◌≡◌, ◌⊎◌, inl, inr, ⊎_elim, ℕ, ◌<◌, Bool, true, false, ◌==◌}
-use Rattle.std.proofs.Common.{if◌then◌else◌, List, [], ◌∷◌, ◌++◌, drop, Option, Some, None, IsTrue}
-use Rattle.std.proofs.Common.{Contains, sym, ◌∙◌, ap, subst}
-use Rattle.stm_wire.specs.declared.verdict.Verdict.{Verdict}
-use Rattle.stm_wire.specs.declared.verdict.Verdict.TheVariants.{Done, Refused, Loose}
+use Rattle.std.proofs.Common.{◌≡◌, ◌⊎◌, inl, inr, ⊎_elim, ℕ, ◌<◌}
+use Rattle.std.proofs.Common.{List, [], ◌∷◌, drop, IsTrue}
+use Rattle.std.proofs.Common.{Contains, sym, ap, subst}
 use Rattle.stm_wire.specs.Chip.{ChipData, page_count}
-use Rattle.stm_wire.specs.Device.{Device, Phase, Fresh, Connected, Gone, Receives, Takes}
+use Rattle.stm_wire.specs.Device.{Device, Fresh}
 use Rattle.stm_wire.specs.Device.{reset}
-use Rattle.stm_wire.specs.Exchange.{verdict}
-use Rattle.stm_wire.specs.Reply.{ack}
 use Rattle.stm_weak.specs.WeakDevice.{NoneIsWeak, ReadsWeak, WeakDevice, WeakFeeds}
 use Rattle.stm_weak.specs.WeakEvents.{NoneBecomesWeak}
 use Rattle.stm_weak.specs.WeakRuns.{Feed, HasNoReset, IsNow, IsUnread, Reset, Take, WeakBefall}
@@ -16,33 +12,7 @@ use Rattle.stm_weak.specs.WeakRuns.{WeakHappening}
 use Rattle.stm_weak.specs.WeakSettling.{IsFedAlone}
 use Rattle.stm_weak.proofs.CalmDevices.{IsCalm, IsCalmIn, calm_fed, calm_unread, fresh_fed}
 use Rattle.stm_weak.proofs.CalmDevices.{fresh_unread, sound_unread}
-
--- The make is the same all along.
-
-chip_taken : (old new : Device) (bytes : List ℕ) (v : Option Verdict) → Takes old bytes v new
-    → new.chip ≡ old.chip
-chip_taken old new bytes None e = ap (λ (d : Device). d.chip) e
-chip_taken old new bytes (Some Refused) e = ap (λ (d : Device). d.chip) e
-chip_taken old new bytes (Some Done) (flash, effect, e) = ap (λ (d : Device). d.chip) e
-chip_taken old new bytes (Some Loose) l = l.chip
-
-chip_received : (byte : ℕ) (old new : Device) (phase : Phase) → Receives old phase byte new
-    → new.chip ≡ old.chip
-chip_received byte old new Fresh e = by (byte == 0x7F) e
-  where
-    by : (t : Bool) → new ≡
-        (if t then record old { owed = old.owed ++ ack ∷ []; phase = Connected [] } else old)
-        → new.chip ≡ old.chip
-    by true e = ap (λ (d : Device). d.chip) e
-    by false e = ap (λ (d : Device). d.chip) e
-chip_received byte old new (Connected rest) r = chip_taken old new (rest ++ byte ∷ [])
-    (verdict old.chip old.codes (rest ++ byte ∷ [])) r
-chip_received byte old new Gone e = ap (λ (d : Device). d.chip) e
-
-pub chip_fed : (byte : ℕ) (old new : WeakDevice) → WeakFeeds byte old new
-    → new.device.chip ≡ old.device.chip
-chip_fed byte old new f = chip_received byte f.now new.device f.now.phase f.feeds.receives
-    ∙ f.can_be.chip
+use Rattle.stm_weak.proofs.SameChip.{chip_fed}
 
 -- no page is weak, and none becomes so
 pub still_none : (old new : WeakDevice) → new.device.chip ≡ old.device.chip

@@ -32,7 +32,8 @@ use Rattle.stm_weak.proofs.CalmSending.{frame_left}
 use Rattle.stm_weak.proofs.Calming.{IsSafeFor, none_along}
 use Rattle.stm_weak.proofs.Putting.{begins_further, page_fits, refused_begins}
 use Rattle.stm_weak.proofs.Putting.{refused_sends, told_at}
-use Rattle.stm_weak.proofs.Stepping.{AmongThese, begun, chip_along, healed}
+use Rattle.stm_weak.proofs.Stepping.{AmongThese, begun, healed}
+use Rattle.stm_weak.proofs.SameChip.{chip_along}
 use Rattle.stm_weak.proofs.Unread.{Has}
 
 -- no page is weak, or it waits for a command

@@ -26,7 +26,8 @@ use Rattle.stm_weak.proofs.Calming.{IsSafeFor, settled_safe, settled_sound, sett
 use Rattle.stm_weak.proofs.FedFrames.{IsReadyFor, leaves_safe, ready_safe, tame_in}
 use Rattle.stm_weak.proofs.Leading.{led_as_ordinary}
 use Rattle.stm_weak.proofs.Mending.{no_page}
-use Rattle.stm_weak.proofs.Stepping.{AmongThese, chip_along, chip_led, sound_along}
+use Rattle.stm_weak.proofs.Stepping.{AmongThese, chip_led, sound_along}
+use Rattle.stm_weak.proofs.SameChip.{chip_along}
 
 -- what the next event needs of the device
 abbrev pub StandsFor : List WeakEvent → Option Intent → WeakDevice → Type 0

@@ -23,6 +23,7 @@ mod Silent
 mod Settling
 mod Meaning
 mod Putting
+mod SameChip
 mod Stepping
 mod Dealing
 mod Calm

@@ -1,24 +1,19 @@
 -- The events of a history at a device with weak pages, and at an ordinary one beside it.
-use Rattle.std.proofs.Common.{⊎_elim, true, false, ◌==◌, if◌then◌else◌, ◌≡◌, inl, inr, ℕ, ◌<◌, Bool}
-use Rattle.std.proofs.Common.{IsTrue, List, [], ◌∷◌, ◌++◌, Option, Some, None, refl, sym, ◌∙◌, ap}
+use Rattle.std.proofs.Common.{⊎_elim, ◌≡◌, inl, inr, ℕ, ◌<◌, Bool}
+use Rattle.std.proofs.Common.{IsTrue, List, [], ◌∷◌, ◌++◌, Option, refl, sym, ◌∙◌, ap}
 use Rattle.std.proofs.Common.{subst, append_assoc}
 use Rattle.stm_wire.specs.declared.chip.EraseKind.{EraseKind}
 use Rattle.stm_wire.specs.declared.chip.EraseKind.TheVariants.{Page, Extended}
 use Rattle.stm_wire.specs.declared.intent.Intent.{Intent}
-use Rattle.stm_wire.specs.declared.verdict.Verdict.{Verdict}
-use Rattle.stm_wire.specs.declared.verdict.Verdict.TheVariants.{Done, Refused, Loose}
-use Rattle.stm_wire.specs.Exchange.{verdict}
-use Rattle.stm_wire.specs.Reply.{ack}
 use Rattle.stm_wire.specs.Chip.{ChipData, page_count}
-use Rattle.stm_wire.specs.Device.{Device, Phase, Fresh, Connected, Gone, IsDevice, ListsKind}
-use Rattle.stm_wire.specs.Device.{Receives, Takes}
+use Rattle.stm_wire.specs.Device.{Device, IsDevice, ListsKind}
 use Rattle.stm_wire.specs.Dialogue.{Turn, sent_bytes}
 use Rattle.stm_wire.specs.lemmas.DialogueLaws.{erase_sends}
 use Rattle.stm_wire.specs.Frames.{erase_frame, erase_turns}
 use Rattle.stm_session.specs.Order.{Adds, Sends}
 use Rattle.stm_weak.specs.Weak.{WeakEvent, breaks, does, settles, intent_after, weak_after, weak_behind}
 use Rattle.stm_weak.specs.Believed.{MayPutBelieving, NoneBelieved}
-use Rattle.stm_weak.specs.WeakDevice.{CanBe, WeakDevice, WeakFeeds}
+use Rattle.stm_weak.specs.WeakDevice.{CanBe, WeakDevice}
 use Rattle.stm_weak.specs.WeakRuns.{Befall, Feed, WeakHappening, HasNoReset, IsUnread, Reset, Take}
 use Rattle.stm_weak.specs.WeakRuns.{WeakBefall, fed_bytes}
 use Rattle.stm_weak.specs.WeakBelieved.{AreAmong}
@@ -27,6 +22,7 @@ use Rattle.stm_weak.specs.WeakEvents.{NoneBecomesWeak, WeakEvents}
 use Rattle.stm_weak.proofs.Leading.{led_as_ordinary}
 use Rattle.stm_weak.proofs.Meaning.{erase_heals_at}
 use Rattle.stm_weak.proofs.Putting.{put_is_unread}
+use Rattle.stm_weak.proofs.SameChip.{chip_along, chip_fed}
 use Rattle.stm_weak.proofs.Openness.{open_erase}
 use Rattle.stm_weak.proofs.Unread.{Has, HasBefore, IsOpenTo, has_at_first, has_fed, has_taken}
 
@@ -41,43 +37,6 @@ sound_along (Feed byte ∷ more) old new n no_reset led sound weak =
 sound_along (Take k ∷ more) old new n no_reset led sound weak = sound.0 n
     (sound_along more led.0 new n no_reset led.2 sound.1 weak)
 sound_along (Reset ∷ more) old new n no_reset led sound weak = absurd no_reset
-
--- the chip is the same all along
-
-chip_taken : (old new : Device) (bytes : List ℕ) (v : Option Verdict) → Takes old bytes v new
-    → new.chip ≡ old.chip
-chip_taken old new bytes None e = ap (λ (d : Device). d.chip) e
-chip_taken old new bytes (Some Refused) e = ap (λ (d : Device). d.chip) e
-chip_taken old new bytes (Some Done) (flash, effect, e) = ap (λ (d : Device). d.chip) e
-chip_taken old new bytes (Some Loose) l = l.chip
-
-chip_received : (byte : ℕ) (old new : Device) (phase : Phase) → Receives old phase byte new
-    → new.chip ≡ old.chip
-chip_received byte old new Fresh e = by (byte == 0x7F) e
-  where
-    by : (t : Bool) → new ≡
-        (if t then record old { owed = old.owed ++ ack ∷ []; phase = Connected [] } else old)
-        → new.chip ≡ old.chip
-    by true e = ap (λ (d : Device). d.chip) e
-    by false e = ap (λ (d : Device). d.chip) e
-chip_received byte old new (Connected rest) r = chip_taken old new (rest ++ byte ∷ [])
-    (verdict old.chip old.codes (rest ++ byte ∷ [])) r
-chip_received byte old new Gone e = ap (λ (d : Device). d.chip) e
-
-pub chip_fed : (byte : ℕ) (old new : WeakDevice) → WeakFeeds byte old new
-    → new.device.chip ≡ old.device.chip
-chip_fed byte old new f = chip_received byte f.now new.device f.now.phase f.feeds.receives
-    ∙ f.can_be.chip
-
-pub chip_along : (happenings : List WeakHappening) (old new : WeakDevice) → WeakBefall happenings old new
-    → new.device.chip ≡ old.device.chip
-chip_along [] old new led = ap (λ (w : WeakDevice). w.device.chip) led
-chip_along (Feed byte ∷ more) old new (mid, feeds, led) = chip_along more mid new led
-    ∙ chip_fed byte old mid feeds
-chip_along (Take k ∷ more) old new (mid, now, led) = chip_along more mid new led
-    ∙ ap (λ (d : Device). d.chip) now.device
-chip_along (Reset ∷ more) old new (mid, now, led) = chip_along more mid new led
-    ∙ ap (λ (d : Device). d.chip) now.device
 
 -- pages that are weak at first are among these, and so they are as each byte comes
 among_along : (happenings : List WeakHappening) (old new : WeakDevice) (chip : ChipData)
