@@ -3,7 +3,9 @@
 import os
 import pty
 import re
+import select
 import signal
+import socket
 import subprocess
 import time
 
@@ -118,34 +120,6 @@ class Progress(Place):
         shown = self.on_terminal(lambda err: self.write(err, "-v"))[1].split(b"\x1b[K\r")
         told = [STOPPED.encode() in line for line in shown if b" page " in line]
         self.assertEqual((told[:3], told[-62:]), ([False, True, True], [False] * 62))
-
-    def test_a_signal_leaves_what_to_do(self):
-        """The last that a terminal shows of a write that Ctrl-C ended; and it is what brings all back."""
-        flash = bytes(range(256)) * 512
-        self.store("flash", flash)
-        here, there = pty.openpty()
-        files = ("--table", "table", "--device", self.device, "--journal", "journal")
-        with subprocess.Popen(["stmflash", "write", *files, "-f", "-S", "0x08000000", "image"], executable=program(), cwd=self.folder,
-                              env={}, stdin=subprocess.DEVNULL, stdout=subprocess.DEVNULL, stderr=there) as writing:
-            os.close(there)
-            shown = b""
-            # it waits as soon as the terminal has no more room
-            while b"writing page 3," not in shown:
-                shown += os.read(here, 256)
-            writing.send_signal(signal.SIGINT)
-        while True:
-            try:
-                piece = os.read(here, 4096)
-            except OSError:
-                break
-            if not piece:
-                break
-            shown += piece
-        os.close(here)
-        self.assertEqual(writing.returncode, -signal.SIGINT)
-        self.assertTrue(self.unwrapped(shown).endswith(STOPPED.encode() + b"\x1b[K"), shown[-80:])
-        self.assertEqual(self.run_shown(subprocess.DEVNULL, *STOPPED.split(": ")[1].split()), (0, b"undone 1\n"))
-        self.assertEqual(self.held("flash"), flash)
 
     def shows_note(self, image, *words):
         """Whether the note stands before all else that a terminal shows of a write of this image."""
@@ -501,3 +475,51 @@ class Waiting(Served):
         self.assertIn(first, range(4, 60))
         self.assertLess(second, first)
         self.assertServed()
+
+    def test_a_signal_leaves_what_to_do(self):
+        """The last that a terminal shows of a write that Ctrl-C ended at a page's erase; and it is what brings all back."""
+        flash = bytes(range(256)) * 512
+        self.store("flash", flash)
+        self.store("image", IMAGE)
+        self.serve(2, number="0410")
+        Peer(self, "late", self.stall_at_an_erase)
+        here, there = pty.openpty()
+        with subprocess.Popen(self.words("write", "-f", "-S", "0x08000000", "image"), executable=program(), cwd=self.folder, env={},
+                              stdin=subprocess.DEVNULL, stdout=subprocess.DEVNULL, stderr=there) as writing:
+            os.close(there)
+            with open(here, "rb", buffering=0) as told:
+                shown = b""
+                while b"erasing page 2," not in shown:
+                    shown += read_some(told)
+                writing.send_signal(signal.SIGINT)
+                shown += b"".join(iter(lambda: read_some(told), b""))
+        self.assertEqual(writing.returncode, -signal.SIGINT)
+        shown = shown.replace(CUT, b"").replace(WRAP, b"")
+        self.assertTrue(shown.endswith(STOPPED.encode() + b"\x1b[K"), shown[-80:])
+        undo = ["--table", "table", "--device", "board", "--journal", "journal", "--wait", "200"]
+        said = self.call(*STOPPED.split(": ")[1].split(), *undo)
+        self.assertTold(said, "undone 1\n")
+        self.assertServed()
+        self.assertFile("flash", flash)
+
+    def stall_at_an_erase(self, line, ending):
+        """Hands on what comes on either, until the third page is to be erased: from then on nothing."""
+        board, sent = self.reach("board"), b""
+        while not ending.is_set():
+            ready, _, _ = select.select([line, board], [], [], 0.1)
+            is_stalled = sent.count(b"\x43\xbc") >= 3
+            if board in ready and not is_stalled:
+                line.sendall(board.recv(4096))
+            if line in ready:
+                came = line.recv(4096)
+                if not came:
+                    break
+                sent += came
+                if not is_stalled:
+                    board.sendall(came)
+            if is_stalled:
+                time.sleep(0.01)
+        board.shutdown(socket.SHUT_WR)
+        while board.recv(4096):
+            pass
+        board.close()

@@ -328,7 +328,7 @@ Wrote and verified address 0x080005dc (100.00%) Done.
         self.assertFile("out", COUNTING[-1024:])
 
 
-class UndoPuts(Words):
+class TakingBack(Words):
     def stopped(self):
         os.makedirs(self.path(self.folder_of_port()), exist_ok=True)
         self.store(os.path.join(self.folder_of_port(), "journal"), STOPPED.encode())
@@ -787,7 +787,7 @@ class Parts(unittest.TestCase):
             board = module("board").Board(None, None, given)
             with unittest.mock.patch.object(board, "is_unfinished", return_value=unfinished), \
                     unittest.mock.patch.object(board, "use") as use:
-                board.undo_segment()
+                board.take_back()
             use.assert_called_once_with("undo", "1", wait=wait)
 
     def test_numbers(self):
@@ -894,12 +894,12 @@ class Parts(unittest.TestCase):
                 if result != "done":
                     raise result
 
-            def undo_segment():
+            def take_back():
                 if stays:
                     raise fault.Failed("device does not follow the protocol")
                 board.undoable.return_value -= 1
 
-            act, board.undo_segment.side_effect = unittest.mock.Mock(side_effect=change), undo_segment
+            act, board.take_back.side_effect = unittest.mock.Mock(side_effect=change), take_back
             asked = module("words").Words(action="w", retries=retries)
             try:
                 with contextlib.redirect_stderr(io.StringIO()):
@@ -907,7 +907,7 @@ class Parts(unittest.TestCase):
                 ended = True
             except fault.Fault:
                 ended = False
-            return act.call_count, board.undo_segment.call_count, ended
+            return act.call_count, board.take_back.call_count, ended
 
         one, other = "differs at 08000000", "differs at 08000400"
         self.assertEqual(tries(10), (1, 0, True))

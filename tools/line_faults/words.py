@@ -1,7 +1,7 @@
 """Faults of stm32flash's words, as in line.py."""
 
 TEST = "test_stm32flash_words."
-REFUSED, DOING, BACK, BOARDS = TEST + "Refusals.", TEST + "Doing.", TEST + "UndoPuts.", TEST + "Boards."
+REFUSED, DOING, BACK, BOARDS = TEST + "Refusals.", TEST + "Doing.", TEST + "TakingBack.", TEST + "Boards."
 DROPPING, PARTS = TEST + "Dropping.", TEST + "Parts."
 BY_NAME = REFUSED + "test_what_cant_be_is_refused_by_name_and_no_byte_is_sent"
 AT_REST = PARTS + "test_a_session_behind_another_waits_by_what_came"

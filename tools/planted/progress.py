@@ -151,7 +151,7 @@ FAULTS = {
         "stm_work/src/progress_screen.rt",
         'let hint = if self.is_changing { IF_STOPPED } else { "" };',
         'let hint = if self.is_changing && !@on { IF_STOPPED } else { "" };',
-        "test_progress.Progress.test_a_signal_leaves_what_to_do"),
+        "test_progress.Waiting.test_a_signal_leaves_what_to_do"),
     "a read says what to do where it is stopped": (
         "stm_work/src/progress_screen.rt",
         "self.is_changing = place.doing != Doing::Reading || self.is_changing && !is_read(before);",

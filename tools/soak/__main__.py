@@ -121,9 +121,9 @@ class Story:
         for _ in range(self.chance.randrange(3, 16)):
             self.use()
             meddling.meddle(self)
-        self.undo_segment()
+        self.take_back()
 
-    def undo_segment(self):
+    def take_back(self):
         """Last, all is taken back, however often that is stopped."""
         for _ in range(4):
             journal = self.journal()
