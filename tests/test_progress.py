@@ -396,6 +396,11 @@ def read_some(told):
         return b""
 
 
+def hear_signals():
+    """A shell's job in the background ignores SIGINT, and hands that on."""
+    signal.signal(signal.SIGINT, signal.SIG_DFL)
+
+
 class Waiting(Served):
     """What is shown of a board that answers late, or nothing."""
 
@@ -485,7 +490,7 @@ class Waiting(Served):
         Peer(self, "late", self.stall_at_an_erase)
         here, there = pty.openpty()
         with subprocess.Popen(self.words("write", "-f", "-S", "0x08000000", "image"), executable=program(), cwd=self.folder, env={},
-                              stdin=subprocess.DEVNULL, stdout=subprocess.DEVNULL, stderr=there) as writing:
+                              stdin=subprocess.DEVNULL, stdout=subprocess.DEVNULL, stderr=there, preexec_fn=hear_signals) as writing:
             os.close(there)
             with open(here, "rb", buffering=0) as told:
                 shown = b""
