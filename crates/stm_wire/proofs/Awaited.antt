@@ -1,5 +1,5 @@
 -- Each byte fed to a harmless device ends its exchange by a refusal, or brings that nearer.
-use Rattle.std.proofs.Common.{lit≤, ◌≡◌, ℕ, suc, ◌+◌, ◌<◌, ◌≤◌, ◌⊎◌, inl, inr, ⊎_elim, cond, ◌||◌, eqb, List, [], ◌∷◌, ◌++◌, length, refl, sym, ap, ◌∙◌, subst, arith, Option, Some, None}
+use Rattle.std.proofs.Common.{lit≤, ◌≡◌, ℕ, suc, ◌+◌, ◌*◌, ◌<◌, ◌≤◌, ◌⊎◌, inl, inr, ⊎_elim, cond, ◌||◌, eqb, List, [], ◌∷◌, ◌++◌, length, refl, sym, ap, ◌∙◌, subst, arith, Option, Some, None}
 use Rattle.std.proofs.lemmas.Bool.{cond_both, eq-eqb, ne_eqb, cases_eq}
 use Rattle.std.proofs.lemmas.List.{append-nil, length-append}
 use Rattle.stm_wire.proofs.Tellings.{readable-few}
@@ -20,25 +20,52 @@ step_cases (c ∷ x ∷ []) = inr refl
 step_cases (c ∷ x ∷ a ∷ b ∷ d ∷ e ∷ y ∷ []) = cond_both (eqb c 0x11 || eqb c 0x31) (ack ∷ []) [] (λ r. (r ≡ []) ⊎ (r ≡ ack ∷ [])) (λ _. inr refl) (λ _. inl refl)
 step_cases _ = inl refl
 
--- what the exchange that is open may still add to the bytes owed, above one for each byte fed
+-- How much the exchange that is open may still add to twice the bytes owed, above one for each byte
+-- fed. Outside it each refusal takes two bytes, so that a device owes half as many as it was sent.
+-- A done list brings 259 bytes at most; an acknowledgement comes at two bytes, and at seven.
+abbrev pub due_behind : List ℕ → ℕ
+due_behind (a ∷ b ∷ d ∷ e ∷ y ∷ rest) = 0
+due_behind rest = 2
+
 abbrev pub due : ℕ → List ℕ → ℕ
 due byte [] = 0
-due byte (c ∷ []) = cond (eqb c byte) 0 259
-due byte (c ∷ x ∷ rest) = 259
+due byte (c ∷ []) = cond (eqb c byte) 1 521
+due byte (c ∷ x ∷ rest) = 517 + due_behind rest
 
-due_open : (chip : ChipData) (codes : List ℕ) (byte : ℕ) (rest : List ℕ) → verdict chip codes (rest ++ byte ∷ []) ≡ None → due byte (rest ++ byte ∷ []) ≤ due byte rest
+due_behind_most : (rest : List ℕ) → due_behind rest ≤ 2
+due_behind_most (a ∷ b ∷ d ∷ e ∷ y ∷ rest) = lit≤ tt
+due_behind_most _ = lit≤ tt
+
+pub due_most : (byte : ℕ) (rest : List ℕ) → due byte rest ≤ 521
+due_most byte [] = lit≤ tt
+due_most byte (c ∷ []) = cond_both (eqb c byte) 1 521 (λ n. n ≤ 521) (λ _. lit≤ tt) (λ _. lit≤ tt)
+due_most byte (c ∷ x ∷ rest) = let m = due_behind_most rest in omega arith
+
+due_open : (chip : ChipData) (codes : List ℕ) (byte : ℕ) (rest : List ℕ) → verdict chip codes (rest ++ byte ∷ []) ≡ None →
+    2 * length (step_reply (rest ++ byte ∷ [])) + due byte (rest ++ byte ∷ []) ≤ due byte rest + 1
 due_open chip codes byte [] e = rw (eq-eqb byte byte refl) (lit≤ tt)
 due_open chip codes byte (c ∷ []) e = ⊎_elim
     (λ same. absurd (let h = sym (refused_pair chip codes c byte same) ∙ e in cc))
     (λ other. rw (ne_eqb c byte other) (lit≤ tt)) (cases_eq c byte)
-due_open chip codes byte (c ∷ x ∷ rest) e = lit≤ tt
+due_open chip codes byte (c ∷ x ∷ []) e = lit≤ tt
+due_open chip codes byte (c ∷ x ∷ a ∷ []) e = lit≤ tt
+due_open chip codes byte (c ∷ x ∷ a ∷ b ∷ []) e = lit≤ tt
+due_open chip codes byte (c ∷ x ∷ a ∷ b ∷ d ∷ []) e = lit≤ tt
+due_open chip codes byte (c ∷ x ∷ a ∷ b ∷ d ∷ f ∷ []) e = cond_both (eqb c 0x11 || eqb c 0x31) (ack ∷ []) [] (λ r. 2 * length r + 517 ≤ 520) (λ _. lit≤ tt) (λ _. lit≤ tt)
+due_open chip codes byte (c ∷ x ∷ a ∷ b ∷ d ∷ f ∷ y ∷ []) e = lit≤ tt
+due_open chip codes byte (c ∷ x ∷ a ∷ b ∷ d ∷ f ∷ y ∷ z ∷ rest) e = lit≤ tt
 
-due_done : (chip : ChipData) (codes : List ℕ) (byte : ℕ) (rest : List ℕ) → verdict chip codes (rest ++ byte ∷ []) ≡ Some Done → due byte rest ≡ 259
+due_done : (chip : ChipData) (codes : List ℕ) (byte : ℕ) (rest : List ℕ) → verdict chip codes (rest ++ byte ∷ []) ≡ Some Done → 517 ≤ due byte rest
 due_done chip codes byte [] e = absurd (let h : None ≡ Some Done = e in cc)
 due_done chip codes byte (c ∷ []) e = ⊎_elim
     (λ same. absurd (let h = sym (refused_pair chip codes c byte same) ∙ e in cc))
-    (λ other. rw (ne_eqb c byte other) refl) (cases_eq c byte)
-due_done chip codes byte (c ∷ x ∷ rest) e = refl
+    (λ other. rw (ne_eqb c byte other) (lit≤ tt)) (cases_eq c byte)
+due_done chip codes byte (c ∷ x ∷ rest) e = omega arith
+
+due_refused : (chip : ChipData) (codes : List ℕ) (byte : ℕ) (rest : List ℕ) → verdict chip codes (rest ++ byte ∷ []) ≡ Some Refused → 1 ≤ due byte rest
+due_refused chip codes byte [] e = absurd (let h : None ≡ Some Refused = e in cc)
+due_refused chip codes byte (c ∷ []) e = cond_both (eqb c byte) 1 521 (λ n. 1 ≤ n) (λ _. lit≤ tt) (λ _. lit≤ tt)
+due_refused chip codes byte (c ∷ x ∷ rest) e = omega arith
 
 read_small : (chip : ChipData) (flash bytes : List ℕ) → IsBytes bytes → length (read_answer chip flash bytes) ≤ 258
 read_small chip flash (a ∷ b ∷ c ∷ d ∷ x ∷ n ∷ rest) by =
@@ -59,19 +86,18 @@ answer_small d is _ by = lit≤ tt
 pub step_small : (bytes : List ℕ) → length (step_reply bytes) ≤ 1
 step_small bytes = ⊎_elim (λ none. rw none (lit≤ tt)) (λ one. rw one (lit≤ tt)) (step_cases bytes)
 
--- at most one byte more is owed than what was due allows
+-- twice the bytes owed grow by one more at most than what was due allows
 owes_open : (byte : ℕ) (rest : List ℕ) (old : Device) → verdict old.chip old.codes (rest ++ byte ∷ []) ≡ None →
-    length (old.owed ++ reply_of old (rest ++ byte ∷ [])) + due byte (rest ++ byte ∷ []) ≤ length old.owed + due byte rest + 1
+    2 * length (old.owed ++ reply_of old (rest ++ byte ∷ [])) + due byte (rest ++ byte ∷ []) ≤ 2 * length old.owed + due byte rest + 1
 owes_open byte rest old v =
     let bytes = rest ++ byte ∷ [] in
     let r : reply_of old bytes ≡ step_reply bytes = ap (λ w. reply_to w old.chip old.version old.codes old.flash bytes) v in
     let len = length-append old.owed (step_reply bytes) in
-    let one = step_small bytes in
     let less = due_open old.chip old.codes byte rest v in
     rw r (omega arith)
 
 owes_done : (byte : ℕ) (rest : List ℕ) (old : Device) → IsDevice old → IsBytes rest → byte < 256 → verdict old.chip old.codes (rest ++ byte ∷ []) ≡ Some Done →
-    length (old.owed ++ reply_of old (rest ++ byte ∷ [])) ≤ length old.owed + due byte rest + 1
+    2 * length (old.owed ++ reply_of old (rest ++ byte ∷ [])) ≤ 2 * length old.owed + due byte rest + 1
 owes_done byte rest old is by small v =
     let bytes = rest ++ byte ∷ [] in
     let a = answer old.chip old.version old.codes old.flash bytes in
@@ -82,15 +108,16 @@ owes_done byte rest old is by small v =
     rw r (omega arith)
 
 -- the byte was refused: the exchange is over
-pub record Refuses (old new : Device) : Type 0 where
+pub record Refuses (byte : ℕ) (rest : List ℕ) (old new : Device) : Type 0 where
   pub is : new ≡ record old { owed = old.owed ++ nack ∷ []; phase = Connected [] }
+  pub due : 1 ≤ due byte rest
 
 -- the byte was taken, and nothing is owed for it, or what begins with an acknowledgement
 pub record Advances (byte : ℕ) (rest : List ℕ) (old new : Device) : Type 0 where
   pub left : List ℕ
   pub phase : new.phase ≡ Connected left
   pub nearer : (n : ℕ) → IsRefusedIn old.chip old.codes byte (suc n) rest → IsRefusedIn old.chip old.codes byte n left
-  pub owes : length new.owed + due byte left ≤ length old.owed + due byte rest + 1
+  pub owes : 2 * length new.owed + due byte left ≤ 2 * length old.owed + due byte rest + 1
   pub reply : (new.owed ≡ old.owed) ⊎ ((more : List ℕ) × (new.owed ≡ old.owed ++ ack ∷ more))
 
 advances_open : (byte : ℕ) (rest : List ℕ) (old new : Device) →
@@ -115,7 +142,7 @@ stays [] = inl refl
 stays (c ∷ rest) = cond_both (eqb c 0x21) Gone (Connected []) (λ p. (p ≡ Connected []) ⊎ (p ≡ Gone)) (λ _. inr refl) (λ _. inl refl)
 
 pub fed : (byte : ℕ) (pages rest : List ℕ) (old new : Device) → IsDevice old → old.phase ≡ Connected rest → byte < 256 → Harmless old byte pages → Feeds byte old new →
-    Refuses old new ⊎ Advances byte rest old new
+    Refuses byte rest old new ⊎ Advances byte rest old new
 fed byte pages rest old new is at small h f = go (verdict old.chip old.codes bytes) refl (subst (λ (p : Phase). Receives old p byte new) at f.receives)
   where
     bytes : List ℕ
@@ -127,9 +154,12 @@ fed byte pages rest old new is at small h f = go (verdict old.chip old.codes byt
     gone : Device
     gone = record old { owed = old.owed ++ reply_of old bytes; phase = Gone }
 
-    go : (v : Option Verdict) → verdict old.chip old.codes bytes ≡ v → Takes old bytes v new → Refuses old new ⊎ Advances byte rest old new
+    go : (v : Option Verdict) → verdict old.chip old.codes bytes ≡ v → Takes old bytes v new → Refuses byte rest old new ⊎ Advances byte rest old new
     go None v t = inr (advances_open byte rest old new v t)
-    go (Some Refused) v t = inl (record { is = t ∙ ap (λ r. record old { owed = old.owed ++ r; phase = Connected [] }) (ap (λ w. reply_to w old.chip old.version old.codes old.flash bytes) v) })
+    go (Some Refused) v t = inl (record {
+      is = t ∙ ap (λ r. record old { owed = old.owed ++ r; phase = Connected [] }) (ap (λ w. reply_to w old.chip old.version old.codes old.flash bytes) v);
+      due = due_refused old.chip old.codes byte rest v;
+    })
     go (Some Done) v (flash, effect, e) = ⊎_elim
         (λ here. inr (record {
           left = [];

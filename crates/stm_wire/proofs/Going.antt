@@ -1,6 +1,6 @@
 -- The loop of settling: what holds before each byte, and what the byte leaves.
-use Rattle.std.proofs.Common.{lit≤, ◌≡◌, ℕ, suc, ◌+◌, ◌<◌, ◌≤◌, ◌⊎◌, inl, inr, ⊎_elim, Bool, true, false, cond, eqb, List, [], ◌∷◌, ◌++◌, length, drop, refl, sym, ap, ◌∙◌, subst, subst₂, arith, Some}
-use Rattle.std.proofs.lemmas.Bool.{cond_both, eq-eqb, eqb-true}
+use Rattle.std.proofs.Common.{lit≤, ◌≡◌, ℕ, suc, ◌+◌, ◌*◌, ◌<◌, ◌≤◌, ◌⊎◌, inl, inr, ⊎_elim, Bool, true, false, cond, eqb, List, [], ◌∷◌, ◌++◌, length, drop, refl, sym, ap, ◌∙◌, subst, subst₂, arith, Some}
+use Rattle.std.proofs.lemmas.Bool.{eq-eqb, eqb-true}
 use Rattle.std.proofs.lemmas.List.{length-drop, length-append, drop_all}
 use Rattle.stm_wire.specs.Chip.{ChipData}
 use Rattle.stm_wire.specs.declared.verdict.Verdict.TheVariants.{Refused}
@@ -12,7 +12,7 @@ use Rattle.stm_wire.specs.Awaited.{Awaits, AwaitsIn, IsRefusedIn}
 use Rattle.stm_wire.specs.Settling.{IsSettling, IsGoing, with_nothing_owed}
 use Rattle.stm_wire.proofs.Flash.{same_flash, then_same}
 use Rattle.stm_wire.proofs.Mild.{harmless, mild_empty, no_pair}
-use Rattle.stm_wire.proofs.Awaited.{due, fed, Refuses, Advances}
+use Rattle.stm_wire.proofs.Awaited.{due, due_most, fed, Refuses, Advances}
 use Rattle.stm_wire.proofs.Ending.{awaits_at, refused_empty, refused_some}
 use Rattle.stm_wire.proofs.Enough.{empty_enough}
 use Rattle.stm_wire.proofs.Closed.{IsSameMake, awaits_fed, same_make, harmless_fed, unharmed_fed, harmless_owed, harmless_loses}
@@ -48,15 +48,10 @@ pub record IsOver (d : Device) : Type 0 where
 abbrev pub IsNoRefusal : Device → Type 0
 IsNoRefusal d = (d.owed ≡ []) ⊎ ((more : List ℕ) × (d.owed ≡ ack ∷ more))
 
-due_most : (byte : ℕ) (rest : List ℕ) → due byte rest ≤ 259
-due_most byte [] = lit≤ tt
-due_most byte (c ∷ []) = cond_both (eqb c byte) 0 259 (λ n. n ≤ 259) (λ _. lit≤ tt) (λ _. lit≤ tt)
-due_most byte (c ∷ x ∷ rest) = lit≤ tt
-
 -- one byte of the loop
 pub record Steps (byte : ℕ) (pages : List ℕ) (start : Device) (left : ℕ) (new : Device) : Type 0 where
   pub settling : IsSettling byte pages start new
-  pub owes : length new.owed ≤ 260
+  pub owes : length new.owed ≤ 261
   pub outcome : IsOver new ⊎ (IsNoRefusal new × IsGoing byte pages start left (with_nothing_owed new))
 
 -- of the same make, wherever it is
@@ -71,7 +66,7 @@ steps byte pages start left d new Fresh is small s quiet at w f = go (eqb byte 0
     go : (t : Bool) → eqb byte 0x7F ≡ t → new ≡ cond t (record d { owed = d.owed ++ ack ∷ []; phase = Connected [] }) d → Steps byte pages start left new
     go true t e =
         let owed : new.owed ≡ ack ∷ [] = ap (λ (x : Device). x.owed) e ∙ ap (λ o. o ++ ack ∷ []) quiet in
-        let few : length new.owed ≤ 260 = rw owed (lit≤ tt) in
+        let few : length new.owed ≤ 261 = rw owed (lit≤ tt) in
         let now = settling_fed byte pages start d new s f (omega arith) in
         let three = w (eqb-true byte 0x7F t) in
         record {
@@ -88,7 +83,7 @@ steps byte pages start left d new Fresh is small s quiet at w f = go (eqb byte 0
         }
     go false t e =
         let owed : new.owed ≡ [] = ap (λ (x : Device). x.owed) e ∙ quiet in
-        let few : length new.owed ≤ 260 = rw owed (lit≤ tt) in
+        let few : length new.owed ≤ 261 = rw owed (lit≤ tt) in
         let now = settling_fed byte pages start d new s f (omega arith) in
         record {
           settling = now;
@@ -104,10 +99,10 @@ steps byte pages start left d new Fresh is small s quiet at w f = go (eqb byte 0
         }
 steps byte pages start left d new (Connected rest) is small s quiet at w f = ⊎_elim over on (fed byte pages rest d new is at small s.harmless f)
   where
-    over : Refuses d new → Steps byte pages start left new
+    over : Refuses byte rest d new → Steps byte pages start left new
     over r =
         let owed : new.owed ≡ nack ∷ [] = ap (λ (x : Device). x.owed) r.is ∙ ap (λ o. o ++ nack ∷ []) quiet in
-        let few : length new.owed ≤ 260 = rw owed (lit≤ tt) in
+        let few : length new.owed ≤ 261 = rw owed (lit≤ tt) in
         record {
           settling = settling_fed byte pages start d new s f (omega arith);
           owes = few;
@@ -120,7 +115,7 @@ steps byte pages start left d new (Connected rest) is small s quiet at w f = ⊎
         let most = due_most byte rest in
         let owes = a.owes in
         let same = same_make byte d new f in
-        let few : length new.owed ≤ 260 = omega arith in
+        let few : length new.owed ≤ 261 = omega arith in
         let now = settling_fed byte pages start d new s f (omega arith) in
         record {
           settling = now;
@@ -187,18 +182,18 @@ refuses byte d new at f =
     let u : Takes d bytes (Some Refused) new = subst (λ w. Takes d bytes w new) v t in
     u ∙ ap (λ r. record d { owed = d.owed ++ r; phase = Connected [] }) (ap (λ w. reply_to w d.chip d.version d.codes d.flash bytes) v)
 
--- Bytes fed without a get between, as long as two are kept back: n bytes may be owed, and what is due
+-- Bytes fed without a get between, as long as two are kept back: twice the bytes owed and what is due are n at most
 abbrev pub due_at : ℕ → Phase → ℕ
-due_at byte Fresh = 0
+due_at byte Fresh = 1
 due_at byte (Connected rest) = due byte rest
 due_at byte Gone = 0
 
 pub record InBatch (byte : ℕ) (pages : List ℕ) (start : Device) (left n : ℕ) (d : Device) : Type 0 where
   pub settling : IsSettling byte pages start d
   pub within : Awaits byte left d
-  pub owes : length d.owed + due_at byte d.phase ≤ n
+  pub owes : 2 * length d.owed + due_at byte d.phase ≤ n
 
-pub batch_step : (byte : ℕ) (pages : List ℕ) (start : Device) (left n : ℕ) (d new : Device) → IsDevice d → byte < 256 → 2 ≤ left → n < 4096 →
+pub batch_step : (byte : ℕ) (pages : List ℕ) (start : Device) (left n : ℕ) (d new : Device) → IsDevice d → byte < 256 → 2 ≤ left → n < 8192 →
     InBatch byte pages start (suc left) n d → Feeds byte d new → InBatch byte pages start left (suc n) new
 batch_step byte pages start left n d new is small two room b f = record {
   settling = settling_fed byte pages start d new b.settling f (omega (arith, owes, room));
@@ -206,30 +201,30 @@ batch_step byte pages start left n d new is small two room b f = record {
   owes = owes;
 }
   where
-    -- what is owed then is no more than one for the byte
-    go : (p : Phase) → d.phase ≡ p → length d.owed + due_at byte p ≤ n → length new.owed + due_at byte new.phase ≤ suc n
+    -- that is no more than one for the byte
+    go : (p : Phase) → d.phase ≡ p → 2 * length d.owed + due_at byte p ≤ n → 2 * length new.owed + due_at byte new.phase ≤ suc n
     go Fresh at o = by_cases (eqb byte 0x7F) (subst (λ (p : Phase). Receives d p byte new) at f.receives)
       where
-        by_cases : (t : Bool) → new ≡ cond t (record d { owed = d.owed ++ ack ∷ []; phase = Connected [] }) d → length new.owed + due_at byte new.phase ≤ suc n
+        by_cases : (t : Bool) → new ≡ cond t (record d { owed = d.owed ++ ack ∷ []; phase = Connected [] }) d → 2 * length new.owed + due_at byte new.phase ≤ suc n
         by_cases true e = let one = length-append d.owed (ack ∷ []) in rw e (omega arith)
         by_cases false e = rw (e, at) (omega arith)
     go (Connected rest) at o = ⊎_elim over on (fed byte pages rest d new is at small b.settling.harmless f)
       where
-        over : Refuses d new → length new.owed + due_at byte new.phase ≤ suc n
-        over r = let one = length-append d.owed (nack ∷ []) in rw r.is (omega arith)
+        over : Refuses byte rest d new → 2 * length new.owed + due_at byte new.phase ≤ suc n
+        over r = let one = length-append d.owed (nack ∷ []) in let some = r.due in rw r.is (omega arith)
 
-        on : Advances byte rest d new → length new.owed + due_at byte new.phase ≤ suc n
+        on : Advances byte rest d new → 2 * length new.owed + due_at byte new.phase ≤ suc n
         on a = let owes = a.owes in let phase = a.phase in rw phase (omega arith)
     go Gone at o = absurd (subst IsListening at (b.settling.harmless.each [] d refl).phase)
 
-    owes : length new.owed + due_at byte new.phase ≤ suc n
+    owes : 2 * length new.owed + due_at byte new.phase ≤ suc n
     owes = go d.phase refl b.owes
 
 -- a batch begins on a device that owes nothing, and its replies are taken at the end
-pub batch_begins : (byte : ℕ) (pages : List ℕ) (start : Device) (left : ℕ) (d : Device) → IsGoing byte pages start left d → InBatch byte pages start left 259 d
+pub batch_begins : (byte : ℕ) (pages : List ℕ) (start : Device) (left : ℕ) (d : Device) → IsGoing byte pages start left d → InBatch byte pages start left 521 d
 batch_begins byte pages start left d g = record { settling = g.settling; within = g.within; owes = rw g.quiet (most d.phase) }
   where
-    most : (p : Phase) → 0 + due_at byte p ≤ 259
+    most : (p : Phase) → 0 + due_at byte p ≤ 521
     most Fresh = lit≤ tt
     most (Connected rest) = let m = due_most byte rest in omega arith
     most Gone = lit≤ tt

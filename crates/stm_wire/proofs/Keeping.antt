@@ -178,34 +178,34 @@ going_drained byte limit pages d new many h few e =
     subst P (sym e) (going byte pages d limit many h few)
 
 -- a byte of a batch, put
-pub batch_put : {T : Type 0} (byte : ℕ) (pages : List ℕ) (start : Device) (left n : ℕ) (result : Result T RigFault) (a b : RigState) → IsModel a → byte < 256 → 2 ≤ left → n < 4096 →
+pub batch_put : {T : Type 0} (byte : ℕ) (pages : List ℕ) (start : Device) (left n : ℕ) (result : Result T RigFault) (a b : RigState) → IsModel a → byte < 256 → 2 ≤ left → n < 8192 →
     InBatch byte pages start (suc left) n a.device → PutsHonestly byte result a b → KeepsSettling byte pages start a b
 batch_put byte pages start left n result a b model small two room g p =
     keeps_put byte byte pages start result a b model g.settling (λ d f. (batch_step byte pages start left n a.device d model.device small two room g f).settling) p
 
-pub batch_next : (byte : ℕ) (pages : List ℕ) (start : Device) (left count sent : ℕ) (d : Device) → sent < count → InBatch byte pages start (left + (count - sent)) (259 + sent) d → InBatch byte pages start (suc (left + (count - (sent + 1)))) (259 + sent) d
+pub batch_next : (byte : ℕ) (pages : List ℕ) (start : Device) (left count sent : ℕ) (d : Device) → sent < count → InBatch byte pages start (left + (count - sent)) (521 + sent) d → InBatch byte pages start (suc (left + (count - (sent + 1)))) (521 + sent) d
 batch_next byte pages start left count sent d lt g =
     let e : left + (count - sent) ≡ suc (left + (count - (sent + 1))) = omega arith in
-    let P : ℕ → Type 0 = λ n. InBatch byte pages start n (259 + sent) d in
+    let P : ℕ → Type 0 = λ n. InBatch byte pages start n (521 + sent) d in
     subst P e g
 
-pub batch_count : (byte : ℕ) (pages : List ℕ) (start : Device) (left sent : ℕ) (d : Device) → InBatch byte pages start left (suc (259 + sent)) d → InBatch byte pages start left (259 + (sent + 1)) d
+pub batch_count : (byte : ℕ) (pages : List ℕ) (start : Device) (left sent : ℕ) (d : Device) → InBatch byte pages start left (suc (521 + sent)) d → InBatch byte pages start left (521 + (sent + 1)) d
 batch_count byte pages start left sent d g =
-    let e : suc (259 + sent) ≡ 259 + (sent + 1) = omega arith in
+    let e : suc (521 + sent) ≡ 521 + (sent + 1) = omega arith in
     let P : ℕ → Type 0 = λ n. InBatch byte pages start left n d in
     subst P e g
 
-pub batch_first : (byte : ℕ) (pages : List ℕ) (start : Device) (left count : ℕ) (d : Device) → IsGoing byte pages start (left + count) d → InBatch byte pages start (left + (count - 0)) (259 + 0) d
+pub batch_first : (byte : ℕ) (pages : List ℕ) (start : Device) (left count : ℕ) (d : Device) → IsGoing byte pages start (left + count) d → InBatch byte pages start (left + (count - 0)) (521 + 0) d
 batch_first byte pages start left count d g =
     let e : left + count ≡ left + (count - 0) = omega arith in
-    let P : ℕ → Type 0 = λ n. InBatch byte pages start n (259 + 0) d in
+    let P : ℕ → Type 0 = λ n. InBatch byte pages start n (521 + 0) d in
     subst P e (batch_begins byte pages start (left + count) d g)
 
-pub batch_last : (byte : ℕ) (pages : List ℕ) (start : Device) (left count sent : ℕ) (d new : Device) → count ≤ sent → InBatch byte pages start (left + (count - sent)) (259 + sent) d → new ≡ with_nothing_owed d → IsGoing byte pages start left new
+pub batch_last : (byte : ℕ) (pages : List ℕ) (start : Device) (left count sent : ℕ) (d new : Device) → count ≤ sent → InBatch byte pages start (left + (count - sent)) (521 + sent) d → new ≡ with_nothing_owed d → IsGoing byte pages start left new
 batch_last byte pages start left count sent d new le g e =
     let same : left + (count - sent) ≡ left = omega arith in
-    let P : ℕ → Type 0 = λ n. InBatch byte pages start n (259 + sent) d in
-    subst (IsGoing byte pages start left) (sym e) (batch_ends byte pages start left (259 + sent) d (subst P same g))
+    let P : ℕ → Type 0 = λ n. InBatch byte pages start n (521 + sent) d in
+    subst (IsGoing byte pages start left) (sym e) (batch_ends byte pages start left (521 + sent) d (subst P same g))
 
 pub going_split : (byte left count : ℕ) (pages : List ℕ) (start d : Device) → count ≤ left → IsGoing byte pages start left d → IsGoing byte pages start (left - count + count) d
 going_split byte left count pages start d le g =

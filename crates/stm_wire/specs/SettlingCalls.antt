@@ -45,11 +45,11 @@ pub record IsBatch (byte count : ℕ) (seen : Bool) (calls : List Call) : Type 0
   pub is_drained : IsDrained seen drained
 
 -- A batch has 256 bytes while fewer than 1,280 were sent in others before it, and where at most 512
--- of the limit are left, or as many as the limit leaves above two. Any other has 3,584, or as many
+-- of the limit are left, or as many as the limit leaves above two. Any other has 7,168, or as many
 -- as leave 256 of the limit.
 abbrev pub batch_size : ℕ → ℕ → ℕ
 batch_size sent left =
-    if nat_lt sent 1280 || nat_le left 512 then min (left - 2) 256 else min (left - 256) 3584
+    if nat_lt sent 1280 || nat_le left 512 then min (left - 2) 256 else min (left - 256) 7168
 
 -- Batches of such sizes. All but the last brought no NACK, and this says whether the last did. So
 -- many bytes of the limit are left.

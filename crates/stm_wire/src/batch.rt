@@ -18,7 +18,7 @@ const BEGINNING: u32 = 5 * BATCH;
 
 /// How many bytes a later batch has at most. Their replies, and what a completed command sends, are
 /// fewer bytes than one draining takes.
-const LARGE_BATCH: u32 = 3_584;
+const LARGE_BATCH: u32 = 7_168;
 
 /// How many bytes are kept back. They end an exchange that the last byte of a batch has completed.
 const KEPT_BACK: u32 = 2;
@@ -30,7 +30,7 @@ fn batch_size(sent: u32, left: u32) -> u32
     ensures is { result ≡ batch_size sent left }
     ensures some { 1 ≤ result }
     ensures kept { result + 2 ≤ left }
-    ensures most { result ≤ 3584 }
+    ensures most { result ≤ 7168 }
 {
     if sent < BEGINNING || left <= 2 * BATCH {
         (left - KEPT_BACK).min(BATCH)
@@ -42,7 +42,7 @@ fn batch_size(sent: u32, left: u32) -> u32
 /// Sends the byte so many times with no get between, then takes what is owed, and answers whether
 /// NACK was among it.
 fn send_batch<R: Rig>(rig: &mut R, byte: u8, count: u32) -> Result<bool, WireFault>
-    requires { count ≤ 3584 }
+    requires { count ≤ 7168 }
     ensures speaks { Speaks (replicate count byte) (count + 4097) result
         (R.view rig.old) (R.view rig.new) }
     ensures brief { (R.view rig.new).long_gets ≡ (R.view rig.old).long_gets }

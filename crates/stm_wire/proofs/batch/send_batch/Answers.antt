@@ -47,10 +47,10 @@ loop-sent-preserved g c =
           let rest = left + (c.args.count - (c.loop-sent._sent + 1)) in
           let next = batch_next c.args.byte pages start left c.args.count c.loop-sent._sent b.device c.loop-sent-test.true i.1 in
           let d = V c.put.new.self in
-          let one = batch_put c.args.byte pages start rest (259 + c.loop-sent._sent) c.put.result b d mb small (omega arith) (omega (arith, c.loop-sent-test.true)) next (c.put.ensures.honest i.0.honest) in (
+          let one = batch_put c.args.byte pages start rest (521 + c.loop-sent._sent) c.put.result b d mb small (omega arith) (omega (arith, c.loop-sent-test.true)) next (c.put.ensures.honest i.0.honest) in (
             keeps_then c.args.byte pages start a b d mb i.0 one,
             batch_count c.args.byte pages start rest c.loop-sent._sent d.device
-                (batch_step c.args.byte pages start rest (259 + c.loop-sent._sent) b.device d.device mb.device small (omega arith) (omega (arith, c.loop-sent-test.true)) next ((c.in_ok-put.ensures.honest i.0.honest).ok.0)),
+                (batch_step c.args.byte pages start rest (521 + c.loop-sent._sent) b.device d.device mb.device small (omega arith) (omega (arith, c.loop-sent-test.true)) next ((c.in_ok-put.ensures.honest i.0.honest).ok.0)),
           );
     }
 
@@ -66,7 +66,7 @@ returns-in_err-put-clause-honest g c h pages start left two going =
     let rest = left + (c.args.count - (c.loop-sent._sent + 1)) in
     let next = batch_next c.args.byte pages start left c.args.count c.loop-sent._sent b.device c.loop-sent-test.true i.1 in
     let d = V c.put.new.self in
-    let one = batch_put c.args.byte pages start rest (259 + c.loop-sent._sent) c.put.result b d mb small (omega arith) (omega (arith, c.loop-sent-test.true)) next (c.put.ensures.honest i.0.honest) in
+    let one = batch_put c.args.byte pages start rest (521 + c.loop-sent._sent) c.put.result b d mb small (omega arith) (omega (arith, c.loop-sent-test.true)) next (c.put.ensures.honest i.0.honest) in
     let both = keeps_then c.args.byte pages start a b d mb i.0 one in
     record { keeps = both; ok = search rules; fails = search rules }
 

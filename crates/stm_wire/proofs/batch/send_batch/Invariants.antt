@@ -15,5 +15,5 @@ invariant-loop-sent g l = record {
   honest : (g.R.Rig.view l.fn.rig).is_honest → (pages : List ℕ) (start : Device) (left : ℕ) → 2 ≤ left
       → IsGoing l.byte pages start (left + l.count) (g.R.Rig.view l.fn.rig).device
       → KeepsSettling l.byte pages start (g.R.Rig.view l.fn.rig) (g.R.Rig.view l.rig)
-      × InBatch l.byte pages start (left + (l.count - l._sent)) (259 + l._sent) (g.R.Rig.view l.rig).device;
+      × InBatch l.byte pages start (left + (l.count - l._sent)) (521 + l._sent) (g.R.Rig.view l.rig).device;
 }
