@@ -223,7 +223,7 @@ class GivingUp(Served):
         self.assertServed()
 
     def test_a_long_list_is_settled(self):
-        """A device that waits for 3,085 pages takes 24 batches without a word, which is no reason to give it up."""
+        """A device that waits for 3,085 pages takes six batches without a word, which is no reason to give it up."""
         self.store("table", WIDE)
         zeros = b"\x00" * 256 * 2048
         self.store("flash", zeros)

@@ -11,8 +11,8 @@ from row import NOTE, OPTION, row
 TIMES = 10
 # so many 7F a board may take that is connected, or fresh, or was left inside a question
 CONTACTS = 12
-# batches as long as those of settling, of a byte that is no code: it begins with 256 bytes, and goes on with 3,584
-BATCHES, NO_CODE = (256,) * 5 + (3584,) * 3, 0x55
+# batches as long as those of settling, of a byte that is no code: it begins with 256 bytes, and goes on with 7,168
+BATCHES, NO_CODE = (256,) * 5 + (7168,) * 2, 0x55
 NO_FRESH = "no --fresh (env -u STMFLASH_FRESH)"
 
 
@@ -148,7 +148,7 @@ def refuse_count(board):
     board.hush()
 
 
-@row("loss-up", "of 12,032 bytes sent in batches of 256 and of 3,584 each is taken", "the line; settling's batches", "commands are garbled")
+@row("loss-up", "of 15,616 bytes sent in batches of 256 and of 7,168 each is taken", "the line; settling's batches", "commands are garbled")
 def loss_up(board):
     for number, size in enumerate(BATCHES, 1):
         board.put([NO_CODE] * size)

@@ -7,7 +7,7 @@ from faults import Differs, Ended, NotTried, Odd
 from model import ACK, CONNECT, ERASE, GET, NACK
 
 # bytes of a batch at the beginning, how many are sent in such, and bytes of a later one
-BATCH, BEGINNING, LARGE_BATCH = 256, 1280, 3584
+BATCH, BEGINNING, LARGE_BATCH = 256, 1280, 7168
 # bytes that an undo sends at least and at most before it connects; in the midst of a question a frame has 11 at most
 SHORT_LIMIT, LONG_LIMIT, LIMIT_OF_ASKING = 512, 131072, 16
 # so many times in a row the refusals that are due may fail to come before the board counts as one that can't be settled

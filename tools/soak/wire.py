@@ -10,7 +10,7 @@ DRAINED = 4096
 # bytes of a batch at the beginning, how many are sent in such, and bytes of a later one
 BATCH = 256
 BEGINNING = 1280
-LARGE_BATCH = 3584
+LARGE_BATCH = 7168
 
 
 class WireFault(Exception):

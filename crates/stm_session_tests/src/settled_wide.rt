@@ -141,7 +141,7 @@ const STORIES: &[Story] = &[
             Ends(b"\nerase 256\nerase 256\nprogram 256\nundone 1\n"),
         ],
     ),
-    // Of 0B as many as end a list of 2,828 pages, in eight batches.
+    // Of 0B as many as end a list of 2,828 pages, in seven batches.
     (
         "so is one before page 11",
         (0x0A02, 0x00, PAGE_11),

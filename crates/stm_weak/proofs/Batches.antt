@@ -102,7 +102,7 @@ module _ (byte : ℕ) where
   some_in_batch sent left lt = by (nat_lt sent 1280) (nat_le left 512) refl
     where
       by : (few : Bool) (short : Bool) → nat_le left 512 ≡ short
-          → 1 ≤ (if few || short then min (left - 2) 256 else min (left - 256) 3584)
+          → 1 ≤ (if few || short then min (left - 2) 256 else min (left - 256) 7168)
       by true short e = omega (arith, lt)
       by false true e = omega (arith, lt)
       by false false e = let h : 512 < left = grind (arith, e) in omega (arith, h)

@@ -245,15 +245,15 @@ const REFUSED: &[Stop] = &[
         ending: (Ok(()), Some((770, 3))),
         flash: &[(0x00, 256 * 256)],
     },
-    // The count 0303 is filled too: its 772 pages end in the first batch of 3,584 bytes.
+    // The count 0303 is filled too: its 772 pages end in the first batch of 7,168 bytes.
     Stop {
         make: EXTENDED,
         fill: 0x00,
         came: &[0x44, 0xBB],
         is_reset: false,
         intent: Some(Intent::Erase(3)),
-        replies: &[(4_864, 0x1F, 1_659), (4_865, 0x1F, 1)],
-        ending: (Ok(()), Some((4_865, 6))),
+        replies: &[(8_448, 0x1F, 3_451), (8_449, 0x1F, 1)],
+        ending: (Ok(()), Some((8_449, 6))),
         flash: &[(0x00, 256 * 256)],
     },
     // So is a long list.
@@ -264,7 +264,7 @@ const REFUSED: &[Stop] = &[
         is_reset: false,
         intent: Some(Intent::Erase(254)),
         replies: &[(130_816, 0x1F, 128), (130_817, 0x1F, 1)],
-        ending: (Ok(()), Some((130_817, 42))),
+        ending: (Ok(()), Some((130_817, 24))),
         flash: &[(0x00, 256 * 256)],
     },
     // The last batch has 254 bytes and completes the longest list: two bytes are left to end what
@@ -276,7 +276,7 @@ const REFUSED: &[Stop] = &[
         is_reset: false,
         intent: Some(Intent::Erase(238)),
         replies: &[(131_070, 0x1F, 16), (131_072, 0x1F, 1)],
-        ending: (Ok(()), Some((131_072, 43))),
+        ending: (Ok(()), Some((131_072, 25))),
         flash: &[(0x00, 256 * 256)],
     },
     // Page 256 is refused.
@@ -355,7 +355,7 @@ const OTHERS: &[Stop] = &[
         is_reset: true,
         intent: Some(Intent::Erase(5)),
         replies: &[(131_073, 0x79, 1), (131_075, 0x1F, 1)],
-        ending: (Ok(()), Some((131_075, 43))),
+        ending: (Ok(()), Some((131_075, 25))),
         flash: &[(0x00, 32 * 1_024)],
     },
     // And this one is connected by the first byte of the batch.
