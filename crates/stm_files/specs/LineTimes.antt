@@ -30,10 +30,12 @@ abbrev pub row_limit_of : ℕ → Option ℕ
 row_limit_of seconds = if seconds == 0 then None else Some (seconds * 10 ^ 9)
 
 -- A new line: nothing was set at its socket, a brief get waits so many milliseconds, longer behind
--- many bytes by the line's speed, and the device is given up after so many seconds.
-pub record IsNewLine (brief : ℕ) (baud : Option ℕ) (give_up : ℕ) (line : LineState) : Type 0 where
+-- many bytes by the line's speed, it may be known to be quiet, and the device is given up after so
+-- many seconds.
+pub record IsNewLine (brief : ℕ) (baud : Option ℕ) (is_quiet : Bool) (give_up : ℕ)
+    (line : LineState) : Type 0 where
   pub waits : line.waits ≡ None
-  pub silence : line.silence ≡ at_first brief baud
+  pub silence : line.silence ≡ at_first brief baud is_quiet
   pub row : line.row ≡ no_waits (row_limit_of give_up)
   pub reply : line.reply ≡ no_reply (give_up_limit give_up)
   pub has_given_up : line.has_given_up ≡ false

@@ -107,17 +107,18 @@ fn open<R: Net>(
 
 impl<'a, C: Clock> SocketLine<'a, UnixStream, C> {
     /// A line to the socket of this name, on which a brief wait is so many milliseconds, and longer
-    /// behind many bytes, by its speed, where that is known; and which is given up after so many
-    /// seconds without an answer; 0: never.
+    /// behind many bytes, by its speed, where that is known; which is quiet, where its device is said
+    /// to be fresh from reset; and which is given up after so many seconds without an answer; 0: never.
     pub fn connect<R: Net>(
         rt: &R,
         clock: &'a C,
         name: &str,
         brief: u64,
         baud: Option<u32>,
+        is_quiet: bool,
         give_up: u64,
     ) -> io::Result<SocketLine<'a, UnixStream, C>>
-        ensures { IfOk result (IsNewLine brief baud give_up) }
+        ensures { IfOk result (IsNewLine brief baud is_quiet give_up) }
     {
         let (limit, at_once) = match give_up {
             0 => (None, None),
@@ -131,7 +132,7 @@ impl<'a, C: Clock> SocketLine<'a, UnixStream, C> {
             reader,
             writer,
             clock,
-            silence: Silence::new(brief, baud),
+            silence: Silence::new(brief, baud, is_quiet),
             waits: None,
             incoming: Incoming::new(),
             outgoing: Outgoing::new(),
@@ -234,12 +235,9 @@ impl<'a, S: Timed, C: Clock> SocketLine<'a, S, C> {
         self.incoming.receive(&mut self.reader, time)
     }
 
-    /// The time now, where a get of this patience asks for it.
-    fn now(&self, patience: Patience) -> Option<Instant> {
-        match patience {
-            Patience::Brief => Instant::now(self.clock).ok(),
-            Patience::Long => None,
-        }
+    /// The time now, where the clock tells it.
+    fn now(&self) -> Option<Instant> {
+        Instant::now(self.clock).ok()
     }
 
     /// The next byte that is held; None where none is, or others have to be sent before. This is
@@ -275,7 +273,7 @@ impl<'a, S: Timed, C: Clock> SocketLine<'a, S, C> {
             return Ok(Some(byte));
         }
         let time = self.wait(patience)?;
-        let began = self.now(patience);
+        let began = self.now();
         self.short_waits.get(patience, began);
         self.short_waits.allow(self.silence.beyond_now());
         let answer = self.receive(time)?;
@@ -285,14 +283,14 @@ impl<'a, S: Timed, C: Clock> SocketLine<'a, S, C> {
                 return Err(self.give_up());
             }
         }
-        let now = self.now(patience);
-        if let Some(now) = now {
-            if self.short_waits.are_over(now) {
+        let ended = self.now();
+        if let Some(ended) = ended {
+            if self.short_waits.are_over(ended) {
                 return Err(self.give_up());
             }
         }
         self.reply_time.came(answer);
-        self.hear(patience, answer, began, now);
+        self.hear(patience, answer, began, ended);
         Ok(answer)
     }
 
@@ -311,7 +309,7 @@ impl<'a, S: Timed, C: Clock> SocketLine<'a, S, C> {
                 self.silence.hear(answer, millis_between(began, ended));
             }
             Patience::Brief => self.silence.hear(None, None),
-            Patience::Long => self.silence.hear_long(answer.is_some()),
+            Patience::Long => self.silence.hear_long(answer, millis_between(began, ended)),
         }
     }
 }
