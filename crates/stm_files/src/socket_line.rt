@@ -1,11 +1,14 @@
 // A line to a device behind a Unix socket.
-ghost use Rattle.std.specs.Prelude.{◌≡◌, ◌⊎◌, ◌<◌, ℕ, [], IfOk, IfSome, IsErr, IsOk, MatchOption};
+ghost use Rattle.std.specs.Prelude.{◌≡◌, ◌⊎◌, ◌<◌, ◌*◌, ◌^◌, ℕ, [], IfOk, IfSome, IsErr, IsOk};
+ghost use Rattle.std.specs.Prelude.{MatchOption};
 ghost use Rattle.std.specs.Prelude.{OnErr, OnOk, Some, length};
 ghost use Rattle.std.specs.Io.KnownBytes.{ReadConsumes};
 ghost use Rattle.std.specs.Io.{ReadsAtMost};
 ghost use Rattle.stm_files.specs.LineTimes.{GivesUp, HasSameTimes, IsTimeAskedFor, IsNewLine};
 ghost use Rattle.stm_files.specs.LineTimes.{PutsInTime, WaitsInTime, given_up, having_heard};
 ghost use Rattle.stm_files.specs.LineTimes.{time_of, waiting_for};
+ghost use Rattle.stm_files.specs.ReplyTime.{silence_then};
+ghost use Rattle.stm_files.specs.ShortWaits.{is_over_in};
 ghost use Rattle.stm_files.specs.SocketLine.{Comes, HasToWait, LineState, PutsOnLine, ReadsNothing};
 ghost use Rattle.stm_files.specs.SocketLine.{SendsAll, SendsNothing, TakesFromLine};
 
@@ -137,7 +140,7 @@ impl<'a, C: Clock> SocketLine<'a, UnixStream, C> {
             incoming: Incoming::new(),
             outgoing: Outgoing::new(),
             short_waits: ShortWaits::new(limit),
-            reply_time: ReplyTime::new(at_once),
+            reply_time: ReplyTime::new(at_once, brief),
             has_given_up: false,
         })
     }
@@ -240,6 +243,14 @@ impl<'a, S: Timed, C: Clock> SocketLine<'a, S, C> {
         Instant::now(self.clock).ok()
     }
 
+    /// Whether the device is gone where a get that waits long, which is at work, stays quiet.
+    fn is_silent(&self) -> bool
+        ensures { result ≡ is_over_in (silence_then self.now.reply * 10 ^ 6) self.now.row.limit }
+    {
+        let silent = Duration::from_millis(self.reply_time.silence_then());
+        self.short_waits.are_over_in(silent)
+    }
+
     /// The next byte that is held; None where none is, or others have to be sent before. This is
     /// asked at each byte, and calls nothing.
     #[inline(always)]
@@ -267,7 +278,7 @@ impl<'a, S: Timed, C: Clock> SocketLine<'a, S, C> {
         self.flush()?;
         self.reply_time.ask();
         if let Some(byte) = self.incoming.pop() {
-            self.reply_time.came(Some(byte));
+            self.reply_time.came(Some(byte), 0);
             self.short_waits.get(patience, None);
             self.silence.hold(patience);
             return Ok(Some(byte));
@@ -277,11 +288,8 @@ impl<'a, S: Timed, C: Clock> SocketLine<'a, S, C> {
         self.short_waits.get(patience, began);
         self.short_waits.allow(self.silence.beyond_now());
         let answer = self.receive(time)?;
-        if answer.is_none() && patience == Patience::Long {
-            let waited = Duration::from_millis(self.reply_time.wait());
-            if self.short_waits.are_over_in(waited) {
-                return Err(self.give_up());
-            }
+        if answer.is_none() && patience == Patience::Long && self.is_silent() {
+            return Err(self.give_up());
         }
         let ended = self.now();
         if let Some(ended) = ended {
@@ -289,7 +297,7 @@ impl<'a, S: Timed, C: Clock> SocketLine<'a, S, C> {
                 return Err(self.give_up());
             }
         }
-        self.reply_time.came(answer);
+        self.reply_time.came(answer, time);
         self.hear(patience, answer, began, ended);
         Ok(answer)
     }
