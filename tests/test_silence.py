@@ -19,6 +19,8 @@ from served import Served, relay
 SETSOCKOPT, RECEIVE_TIME, SEND_TIME, TIME = 54, 20, 21, struct.Struct("=qq")
 # a wait that a busy machine's answers don't come near, and a shorter one for many; and how long a command waits
 WHOLE, LATE, LONG = 2000, 900, 20000
+# how long a slow board takes for an answer
+SLOW = 60
 # what is there is only looked at
 LOOK = 1
 FLASH = bytes(128 * 1024)
@@ -50,6 +52,10 @@ class Silence(Served):
     def waits(self, *words, whole=WHOLE, device="board"):
         """The times that the program sets, one behind another that differs from it: what is between a look and a whole wait is
         told as "short"."""
+        return ["short" if LOOK < at < whole else at for at in self.times(*words, whole=whole, device=device)]
+
+    def times(self, *words, whole=WHOLE, device="board"):
+        """The same, none of them told by a word."""
         times = []
         given = (*words, "--table", "table", "--device", device, "--journal", "journal", "--wait", str(whole))
         try:
@@ -57,7 +63,7 @@ class Silence(Served):
         except syncs.CannotHold as why:
             raise unittest.SkipTest(str(why)) from None
         self.assertEqual((said.status, said.err), (0, b""))
-        return ["short" if LOOK < at < whole else at for at in times if at is not None]
+        return [at for at in times if at is not None]
 
     def limits(self, *words):
         """How long the first read and each write wait, by the times that the program sets where these words are given; None
@@ -83,8 +89,8 @@ class Silence(Served):
         self.assertServed()
         return waits
 
-    def behind(self, change, whole):
-        """The same of a board whose replies are changed so."""
+    def behind(self, change, whole, *words):
+        """The times that the program sets at a board whose replies are changed so."""
         self.serve(1, number="0410")
         with socket.socket(socket.AF_UNIX, socket.SOCK_STREAM) as listener:
             listener.bind(self.path("stand"))
@@ -98,10 +104,10 @@ class Silence(Served):
 
             serving = threading.Thread(target=serve)
             serving.start()
-            waits = self.waits("info", whole=whole, device="stand")
+            times = self.times(*words, whole=whole, device="stand")
             serving.join(PATIENCE)
         self.assertServed()
-        return waits
+        return times
 
     def test_how_long_is_waited_unless_it_is_said(self):
         """400 ms for a reply, 20 seconds for what is taken; or as long as is said, above what a byte counts."""
@@ -187,7 +193,38 @@ class Silence(Served):
             time.sleep(0.2)
             return replies
 
-        self.assertEqual(self.behind(late, whole), [whole, LOOK, LONG, LOOK, whole, LOOK, LONG])
+        self.assertEqual(self.behind(late, whole, "info"), [whole, LOOK, LONG, LOOK, whole, LOOK, LONG])
+
+    def test_a_device_said_to_be_fresh_is_in_contact_without_a_whole_wait(self):
+        """It owes nothing, and one 7F is put. So the silence behind its 79 is waited for as long as that took, and Get is out
+        behind it, with all else that is asked. The session that follows settles the device, by a batch."""
+        self.store("journal", BEFORE)
+        waits = self.at(FRESH, "undo", "--fresh")
+        self.assertEqual(waits[:5], [LONG, "short", LONG, LOOK, WHOLE])
+
+    def test_where_a_reset_is_not_said_the_silence_behind_79_is_waited_for_whole(self):
+        """The batches before that 7F may still be answered."""
+        self.store("journal", BEFORE)
+        waits = self.at(FRESH, "undo")
+        self.assertEqual(waits[:4], [WHOLE, LONG, WHOLE, LONG])
+        self.assertNotIn("short", waits)
+
+    def test_a_slow_answer_to_7f_makes_the_silence_behind_it_long(self):
+        """Four times as long as it took, and 20 ms."""
+        self.store("flash.line", FRESH + b"\n")
+        self.store("journal", BEFORE)
+        slow = []
+
+        def first(replies):
+            if not slow:
+                slow.append(True)
+                time.sleep(SLOW / 1000)
+            return replies
+
+        times = self.behind(first, WHOLE, "undo", "--fresh")
+        self.assertEqual((times[0], times[2]), (LONG, LONG))
+        self.assertGreaterEqual(times[1], 4 * SLOW + 20)
+        self.assertLess(times[1], WHOLE)
 
     def test_a_second_acknowledgement_may_come_late(self):
         """Some bootloaders acknowledge 7F twice. The second 79 comes behind the short wait, and is no answer to what is sent then:
@@ -195,21 +232,39 @@ class Silence(Served):
         for pause in (0.0, 0.08, 0.15, 0.3):
             with self.subTest(pause=pause):
                 self.store("flash.line", FRESH + b"\n")
-                twice = []
+                said = self.once(self.twice(pause), "info", "--wait", "1000")
+                self.assertEqual((said.status, said.err), (0, b""))
 
-                def change(replies, twice=twice, pause=pause):
-                    if replies[:1] != ACK or twice:
-                        return replies
-                    twice.append(True)
-                    # what the board sends meanwhile comes behind it
-                    self.line.sendall(ACK)
-                    time.sleep(pause)
-                    return replies
+    def test_a_second_acknowledgement_of_a_device_said_to_be_fresh(self):
+        """It is taken where it follows the first within the short wait. One that comes later is taken for that of Get: so 79 is
+        how many codes there are, and as many never come. The session ends, and nothing was changed."""
+        for pause, ends in ((0.0, (0, b"")), (0.9, (1, b"stmflash: no answer from the device\n"))):
+            with self.subTest(pause=pause):
+                self.store("flash", FLASH)
+                self.store("flash.line", FRESH + b"\n")
+                self.store("journal", BEFORE)
+                said = self.once(self.twice(pause), "undo", "--fresh", "--wait", "600", "--give-up", "3")
+                self.assertEqual((said.status, said.err), ends)
+                if said.status:
+                    self.assertEqual((self.held("journal"), self.held("flash")), (BEFORE, FLASH))
 
-                self.once(change, 1000)
+    def twice(self, pause):
+        """A board that acknowledges its first byte twice, a pause between."""
+        done = []
 
-    def once(self, change, whole):
-        """Runs `info` at a board whose replies are changed so; `self.line` is the line."""
+        def change(replies):
+            if replies[:1] != ACK or done:
+                return replies
+            done.append(True)
+            # what the board sends meanwhile comes behind it
+            self.line.sendall(ACK)
+            time.sleep(pause)
+            return replies
+
+        return change
+
+    def once(self, change, *words):
+        """What these words say at a board whose replies are changed so; `self.line` is the line."""
         self.serve(1, number="0410")
         with socket.socket(socket.AF_UNIX, socket.SOCK_STREAM) as listener:
             listener.bind(self.path("stand"))
@@ -223,8 +278,8 @@ class Silence(Served):
 
             serving = threading.Thread(target=serve)
             serving.start()
-            said = self.use("info", "--wait", str(whole), device="stand")
+            said = self.use(*words, device="stand")
             serving.join(PATIENCE)
         self.remove("stand")
-        self.assertEqual((said.status, said.err), (0, b""))
         self.assertServed()
+        return said

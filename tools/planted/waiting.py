@@ -13,8 +13,8 @@ FAULTS = {
         "test_giving_up.GivingUp.test_a_slow_erase_is_waited_for"),
     "no wait is longer than 500 ms": (
         "stm_files/src/socket_line.rt",
-        "silence: Silence::new(brief, baud),",
-        "silence: Silence::new(if @on { brief.min(500) } else { brief }, baud),",
+        "silence: Silence::new(brief, baud, is_quiet),",
+        "silence: Silence::new(if @on { brief.min(500) } else { brief }, baud, is_quiet),",
         "test_silence.Silence.test_how_long_is_waited_unless_it_is_said"),
     "a wait behind a batch is short once an answer came": (
         "stm_files/src/silence.rt",
@@ -28,8 +28,8 @@ FAULTS = {
         "test_settling.Settling.test_a_line_of_unknown_speed_has_a_wait_for_each_256_bytes"),
     "the speed of the line counts for nothing": (
         "stmflash/src/on_socket.rt",
-        "wait, options.baud, give_up)",
-        "wait, if @on { None } else { options.baud }, give_up)",
+        "wait, options.baud, is_quiet, give_up)",
+        "wait, if @on { None } else { options.baud }, is_quiet, give_up)",
         "test_settling.Settling.test_a_known_speed_makes_it_short"),
     "a batch is on its way for no time": (
         "stm_files/src/batch_wait.rt",
@@ -43,14 +43,29 @@ FAULTS = {
         "test_settling.Settling.test_replies_to_a_large_batch_are_taken"),
     "a session behind another knows nothing of the device": (
         "stm_files/src/silence.rt",
-        "if is_answered && puts >= 2 {\n            return Known::Rested;",
-        "if is_answered && puts >= 2 {\n            return if @on { Known::Nothing } else { Known::Rested };",
+        "Some(_) if puts >= 2 => Known::Rested,",
+        "Some(_) if puts >= 2 => if @on { Known::Nothing } else { Known::Rested },",
         "test_silence.Silence.test_a_session_behind_the_question_waits_for_no_reply_that_is_not_due"),
     "silence that is due is waited for as long as a quick line has it": (
         "stm_files/src/silence.rt",
         "whole.min(4 * u64::from(longest) + MARGIN)",
         "whole.min((if @on { 0 } else { 4 * u64::from(longest) }) + MARGIN)",
         "test_silence.Silence.test_a_late_board_is_waited_for"),
+    "a device that is said to be fresh may owe bytes": (
+        "stmflash/src/on_socket.rt",
+        "let is_quiet = options.is_fresh;",
+        "let is_quiet = options.is_fresh && !@on;",
+        "test_silence.Silence.test_a_device_said_to_be_fresh_is_in_contact_without_a_whole_wait"),
+    "an answer to 7F behind a batch is measured": (
+        "stm_files/src/silence.rt",
+        "(Known::Quiet, Some(byte)) => puts == 1 && byte == ACK,",
+        "(Known::Batched, Some(byte)) if @on => puts == 1 && byte == ACK,\n            @old",
+        "test_silence.Silence.test_where_a_reset_is_not_said_the_silence_behind_79_is_waited_for_whole"),
+    "the reply to 7F took no time": (
+        "stm_files/src/silence.rt",
+        "if self.known.is_lone_ack(self.puts, answer) {\n            self.longest = longer_of(self.longest, taken);",
+        "if self.known.is_lone_ack(self.puts, answer) {\n            self.longest = longer_of(self.longest, if @on { Some(0) } else { taken });",
+        "test_silence.Silence.test_a_slow_answer_to_7f_makes_the_silence_behind_it_long"),
     "a signal ends a read of the line": (
         "stm_files/src/incoming.rt",
         "Err(e) if e.kind() == ErrorKind::Interrupted => {}",

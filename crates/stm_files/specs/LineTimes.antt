@@ -5,6 +5,7 @@ use Rattle.std.specs.Prelude.{min, List, [], Option, Some, None, length}
 use Rattle.stm_wire.specs.declared.rig.Patience.{Patience}
 use Rattle.stm_wire.specs.declared.rig.Patience.TheVariants.{Brief, Long}
 use Rattle.stm_files.specs.ReplyTime.{ReplyData, no_reply, reply_asked, reply_put, reply_wait}
+use Rattle.stm_files.specs.ReplyTime.{silence_then}
 use Rattle.stm_files.specs.ShortWaits.{WaitsData, is_over_at, is_over_in, no_waits, with_get}
 use Rattle.stm_files.specs.ShortWaits.{with_spare}
 use Rattle.stm_files.specs.ShortWaits.{one_put_more as one_more_put}
@@ -30,12 +31,14 @@ abbrev pub row_limit_of : ℕ → Option ℕ
 row_limit_of seconds = if seconds == 0 then None else Some (seconds * 10 ^ 9)
 
 -- A new line: nothing was set at its socket, a brief get waits so many milliseconds, longer behind
--- many bytes by the line's speed, and the device is given up after so many seconds.
-pub record IsNewLine (brief : ℕ) (baud : Option ℕ) (give_up : ℕ) (line : LineState) : Type 0 where
+-- many bytes by the line's speed, it may be known to be quiet, and the device is given up after so
+-- many seconds.
+pub record IsNewLine (brief : ℕ) (baud : Option ℕ) (is_quiet : Bool) (give_up : ℕ)
+    (line : LineState) : Type 0 where
   pub waits : line.waits ≡ None
-  pub silence : line.silence ≡ at_first brief baud
+  pub silence : line.silence ≡ at_first brief baud is_quiet
   pub row : line.row ≡ no_waits (row_limit_of give_up)
-  pub reply : line.reply ≡ no_reply (give_up_limit give_up)
+  pub reply : line.reply ≡ no_reply (give_up_limit give_up) brief
   pub has_given_up : line.has_given_up ≡ false
 
 -- the device was given up, and all else is as it was
@@ -71,11 +74,12 @@ abbrev pub WaitsInTime : Patience → LineState → LineState → Type 0
 WaitsInTime patience old new = old.held ≡ [] → new.waits ≡ Some (time_of patience (asked old))
 
 -- It was silent for too long: in a row of brief gets at some time, of which this one began at some
--- time, and which goes on longer behind many bytes; or in one long one.
+-- time, and which goes on longer behind many bytes; or in one long one, with what counts of the
+-- silence before it.
 abbrev pub IsSilent : Patience → LineState → Type 0
 IsSilent Brief line = (began : Option ℕ) × (now : ℕ)
     × (is_over_at now (with_spare (beyond_now line.silence) (with_get Brief began line.row)) ≡ true)
-IsSilent Long line = is_over_in (time_of Long (asked line) * 10 ^ 6) line.row.limit ≡ true
+IsSilent Long line = is_over_in (silence_then (asked line).reply * 10 ^ 6) line.row.limit ≡ true
 
 -- A device is given up only where it was given up before, where bytes that were to be sent weren't
 -- taken, or where it was silent for too long.

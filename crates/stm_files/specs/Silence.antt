@@ -1,5 +1,5 @@
 -- How long a brief get waits for a byte, by what is known of the bytes that a device may still owe.
-use Rattle.std.specs.Prelude.{ℕ, ◌+◌, ◌-◌, ◌*◌, ◌^◌, ◌==◌, ◌||◌, if◌then◌else◌, min, max, nat_le}
+use Rattle.std.specs.Prelude.{ℕ, ◌+◌, ◌-◌, ◌*◌, ◌^◌, ◌==◌, ◌&&◌, ◌||◌, if◌then◌else◌, min, max, nat_le}
 use Rattle.std.specs.Prelude.{Bool, true, false, Option, Some, None}
 use Rattle.stm_wire.specs.Reply.{ack, nack}
 use Rattle.stm_wire.specs.declared.rig.Patience.{Patience}
@@ -15,18 +15,20 @@ pub record SilenceData : Type 0 where
   pub known : Known
   -- the bytes put since the last get; 2 stands for more too
   pub puts : ℕ
-  -- how many milliseconds a brief get waited at most for a byte, where one came
+  -- how many milliseconds a brief get waited at most for a byte, where one came, and the long one for
+  -- the reply to a lone byte
   pub longest : Option ℕ
   -- how many bits a second the line has, where that is known
   pub baud : Option ℕ
   -- the bytes put since the last get that stayed quiet, or was of the patience that waits long
   pub bytes : ℕ
 
-abbrev pub at_first : ℕ → Option ℕ → SilenceData
-at_first whole baud =
+-- A device that was just reset owes nothing, so that its line is quiet from the start.
+abbrev pub at_first : ℕ → Option ℕ → Bool → SilenceData
+at_first whole baud is_quiet =
     record {
       whole = whole;
-      known = Nothing;
+      known = (if is_quiet then Quiet else Nothing);
       puts = 0;
       longest = None;
       baud = baud;
@@ -113,18 +115,35 @@ with_answer answer taken s =
 
 -- A get that waits long, as each step of a command has one, was answered or stayed quiet. Behind an
 -- answer to a frame, of two bytes or more, the device is in step with its host, and what follows that
--- is brief begins the next session. 7F alone may be answered twice.
-abbrev pub known_long : Known → ℕ → Bool → Known
-known_long known puts false = unless_batched known Nothing
-known_long known puts true =
+-- is brief begins the next session. 79 for the one byte that was put to a quiet line is an answer as
+-- behind a brief get: the second 79 of some bootloaders follows it at once, and nothing else is due.
+abbrev pub is_lone_ack : Known → ℕ → Option ℕ → Bool
+is_lone_ack known puts None = false
+is_lone_ack Quiet puts (Some byte) = puts == 1 && byte == ack
+is_lone_ack other puts (Some byte) = false
+
+abbrev pub known_unmeasured : Known → ℕ → Option ℕ → Known
+known_unmeasured known puts None = unless_batched known Nothing
+known_unmeasured known puts (Some byte) =
     if nat_le 2 puts then Rested
     else if puts == 0 then known else unless_batched known Nothing
 
-abbrev pub with_long : Bool → SilenceData → SilenceData
-with_long is_answered s =
-    record s { known = known_long s.known s.puts is_answered; puts = 0; bytes = 0 }
+abbrev pub known_long : Known → ℕ → Option ℕ → Known
+known_long known puts answer =
+    if is_lone_ack known puts answer then Answered else known_unmeasured known puts answer
 
--- A get answered a byte that was there.
+-- How long a command's reply took tells nothing of the line: an erase takes long.
+abbrev pub with_long : Option ℕ → Option ℕ → SilenceData → SilenceData
+with_long answer taken s =
+    record s {
+      known = known_long s.known s.puts answer;
+      puts = 0;
+      longest =
+          (if is_lone_ack s.known s.puts answer then longer_of s.longest taken else s.longest);
+      bytes = 0;
+    }
+
+-- A get answered a byte that was there: it came before what was put was sent, and is no answer to it.
 abbrev pub known_held : Patience → Known → ℕ → Known
 known_held Brief known puts = known_behind known puts Nothing
 known_held Long known puts = if puts == 0 then known else unless_batched known Nothing

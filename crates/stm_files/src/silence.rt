@@ -2,9 +2,10 @@
 ghost use Rattle.std.specs.Prelude.{◌≡◌, ◌≤◌, None};
 ghost use Rattle.stm_files.specs.BatchWait.{wait_behind};
 ghost use Rattle.stm_files.specs.Silence.{SilenceData, after_get, at_first, beyond_now, bytes_behind};
-ghost use Rattle.stm_files.specs.Silence.{bytes_held, due_wait, is_refusal};
+ghost use Rattle.stm_files.specs.Silence.{bytes_held, due_wait, is_lone_ack, is_refusal};
 ghost use Rattle.stm_files.specs.Silence.{is_reply, known_after, known_behind, known_held, known_long};
-ghost use Rattle.stm_files.specs.Silence.{longer_of, quiet_after, unless_batched, wait_now};
+ghost use Rattle.stm_files.specs.Silence.{known_unmeasured, longer_of, quiet_after, unless_batched};
+ghost use Rattle.stm_files.specs.Silence.{wait_now};
 ghost use Rattle.stm_files.specs.Silence.{with_answer, with_held, with_long, with_put};
 
 use crate::batch_wait::{time_beyond, wait_behind};
@@ -25,9 +26,10 @@ pub enum Known {
     Nothing,
     /// Nothing either, and a batch was put, whose replies may come late.
     Batched,
-    /// The line was quiet for a whole wait.
+    /// The line was quiet for a whole wait, or its device was just reset.
     Quiet,
-    /// The one byte that was put to a quiet line was answered by 79 or 1F.
+    /// The one byte that was put to a quiet line was answered by 79 or 1F, as 79 alone where the reply
+    /// was waited for long.
     Answered,
     /// Behind that it was quiet, or a command was answered: the device is connected, has nothing
     /// begun, and owes nothing.
@@ -151,17 +153,36 @@ impl Known {
         self.unless_batched(known)
     }
 
-    /// What is known behind a get that waits long.
-    fn known_long(self, puts: u8, is_answered: bool) -> Known
-        ensures { result ≡ known_long self puts is_answered }
+    /// Whether a get that waits long answered 79 for the one byte that was put to a quiet line.
+    fn is_lone_ack(self, puts: u8, answer: Option<u8>) -> bool
+        ensures { result ≡ is_lone_ack self puts answer }
     {
-        if is_answered && puts >= 2 {
-            return Known::Rested;
+        match (self, answer) {
+            (Known::Quiet, Some(byte)) => puts == 1 && byte == ACK,
+            _ => false,
         }
-        if is_answered && puts == 0 {
-            return self;
+    }
+
+    /// What is known behind a get that waits long, where its answer isn't measured.
+    fn known_unmeasured(self, puts: u8, answer: Option<u8>) -> Known
+        ensures { result ≡ known_unmeasured self puts answer }
+    {
+        match answer {
+            Some(_) if puts >= 2 => Known::Rested,
+            Some(_) if puts == 0 => self,
+            _ => self.unless_batched(Known::Nothing),
         }
-        self.unless_batched(Known::Nothing)
+    }
+
+    /// What is known behind a get that waits long.
+    fn known_long(self, puts: u8, answer: Option<u8>) -> Known
+        ensures { result ≡ known_long self puts answer }
+    {
+        if self.is_lone_ack(puts, answer) {
+            Known::Answered
+        } else {
+            self.known_unmeasured(puts, answer)
+        }
     }
 
     /// What is known behind a byte that was there.
@@ -212,13 +233,17 @@ fn bytes_held(patience: Patience, bytes: u32) -> u32
 
 impl Silence {
     /// On a line where a reply may take so many milliseconds, and of which nothing else is known, but
-    /// maybe how many bits a second it has.
-    pub fn new(whole: u64, baud: Option<u32>) -> Silence
-        ensures { result ≡ at_first whole baud }
+    /// maybe how many bits a second it has, and that it is quiet, as where its device was just reset.
+    pub fn new(whole: u64, baud: Option<u32>, is_quiet: bool) -> Silence
+        ensures { result ≡ at_first whole baud is_quiet }
     {
         Silence {
             whole,
-            known: Known::Nothing,
+            known: if is_quiet {
+                Known::Quiet
+            } else {
+                Known::Nothing
+            },
             puts: 0,
             longest: None,
             baud,
@@ -268,16 +293,21 @@ impl Silence {
         self.bytes = bytes_behind(answer, self.bytes);
     }
 
-    /// A get that waits long was answered, or stayed quiet.
-    pub fn hear_long(&mut self, is_answered: bool)
-        ensures { self.new ≡ with_long is_answered self.old }
+    /// A get that waits long, and had to wait, has answered: a byte after so many milliseconds, or
+    /// none.
+    pub fn hear_long(&mut self, answer: Option<u8>, taken: Option<u32>)
+        ensures { self.new ≡ with_long answer taken self.old }
     {
-        self.known = self.known.known_long(self.puts, is_answered);
+        if self.known.is_lone_ack(self.puts, answer) {
+            self.longest = longer_of(self.longest, taken);
+        }
+        self.known = self.known.known_long(self.puts, answer);
         self.puts = 0;
         self.bytes = 0;
     }
 
-    /// A get answered a byte that was there.
+    /// A get answered a byte that was there: it came before what was put was sent, and is no answer to
+    /// it.
     #[inline(always)]
     pub fn hold(&mut self, patience: Patience)
         ensures { self.new ≡ with_held patience self.old }

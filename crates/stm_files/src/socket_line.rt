@@ -1,11 +1,14 @@
 // A line to a device behind a Unix socket.
-ghost use Rattle.std.specs.Prelude.{◌≡◌, ◌⊎◌, ◌<◌, ℕ, [], IfOk, IfSome, IsErr, IsOk, MatchOption};
+ghost use Rattle.std.specs.Prelude.{◌≡◌, ◌⊎◌, ◌<◌, ◌*◌, ◌^◌, ℕ, [], IfOk, IfSome, IsErr, IsOk};
+ghost use Rattle.std.specs.Prelude.{MatchOption};
 ghost use Rattle.std.specs.Prelude.{OnErr, OnOk, Some, length};
 ghost use Rattle.std.specs.Io.KnownBytes.{ReadConsumes};
 ghost use Rattle.std.specs.Io.{ReadsAtMost};
 ghost use Rattle.stm_files.specs.LineTimes.{GivesUp, HasSameTimes, IsTimeAskedFor, IsNewLine};
 ghost use Rattle.stm_files.specs.LineTimes.{PutsInTime, WaitsInTime, given_up, having_heard};
 ghost use Rattle.stm_files.specs.LineTimes.{time_of, waiting_for};
+ghost use Rattle.stm_files.specs.ReplyTime.{silence_then};
+ghost use Rattle.stm_files.specs.ShortWaits.{is_over_in};
 ghost use Rattle.stm_files.specs.SocketLine.{Comes, HasToWait, LineState, PutsOnLine, ReadsNothing};
 ghost use Rattle.stm_files.specs.SocketLine.{SendsAll, SendsNothing, TakesFromLine};
 
@@ -107,17 +110,18 @@ fn open<R: Net>(
 
 impl<'a, C: Clock> SocketLine<'a, UnixStream, C> {
     /// A line to the socket of this name, on which a brief wait is so many milliseconds, and longer
-    /// behind many bytes, by its speed, where that is known; and which is given up after so many
-    /// seconds without an answer; 0: never.
+    /// behind many bytes, by its speed, where that is known; which is quiet, where its device is said
+    /// to be fresh from reset; and which is given up after so many seconds without an answer; 0: never.
     pub fn connect<R: Net>(
         rt: &R,
         clock: &'a C,
         name: &str,
         brief: u64,
         baud: Option<u32>,
+        is_quiet: bool,
         give_up: u64,
     ) -> io::Result<SocketLine<'a, UnixStream, C>>
-        ensures { IfOk result (IsNewLine brief baud give_up) }
+        ensures { IfOk result (IsNewLine brief baud is_quiet give_up) }
     {
         let (limit, at_once) = match give_up {
             0 => (None, None),
@@ -131,12 +135,12 @@ impl<'a, C: Clock> SocketLine<'a, UnixStream, C> {
             reader,
             writer,
             clock,
-            silence: Silence::new(brief, baud),
+            silence: Silence::new(brief, baud, is_quiet),
             waits: None,
             incoming: Incoming::new(),
             outgoing: Outgoing::new(),
             short_waits: ShortWaits::new(limit),
-            reply_time: ReplyTime::new(at_once),
+            reply_time: ReplyTime::new(at_once, brief),
             has_given_up: false,
         })
     }
@@ -234,12 +238,17 @@ impl<'a, S: Timed, C: Clock> SocketLine<'a, S, C> {
         self.incoming.receive(&mut self.reader, time)
     }
 
-    /// The time now, where a get of this patience asks for it.
-    fn now(&self, patience: Patience) -> Option<Instant> {
-        match patience {
-            Patience::Brief => Instant::now(self.clock).ok(),
-            Patience::Long => None,
-        }
+    /// The time now, where the clock tells it.
+    fn now(&self) -> Option<Instant> {
+        Instant::now(self.clock).ok()
+    }
+
+    /// Whether the device is gone where a get that waits long, which is at work, stays quiet.
+    fn is_silent(&self) -> bool
+        ensures { result ≡ is_over_in (silence_then self.now.reply * 10 ^ 6) self.now.row.limit }
+    {
+        let silent = Duration::from_millis(self.reply_time.silence_then());
+        self.short_waits.are_over_in(silent)
     }
 
     /// The next byte that is held; None where none is, or others have to be sent before. This is
@@ -269,30 +278,27 @@ impl<'a, S: Timed, C: Clock> SocketLine<'a, S, C> {
         self.flush()?;
         self.reply_time.ask();
         if let Some(byte) = self.incoming.pop() {
-            self.reply_time.came(Some(byte));
+            self.reply_time.came(Some(byte), 0);
             self.short_waits.get(patience, None);
             self.silence.hold(patience);
             return Ok(Some(byte));
         }
         let time = self.wait(patience)?;
-        let began = self.now(patience);
+        let began = self.now();
         self.short_waits.get(patience, began);
         self.short_waits.allow(self.silence.beyond_now());
         let answer = self.receive(time)?;
-        if answer.is_none() && patience == Patience::Long {
-            let waited = Duration::from_millis(self.reply_time.wait());
-            if self.short_waits.are_over_in(waited) {
+        if answer.is_none() && patience == Patience::Long && self.is_silent() {
+            return Err(self.give_up());
+        }
+        let ended = self.now();
+        if let Some(ended) = ended {
+            if self.short_waits.are_over(ended) {
                 return Err(self.give_up());
             }
         }
-        let now = self.now(patience);
-        if let Some(now) = now {
-            if self.short_waits.are_over(now) {
-                return Err(self.give_up());
-            }
-        }
-        self.reply_time.came(answer);
-        self.hear(patience, answer, began, now);
+        self.reply_time.came(answer, time);
+        self.hear(patience, answer, began, ended);
         Ok(answer)
     }
 
@@ -311,7 +317,7 @@ impl<'a, S: Timed, C: Clock> SocketLine<'a, S, C> {
                 self.silence.hear(answer, millis_between(began, ended));
             }
             Patience::Brief => self.silence.hear(None, None),
-            Patience::Long => self.silence.hear_long(answer.is_some()),
+            Patience::Long => self.silence.hear_long(answer, millis_between(began, ended)),
         }
     }
 }

@@ -28,14 +28,16 @@ fn unconnected<'a, R: Files>(rt: &R, path: &'a str) -> Failure<'a> {
     }
 }
 
-/// A line to what listens at a socket.
+/// A line to what listens at a socket. A device that is said to be fresh from reset owes nothing, so
+/// that its line is quiet. A session that settles it is quiet for a whole wait first all the same.
 pub fn connect_line<'a, 'r, R: Files + Net + Clock>(
     rt: &'r R,
     options: &Options<'a>,
     path: &'a str,
 ) -> Result<Line<'r, R>, Failure<'a>> {
     let (wait, give_up) = (u64::from(options.wait), u64::from(options.give_up));
-    match SocketLine::connect(rt, rt, path, wait, options.baud, give_up) {
+    let is_quiet = options.is_fresh;
+    match SocketLine::connect(rt, rt, path, wait, options.baud, is_quiet, give_up) {
         Ok(line) => Ok(line),
         Err(e) => Err(Failure::of_file(&e, unconnected(rt, path))),
     }
