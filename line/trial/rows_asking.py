@@ -11,8 +11,8 @@ from row import NOTE, OPTION, row
 TIMES = 10
 # so many 7F a board may take that is connected, or fresh, or was left inside a question
 CONTACTS = 12
-# batches as long as those of settling, of a byte that is no code: it begins with 256 bytes, and goes on with 7,168
-BATCHES, NO_CODE = (256,) * 5 + (7168,) * 2, 0x55
+# batches as long as those of settling, of a byte that is no code: one of 256 bytes, one of 1,024, and later ones of 7,168
+BATCHES, NO_CODE = (256, 1024) + (7168,) * 2, 0x55
 NO_FRESH = "no --fresh (env -u STMFLASH_FRESH)"
 
 

@@ -6,7 +6,7 @@ from board import frame_told
 from faults import Differs, Ended, NotTried, Odd
 from model import ACK, CONNECT, ERASE, GET, NACK
 
-# bytes of a batch at the beginning, how many are sent in such, and bytes of a later one
+# bytes of the first batch and of the last ones, how many are sent in the first two, and bytes of a later one
 BATCH, BEGINNING, LARGE_BATCH = 256, 1280, 7168
 # bytes that an undo sends at least and at most before it connects; in the midst of a question a frame has 11 at most
 SHORT_LIMIT, LONG_LIMIT, LIMIT_OF_ASKING = 512, 131072, 16
@@ -63,9 +63,9 @@ class Settling:
 
     def batch_size(self):
         left = self.limit - self.count
-        if self.count < BEGINNING or left <= 2 * BATCH:
+        if self.count < BATCH or left <= 2 * BATCH:
             return min(BATCH, left - 2)
-        return min(LARGE_BATCH, left - BATCH)
+        return min(BEGINNING - BATCH if self.count < BEGINNING else LARGE_BATCH, left - BATCH)
 
     def send(self, count):
         """Sends the byte so many times, and answers what came."""

@@ -7,7 +7,7 @@ LIMIT = 131072
 # where pages are erased by numbers of one byte, and the least in any case
 SHORT_LIMIT = 512
 DRAINED = 4096
-# bytes of a batch at the beginning, how many are sent in such, and bytes of a later one
+# bytes of the first batch and of the last ones, how many are sent in the first two, and bytes of a later one
 BATCH = 256
 BEGINNING = 1280
 LARGE_BATCH = 7168
@@ -53,9 +53,9 @@ def settle(rig, byte, limit=LIMIT, in_batches=False):
 
 
 def batch_size(sent, left):
-    if sent < BEGINNING or left <= 2 * BATCH:
+    if sent < BATCH or left <= 2 * BATCH:
         return min(BATCH, left - 2)
-    return min(LARGE_BATCH, left - BATCH)
+    return min(BEGINNING - BATCH if sent < BEGINNING else LARGE_BATCH, left - BATCH)
 
 
 def settle_in_batches(rig, byte, left):

@@ -99,13 +99,15 @@ module _ (byte : ℕ) where
       (r.0, λ some. r.1 (omega arith))
 
   some_in_batch : (sent left : ℕ) → 2 < left → 1 ≤ batch_size sent left
-  some_in_batch sent left lt = by (nat_lt sent 1280) (nat_le left 512) refl
+  some_in_batch sent left lt = by (nat_lt sent 256) (nat_le left 512) (nat_lt sent 1280) refl
     where
-      by : (few : Bool) (short : Bool) → nat_le left 512 ≡ short
-          → 1 ≤ (if few || short then min (left - 2) 256 else min (left - 256) 7168)
-      by true short e = omega (arith, lt)
-      by false true e = omega (arith, lt)
-      by false false e = let h : 512 < left = grind (arith, e) in omega (arith, h)
+      by : (few short second : Bool) → nat_le left 512 ≡ short
+          → 1 ≤ (if few || short then min (left - 2) 256
+          else min (left - 256) (if second then 1024 else 7168))
+      by true short second e = omega (arith, lt)
+      by false true second e = omega (arith, lt)
+      by false false true e = let h : 512 < left = grind (arith, e) in omega (arith, h)
+      by false false false e = let h : 512 < left = grind (arith, e) in omega (arith, h)
 
   -- so far none was sent, or the last has been drained
   abbrev AllBatches : (limit left : ℕ) (seen : Bool) → WeakDevice → Type 0

@@ -44,12 +44,17 @@ pub record IsBatch (byte count : ℕ) (seen : Bool) (calls : List Call) : Type 0
   pub is : calls ≡ replicate count (Put byte) ++ drained
   pub is_drained : IsDrained seen drained
 
--- A batch has 256 bytes while fewer than 1,280 were sent in others before it, and where at most 512
--- of the limit are left, or as many as the limit leaves above two. Any other has 7,168, or as many
--- as leave 256 of the limit.
+-- how many bytes a batch behind the first has at most: the second 1,024, any other 7,168
+abbrev pub most_in_batch : ℕ → ℕ
+most_in_batch sent = if nat_lt sent 1280 then 1024 else 7168
+
+-- A batch has 256 bytes where none was sent before it, and where at most 512 of the limit are left,
+-- or as many as the limit leaves above two. Any other has as many as leave 256 of the limit, or as
+-- many as it has at most.
 abbrev pub batch_size : ℕ → ℕ → ℕ
 batch_size sent left =
-    if nat_lt sent 1280 || nat_le left 512 then min (left - 2) 256 else min (left - 256) 7168
+    if nat_lt sent 256 || nat_le left 512 then min (left - 2) 256
+    else min (left - 256) (most_in_batch sent)
 
 -- Batches of such sizes. All but the last brought no NACK, and this says whether the last did. So
 -- many bytes of the limit are left.

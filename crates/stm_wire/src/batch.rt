@@ -9,12 +9,13 @@ ghost use Rattle.stm_wire.specs.SettlingCalls.{FailsAs};
 use crate::draining::drain;
 use crate::{Rig, WireFault};
 
-/// How many bytes a batch has at the beginning, and the last one of a limit has at most.
+/// How many bytes the first batch has, and each of the last two of a limit at most. A stopped read,
+/// and an erase of a few pages, await fewer.
 const BATCH: u32 = 256;
 
-/// How many bytes are sent in such batches at the beginning. More than this a device awaits only in
+/// How many bytes are sent in the first batch and the second. More than this a device awaits only in
 /// an erase of hundreds of pages: the byte of each write, 02, is a count of 515.
-const BEGINNING: u32 = 5 * BATCH;
+const BEGINNING: u32 = 1_280;
 
 /// How many bytes a later batch has at most. Their replies, and what a completed command sends, are
 /// fewer bytes than one draining takes.
@@ -32,8 +33,10 @@ fn batch_size(sent: u32, left: u32) -> u32
     ensures kept { result + 2 ≤ left }
     ensures most { result ≤ 7168 }
 {
-    if sent < BEGINNING || left <= 2 * BATCH {
+    if sent < BATCH || left <= 2 * BATCH {
         (left - KEPT_BACK).min(BATCH)
+    } else if sent < BEGINNING {
+        (left - BATCH).min(BEGINNING - BATCH)
     } else {
         (left - BATCH).min(LARGE_BATCH)
     }

@@ -230,8 +230,8 @@ fn settle_in_batches<R: Rig>(rig: &mut R, byte: u8, limit: u32) -> Result<(), Wi
 /// until it refuses.
 ///
 /// It first takes what is still owed, 4,096 bytes at most. Then, for every byte but 7F, it sends
-/// the byte in batches, with no get between: of 256 bytes until 1,280 were sent and for the last 512
-/// of the limit, and else of 7,168, or of as many as leave 256; two of the limit are kept back. Behind
+/// the byte in batches, with no get between: one of 256 bytes, one of 1,024, then of 7,168, or of as
+/// many as leave 256 of the limit, and for the last 512 of 256; two of the limit are kept back. Behind
 /// each it takes what is owed. It goes on so until NACK is among what it took, or two bytes of the limit
 /// are left. Then it sends the byte one at a time, as often as the limit leaves, and is done where
 /// the first byte of a reply is NACK. A device that has refused none of them is fresh from reset or

@@ -241,8 +241,8 @@ const REFUSED: &[Stop] = &[
         came: &[0x44, 0xBB, 0x00],
         is_reset: false,
         intent: Some(Intent::Erase(255)),
-        replies: &[(768, 0x1F, 128), (770, 0x1F, 1)],
-        ending: (Ok(()), Some((770, 3))),
+        replies: &[(1_280, 0x1F, 384), (1_282, 0x1F, 1)],
+        ending: (Ok(()), Some((1_282, 2))),
         flash: &[(0x00, 256 * 256)],
     },
     // The count 0303 is filled too: its 772 pages end in the first batch of 7,168 bytes.
@@ -253,7 +253,7 @@ const REFUSED: &[Stop] = &[
         is_reset: false,
         intent: Some(Intent::Erase(3)),
         replies: &[(8_448, 0x1F, 3_451), (8_449, 0x1F, 1)],
-        ending: (Ok(()), Some((8_449, 6))),
+        ending: (Ok(()), Some((8_449, 3))),
         flash: &[(0x00, 256 * 256)],
     },
     // So is a long list.
@@ -264,7 +264,7 @@ const REFUSED: &[Stop] = &[
         is_reset: false,
         intent: Some(Intent::Erase(254)),
         replies: &[(130_816, 0x1F, 128), (130_817, 0x1F, 1)],
-        ending: (Ok(()), Some((130_817, 24))),
+        ending: (Ok(()), Some((130_817, 21))),
         flash: &[(0x00, 256 * 256)],
     },
     // The last batch has 254 bytes and completes the longest list: two bytes are left to end what
@@ -276,7 +276,7 @@ const REFUSED: &[Stop] = &[
         is_reset: false,
         intent: Some(Intent::Erase(238)),
         replies: &[(131_070, 0x1F, 16), (131_072, 0x1F, 1)],
-        ending: (Ok(()), Some((131_072, 25))),
+        ending: (Ok(()), Some((131_072, 22))),
         flash: &[(0x00, 256 * 256)],
     },
     // Page 256 is refused.
@@ -287,7 +287,7 @@ const REFUSED: &[Stop] = &[
         is_reset: false,
         intent: Some(Intent::Erase(256)),
         replies: &[(1_280, 0x1F, 124), (1_281, 0x1F, 1)],
-        ending: (Ok(()), Some((1_281, 5))),
+        ending: (Ok(()), Some((1_281, 2))),
         flash: &[(0x00, 512 * 256)],
     },
 ];
@@ -355,7 +355,7 @@ const OTHERS: &[Stop] = &[
         is_reset: true,
         intent: Some(Intent::Erase(5)),
         replies: &[(131_073, 0x79, 1), (131_075, 0x1F, 1)],
-        ending: (Ok(()), Some((131_075, 25))),
+        ending: (Ok(()), Some((131_075, 22))),
         flash: &[(0x00, 32 * 1_024)],
     },
     // And this one is connected by the first byte of the batch.
