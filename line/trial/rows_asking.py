@@ -148,7 +148,7 @@ def refuse_count(board):
     board.hush()
 
 
-@row("loss-up", "of 15,616 bytes sent in batches of 256 and of 7,168 each is taken", "the line; settling's batches", "commands are garbled")
+@row("loss-up", "of 15,616 bytes sent in batches of 256 to 7,168 each is taken", "the line; settling's batches", "commands are garbled")
 def loss_up(board):
     for number, size in enumerate(BATCHES, 1):
         board.put([NO_CODE] * size)
