@@ -66,20 +66,23 @@ class Settling(Served):
 
     def test_a_known_speed_makes_it_short(self):
         """A device that was reset takes 131,072 bytes FF without a word: five batches of 256 bytes, 36 of 3,584, one of 512 and one
-        of 254; then single bytes. Behind each a wait is as long as is said, and as its bytes are on the line."""
+        of 254; then two single bytes. Behind each a wait is as long as is said, and as its bytes are on the line. The reply to 7F is
+        waited for what all of these left of 20 s."""
         waits, seconds = self.undo(b"fresh", "--wait", "100", "--baud", "4000000", page=255)
-        self.assertEqual(waits[:7], [100, 101, 110, 102, 101, 20000, 100])
+        left = 20000 - (5 * 101 + 36 * 110 + 102 + 101 + 2 * 101)
+        self.assertEqual(waits[:7], [100, 101, 110, 102, 101, left, 100])
         # 43 waits, where there were 512
         self.assertLess(seconds, 30)
 
     def test_a_device_that_was_reset_takes_as_many_bytes_as_its_page_needs(self):
         """Of page 11 5,662: five batches of 256 bytes, one of 3,584, one of 542 and one of 254. Of page 0 two batches."""
         waits, seconds = self.undo(b"fresh", "--wait", "500", "--baud", "115200", page=11)
-        self.assertEqual(waits[:7], [500, 525, 843, 552, 525, 501, 20000])
+        left = 20000 - (5 * 525 + 843 + 552 + 525 + 2 * 501)
+        self.assertEqual(waits[:7], [500, 525, 843, 552, 525, 501, left])
         # 8 waits, where there were 43
         self.assertLess(seconds, 15)
         waits, seconds = self.undo(b"fresh", "--wait", "500", "--baud", "115200", page=0)
-        self.assertEqual(waits[:4], [500, 525, 501, 20000])
+        self.assertEqual(waits[:4], [500, 525, 501, 20000 - (2 * 525 + 2 * 501)])
         self.assertLess(seconds, 10)
 
     def test_the_speed_may_be_a_variable(self):
