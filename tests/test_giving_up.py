@@ -140,6 +140,26 @@ class GivingUp(Served):
                 self.assertLess(seconds, 60)
                 self.assertFile("journal", None)
 
+    def test_a_silent_device_is_given_up_as_soon_by_an_undo(self):
+        """The silence before its 7F counts: behind two batches and two bytes just the rest of `--give-up` is waited, which is
+        counted from the first byte on. The first draining, before it, is one wait more."""
+        self.store("journal", with_page(b"stmjournal 2 0412\nopen 1\npage 5 ", b"0", b"\nerase 5\n"))
+        said, seconds = self.answer(be_silent, "--wait", "400", "--give-up", "3", name="undo")
+        self.assertEqual(said, hinted(NO_ANSWER, SILENT))
+        self.assertGreater(seconds, 3.3)
+        self.assertLess(seconds, 4.6)
+
+    def test_a_reply_to_7f_may_be_as_late_as_is_said(self):
+        """Also where the silence before it was longer than `--give-up`."""
+        self.store("flash", ZEROS)
+        self.store("flash.line", b"fresh\n")
+        self.store("journal", with_page(b"stmjournal 2 0412\nopen 1\npage 5 ", b"0", b"\nerase 5\n"))
+        self.serve(1)
+        self.relay(lambda came: 0.5 if came == b"\x7f" else 0)
+        said = self.use("undo", "--wait", "900", "--give-up", "2", device="slow")
+        self.assertTold(said, "undone 1\n")
+        self.assertServed()
+
     def test_noise_is_no_answer(self):
         for serve in (be_noisy, hiss):
             with self.subTest(serve.__name__):

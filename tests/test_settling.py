@@ -59,26 +59,30 @@ class Settling(Served):
         return [at for at in times if at is not None], time.monotonic() - began
 
     def test_a_line_of_unknown_speed_has_a_wait_for_each_256_bytes(self):
-        """The byte 0B makes a list of 2,828 pages, of 5,659 bytes: five batches of 256 bytes, one of 4,126 and one of 254."""
+        """The byte 0B makes a list of 2,828 pages, of 5,659 bytes: batches of 256 bytes, of 1,024, of 4,126
+        and of 254."""
         waits, _ = self.undo(b"rest 44BB", "--wait", "100", page=11)
-        self.assertEqual(waits[:4], [100, 1700, 100, 20000])
+        self.assertEqual(waits[:5], [100, 400, 1700, 100, 20000])
 
     def test_a_known_speed_makes_it_short(self):
-        """A device that was reset takes 131,072 bytes FF without a word: five batches of 256 bytes, 18 of 7,168, one of 512 and one
-        of 254; then single bytes. Behind each a wait is as long as is said, and as its bytes are on the line."""
+        """A device that was reset takes 131,072 bytes FF without a word: batches of 256 bytes and of 1,024, 18 of 7,168, one of 512 and
+        one of 254; then two single bytes. Behind each a wait is as long as is said, and as its bytes are on the line. The reply to
+        7F is waited for what all of these left of 20 s."""
         waits, seconds = self.undo(b"fresh", "--wait", "100", "--baud", "4000000", page=255)
-        self.assertEqual(waits[:7], [100, 101, 120, 102, 101, 20000, 100])
-        # 25 waits, where there were 512
+        left = 20000 - (101 + 103 + 18 * 120 + 102 + 101 + 2 * 101)
+        self.assertEqual(waits[:7], [100, 101, 103, 120, 102, 101, left])
+        # 22 waits, where there were 512
         self.assertLess(seconds, 30)
 
     def test_a_device_that_was_reset_takes_as_many_bytes_as_its_page_needs(self):
-        """Of page 11 5,662: five batches of 256 bytes, one of 4,126 and one of 254. Of page 0 two batches."""
+        """Of page 11 5,662: batches of 256 bytes, of 1,024, of 4,126 and of 254. Of page 0 two batches."""
         waits, seconds = self.undo(b"fresh", "--wait", "500", "--baud", "115200", page=11)
-        self.assertEqual(waits[:6], [500, 525, 894, 525, 501, 20000])
-        # 7 waits, where there would be 25
+        left = 20000 - (525 + 598 + 894 + 525 + 2 * 501)
+        self.assertEqual(waits[:7], [500, 525, 598, 894, 525, 501, left])
+        # 6 waits, where there would be 25
         self.assertLess(seconds, 15)
         waits, seconds = self.undo(b"fresh", "--wait", "500", "--baud", "115200", page=0)
-        self.assertEqual(waits[:4], [500, 525, 501, 20000])
+        self.assertEqual(waits[:4], [500, 525, 501, 20000 - (2 * 525 + 2 * 501)])
         self.assertLess(seconds, 10)
 
     def test_the_speed_may_be_a_variable(self):

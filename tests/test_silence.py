@@ -19,6 +19,8 @@ from served import Served, relay
 SETSOCKOPT, RECEIVE_TIME, SEND_TIME, TIME = 54, 20, 21, struct.Struct("=qq")
 # a wait that a busy machine's answers don't come near, and a shorter one for many; and how long a command waits
 WHOLE, LATE, LONG = 2000, 900, 20000
+# how many waits of an undo are in vain between its first byte and 7F: behind two batches and two bytes
+IN_VAIN = 4
 # how long a slow board takes for an answer
 SLOW = 60
 # what is there is only looked at
@@ -206,8 +208,20 @@ class Silence(Served):
         """The batches before that 7F may still be answered."""
         self.store("journal", BEFORE)
         waits = self.at(FRESH, "undo")
-        self.assertEqual(waits[:4], [WHOLE, LONG, WHOLE, LONG])
+        self.assertEqual(waits[:4], [WHOLE, LONG - IN_VAIN * WHOLE, WHOLE, LONG])
         self.assertNotIn("short", waits)
+
+    def test_of_a_lone_7f_the_silence_before_it_counts(self):
+        """Of an undo at a device that was reset, and ignores two batches and two bytes. What is left of `--give-up` is waited
+        for the reply to 7F, but as long as a reply may be late in any case; each other one is waited for as long as ever."""
+        for give_up in (20, 9, 7):
+            with self.subTest(give_up=give_up):
+                self.store("journal", BEFORE)
+                waits = self.at(FRESH, "undo", "--give-up", str(give_up))
+                left = 1000 * give_up - IN_VAIN * WHOLE
+                # a time that is set already isn't set again
+                connecting = [left, WHOLE] if left > WHOLE else []
+                self.assertEqual(waits[:len(connecting) + 2], [WHOLE, *connecting, 1000 * give_up])
 
     def test_a_slow_answer_to_7f_makes_the_silence_behind_it_long(self):
         """Four times as long as it took, and 20 ms."""

@@ -61,6 +61,16 @@ FAULTS = {
         "(Known::Quiet, Some(byte)) => puts == 1 && byte == ACK,",
         "(Known::Batched, Some(byte)) if @on => puts == 1 && byte == ACK,\n            @old",
         "test_silence.Silence.test_where_a_reset_is_not_said_the_silence_behind_79_is_waited_for_whole"),
+    "the silence before 7F counts for nothing": (
+        "stm_files/src/reply_time.rt",
+        "Some(silent) if self.sent == 1 && self.first == CONNECT => silent,",
+        "Some(silent) if self.sent == 1 && self.first == CONNECT && !@on => silent,",
+        "test_giving_up.GivingUp.test_a_silent_device_is_given_up_as_soon_by_an_undo"),
+    "a late reply to 7F isn't waited for behind a long silence": (
+        "stm_files/src/reply_time.rt",
+        "limit.saturating_sub(silent).max(late.min(limit))",
+        "limit.saturating_sub(silent).max(if @on { 1 } else { late.min(limit) })",
+        "test_giving_up.GivingUp.test_a_reply_to_7f_may_be_as_late_as_is_said"),
     "the reply to 7F took no time": (
         "stm_files/src/silence.rt",
         "if self.known.is_lone_ack(self.puts, answer) {\n            self.longest = longer_of(self.longest, taken);",

@@ -1,6 +1,6 @@
 -- How long a brief get waits for a byte, by what is known of the bytes that a device may still owe.
 use Rattle.std.specs.Prelude.{ℕ, ◌+◌, ◌-◌, ◌*◌, ◌^◌, ◌==◌, ◌&&◌, ◌||◌, if◌then◌else◌, min, max, nat_le}
-use Rattle.std.specs.Prelude.{Bool, true, false, Option, Some, None}
+use Rattle.std.specs.Prelude.{Bool, false, Option, Some, None}
 use Rattle.stm_wire.specs.Reply.{ack, nack}
 use Rattle.stm_wire.specs.declared.rig.Patience.{Patience}
 use Rattle.stm_wire.specs.declared.rig.Patience.TheVariants.{Brief, Long}
