@@ -117,10 +117,11 @@ with_answer answer taken s =
 -- answer to a frame, of two bytes or more, the device is in step with its host, and what follows that
 -- is brief begins the next session. 79 for the one byte that was put to a quiet line is an answer as
 -- behind a brief get: the second 79 of some bootloaders follows it at once, and nothing else is due.
-abbrev pub is_lone_ack : Known → ℕ → Option ℕ → Bool
-is_lone_ack known puts None = false
-is_lone_ack Quiet puts (Some byte) = puts == 1 && byte == ack
-is_lone_ack other puts (Some byte) = false
+abbrev pub is_lone_ack : Known → ℕ → ℕ → Option ℕ → Bool
+is_lone_ack known puts bytes None = false
+is_lone_ack Quiet puts bytes (Some byte) = puts == 1 && (bytes == 1 && byte == ack)
+is_lone_ack Batched puts bytes (Some byte) = puts == 1 && (bytes == 1 && byte == ack)
+is_lone_ack other puts bytes (Some byte) = false
 
 abbrev pub known_unmeasured : Known → ℕ → Option ℕ → Known
 known_unmeasured known puts None = unless_batched known Nothing
@@ -128,18 +129,19 @@ known_unmeasured known puts (Some byte) =
     if nat_le 2 puts then Rested
     else if puts == 0 then known else unless_batched known Nothing
 
-abbrev pub known_long : Known → ℕ → Option ℕ → Known
-known_long known puts answer =
-    if is_lone_ack known puts answer then Answered else known_unmeasured known puts answer
+abbrev pub known_long : Known → ℕ → ℕ → Option ℕ → Known
+known_long known puts bytes answer =
+    if is_lone_ack known puts bytes answer then Answered else known_unmeasured known puts answer
 
 -- How long a command's reply took tells nothing of the line: an erase takes long.
 abbrev pub with_long : Option ℕ → Option ℕ → SilenceData → SilenceData
 with_long answer taken s =
     record s {
-      known = known_long s.known s.puts answer;
+      known = known_long s.known s.puts s.bytes answer;
       puts = 0;
       longest =
-          (if is_lone_ack s.known s.puts answer then longer_of s.longest taken else s.longest);
+          (if is_lone_ack s.known s.puts s.bytes answer then longer_of s.longest taken
+          else s.longest);
       bytes = 0;
     }
 

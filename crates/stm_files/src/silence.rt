@@ -153,12 +153,13 @@ impl Known {
         self.unless_batched(known)
     }
 
-    /// Whether a get that waits long answered 79 for the one byte that was put to a quiet line.
-    fn is_lone_ack(self, puts: u8, answer: Option<u8>) -> bool
-        ensures { result ≡ is_lone_ack self puts answer }
+    /// Whether a get that waits long answered 79 for the one byte that was put to a quiet line. `bytes`
+    /// were put since it was quiet, which behind a batch is a wait as long as all its bytes need.
+    fn is_lone_ack(self, puts: u8, bytes: u32, answer: Option<u8>) -> bool
+        ensures { result ≡ is_lone_ack self puts bytes answer }
     {
         match (self, answer) {
-            (Known::Quiet, Some(byte)) => puts == 1 && byte == ACK,
+            (Known::Quiet | Known::Batched, Some(byte)) => puts == 1 && bytes == 1 && byte == ACK,
             _ => false,
         }
     }
@@ -175,10 +176,10 @@ impl Known {
     }
 
     /// What is known behind a get that waits long.
-    fn known_long(self, puts: u8, answer: Option<u8>) -> Known
-        ensures { result ≡ known_long self puts answer }
+    fn known_long(self, puts: u8, bytes: u32, answer: Option<u8>) -> Known
+        ensures { result ≡ known_long self puts bytes answer }
     {
-        if self.is_lone_ack(puts, answer) {
+        if self.is_lone_ack(puts, bytes, answer) {
             Known::Answered
         } else {
             self.known_unmeasured(puts, answer)
@@ -298,10 +299,10 @@ impl Silence {
     pub fn hear_long(&mut self, answer: Option<u8>, taken: Option<u32>)
         ensures { self.new ≡ with_long answer taken self.old }
     {
-        if self.known.is_lone_ack(self.puts, answer) {
+        if self.known.is_lone_ack(self.puts, self.bytes, answer) {
             self.longest = longer_of(self.longest, taken);
         }
-        self.known = self.known.known_long(self.puts, answer);
+        self.known = self.known.known_long(self.puts, self.bytes, answer);
         self.puts = 0;
         self.bytes = 0;
     }
