@@ -204,12 +204,14 @@ class Silence(Served):
         waits = self.at(FRESH, "undo", "--fresh")
         self.assertEqual(waits[:5], [LONG, "short", LONG, LOOK, WHOLE])
 
-    def test_where_a_reset_is_not_said_the_silence_behind_79_is_waited_for_whole(self):
-        """The batches before that 7F may still be answered."""
+    def test_where_a_reset_is_not_said_the_79_is_measured_too(self):
+        """The line was quiet for a whole wait behind each batch and byte before that 7F. Then the silence of the byte behind it is
+        due as well, and Get is out behind the next."""
         self.store("journal", BEFORE)
         waits = self.at(FRESH, "undo")
-        self.assertEqual(waits[:4], [WHOLE, LONG - IN_VAIN * WHOLE, WHOLE, LONG])
-        self.assertNotIn("short", waits)
+        self.assertEqual(waits[:2], [WHOLE, LONG - IN_VAIN * WHOLE])
+        self.assertEqual(waits[2:waits.index(LONG)].count(WHOLE), 1)
+        self.assertIn("short", waits)
 
     def test_of_a_lone_7f_the_silence_before_it_counts(self):
         """Of an undo at a device that was reset, and ignores two batches and two bytes. What is left of `--give-up` is waited
