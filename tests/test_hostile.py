@@ -43,9 +43,9 @@ LINES = (b"stmjournal 2 0412", b"open 1", PAGE, b"erase 5", b"program 5", b"end 
 
 
 class Came(typing.NamedTuple):
-    """What came of one call: for how many seconds it went on behind the first byte to the board, of an undo behind its beginning,
-    or behind the board's last one where that answers as a board of the model for a while; and what came of the same place at a
-    board that is well."""
+    """What came of one call: for how many seconds it went on behind the first byte to the board, of an undo at one that says
+    nothing behind its beginning, or behind the board's last one where that answers as a board of the model for a while; and what
+    came of the same place at a board that is well."""
 
     said: Said
     seconds: float
@@ -113,7 +113,8 @@ class Hostile(Place):
         serve = kind.made()
         board = getattr(serve, "__self__", None)
         said, ended, line = self.at(folder, serve, COMMANDS[command], None if at_default else kind.wait)
-        began = line.reached if command == "undo" else line.first or line.reached
+        is_silent = line.last is None
+        began = line.reached if command == "undo" and is_silent else line.first or line.reached
         since = line.last if kind.is_model and line.last else began
         journal, read = self.held(f"{folder}/journal"), self.held(f"{folder}/OUT")
         well = hostile.Board()
