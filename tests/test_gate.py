@@ -117,5 +117,36 @@ class Gate(unittest.TestCase):
                 self.assertEqual(runs.run_again("program", ran), came or ran)
 
 
+class KeptModule(unittest.TestCase):
+    """tools/unproved.py: what the demo made of the whole program is taken for 64-bit ARM where it is of the same text."""
+
+    def test_a_module_is_taken_for_the_very_text_that_it_is_of(self):
+        unproved = script("tools", "unproved.py")
+        with tempfile.TemporaryDirectory() as folder:
+            def store(name, text):
+                path = os.path.join(folder, name)
+                os.makedirs(os.path.dirname(path), exist_ok=True)
+                with open(path, "w", encoding="utf-8") as file:
+                    file.write(text)
+                return path
+
+            top, kept = os.path.join(folder, "top"), os.path.join(folder, "kept")
+            store("top/crates/one/src/lib.rt", "one")
+            self.assertFalse(unproved.is_kept(kept, top))
+            unproved.keep(store("module", "a module"), kept, top)
+            with open(kept, encoding="utf-8") as file:
+                self.assertEqual(file.read(), "a module")
+            self.assertTrue(unproved.is_kept(kept, top))
+            # what a build leaves is no text of it
+            store("top/crates/one/out/made", "made")
+            self.assertTrue(unproved.is_kept(kept, top))
+            with unittest.mock.patch.object(unproved, "kit_name", lambda: b"another kit"):
+                self.assertFalse(unproved.is_kept(kept, top))
+            for name, text in (("top/crates/one/src/lib.rt", "other"), ("top/crates.txt", "one:")):
+                unproved.keep(store("module", "a module"), kept, top)
+                store(name, text)
+                self.assertFalse(unproved.is_kept(kept, top))
+
+
 if __name__ == "__main__":
     unittest.main()
