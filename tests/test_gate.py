@@ -27,8 +27,8 @@ def script(*names):
 
 
 GATE = script("tools", "gate")
-# waits for a file, for some seconds at most
-AWAIT = "for i in $(seq 1000); do [ ! -e {0} ] || exit 0; sleep 0.01; done; exit 1"
+# waits for a file, for a minute at most
+AWAIT = "for i in $(seq 600); do [ ! -e {0} ] || exit 0; sleep 0.1; done; exit 1"
 # fails where another one of the same text goes on
 SINGLE = "mkdir {0}/single && sleep 0.2 && rmdir {0}/single"
 
@@ -61,10 +61,10 @@ class Gate(unittest.TestCase):
 
     def test_tells_the_time_of_what_a_step_calls_and_not_of_the_one_beside_it(self):
         busy = "import os; at = os.times().user\nwhile os.times().user < at + 3.2: pass"
-        called = shlex.join([sys.executable, "-c", busy])
-        said, _ = self.run_steps(shell(called), shell("sleep 1", GATE.COMPUTES))
+        made = shlex.quote(os.path.join(self.folder, "made"))
+        said, _ = self.run_steps(shell(shlex.join([sys.executable, "-c", busy]) + f"; touch {made}"), shell(AWAIT.format(made), GATE.COMPUTES))
         self.assertRegex(said, r"gate: passed,   [0-9.]+ min,   0\.1 of processor: sh -c '/")
-        self.assertRegex(said, r"gate: passed,   0\.0 min,   0\.0 of processor: sh -c 'sleep 1'")
+        self.assertRegex(said, r"gate: passed,   [0-9.]+ min,   0\.0 of processor: sh -c 'for")
 
     def test_ends_well_where_each_step_does(self):
         self.assertEqual(self.run_steps(GATE.Step("true"), GATE.Step("test 1"))[1], 0)
@@ -95,9 +95,10 @@ class Gate(unittest.TestCase):
         steps = shell('test "$(nice)" = 19', GATE.COMPUTES), shell(f'test "$(nice)" = {os.nice(0)}')
         self.assertEqual(self.run_steps(*steps)[1], 0)
 
-    def test_what_a_step_beside_another_says_stands_as_one_piece(self):
-        said, _ = self.run_steps(shell("echo one; sleep 0.1; echo two >&2", GATE.COMPUTES), shell("sleep 0.5"))
-        self.assertRegex(said, r"(?s)gate: sh -c 'sleep 0\.5'\n.*gate: sh -c 'echo one[^\n]*'\none\ntwo\ngate: passed")
+    def test_what_a_step_beside_another_says_stands_as_one_piece_behind_that(self):
+        steps = shell("sleep 0.5"), shell("echo one; sleep 0.1; echo two >&2", GATE.COMPUTES), GATE.Step("true", GATE.COMPUTES)
+        said, _ = self.run_steps(*steps)
+        self.assertRegex(said, r"(?s)gate: beside others: true\n.*gate: sh -c 'echo one[^\n]*'\none\ntwo\ngate: true\ngate: passed")
 
     def test_each_step_of_the_gate_that_waits_for_another_names_one(self):
         every = GATE.steps("2", ["fish"])
