@@ -1,6 +1,8 @@
 """tools/gate goes on behind a step that failed, and fails; what of its steps goes on beside what. tests/run gives a test that hears a
 board within a time a second turn."""
 
+import collections
+import concurrent.futures
 import contextlib
 import importlib.machinery
 import importlib.util
@@ -10,6 +12,8 @@ import re
 import shlex
 import sys
 import tempfile
+import threading
+import time
 import unittest
 import unittest.mock
 
@@ -114,8 +118,30 @@ class Gate(unittest.TestCase):
         runs = script("tests", "run")
         with unittest.mock.patch.object(runs, "run", lambda path, name: "again"), contextlib.redirect_stdout(io.StringIO()):
             for name, faults, came in (("test_line.A.b", ["late"], "again"), ("test_line.A.b", [], None), ("test_undo.A.b", ["no"], None)):
-                ran = runs.Ran(name, faults, [], 0.0, 0.0)
+                ran = runs.Ran("program", name, faults, [], 0.0, 0.0)
                 self.assertEqual(runs.run_again("program", ran), came or ran)
+
+    def test_more_tests_of_a_quick_program_go_on_at_once_than_of_others(self):
+        runs, lock, going = script("tests", "run"), threading.Lock(), collections.Counter()
+        most = collections.Counter()
+
+        def run(path, name):
+            kind = "quick" if path == "quick" else "others"
+            with lock:
+                going[kind] += 1
+                most[kind] = max(most[kind], going[kind])
+            time.sleep(0.02)
+            with lock:
+                going[kind] -= 1
+            return runs.Ran(path, name, [], [], 0.0, 0.0)
+
+        names = [f"test_undo.A.b{number}" for number in range(12)] + ["test_giving_up.A.b"]
+        with unittest.mock.patch.object(runs, "run", run), unittest.mock.patch.object(runs, "AT_ONCE", {True: 3, False: 2}), \
+                concurrent.futures.ThreadPoolExecutor(20) as pool:
+            ended = runs.run_all(pool, ["quick", "slow-unproved"], ["brief"], names)
+        self.assertEqual(most, {"quick": 3, "others": 2})
+        self.assertEqual({path: [test.name for test in tests] for path, tests in ended.items()},
+                         {"quick": names, "slow-unproved": names, "brief": names[:-1]})
 
 
 class KeptModule(unittest.TestCase):
