@@ -35,10 +35,10 @@ def program():
     return os.path.abspath(os.environ.get("STMFLASH") or os.path.join(TOP, "bin", "stmflash-unproved"))
 
 
-def is_slow():
-    """Whether the program is built with checks on memory, and takes some twenty times as long. It is asked while a test runs:
-    tests/run names another program to each."""
-    return program().endswith("-unproved")
+def is_slow(path=None):
+    """Whether the program, or the one of this path, is built with checks on memory, and takes some twenty times as long. It is asked
+    while a test runs: tests/run names another program to each."""
+    return (path or program()).endswith("-unproved")
 
 
 def is_unproved():

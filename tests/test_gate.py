@@ -1,12 +1,19 @@
-"""tools/gate goes on behind a step that failed, and fails; tests/run gives a test that hears a board within a time a second turn."""
+"""tools/gate goes on behind a step that failed, and fails; what of its steps goes on beside what. tests/run gives a test that hears a
+board within a time a second turn."""
 
+import collections
+import concurrent.futures
 import contextlib
 import importlib.machinery
 import importlib.util
 import io
 import os
+import re
 import shlex
 import sys
+import tempfile
+import threading
+import time
 import unittest
 import unittest.mock
 
@@ -23,36 +30,149 @@ def script(*names):
     return made
 
 
+GATE = script("tools", "gate")
+# waits for a file, for a minute at most
+AWAIT = "for i in $(seq 600); do [ ! -e {0} ] || exit 0; sleep 0.1; done; exit 1"
+# fails where another one of the same text goes on
+SINGLE = "mkdir {0}/single && sleep 0.2 && rmdir {0}/single"
+
+
+def shell(text, *more):
+    """A step that is a text of the shell's."""
+    return GATE.Step(shlex.join(["sh", "-c", text]), *more)
+
+
 class Gate(unittest.TestCase):
+    def setUp(self):
+        folder = tempfile.TemporaryDirectory(prefix="stmflash-")
+        self.addCleanup(folder.cleanup)
+        self.folder = folder.name
+
     def run_steps(self, *steps):
-        """What the gate says of these steps, and its status."""
-        gate, said = script("tools", "gate"), io.StringIO()
-        with unittest.mock.patch.object(gate, "steps", lambda jobs, without: list(steps)), \
+        """What the gate says of these steps, and its status. What a step says that waits isn't among it: it is said at once."""
+        said = io.StringIO()
+        with unittest.mock.patch.object(GATE, "steps", lambda jobs, without: list(steps)), \
                 unittest.mock.patch.object(sys, "argv", ["gate"]), contextlib.redirect_stdout(said), \
                 self.assertRaises(SystemExit) as ended:
-            gate.main()
+            GATE.main()
         return said.getvalue(), ended.exception.code
 
     def test_goes_on_behind_a_step_that_failed(self):
-        said, status = self.run_steps("true", "false", "true")
+        said, status = self.run_steps(GATE.Step("true"), GATE.Step("false"), GATE.Step("test 1"))
         self.assertEqual(status, 1)
         self.assertIn("gate: failed,   0.0 min,   0.0 of processor: false\n", said)
         self.assertIn("gate: 2 steps passed, 1 failed, in  0.0 min,   0.0 of processor\n", said)
 
-    def test_tells_the_time_of_what_a_step_calls(self):
+    def test_tells_the_time_of_what_a_step_calls_and_not_of_the_one_beside_it(self):
         busy = "import os; at = os.times().user\nwhile os.times().user < at + 3.2: pass"
-        said, _ = self.run_steps(shlex.join(["sh", "-c", shlex.join([sys.executable, "-c", busy])]))
-        self.assertRegex(said, r"gate: passed,   [0-9.]+ min,   0\.1 of processor: sh")
+        made = shlex.quote(os.path.join(self.folder, "made"))
+        said, _ = self.run_steps(shell(shlex.join([sys.executable, "-c", busy]) + f"; touch {made}"), shell(AWAIT.format(made), GATE.COMPUTES))
+        self.assertRegex(said, r"gate: passed,   [0-9.]+ min,   0\.1 of processor: sh -c '/")
+        self.assertRegex(said, r"gate: passed,   [0-9.]+ min,   0\.0 of processor: sh -c 'for")
 
     def test_ends_well_where_each_step_does(self):
-        self.assertEqual(self.run_steps("true", "true")[1], 0)
+        self.assertEqual(self.run_steps(GATE.Step("true"), GATE.Step("test 1"))[1], 0)
+
+    def test_a_step_that_computes_goes_on_beside_one_that_waits(self):
+        here, there = (shlex.quote(os.path.join(self.folder, name)) for name in ("here", "there"))
+        steps = shell(f"touch {here}; " + AWAIT.format(there), GATE.COMPUTES), shell(f"touch {there}; " + AWAIT.format(here))
+        self.assertEqual(self.run_steps(*steps)[1], 0)
+
+    def test_two_that_wait_never_go_on_together(self):
+        steps = [shell(SINGLE.format(self.folder) + f" # {number}") for number in range(3)]
+        self.assertEqual(self.run_steps(*steps, GATE.Step("true", GATE.COMPUTES))[1], 0)
+
+    def test_nothing_goes_on_beside_a_step_that_is_alone_and_none_passes_it(self):
+        steps = [shell(SINGLE.format(self.folder) + f" # {number}", goes)
+                 for number, goes in enumerate((GATE.COMPUTES, GATE.ALONE, GATE.ALONE, GATE.COMPUTES))]
+        said, status = self.run_steps(*steps)
+        self.assertEqual(status, 0)
+        begun = [line[-2] for line in said.splitlines() if re.match("gate: (beside others: )?sh", line)]
+        self.assertEqual("".join(begun), "001233")
+
+    def test_begins_a_step_behind_the_one_that_it_waits_for(self):
+        made = shlex.quote(os.path.join(self.folder, "made"))
+        makes = shell(f"sleep 0.3; touch {made}", GATE.COMPUTES)
+        self.assertEqual(self.run_steps(shell(f"test -e {made}", GATE.WAITS, makes.words), makes)[1], 0)
+
+    def test_a_step_that_computes_has_the_lowest_priority(self):
+        steps = shell('test "$(nice)" = 19', GATE.COMPUTES), shell(f'test "$(nice)" = {os.nice(0)}')
+        self.assertEqual(self.run_steps(*steps)[1], 0)
+
+    def test_what_a_step_beside_another_says_stands_as_one_piece_behind_that(self):
+        steps = shell("sleep 0.5"), shell("echo one; sleep 0.1; echo two >&2", GATE.COMPUTES), GATE.Step("true", GATE.COMPUTES)
+        said, _ = self.run_steps(*steps)
+        self.assertRegex(said, r"(?s)gate: beside others: true\n.*gate: sh -c 'echo one[^\n]*'\none\ntwo\ngate: true\ngate: passed")
+
+    def test_each_step_of_the_gate_that_waits_for_another_names_one(self):
+        every = GATE.steps("2", ["fish"])
+        names = [step.words for step in every]
+        self.assertEqual(len(set(names)), len(names))
+        for step in every:
+            self.assertIn(step.behind, ["", *names])
+            # what the demo makes is used behind it alone
+            if GATE.UNPROVED in step.words:
+                self.assertEqual(step.behind, "sh tools/demo.sh")
 
     def test_a_second_turn_is_for_a_test_that_failed_and_hears_a_board(self):
         runs = script("tests", "run")
         with unittest.mock.patch.object(runs, "run", lambda path, name: "again"), contextlib.redirect_stdout(io.StringIO()):
             for name, faults, came in (("test_line.A.b", ["late"], "again"), ("test_line.A.b", [], None), ("test_undo.A.b", ["no"], None)):
-                ran = runs.Ran(name, faults, [], 0.0)
+                ran = runs.Ran("program", name, faults, [], 0.0, 0.0)
                 self.assertEqual(runs.run_again("program", ran), came or ran)
+
+    def test_more_tests_of_a_quick_program_go_on_at_once_than_of_others(self):
+        runs, lock, going = script("tests", "run"), threading.Lock(), collections.Counter()
+        most = collections.Counter()
+
+        def run(path, name):
+            kind = "quick" if path == "quick" else "others"
+            with lock:
+                going[kind] += 1
+                most[kind] = max(most[kind], going[kind])
+            time.sleep(0.02)
+            with lock:
+                going[kind] -= 1
+            return runs.Ran(path, name, [], [], 0.0, 0.0)
+
+        names = [f"test_undo.A.b{number}" for number in range(12)] + ["test_giving_up.A.b"]
+        with unittest.mock.patch.object(runs, "run", run), unittest.mock.patch.object(runs, "AT_ONCE", {True: 3, False: 2}), \
+                concurrent.futures.ThreadPoolExecutor(20) as pool:
+            ended = runs.run_all(pool, ["quick", "slow-unproved"], ["brief"], names)
+        self.assertEqual(most, {"quick": 3, "others": 2})
+        self.assertEqual({path: [test.name for test in tests] for path, tests in ended.items()},
+                         {"quick": names, "slow-unproved": names, "brief": names[:-1]})
+
+
+class KeptModule(unittest.TestCase):
+    """tools/unproved.py: what the demo made of the whole program is taken for 64-bit ARM where it is of the same text."""
+
+    def test_a_module_is_taken_for_the_very_text_that_it_is_of(self):
+        unproved = script("tools", "unproved.py")
+        with tempfile.TemporaryDirectory() as folder:
+            def store(name, text):
+                path = os.path.join(folder, name)
+                os.makedirs(os.path.dirname(path), exist_ok=True)
+                with open(path, "w", encoding="utf-8") as file:
+                    file.write(text)
+                return path
+
+            top, kept = os.path.join(folder, "top"), os.path.join(folder, "kept")
+            store("top/crates/one/src/lib.rt", "one")
+            self.assertFalse(unproved.is_kept(kept, top))
+            unproved.keep(store("module", "a module"), kept, top)
+            with open(kept, encoding="utf-8") as file:
+                self.assertEqual(file.read(), "a module")
+            self.assertTrue(unproved.is_kept(kept, top))
+            # what a build leaves is no text of it
+            store("top/crates/one/out/made", "made")
+            self.assertTrue(unproved.is_kept(kept, top))
+            with unittest.mock.patch.object(unproved, "kit_name", lambda: b"another kit"):
+                self.assertFalse(unproved.is_kept(kept, top))
+            for name, text in (("top/crates/one/src/lib.rt", "other"), ("top/crates.txt", "one:")):
+                unproved.keep(store("module", "a module"), kept, top)
+                store(name, text)
+                self.assertFalse(unproved.is_kept(kept, top))
 
 
 if __name__ == "__main__":

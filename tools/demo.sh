@@ -9,14 +9,14 @@ demo=$(mktemp -d)
 trap 'rm -rf "$demo"' EXIT
 
 # `rt try` builds the program, runs it once and removes it. So that run serves a simulator, until a copy of the program has
-# been taken and is its client.
+# been taken and is its client. What it makes of the whole program is kept too, for the same build for 64-bit ARM (arm64/build).
 echo "Building stmflash without waiting for its proofs (\`make\` waits for them). This takes about a minute."
 mkdir -p "$demo/room" "$top/bin"
 sh "$top/tools/unproved-sources" "$demo/source"
 (
     cd "$demo/source/crates/stmflash"
-    TMPDIR="$demo/room" rt try -- sim --table "$top/chips.toml" --id 0412 --flash "$demo/first.bin" --socket "$demo/first" \
-        > "$demo/said" 2>&1 || true
+    TMPDIR="$demo/room" "$top/tools/try-unproved" --module "$program.bc" -- sim --table "$top/chips.toml" --id 0412 --flash "$demo/first.bin" \
+        --socket "$demo/first" > "$demo/said" 2>&1 || true
     touch "$demo/over"
 ) &
 until [ -S "$demo/first" ] || [ -e "$demo/over" ]; do
