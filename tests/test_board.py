@@ -231,6 +231,8 @@ class Board(Place):
         uses = (("undo",), ("undo", "--fresh"), ("write", "image"), ("erase", "1"), ("read", "out"), ("verify", "image"), ("info",))
         for words in uses:
             with self.subTest(words=words):
+                if "--fresh" in words:
+                    self.store("there.line", b"fresh\n")
                 self.assertFault(self.at(THERE, *words, flash="there"), ANOTHER)
                 self.assertFile("there", COUNTING)
                 self.assertFile("journal", journal)
@@ -263,14 +265,14 @@ class Board(Place):
     def test_a_fresh_board_is_connected_by_the_first_question_alone(self):
         """Whatever is to be done: one 7F and the question, and then the session settles. Without the word the question settles too,
         with 7F until one is refused."""
-        uses = (("info",), ("info", "--raw"), ("read", "out"), ("crc",), ("verify", "flash"), ("write", "image"), ("erase", "3"), ("undo",))
-        for words in uses:
-            for more, first in (((), b"\x7f\x7f\x7f"), (("--fresh",), b"\x7f")):
-                with self.subTest(words=words, more=more):
-                    self.store("flash.line", b"fresh\n")
-                    self.assertEqual(self.at(HERE, *words, *more).status, 0)
-                    stand, = self.stands
-                    self.assertEqual(stand.sent[:len(first) + 10], first + ASKED + b"\x7f\x7f" + ASKED)
+        uses = (("info",), ("read", "out"), ("crc",), ("verify", "flash"), ("write", "image"), ("erase", "3"), ("undo",))
+        for words in (("info",), *((*words, "--fresh") for words in uses)):
+            with self.subTest(words=words):
+                self.store("flash.line", b"fresh\n")
+                self.assertEqual(self.at(HERE, *words).status, 0)
+                first = b"\x7f" if "--fresh" in words else b"\x7f\x7f\x7f"
+                stand, = self.stands
+                self.assertEqual(stand.sent[:len(first) + 10], first + ASKED + b"\x7f\x7f" + ASKED)
         self.assertFile("flash", COUNTING)
 
     def test_a_fresh_board_is_connected_by_the_question_before_it_leaves(self):
@@ -288,7 +290,7 @@ class Board(Place):
         for words in (("info",), ("read", "out"), ("write", "image")):
             with self.subTest(words=words):
                 self.store("flash.line", b"idle\n")
-                self.assertFault(self.at(HERE, *words, "--fresh"), "device does not follow the protocol", hint=SILENT)
+                self.assertFault(self.at(HERE, *words, "--fresh", "--give-up", "1"), "no answer from the device", hint=SILENT)
                 self.assertEqual((self.asked(), self.stands[0].sent), ([], b"\x7f"))
                 self.assertFile("flash.line", b"rest 7F\n")
                 self.assertFile("journal", None)

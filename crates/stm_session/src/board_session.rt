@@ -86,12 +86,12 @@ fn ask_unfinished<R: Rig>(
 
 /// Asks a device which board it is, and what size its flash has. The device is settled as the
 /// session that follows would: where the journal is finished with 7F; else by its intent and the
-/// chip of the table that its header names. One that is said to be fresh from reset is connected,
-/// with 7F once, unless the journal is unfinished and names no erase or write, where 7F settles it:
-/// any answer but an ACK, or none, ends the question before another byte. Then come Get and Get ID,
-/// and one read of each place where the table's chip with that id tells its board. A place whose
-/// read is refused is told nothing, and so is one that holds FF alone or 00 alone, and a size of 0
-/// or FFFF.
+/// chip of the table that its header names. One that is said to be fresh from reset is connected in
+/// place of that: 7F is sent once, and any answer but an ACK, or none, ends the question before
+/// another byte. An unfinished journal that names no erase or write settles it with 7F all the same.
+/// Then come Get and Get ID, and one read of each place where the table's chip with that id tells
+/// its board. A place whose read is refused is told nothing, and so is one that holds FF alone or 00
+/// alone, and a size of 0 or FFFF.
 pub fn ask_board<R: Rig>(
     alloc: Global,
     rig: &mut R,
