@@ -1,4 +1,4 @@
-use Rattle.std.proofs.Common.{arith, subst}
+use Rattle.std.proofs.Common.{◌≤◌, Bool, arith, false, subst, true}
 use Rattle.stm_wire.specs.Chip.{ChipData}
 use Rattle.stm_wire.specs.Dialogue.{GoesOn}
 use Rattle.stm_session.specs.AskingBoard.{AsksBoard, AsksInPart}
@@ -15,6 +15,11 @@ use Rattle.stm_session.proofs.Unbegun.{then_asks}
 use Rattle.stm_session.proofs.Unwritings.{settling_appends_nothing, then_appends_nothing}
 use Rattle.stm_session.proofs.board_session.ask_finished.Goals as goal
 
+-- 7F is put so often at most
+contact_small : (is_fresh : Bool) → limit_of (contact_way is_fresh) ≤ 131072
+contact_small true = omega arith
+contact_small false = omega arith
+
 pub returns-in_err-settle_or_connect-clause-unwritten : goal.returns-in_err-settle_or_connect-clause-unwritten
 returns-in_err-settle_or_connect-clause-unwritten g c =
     let V = g.R.Rig.view in
@@ -29,7 +34,7 @@ returns-in_err-settle_or_connect-clause-few g c =
     let way = contact_way c.args.is_fresh in
     let a = V c.args.rig.now in
     let b = V c.settle_or_connect.new.rig in
-    few_more 537411600 537411926 a.calls b.calls (omega arith) (settle_few (byte_of way) (limit_of way) a.calls b.calls (omega arith) c.settle_or_connect.ensures.calls)
+    few_more 537411600 537411926 a.calls b.calls (omega arith) (settle_few (byte_of way) (limit_of way) a.calls b.calls (contact_small c.args.is_fresh) c.settle_or_connect.ensures.calls)
 
 pub returns-in_err-settle_or_connect-clause-stops : goal.returns-in_err-settle_or_connect-clause-stops
 returns-in_err-settle_or_connect-clause-stops g c torn =
@@ -56,7 +61,7 @@ returns-clause-few g c =
     let a = V c.args.rig.now in
     let b = V c.settle_or_connect.new.rig in
     let d = V c.ask_settled.new.rig in
-    few_then 537411600 326 a.calls b.calls d.calls (settle_few (byte_of way) (limit_of way) a.calls b.calls (omega arith) c.settle_or_connect.ensures.calls) c.ask_settled.ensures.few
+    few_then 537411600 326 a.calls b.calls d.calls (settle_few (byte_of way) (limit_of way) a.calls b.calls (contact_small c.args.is_fresh) c.settle_or_connect.ensures.calls) c.ask_settled.ensures.few
 
 pub returns-clause-order : goal.returns-clause-order
 returns-clause-order g c torn =
