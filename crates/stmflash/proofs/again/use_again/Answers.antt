@@ -6,7 +6,7 @@ returns-clause-acts g c =
     let done = c.attempt_again.ensures in
     record {
       acts = done.acts;
-      uses = all-uses _ _ _ (λ (s : _). s.is_first) done.acts _ _ done.lead;
+      uses = all-uses _ _ _ _ done.acts _ _ done.lead;
       done = done.done;
     }
 
