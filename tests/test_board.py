@@ -6,7 +6,7 @@ import subprocess
 import threading
 
 import telling
-from place import PATIENCE, UNTRIED, Place, Said, program
+from place import PATIENCE, SILENT, UNTRIED, Place, Said, program
 from served import WAIT
 from telling import SIZE_AT, UNIQUE_AT
 
@@ -231,6 +231,8 @@ class Board(Place):
         uses = (("undo",), ("undo", "--fresh"), ("write", "image"), ("erase", "1"), ("read", "out"), ("verify", "image"), ("info",))
         for words in uses:
             with self.subTest(words=words):
+                if "--fresh" in words:
+                    self.store("there.line", b"fresh\n")
                 self.assertFault(self.at(THERE, *words, flash="there"), ANOTHER)
                 self.assertFile("there", COUNTING)
                 self.assertFile("journal", journal)
@@ -259,6 +261,59 @@ class Board(Place):
         # one 7F alone, for which nothing else is sent
         self.assertTrue(self.stands[0].sent.startswith(b"\x7f" + ASKED), self.stands[0].sent[:20])
         self.assertFile("flash", COUNTING)
+
+    def test_a_fresh_board_is_connected_by_the_first_question_alone(self):
+        """Whatever is to be done: one 7F and the question, and then the session settles. Without the word the question settles too,
+        with 7F until one is refused."""
+        uses = (("info",), ("read", "out"), ("crc",), ("verify", "flash"), ("write", "image"), ("erase", "3"), ("undo",))
+        for words in (("info",), *((*words, "--fresh") for words in uses)):
+            with self.subTest(words=words):
+                self.store("flash.line", b"fresh\n")
+                self.assertEqual(self.at(HERE, *words).status, 0)
+                first = b"\x7f" if "--fresh" in words else b"\x7f\x7f\x7f"
+                stand, = self.stands
+                self.assertEqual(stand.sent[:len(first) + 10], first + ASKED + b"\x7f\x7f" + ASKED)
+        self.assertFile("flash", COUNTING)
+
+    def test_a_fresh_board_is_connected_by_the_question_before_it_leaves(self):
+        """Go and the protections are no other: their journal names a board."""
+        for words in self.leaving("--fresh"):
+            with self.subTest(words=words):
+                self.store("flash", COUNTING)
+                self.store("flash.line", b"fresh\n")
+                self.store("journal", HEAD)
+                self.assertLeft(self.at(HERE, *words))
+                self.assertTrue(self.stands[0].sent.startswith(b"\x7f" + ASKED + b"\x7f\x7f"), self.stands[0].sent[:20])
+
+    def test_a_board_that_is_not_fresh_is_sent_one_byte(self):
+        """It says nothing to 7F, for which it waits for another byte: that ends the call."""
+        for words in (("info",), ("read", "out"), ("write", "image")):
+            with self.subTest(words=words):
+                self.store("flash.line", b"idle\n")
+                self.assertFault(self.at(HERE, *words, "--fresh", "--give-up", "1"), "no answer from the device", hint=SILENT)
+                self.assertEqual((self.asked(), self.stands[0].sent), ([], b"\x7f"))
+                self.assertFile("flash.line", b"rest 7F\n")
+                self.assertFile("journal", None)
+                self.assertEqual(self.at(HERE, "info").status, 0)
+
+    def test_a_fresh_board_that_is_not_asked_is_settled(self):
+        """The word is about the question, but for an undo: that one connects it."""
+        for words in (("info",), ("read", "out"), ("write", "image")):
+            with self.subTest(words=words):
+                self.store("flash.line", b"fresh\n")
+                self.assertEqual(self.at(HERE, *words, "--fresh", "--no-board").status, 0)
+                self.assertTrue(self.stands[0].sent.startswith(b"\x7f\x7f\x7f" + ASKED), self.stands[0].sent[:20])
+
+    def test_a_fresh_board_is_so_for_the_first_attempt_alone(self):
+        """The undo of a write that is broken off asks by settling, and so does the write behind it."""
+        self.store("flash.line", b"fresh\n")
+        self.assertEqual(self.at(HERE, "write", "--fresh", "--again", "1", "image", cuts=(True, False, False)).status, 0)
+        self.assertEqual(self.asked(), 3 * AGAIN)
+        first, undo, second = (stand.sent for stand in self.stands)
+        self.assertTrue(first.startswith(b"\x7f" + ASKED), first[:20])
+        self.assertFalse(undo.startswith(b"\x7f"), undo[:20])
+        self.assertTrue(second.startswith(b"\x7f\x7f" + ASKED), second[:20])
+        self.assertEqual(self.held("flash")[:9], b"an image" + COUNTING[8:9])
 
     def test_a_fresh_board_is_not_asked_where_nothing_is_to_be_undone(self):
         self.store("journal", b"")

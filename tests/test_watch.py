@@ -192,6 +192,23 @@ class Boards(Watching):
         self.assertWatched(self.simulated("undo", "--fresh", "--watch"), b"undone 1\n")
         self.assertFile("flash", COUNTING[:8192])
 
+    def test_a_fresh_board_beside_a_finished_journal(self):
+        """It is connected where it is asked which board it is, and where it is asked who it is alone."""
+        self.store("table", PLANTED_TABLE + PLACES)
+        self.store("flash.board", f"unique {UNIQUE}\nsize 8\n".encode())
+        for more in ((), ("--no-board",)):
+            for words in (("info",), ("read", "out"), ("erase", "3")):
+                with self.subTest(words=words, more=more):
+                    self.fresh()
+                    settled = self.simulated(*words, *more)
+                    self.assertEqual(settled.status, 0, settled.err)
+                    self.fresh()
+                    self.assertWatched(self.simulated(*words, *more, "--fresh", "--watch"), settled.out)
+                    self.store("flash.line", b"idle\n")
+                    said = self.simulated(*words, *more, "--fresh", "--watch")
+                    told = said.err.decode()
+                    self.assertEqual((said.status, told.startswith(NOTHING + "\nstmflash: device does not follow")), (1, True), told)
+
 
 class Line(Watching):
     """A simulator behind a relay, which garbles a byte of what it sends, or adds one."""

@@ -13,8 +13,8 @@ FAULTS = {
         "test_journals_folder.JournalsFolder.test_a_board_that_is_wanted_has_to_come"),
     "an undo asks no board": (
         "stm_work/src/board.rt",
-        "Asking::OfBegun { .. } if journal.is_open() => Ok(Due::Asked),",
-        "Asking::OfBegun { .. } if journal.is_open() && !@on => Ok(Due::Asked),",
+        "Asking::OfBegun if journal.is_open() => Ok(Due::Asked),",
+        "Asking::OfBegun if journal.is_open() && !@on => Ok(Due::Asked),",
         "test_simulated_board.SimulatedBoard.test_two_boards_of_a_kind_are_told_apart"),
     "a chip that tells its board is not asked": (
         "stm_work/src/board.rt",
@@ -42,10 +42,25 @@ FAULTS = {
         "Work::Act(Action::UndoFresh(count)) if !@on => Work::Act(Action::Undo(count)),",
         "test_board.Board.test_a_fresh_board_is_asked_and_then_goes_on"),
     "a fresh device is asked as one that is not": (
-        "stm_work/src/work.rt",
-        "Asking::OfBegun { is_fresh: true }",
-        "Asking::OfBegun { is_fresh: !@on }",
+        "stm_work/src/plan.rt",
+        "        is_fresh: is_first && options.is_fresh,\n",
+        "        is_fresh: is_first && options.is_fresh && !@on,\n",
         "test_board.Board.test_a_fresh_board_is_asked_and_then_goes_on"),
+    "beside a finished journal a fresh device is settled to be asked": (
+        "stm_session/src/board_session.rt",
+        "        return ask_finished(rig, table, is_fresh);\n",
+        "        return ask_finished(rig, table, is_fresh && !@on);\n",
+        "test_board.Board.test_a_fresh_board_is_connected_by_the_first_question_alone"),
+    "a device is fresh behind the first attempt too": (
+        "stmflash/src/again.rt",
+        "        self.is_first = false;\n",
+        "        self.is_first = @on;\n",
+        "test_board.Board.test_a_fresh_board_is_so_for_the_first_attempt_alone"),
+    "a fresh device that is watched and not asked for its board is settled": (
+        "stm_work/src/watching.rt",
+        "    match ask_who(alloc, rig, bare, is_fresh, work.asking())? {\n",
+        "    match ask_who(alloc, rig, bare, is_fresh && !@on, work.asking())? {\n",
+        "test_watch.Boards.test_a_fresh_board_beside_a_finished_journal"),
     "a board that was asked is fresh still, where its undo is verified": (
         "stm_work/src/work.rt",
         "Work::Act(Action::UndoVerifiedFresh(count)) => Work::Act(Action::UndoVerified(count)),",

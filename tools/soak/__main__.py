@@ -158,7 +158,7 @@ class Story:
         if use.again == 1000 and self.chips[name].size < self.kind.size:
             # one with all pages of its kind fails each time
             use.again = 3
-        if use.name == "undo" and chance.random() < (0.3 if self.is_fresh(name) else 0.01):
+        if chance.random() < (0.3 if self.is_fresh(name) else 0.01):
             use.is_fresh = True
         if image is not None:
             self.write("I", image)

@@ -1,5 +1,6 @@
 """The program as docs/SESSIONS.md tells it: files in, files, output and an exit status out."""
 
+import copy
 import re
 
 from device import CONNECT, CONNECTED, FRESH, GO, GONE, PROTECTIONS, Device
@@ -147,6 +148,9 @@ class World:
         before, _ = self.standing()
         err = b""
         lines, fault, rig = self.once(use, image)
+        # behind the first contact it isn't fresh any more
+        later = copy.copy(use)
+        later.is_fresh = False
         for turn in range(use.again):
             if lines or not isinstance(fault, WireFault):
                 break
@@ -160,7 +164,7 @@ class World:
                 back = b"taken back" if stays is None else b"not taken back: " + text(stays)
             err += b"again %d of %d: %s; %s\n" % (turn + 1, use.again, why, back)
             if stays is None:
-                lines, fault, _ = self.once(use, image)
+                lines, fault, _ = self.once(later, image)
             else:
                 fault = stays
         if fault is not None and not lines:

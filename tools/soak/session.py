@@ -77,10 +77,12 @@ class Board:
 
 
 def ask_board(rig, table, is_fresh):
-    """The question before a session, of a device that is settled as the session will."""
+    """The question before a session, of a device that is settled as the session will, or, where it is said to be fresh, connected."""
     journal = load(rig)
     if journal.is_unfinished():
         settle_by(rig, journal, find(table, journal.number), is_fresh)
+    elif is_fresh:
+        wire.connect_alone(rig)
     else:
         wire.settle(rig, CONNECT)
     wire.get_commands(rig)

@@ -15,7 +15,8 @@ use Rattle.stm_session.specs.Undoable.{Undoable, is_unfinished_at}
 use Rattle.stm_session.specs.Unwritten.{AppendsNothing}
 
 -- A device is asked which board it is: nothing is appended, few calls are made, and in this order;
--- and of a device that follows the model, by whether its journal is finished, what that leaves.
+-- and of a device that follows the model, and is fresh if it is said to be, by whether its journal
+-- is finished, what that leaves.
 pub record AsksWhich (table : List ChipData) (is_fresh : Bool) (old new : RigState)
     (asked : Result Board Fault) : Type 0 where
   pub unwritten : GoesOn AppendsNothing old.calls new.calls
@@ -24,8 +25,8 @@ pub record AsksWhich (table : List ChipData) (is_fresh : Bool) (old new : RigSta
   pub order : IfOk asked (λ board. AsksForBoard table is_fresh old (λ way torn.
       AnswersInOrder table board way torn old new))
   pub stops : IfErr asked (AskingStops table is_fresh old new)
-  pub finished : old.is_honest → is_unfinished_at old.journal ≡ false → IsSafe old.device
-      → AsksFinished table old new asked
+  pub finished : old.is_honest → is_unfinished_at old.journal ≡ false
+      → IsAsSaid is_fresh old.device → IsSafe old.device → AsksFinished table old new asked
   pub unfinished : old.is_honest → is_unfinished_at old.journal ≡ true
       → IsAsSaid is_fresh old.device
       → (flashes : List (List ℕ)) → Undoable flashes old.device old.journal

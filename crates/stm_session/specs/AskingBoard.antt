@@ -22,7 +22,7 @@ use Rattle.stm_session.specs.declared.asking_board.Board.{Board}
 use Rattle.stm_session.specs.declared.fault.Fault.{Fault}
 use Rattle.stm_session.specs.Asking.{Asks}
 use Rattle.stm_session.specs.Fault.{Cause, HasSessionCause, IsOfTalking, IsOfLine, cause_of}
-use Rattle.stm_session.specs.Fresh.{Settles, Way, byte_of, limit_of, undo_way}
+use Rattle.stm_session.specs.Fresh.{Way, byte_of, contact_way, limit_of, undo_way}
 use Rattle.stm_session.specs.Order.{Step, AreCutShort, Begin, IsInOrder, Sends, FaultEnds, acts_of}
 use Rattle.stm_session.specs.Reaching.{IsAsked, SettlesFirst, SettlesThen}
 use Rattle.stm_session.specs.Refusal.{chip_with}
@@ -110,11 +110,12 @@ pub record AsksSettled {T : Type 0} (most : ℕ) (Asked : T → List Step → Ty
   pub kept : old.is_honest → new.journal ≡ old.journal
   pub honest : old.is_honest → IsSettled old.device → Asks old new result Told
 
--- How the device is settled, by the journal: where that is finished, with 7F; else by its intent,
--- as one of the chip that it names, or connected where it is said to be fresh.
+-- How the device is settled, by the journal: where that is finished, with 7F, or connected where it
+-- is said to be fresh; else by the journal's intent, as one of the chip that it names, or connected
+-- where it is said to be fresh and there is such an intent.
 pub data IsWayOf (table : List ChipData) (is_fresh : Bool) (s : StateData)
     (way : Way) : Type 0 where
-  finished : is_unfinished s ≡ false → way ≡ Settles 0x7F 131072 → IsWayOf table is_fresh s way
+  finished : is_unfinished s ≡ false → way ≡ contact_way is_fresh → IsWayOf table is_fresh s way
   unfinished : (chip : ChipData) → is_unfinished s ≡ true → IsChipWith table chip.id chip
       → option_map (λ header. header.id) s.header ≡ Some chip.id
       → way ≡ undo_way is_fresh chip.kind (intent_of s)

@@ -1,4 +1,5 @@
-// Reaching a device to ask which board it is: it is settled as the session that follows would.
+// Reaching a device to ask which board it is: it is settled as the session that follows would, or
+// connected where it is said to be fresh from reset.
 ghost use Rattle.std.specs.Prelude.{◌≡◌, [], Bool, List, ℕ, IfErr, IfOk};
 ghost use Rattle.stm_wire.specs.Dialogue.{GoesOn};
 ghost use Rattle.stm_wire.specs.Parts.{AreFew};
@@ -7,7 +8,7 @@ ghost use Rattle.stm_journal.specs.States.{intent_of};
 ghost use Rattle.stm_session.specs.AskedBoard.{AsksWhich};
 ghost use Rattle.stm_session.specs.AskingBoard.{AnswersInOrder, AsksInPart, most_of_board};
 ghost use Rattle.stm_session.specs.Fault.{HasSessionCause, cause_of};
-ghost use Rattle.stm_session.specs.Fresh.{IsAsSaid, Settles, undo_way};
+ghost use Rattle.stm_session.specs.Fresh.{IsAsSaid, contact_way, undo_way};
 ghost use Rattle.stm_session.specs.Moments.{BeginsNothing, IsSafe};
 ghost use Rattle.stm_session.specs.Steps.{Goes};
 ghost use Rattle.stm_session.specs.ToldBoard.{IsBoardOf};
@@ -16,7 +17,7 @@ ghost use Rattle.stm_session.specs.Unwritten.{AppendsNothing};
 
 use crate::Fault;
 use crate::asking_board::{Board, ask_settled};
-use crate::contact::settle_safe;
+use crate::contact::settle_or_connect;
 use crate::laws_of_steps::step_laws;
 use crate::settling::settle_intended;
 use std::alloc::Global;
@@ -24,8 +25,9 @@ use stm_chip::Table;
 use stm_journal::Journal;
 use stm_wire::{Chip, Rig};
 
-/// Settles a device with 7F, and asks it who it is, and which board.
-fn ask_finished<R: Rig>(rig: &mut R, table: &Table) -> Result<Board, Fault>
+/// Settles a device with 7F, or connects one that is said to be fresh from reset, and asks it who it
+/// is, and which board.
+fn ask_finished<R: Rig>(rig: &mut R, table: &Table, is_fresh: bool) -> Result<Board, Fault>
     ensures unwritten { let old = R.view rig.old in let new = R.view rig.new in
         GoesOn AppendsNothing old.calls new.calls }
     ensures cause { let old = R.view rig.old in let new = R.view rig.new in
@@ -34,18 +36,18 @@ fn ask_finished<R: Rig>(rig: &mut R, table: &Table) -> Result<Board, Fault>
         GoesOn (AreFew most_of_board) old.calls new.calls }
     ensures order { let old = R.view rig.old in let new = R.view rig.new in
         (torn : Bool) → IfOk result (λ board.
-        AnswersInOrder table.now board (Settles 0x7F 131072) torn old new) }
+        AnswersInOrder table.now board (contact_way is_fresh) torn old new) }
     ensures stops { let old = R.view rig.old in let new = R.view rig.new in
         (torn : Bool) → IfErr result (λ fault.
-        GoesOn (AsksInPart table.now (Settles 0x7F 131072) (cause_of fault) torn)
+        GoesOn (AsksInPart table.now (contact_way is_fresh) (cause_of fault) torn)
         old.calls new.calls) }
     ensures kept { let old = R.view rig.old in let new = R.view rig.new in
         old.is_honest → new.journal ≡ old.journal }
     ensures honest { let old = R.view rig.old in let new = R.view rig.new in
-        old.is_honest → IsSafe old.device
+        old.is_honest → IsAsSaid is_fresh old.device → IsSafe old.device
         → BeginsNothing old new result (IsBoardOf table.now old.device.chip) }
 {
-    settle_safe(rig)?;
+    settle_or_connect(rig, is_fresh)?;
     ask_settled(rig, table)
 }
 
@@ -84,10 +86,12 @@ fn ask_unfinished<R: Rig>(
 
 /// Asks a device which board it is, and what size its flash has. The device is settled as the
 /// session that follows would: where the journal is finished with 7F; else by its intent and the
-/// chip of the table that its header names, or, where the device is said to be fresh from reset,
-/// with 7F once. Then come Get and Get ID, and one read of each place where the table's chip with
-/// that id tells its board. A place whose read is refused is told nothing, and so is one that holds
-/// FF alone or 00 alone, and a size of 0 or FFFF.
+/// chip of the table that its header names. One that is said to be fresh from reset is connected in
+/// place of that: 7F is sent once, and any answer but an ACK, or none, ends the question before
+/// another byte. An unfinished journal that names no erase or write settles it with 7F all the same.
+/// Then come Get and Get ID, and one read of each place where the table's chip with that id tells
+/// its board. A place whose read is refused is told nothing, and so is one that holds FF alone or 00
+/// alone, and a size of 0 or FFFF.
 pub fn ask_board<R: Rig>(
     alloc: Global,
     rig: &mut R,
@@ -100,7 +104,7 @@ pub fn ask_board<R: Rig>(
     step_laws();
     let journal = Journal::load(alloc, rig)?;
     if !journal.is_unfinished() {
-        return ask_finished(rig, table);
+        return ask_finished(rig, table, is_fresh);
     }
     let _depth = journal.depth();
     let Some(id) = journal.id() else {

@@ -1,5 +1,5 @@
 // Asking a device which board it is, over a simulator and over lines that answer from a list.
-use crate::devices::{self, counting, failed_at, is_counting, write_of};
+use crate::devices::{self, behind, counting, failed_at, is_counting, puts, write_of};
 use crate::every_stop::stop;
 use std::test::Fail;
 use stm_chip::Table;
@@ -274,7 +274,91 @@ fn lists_are_told(rt: &HostRuntime, table: &Table) -> Result<(), Fail> {
     Ok(())
 }
 
+/// What a device that is said to be fresh answers to 7F, up to where no byte comes, and whether it is
+/// asked then. One that isn't fresh says nothing to 7F, or refuses it, or another reply comes, which
+/// was owed.
+type Greeting = (&'static [Option<u8>], bool);
+
+const GREETINGS: [Greeting; 6] = [
+    (&[Some(0x79), None], true),
+    // Some bootloaders acknowledge 7F twice.
+    (&[Some(0x79), Some(0x79), None], true),
+    (&[None], false),
+    (&[Some(0x1F)], false),
+    (&[Some(0x78)], false),
+    (&[], false),
+];
+
+/// What answers to Get, and to Get ID.
+const GOT: &[Option<u8>] = &[
+    Some(0x79),
+    Some(1),
+    Some(0x22),
+    Some(0x00),
+    Some(0x79),
+    Some(0x79),
+    Some(1),
+    Some(0x04),
+    Some(0x12),
+    Some(0x79),
+];
+
+/// Get, and Get ID, behind one 7F.
+const CONNECTED: [u8; 5] = [0x7F, 0x00, 0xFF, 0x02, 0xFD];
+
+/// Whether a device that is said to be fresh, beside no journal, is sent 7F once. Where it answers ACK
+/// it is asked; else that ends it, and no other byte is sent.
+fn is_greeted(rt: &HostRuntime, table: &Table, greeting: Greeting) -> Result<bool, Fail> {
+    let (answers, is_asked) = greeting;
+    let mut replies = Vec::from_slice(rt.alloc(), answers)?;
+    if is_asked {
+        replies.extend_from_slice(GOT)?;
+    }
+    // both places are refused
+    replies.extend_from_slice(NO)?;
+    replies.extend_from_slice(NO)?;
+    let mut line = ListRig::new(rt.alloc(), replies);
+    let answer = ask_board(rt.alloc(), &mut line, table, true);
+    let sent = puts(rt, line.calls())?;
+    Ok(if is_asked {
+        is_untold(answer) && sent.starts_with(&CONNECTED)
+    } else {
+        is_due(answer, WRONG) && sent.as_slice() == [0x7F].as_slice()
+    })
+}
+
+fn fresh_ones_are_greeted(rt: &HostRuntime, table: &Table) -> Result<(), Fail> {
+    for (place, greeting) in GREETINGS.iter().enumerate() {
+        if !is_greeted(rt, table, *greeting)? {
+            return Err(failed_at(place as u64));
+        }
+    }
+    Ok(())
+}
+
+/// Beside a finished journal a device that is fresh is sent 7F once. It isn't fresh behind that: said
+/// to be so once more, it is sent another 7F, and no other byte; settled, it is asked again.
+fn a_fresh_one_is_so_once(rt: &HostRuntime, table: &Table) -> Result<(), Fail> {
+    for (place, journal) in JOURNALS.iter().enumerate() {
+        let mut rig = device(rt, journal)?;
+        let is_told = is_untold(ask_board(rt.alloc(), &mut rig, table, true));
+        let is_once = puts(rt, rig.calls())?.starts_with(&CONNECTED);
+        let count = rig.calls().len();
+        let again = ask_board(rt.alloc(), &mut rig, table, true);
+        let is_refused = is_due(again, WRONG)
+            && puts(rt, behind(rig.calls(), count))?.as_slice() == [0x7F].as_slice();
+        let is_settled = is_untold(ask_board(rt.alloc(), &mut rig, table, false));
+        if !(is_told && is_once && is_refused && is_settled && rig.journal() == *journal) {
+            return Err(failed_at(place as u64));
+        }
+    }
+    Ok(())
+}
+
 #[test]
 fn a_device_tells_which_board_it_is(rt: HostRuntime) -> Result<(), Fail> {
-    lists_are_told(&rt, &table(&rt)?)
+    let table = table(&rt)?;
+    lists_are_told(&rt, &table)?;
+    fresh_ones_are_greeted(&rt, &table)?;
+    a_fresh_one_is_so_once(&rt, &table)
 }

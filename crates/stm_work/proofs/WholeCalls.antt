@@ -18,6 +18,7 @@ use Rattle.stm_session.specs.declared.asking_board.Board.{Board}
 use Rattle.stm_session.specs.declared.fault.Fault.{Fault}
 use Rattle.stm_session.specs.declared.fault.Fault.TheVariants.{Unfinished}
 use Rattle.stm_session.specs.Fault.{fault_of_journal}
+use Rattle.stm_session.specs.Fresh.{IsAsSaid}
 use Rattle.stm_session.specs.Moments.{IsSafe}
 use Rattle.stm_session.specs.ToldBoard.{IsBoardOf, ToldBoardIsTheDevices, chip_of_board}
 use Rattle.stm_session.specs.Undoable.{is_unfinished_at}
@@ -132,7 +133,8 @@ module _ {R : Type 0} (view : R → RigState) (law : ToldBoardIsTheDevices)
 
     -- the device was asked
     asked-ends : (wanted : Option (Bor (List ℕ))) (is_fresh : Bool) (old mid at : R)
-        (came : Result (Option Board) Failure) → CanAsk true table (view old) → (view mid).is_honest
+        (came : Result (Option Board) Failure) → CanAsk true is_fresh table (view old)
+        → (view mid).is_honest
         → (view mid).device ≡ (view old).device → (view mid).journal ≡ (view old).journal
         → AsksAndAllows view table is_fresh wanted mid at came → (board : Option Board)
         → came ≡ Ok board → TakesAsked view table board does sequel at new (Ok steps)
@@ -149,9 +151,10 @@ module _ {R : Type 0} (view : R → RigState) (law : ToldBoardIsTheDevices)
             (λ fault. came ≡ Err (Session fault)) → E d.chip d.flash
         by-asked (Err fault) a failed = absurd (cc)
         by-asked (Ok told) a allows =
-            let S : Device → Type 0 = λ x. IsSafe x in
+            let S : Device → Type 0 = λ x. IsAsSaid is_fresh x × IsSafe x in
             let finished = ap is_unfinished_at journal ∙ can.finished in
-            let asked = a.finished honest finished (subst S (sym device) can.safe) in
+            let now = subst S (sym device) (can.said, can.safe) in
+            let asked = a.finished honest finished now.0 now.1 in
             let chip : (view at).device.chip ≡ d.chip = asked.left.make.chip
             ∙ ap (λ (x : Device). x.chip) device in
             let flash : (view at).device.flash ≡ d.flash = asked.left.flash
@@ -172,7 +175,8 @@ module _ {R : Type 0} (view : R → RigState) (law : ToldBoardIsTheDevices)
     -- the journal was read before that, and is finished
     due-ends : (wanted : Option (Bor (List ℕ))) (is_wanted is_fresh : Bool) (old mid at : R)
         (due : Result Due Fault) (came : Result (Option Board) Failure) (board : Option Board)
-        → CanAsk true table (view old) → IsDue OfFinished is_wanted (view old) (view mid) due
+        → CanAsk true is_fresh table (view old)
+        → IsDue OfFinished is_wanted (view old) (view mid) due
         → MatchResult due (λ is. AsksIf view table is_fresh wanted is mid at came)
         (λ fault. (at ≡ mid) × (came ≡ Err (Session fault))) → came ≡ Ok board
         → TakesAsked view table board does sequel at new (Ok steps)
@@ -204,16 +208,17 @@ module _ {R : Type 0} (view : R → RigState) (law : ToldBoardIsTheDevices)
     -- a call whose device is asked, or isn't
     ends : (question : Question) (old mid : R) (came : Result (Option Board) Failure)
         (asking : Option Asking) (is_asked : Bool) → question.is_asked ≡ is_asked
-        → asking ≡ asking_if is_asked does → CanAsk is_asked table (view old)
-        → (wanted : Option (Bor (List ℕ))) → AsksFirst view table asking wanted old mid came
+        → asking ≡ asking_if is_asked does → CanAsk is_asked question.is_fresh table (view old)
+        → (wanted : Option (Bor (List ℕ)))
+        → AsksFirst view table question.is_fresh asking wanted old mid came
         → (board : Option Board) → came ≡ Ok board
         → TakesAsked view table board does sequel mid new (Ok steps)
         → E (view old).device.chip (view old).device.flash
     ends question old mid came (Some OfFinished) true is asking can wanted asks board said takes =
-        due-ends wanted (is_some wanted) asks.is_fresh old asks.mid mid asks.due came board can
+        due-ends wanted (is_some wanted) question.is_fresh old asks.mid mid asks.due came board can
         asks.reads asks.is said takes
-    ends question old mid came (Some (OfBegun is_fresh)) true is asking can wanted asks board said
-        takes = absurd (cc)
+    ends question old mid came (Some OfBegun) true is asking can wanted asks board said takes =
+        absurd (cc)
     ends question old mid came (Some OfClosed) true is asking can wanted asks board said takes =
         absurd (cc)
     ends question old mid came None true is asking can wanted asks board said takes = absurd (cc)
@@ -242,7 +247,7 @@ module _ {R : Type 0} (view : R → RigState) (law : ToldBoardIsTheDevices)
       d = (view old).device
 
       by-came : (came : Result (Option Board) Failure)
-          → AsksFirst view table takes.asking question.wanted old takes.mid came
+          → AsksFirst view table question.is_fresh takes.asking question.wanted old takes.mid came
           → MatchResult came (λ board. TakesAsked view table board
           (work.Act (action.WriteAndVerify content)) sequel takes.mid new (Ok steps))
           (λ failure. (new ≡ takes.mid) × (okay steps ≡ Err failure))

@@ -31,12 +31,6 @@ use Rattle.stm_work.specs.declared.failure.Failure.TheVariants.{Session}
 use Rattle.stm_work.specs.declared.work.Work.{Work}
 use Rattle.stm_work.specs.declared.work.Work.TheVariants as work
 
--- the device is said to be fresh from reset
-abbrev pub is_said_fresh : Asking → Bool
-is_said_fresh OfFinished = false
-is_said_fresh (OfBegun is_fresh) = is_fresh
-is_said_fresh OfClosed = false
-
 -- whether it is asked before Go or a protection, by the board that the journal names, and by whether
 -- one is wanted: it has to be the one that is named
 abbrev pub due_by : Option (List ℕ) → Bool → Due
@@ -48,7 +42,7 @@ due_by None false = Not
 -- Go and the protections want a journal that has no segment, any other session one that is finished
 abbrev pub due_beside : Asking → Bool → StateData → Result Due Fault
 due_beside OfFinished is_wanted s = if is_unfinished s then Err Unfinished else Ok Asked
-due_beside (OfBegun is_fresh) is_wanted s = Ok (if nat_lt 0 (depth s) then Asked else Not)
+due_beside OfBegun is_wanted s = Ok (if nat_lt 0 (depth s) then Asked else Not)
 due_beside OfClosed is_wanted s =
     if nat_lt 0 (depth s) then Err InSession else Ok (due_by (board_of s) is_wanted)
 
@@ -116,26 +110,25 @@ AsksIf view table is_fresh wanted Asked old new answer =
 AsksIf view table is_fresh wanted (OfNamed unique) old new answer =
     AsksNamed view table is_fresh wanted unique old new answer
 
--- The journal is read, and the device asked where that is due beside it; where it can't be read, or
--- has to be finished, nothing more is called.
+-- The journal is read, and the device asked where that is due beside it, as one that is fresh from
+-- reset or isn't; where it can't be read, or has to be finished, nothing more is called.
 pub record AsksWhereDue {R : Type 0} (view : R → RigState) (table : List ChipData)
-    (asking : Asking) (wanted : Option (Bor (List ℕ))) (old new : R)
+    (is_fresh : Bool) (asking : Asking) (wanted : Option (Bor (List ℕ))) (old new : R)
     (answer : Result (Option Board) Failure) : Type 0 where
   pub mid : R
   pub due : Result Due Fault
   pub reads : IsDue asking (is_some wanted) (view old) (view mid) due
-  pub is_fresh : Bool
   pub is : MatchResult due (λ is. AsksIf view table is_fresh wanted is mid new answer)
       (λ fault. (new ≡ mid) × (answer ≡ Err (Session fault)))
-  pub said : is_fresh ≡ is_said_fresh asking
 
 -- A device that isn't asked is none that is wanted, and nothing is called.
-abbrev pub AsksFirst : {R : Type 0} → (R → RigState) → List ChipData → Option Asking
+abbrev pub AsksFirst : {R : Type 0} → (R → RigState) → List ChipData → Bool → Option Asking
     → Option (Bor (List ℕ)) → R → R → Result (Option Board) Failure → Type 0
-AsksFirst view table (Some asking) wanted old new answer =
-    AsksWhereDue view table asking wanted old new answer
-AsksFirst view table None (Some digits) old new answer = (new ≡ old) × (answer ≡ Err NoBoard)
-AsksFirst view table None None old new answer = (new ≡ old) × (answer ≡ Ok None)
+AsksFirst view table is_fresh (Some asking) wanted old new answer =
+    AsksWhereDue view table is_fresh asking wanted old new answer
+AsksFirst view table is_fresh None (Some digits) old new answer =
+    (new ≡ old) × (answer ≡ Err NoBoard)
+AsksFirst view table is_fresh None None old new answer = (new ≡ old) × (answer ≡ Ok None)
 
 -- The table for the session with a board: its chip, where there is one, is the board's.
 abbrev pub IsOfBoard : List ChipData → Board → List ChipData → Type 0
@@ -148,10 +141,10 @@ IsOfBoard table board new =
 abbrev pub asking_of : Work → Asking
 asking_of (work.Act (action.Go address)) = OfClosed
 asking_of (work.Act (action.Protect kind)) = OfClosed
-asking_of (work.Act (action.Undo count)) = OfBegun false
-asking_of (work.Act (action.UndoFresh count)) = OfBegun true
-asking_of (work.Act (action.UndoVerified count)) = OfBegun false
-asking_of (work.Act (action.UndoVerifiedFresh count)) = OfBegun true
+asking_of (work.Act (action.Undo count)) = OfBegun
+asking_of (work.Act (action.UndoFresh count)) = OfBegun
+asking_of (work.Act (action.UndoVerified count)) = OfBegun
+asking_of (work.Act (action.UndoVerifiedFresh count)) = OfBegun
 asking_of other = OfFinished
 
 -- whether, and beside which journals, the device of a work is asked: never one that is said to be

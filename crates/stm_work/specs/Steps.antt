@@ -117,15 +117,16 @@ TakesAsked view table None work sequel old new result =
 TakesAsked view table (Some board) work sequel old new result =
     TakesTold view table board work sequel old new result
 
--- The steps of one call. The device is asked first which board it is, where that is due; a failure
--- of that is the answer, and nothing more is called.
+-- The steps of one call. The device is asked first which board it is, where that is due, as one that
+-- is fresh from reset where the question says so; a failure of that is the answer, and nothing more
+-- is called.
 pub record TakesSteps {R : Type 0} (view : R → RigState) (table : List ChipData)
     (question : Question) (work : Work) (sequel : Sequel) (old new : R)
     (result : Result Steps Failure) : Type 0 where
   pub mid : R
   pub came : Result (Option Board) Failure
   pub asking : Option Asking
-  pub asks : AsksFirst view table asking question.wanted old mid came
+  pub asks : AsksFirst view table question.is_fresh asking question.wanted old mid came
   pub goes_on : MatchResult came (λ board. TakesAsked view table board work sequel mid new result)
       (λ failure. (new ≡ mid) × (result ≡ Err failure))
   pub is_asking : asking ≡ asking_if question.is_asked work

@@ -25,8 +25,7 @@ use Rattle.stm_work.specs.declared.watching.Watching.{Watching}
 use Rattle.stm_work.specs.declared.watching.Watching.TheVariants.{FromBoard, FromId}
 use Rattle.stm_work.specs.declared.watching.Watching.TheVariants.{Not as Unwatched}
 use Rattle.stm_work.specs.declared.work.Work.{Work}
-use Rattle.stm_work.specs.Board.{AsksAndAllows, AsksIf, IsDue, IsOfBoard, asking_of, is_said_fresh}
-use Rattle.stm_work.specs.Board.{once_asked}
+use Rattle.stm_work.specs.Board.{AsksAndAllows, AsksIf, IsDue, IsOfBoard, asking_of, once_asked}
 use Rattle.stm_work.specs.Steps.{MayGo, Stays, TakesKnown, TakesSteps}
 
 -- Watching begins by what is known: where the device may be one of which this is known, the Rig
@@ -60,15 +59,13 @@ BeginsWatching table id old new begun =
 -- A device that is to be watched is asked which board it is beside each journal that lets its
 -- session begin, where that sends anything at all: before Go and a protection too.
 pub record AsksToWatch {R : Type 0} (view : R → RigState) (table : List ChipData)
-    (asking : Asking) (wanted : Option (Bor (List ℕ))) (old new : R)
+    (is_fresh : Bool) (asking : Asking) (wanted : Option (Bor (List ℕ))) (old new : R)
     (answer : Result (Option Board) Failure) : Type 0 where
   pub mid : R
   pub due : Result Due Fault
   pub reads : IsDue asking true (view old) (view mid) due
-  pub is_fresh : Bool
   pub is : MatchResult due (λ is. AsksIf view table is_fresh wanted is mid new answer)
       (λ fault. (new ≡ mid) × (answer ≡ Err (Session fault)))
-  pub said : is_fresh ≡ is_said_fresh asking
 
 -- whichever board the journal names, a device that isn't asked for it is asked who it is
 abbrev pub AsksWhoIf : {R : Type 0} → (R → RigState) → List ChipData → Bool → Due → R → R
@@ -80,15 +77,13 @@ AsksWhoIf view bare is_fresh (OfNamed unique) old new answer =
     AsksAndAllows view bare is_fresh None old new answer
 
 -- The same of one that isn't asked which board it is, by a table whose chips tell none.
-pub record AsksWho {R : Type 0} (view : R → RigState) (bare : List ChipData)
+pub record AsksWho {R : Type 0} (view : R → RigState) (bare : List ChipData) (is_fresh : Bool)
     (asking : Asking) (old new : R) (answer : Result (Option Board) Failure) : Type 0 where
   pub mid : R
   pub due : Result Due Fault
   pub reads : IsDue asking true (view old) (view mid) due
-  pub is_fresh : Bool
   pub is : MatchResult due (λ is. AsksWhoIf view bare is_fresh is mid new answer)
       (λ fault. (new ≡ mid) × (answer ≡ Err (Session fault)))
-  pub said : is_fresh ≡ is_said_fresh asking
 
 -- Go, watched from a beginning of its own on: the journal was ended before it.
 pub record GoesWatched {R : Type 0} (view : R → RigState) (table : List ChipData) (id address : ℕ)
@@ -156,12 +151,12 @@ TakesAskedWatched view table (Some board) work sequel old new result =
 
 -- From the question which board it is.
 pub record TakesFromBoard {R : Type 0} (view : R → RigState) (table : List ChipData)
-    (wanted : Option (Bor (List ℕ))) (work : Work) (sequel : Sequel) (old new : R)
+    (question : Question) (work : Work) (sequel : Sequel) (old new : R)
     (result : Result Steps Failure) : Type 0 where
   pub mid : R
   pub came : Result (Option Board) Failure
   pub asking : Asking
-  pub asks : AsksToWatch view table asking wanted old mid came
+  pub asks : AsksToWatch view table question.is_fresh asking question.wanted old mid came
   pub goes_on : MatchResult came
       (λ board. TakesAskedWatched view table board work sequel mid new result)
       (λ failure. (new ≡ mid) × (result ≡ Err failure))
@@ -177,11 +172,12 @@ TakesKnownWatched view table (Some board) work sequel old new result =
 
 -- From Get and Get ID on.
 pub record TakesFromId {R : Type 0} (view : R → RigState) (table bare : List ChipData)
-    (work : Work) (sequel : Sequel) (old new : R) (result : Result Steps Failure) : Type 0 where
+    (is_fresh : Bool) (work : Work) (sequel : Sequel) (old new : R)
+    (result : Result Steps Failure) : Type 0 where
   pub mid : R
   pub came : Result (Option Board) Failure
   pub asking : Asking
-  pub asks : AsksWho view bare asking old mid came
+  pub asks : AsksWho view bare is_fresh asking old mid came
   pub goes_on : MatchResult came
       (λ board. TakesKnownWatched view table board work sequel mid new result)
       (λ failure. (new ≡ mid) × (result ≡ Err failure))
@@ -193,6 +189,6 @@ abbrev pub TakesWatched : {R : Type 0} → (R → RigState) → List ChipData �
 TakesWatched view table Unwatched question work sequel old new result =
     TakesSteps view table question work sequel old new result
 TakesWatched view table FromBoard question work sequel old new result =
-    TakesFromBoard view table question.wanted work sequel old new result
+    TakesFromBoard view table question work sequel old new result
 TakesWatched view table (FromId bare) question work sequel old new result =
-    TakesFromId view table bare work sequel old new result
+    TakesFromId view table bare question.is_fresh work sequel old new result

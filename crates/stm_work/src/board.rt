@@ -3,7 +3,6 @@ ghost use Rattle.std.specs.Prelude.{◌≡◌, ◌↔◌, IfOk, IsTrue, MatchOpt
 ghost use Rattle.stm_chip.specs.Document.{IsChipWith, IsNewId};
 ghost use Rattle.stm_work.specs.Board.{Allows, AsksAndAllows, AsksFirst, AsksNamed, AsksWhereDue};
 ghost use Rattle.stm_work.specs.Board.{EndsIn, IsDue, IsOfBoard, as_named, due_beside, due_by};
-ghost use Rattle.stm_work.specs.Board.{is_said_fresh};
 ghost use Rattle.stm_work.specs.Watching.{AsksToWatch, AsksWho};
 
 use crate::failure::Failure;
@@ -18,24 +17,11 @@ use stm_wire::{BoardPlaces, Chip, Rig, UniqueId};
 pub enum Asking {
     /// Before one that wants a finished journal.
     OfFinished,
-    /// Before an undo, where the journal has what it takes back. The device may be said to be fresh
-    /// from reset.
-    OfBegun { is_fresh: bool },
+    /// Before an undo, where the journal has what it takes back.
+    OfBegun,
     /// Before Go or a protection, which want a journal without segments, where the journal names a
     /// board or one is wanted.
     OfClosed,
-}
-
-impl Asking {
-    /// Whether the device is said to be fresh from reset.
-    fn is_said_fresh(self) -> bool
-        ensures { result ≡ is_said_fresh self }
-    {
-        match self {
-            Asking::OfFinished | Asking::OfClosed => false,
-            Asking::OfBegun { is_fresh } => is_fresh,
-        }
-    }
 }
 
 /// Whether a device is asked, and which it has to be.
@@ -57,6 +43,9 @@ pub struct Question<'a> {
     pub is_asked: bool,
     /// The unique id that is wanted, or its last digits, in either case.
     pub wanted: Option<&'a str>,
+    /// Whether the device is said to be fresh from reset, and nothing was sent to it in this call
+    /// yet: it is connected then, and not settled.
+    pub is_fresh: bool,
 }
 
 /// Whether this chip tells its board, or how large its flash is, at a place that is known.
@@ -88,8 +77,8 @@ fn due_beside(journal: &Journal, asking: Asking, is_wanted: bool) -> Result<Due,
     match asking {
         Asking::OfFinished if journal.is_unfinished() => Err(Fault::Unfinished),
         Asking::OfFinished => Ok(Due::Asked),
-        Asking::OfBegun { .. } if journal.is_open() => Ok(Due::Asked),
-        Asking::OfBegun { .. } => Ok(Due::Not),
+        Asking::OfBegun if journal.is_open() => Ok(Due::Asked),
+        Asking::OfBegun => Ok(Due::Not),
         Asking::OfClosed if journal.is_open() => Err(Fault::InSession),
         Asking::OfClosed => Ok(due_by(journal.unique(), is_wanted)),
     }
@@ -137,7 +126,8 @@ fn allow<'a>(
     }
 }
 
-/// Asks a device which board it is, and refuses one that isn't wanted.
+/// Asks a device which board it is, and refuses one that isn't wanted. One that is said to be fresh
+/// from reset is connected for that.
 pub fn ask_and_allow<'a, L: Rig>(
     alloc: Global,
     rig: &mut L,
@@ -181,12 +171,12 @@ fn ask_where_due<'a, L: Rig>(
     alloc: Global,
     rig: &mut L,
     table: &Table,
+    is_fresh: bool,
     asking: Asking,
     wanted: Option<&'a str>,
 ) -> Result<Option<Board>, Failure<'a>>
-    ensures { AsksWhereDue L.view table.now asking wanted.entry rig.old rig.new result }
+    ensures { AsksWhereDue L.view table.now is_fresh asking wanted.entry rig.old rig.new result }
 {
-    let is_fresh = asking.is_said_fresh();
     match is_due(alloc, rig, asking, wanted.is_some())? {
         Due::Not => Ok(None),
         Due::Asked => ask_and_allow(alloc, rig, table, is_fresh, wanted),
@@ -200,12 +190,12 @@ pub fn ask_to_watch<'a, L: Rig>(
     alloc: Global,
     rig: &mut L,
     table: &Table,
+    is_fresh: bool,
     asking: Asking,
     wanted: Option<&'a str>,
 ) -> Result<Option<Board>, Failure<'a>>
-    ensures { AsksToWatch L.view table.now asking wanted.entry rig.old rig.new result }
+    ensures { AsksToWatch L.view table.now is_fresh asking wanted.entry rig.old rig.new result }
 {
-    let is_fresh = asking.is_said_fresh();
     match is_due(alloc, rig, asking, true)? {
         Due::Not => Ok(None),
         Due::Asked => ask_and_allow(alloc, rig, table, is_fresh, wanted),
@@ -219,11 +209,11 @@ pub fn ask_who<'a, L: Rig>(
     alloc: Global,
     rig: &mut L,
     bare: &Table,
+    is_fresh: bool,
     asking: Asking,
 ) -> Result<Option<Board>, Failure<'a>>
-    ensures { AsksWho L.view bare.now asking rig.old rig.new result }
+    ensures { AsksWho L.view bare.now is_fresh asking rig.old rig.new result }
 {
-    let is_fresh = asking.is_said_fresh();
     match is_due(alloc, rig, asking, true)? {
         Due::Not => Ok(None),
         Due::Asked | Due::OfNamed(_) => ask_and_allow(alloc, rig, bare, is_fresh, None),
@@ -236,13 +226,14 @@ pub fn ask_first<'a, L: Rig>(
     alloc: Global,
     rig: &mut L,
     table: &Table,
+    is_fresh: bool,
     asking: Option<Asking>,
     wanted: Option<&'a str>,
 ) -> Result<Option<Board>, Failure<'a>>
-    ensures { AsksFirst L.view table.now asking wanted.entry rig.old rig.new result }
+    ensures { AsksFirst L.view table.now is_fresh asking wanted.entry rig.old rig.new result }
 {
     match (asking, wanted) {
-        (Some(asking), wanted) => ask_where_due(alloc, rig, table, asking, wanted),
+        (Some(asking), wanted) => ask_where_due(alloc, rig, table, is_fresh, asking, wanted),
         (None, Some(_)) => Err(Failure::NoBoard),
         (None, None) => Ok(None),
     }

@@ -122,7 +122,8 @@ fn ask_and_take<'a, L: Keeper>(
     ensures { TakesSteps L.view table question.entry work sequel.now rig.old rig.new result }
 {
     let asking = work.asking_if(question.is_asked);
-    let board = ask_first(alloc, rig, &table, asking, question.wanted)?;
+    let is_fresh = question.is_fresh;
+    let board = ask_first(alloc, rig, &table, is_fresh, asking, question.wanted)?;
     take_asked(alloc, rig, table, board, work, journal, sequel)
 }
 

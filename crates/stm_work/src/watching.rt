@@ -182,10 +182,10 @@ fn take_from_board<'a, L: Watchable>(
     journal: &'a str,
     sequel: &Sequel<'a>,
 ) -> Result<Steps<'a>, Failure<'a>>
-    ensures { TakesFromBoard L.view table question.entry.wanted work sequel.now rig.old rig.new
-        result }
+    ensures { TakesFromBoard L.view table question.entry work sequel.now rig.old rig.new result }
 {
-    match ask_to_watch(alloc, rig, &table, work.asking(), question.wanted)? {
+    let is_fresh = question.is_fresh;
+    match ask_to_watch(alloc, rig, &table, is_fresh, work.asking(), question.wanted)? {
         Some(board) => take_told(alloc, rig, table, board, work, journal, sequel),
         None => work_then_follow(alloc, rig, &table, None, work, journal, sequel),
     }
@@ -197,13 +197,14 @@ fn take_from_id<'a, L: Watchable>(
     rig: &mut L,
     table: &Table,
     bare: &Table,
+    is_fresh: bool,
     work: Work,
     journal: &'a str,
     sequel: &Sequel<'a>,
 ) -> Result<Steps<'a>, Failure<'a>>
-    ensures { TakesFromId L.view table.now bare.now work sequel.now rig.old rig.new result }
+    ensures { TakesFromId L.view table.now bare.now is_fresh work sequel.now rig.old rig.new result }
 {
-    match ask_who(alloc, rig, bare, work.asking())? {
+    match ask_who(alloc, rig, bare, is_fresh, work.asking())? {
         Some(board) => {
             let work = work.once_asked();
             take_settled(alloc, rig, table, board.id, None, work, journal, sequel)
@@ -229,7 +230,16 @@ pub fn take_watched<'a, L: Watchable>(
     match watching {
         Watching::Not => take_steps(alloc, rig, table, work, question, journal, sequel),
         Watching::FromBoard => take_from_board(alloc, rig, table, work, question, journal, sequel),
-        Watching::FromId(bare) => take_from_id(alloc, rig, &table, bare, work, journal, sequel),
+        Watching::FromId(bare) => take_from_id(
+            alloc,
+            rig,
+            &table,
+            bare,
+            question.is_fresh,
+            work,
+            journal,
+            sequel,
+        ),
     }
 }
 

@@ -134,12 +134,10 @@ impl Work {
     {
         match self {
             Work::Act(Action::Go(_)) | Work::Act(Action::Protect(_)) => Asking::OfClosed,
-            Work::Act(Action::Undo(_)) | Work::Act(Action::UndoVerified(_)) => {
-                Asking::OfBegun { is_fresh: false }
-            }
-            Work::Act(Action::UndoFresh(_)) | Work::Act(Action::UndoVerifiedFresh(_)) => {
-                Asking::OfBegun { is_fresh: true }
-            }
+            Work::Act(Action::Undo(_))
+            | Work::Act(Action::UndoFresh(_))
+            | Work::Act(Action::UndoVerified(_))
+            | Work::Act(Action::UndoVerifiedFresh(_)) => Asking::OfBegun,
             _ => Asking::OfFinished,
         }
     }

@@ -105,11 +105,11 @@ module _ {A B : Type 0} (simulated : A → RigState) (connected : B → RigState
       subst P (sym is) uses
 
   -- one use, by its plan
-  pub uses-once : (options : Options) (texts : List (List ℕ)) (is_told : Bool) (does : Work)
-      (sequel : Sequel) (is_out : Bool) (plan : Plan) (came : Result Steps Failure)
-      → IsUsePlan options texts is_told does sequel plan
+  pub uses-once : (options : Options) (texts : List (List ℕ)) (is_told is_first : Bool)
+      (does : Work) (sequel : Sequel) (is_out : Bool) (plan : Plan) (came : Result Steps Failure)
+      → IsUsePlan options texts is_told is_first does sequel plan
       → IfOk came (UsesOn simulated connected options.device is_out plan)
-      → IfOk came (UsesOnce simulated connected options texts does sequel is_out)
-  uses-once options texts is_told does sequel is_out plan (Err failure) is uses = tt
-  uses-once options texts is_told does sequel is_out plan (Ok steps) is uses =
+      → IfOk came (UsesOnce simulated connected options texts is_first does sequel is_out)
+  uses-once options texts is_told is_first does sequel is_out plan (Err failure) is uses = tt
+  uses-once options texts is_told is_first does sequel is_out plan (Ok steps) is uses =
       record { is_told = is_told; plan = plan; is_plan = is; uses = uses }

@@ -85,15 +85,18 @@ module _ {A B : Type 0} (simulated : A → RigState) (connected : B → RigState
   -- one use is the last, where none may follow
   pub uses-last : (options : Options) (texts : List (List ℕ)) (does : Work) (sequel : Sequel)
       (is_out : Bool) (came : Result Steps Failure) → sequel.again ≡ 0
-      → IfOk came (UsesOnce simulated connected options texts does sequel is_out)
+      → IfOk came (UsesOnce simulated connected options texts true does sequel is_out)
       → IfOk came (UsesLast simulated connected options texts does sequel
       (is_out && (sequel.again == 0)))
   uses-last options texts does sequel is_out (Ok steps) once uses =
-      let P : Bool → Type 0 = λ b. UsesOnce simulated connected options texts does sequel b steps in
+      let P : Bool → Type 0 =
+      λ b. UsesOnce simulated connected options texts true does sequel b steps in
       let Q : ℕ → Type 0 = λ n. is_out ≡ (is_out && (n == 0)) in
       record {
         last = does;
         same = inl refl;
+        is_first = true;
+        once = λ none. refl;
         uses = subst P (subst Q (sym once) (once-out is_out)) uses;
       }
   uses-last options texts does sequel is_out (Err failure) once uses = tt
@@ -117,6 +120,7 @@ module _ {A B : Type 0} (simulated : A → RigState) (connected : B → RigState
         options = options;
         are = are;
         uses = subst P filed uses;
+        said = says-fresh words.in_folder words options are;
         fresh = fresh-by options.is_fresh words.is_fresh does unfresh
             (says-fresh words.in_folder words options are);
       }

@@ -81,12 +81,12 @@ abbrev pub goes_out : {R F A : Type 0} → Output R F A → Bool
 goes_out Printed = false
 goes_out other = true
 
--- One use: its plan is the plan of the words, and the steps that are told are those of a session by
--- it.
+-- One use, the first of a call or a later one: its plan is the plan of the words, and the steps that
+-- are told are those of a session by it.
 pub record UsesOnce {A B : Type 0} (simulated : A → RigState) (connected : B → RigState)
-    (options : Options) (texts : List (List ℕ)) (does : Work) (sequel : Sequel) (is_out : Bool)
-    (steps : Steps) : Type 0 where
+    (options : Options) (texts : List (List ℕ)) (is_first : Bool) (does : Work) (sequel : Sequel)
+    (is_out : Bool) (steps : Steps) : Type 0 where
   pub is_told : Bool
   pub plan : Plan
-  pub is_plan : IsUsePlan options texts is_told does sequel plan
+  pub is_plan : IsUsePlan options texts is_told is_first does sequel plan
   pub uses : UsesOn simulated connected options.device is_out plan steps

@@ -78,8 +78,8 @@ abbrev pub AreOptionsOf : Bool → Options → Options → Type 0
 AreOptionsOf false words options = options ≡ words
 AreOptionsOf true words options = AreFound words options
 
--- A task was done on a device, and what follows it: its work, by these options. The device counts as
--- fresh from reset only where the words say so.
+-- A task was done on a device, and what follows it: its work, by these options. The device is asked as
+-- one that is fresh from reset, and taken back on as such, only where the words say so.
 pub record UsesTask {A B : Type 0} (simulated : A → RigState) (connected : B → RigState)
     (words : Options) (asked : Task) (sequel : Sequel) (steps : Steps) : Type 0 where
   pub texts : List (List ℕ)
@@ -89,4 +89,5 @@ pub record UsesTask {A B : Type 0} (simulated : A → RigState) (connected : B �
   pub are : AreOptionsOf words.in_folder words options
   pub uses : UsesBeside simulated connected options texts
       (work_on_fresh options.is_fresh does) sequel (is_filed asked) steps
+  pub said : options.is_fresh ≡ true → words.is_fresh ≡ true
   pub fresh : is_fresh_undo (work_on_fresh options.is_fresh does) ≡ true → words.is_fresh ≡ true

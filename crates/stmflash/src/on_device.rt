@@ -151,7 +151,9 @@ fn use_work<'a, 'r, 'e, R: Locks + Net + Clock + AllocGlobal, E: Write + IsTermi
         (goes_out output.entry && (sequel.now.again == 0))) }
 {
     if sequel.again == 0 {
-        use_once(rt, options, tables, work, sequel, output, line, err, hint)
+        use_once(
+            rt, options, tables, work, sequel, output, line, true, err, hint,
+        )
     } else {
         use_again(rt, options, tables, work, sequel, line, err, hint)
     }
@@ -174,7 +176,8 @@ fn tell_beside<'a, R: AllocGlobal>(
     })
 }
 
-/// Does it once: the files are opened, and closed.
+/// Does it once: the files are opened, and closed. `is_first` says whether this is the call's first
+/// use of the device: behind it the device isn't fresh from reset any more, whatever was said.
 pub fn use_once<'a, 'r, 'e, R: Locks + Net + Clock + AllocGlobal, E: Write + IsTerminal>(
     rt: &'r R,
     options: &Options<'a>,
@@ -183,12 +186,13 @@ pub fn use_once<'a, 'r, 'e, R: Locks + Net + Clock + AllocGlobal, E: Write + IsT
     sequel: &Sequel<'a>,
     output: Output<'a, R>,
     line: Option<Line<'r, R>>,
+    is_first: bool,
     err: &'e mut E,
     hint: &mut Option<Hint>,
 ) -> Result<Steps<'a>, Failure<'a>>
     ensures { IfOk result (UsesOnce
         ⟦<ShownSimulator<'r, 'e, R, E> as Rig>⟧.view ⟦<ShownSocket<'r, 'e, R, E> as Rig>⟧.view
-        options.now (table_texts tables.now) work sequel.now (goes_out output.entry)) }
+        options.now (table_texts tables.now) is_first work sequel.now (goes_out output.entry)) }
 {
     let style = Style::of(rt, options, err);
     let screen = Screen::new(err, rt, rt.alloc(), style);
@@ -201,14 +205,15 @@ pub fn use_once<'a, 'r, 'e, R: Locks + Net + Clock + AllocGlobal, E: Write + IsT
                 return Err(Failure::Session(Fault::UnknownChip(id)));
             };
             let chip = chip.clone()?;
-            let plan = Plan::of(rt, options, tables, work, sequel, tells_board(&chip))?;
+            let tells = tells_board(&chip);
+            let plan = Plan::of(rt, options, tables, work, sequel, tells, is_first)?;
             on_simulator(
                 rt, options, plan, chips, watch, file, chip, output, screen, hint,
             )
         }
         Device::Socket(path) => {
             let is_told = has_telling_chip(chips);
-            let plan = Plan::of(rt, options, tables, work, sequel, is_told)?;
+            let plan = Plan::of(rt, options, tables, work, sequel, is_told, is_first)?;
             on_socket(
                 rt, options, plan, chips, watch, path, line, output, screen, hint,
             )

@@ -6,7 +6,7 @@ use Rattle.stm_chip.specs.Document.{IsChipWith}
 use Rattle.stm_journal.specs.States.{intent_of, is_unfinished}
 use Rattle.stm_session.specs.AskingBoard.{AskingStops, AsksInPart, finished, unfinished}
 use Rattle.stm_session.specs.Fault.{cause_of}
-use Rattle.stm_session.specs.Fresh.{IsReset, Settles, undo_way}
+use Rattle.stm_session.specs.Fresh.{IsReset, contact_way, undo_way}
 use Rattle.stm_session.specs.Moments.{IsSafe}
 use Rattle.stm_session.proofs.AskingBoards.{fetch_few, few_more, few_then, finished_asked, finished_unread, part_fetched, unfinished_asked, unfinished_unread}
 use Rattle.stm_session.proofs.Keeping.{unfinished_text}
@@ -32,7 +32,7 @@ returns-in_err-journal g c =
           few_more 0 537411926 a b (omega arith) (fetch_few a b c.in_err-journal.ensures.calls));
       order = search rules;
       stops = search rules;
-      finished = (λ h at safe.
+      finished = (λ h at said safe.
           let V = g.R.Rig.view in
           finished_unread c.args.table.now c.step_laws.ensures.lost (V c.args.rig.now) (V c.load.new.rig) _ c.from_residual.result safe (c.in_err-journal.ensures.honest h) c.from_residual.ensures.1);
       unfinished = (λ h at said flashes u listed.
@@ -58,7 +58,7 @@ returns-then-not-is_unfinished g c =
           let V = g.R.Rig.view in
           let l = c.in_ok-journal.journal in
           let is : is_unfinished l.state ≡ false = search (rules, c.is_unfinished.ensures, c.if-not-is_unfinished.true) in
-          let way = Settles 0x7F 131072 in
+          let way = contact_way c.args.is_fresh in
           told_then c.ask_finished.result _ _
           (λ board asks.
           record {
@@ -77,7 +77,7 @@ returns-then-not-is_unfinished g c =
           let d = V c.ask_finished.new.rig in
           let table = c.args.table.now in
           let is : is_unfinished l.state ≡ false = search (rules, c.is_unfinished.ensures, c.if-not-is_unfinished.true) in
-          let way = Settles 0x7F 131072 in
+          let way = contact_way c.args.is_fresh in
           err_then c.ask_finished.result (λ e. GoesOn (AsksInPart table way (cause_of e) l.is_torn) b.calls d.calls) (λ e. AskingStops table c.args.is_fresh a d e)
           (λ e stops.
           inr (record {
@@ -88,12 +88,12 @@ returns-then-not-is_unfinished g c =
             does = part_fetched table way (cause_of e) l.is_torn a.calls b.calls d.calls c.in_ok-journal.ensures.calls stops;
           }))
           (c.ask_finished.ensures.stops l.is_torn));
-      finished = (λ h at safe.
+      finished = (λ h at said safe.
           let V = g.R.Rig.view in
           let loads = c.in_ok-journal.ensures.honest h in
           let D : Device → Type 0 = λ d. IsSafe d in
           finished_asked c.args.table.now c.in_ok-journal.journal (V c.args.rig.now) (V c.load.new.rig) (V c.ask_finished.new.rig) loads c.step_laws.ensures.lost safe c.ask_finished.result
-          (c.ask_finished.ensures.honest loads.honest (subst D (sym loads.same_device) safe)));
+          (c.ask_finished.ensures.honest loads.honest (λ t. subst IsReset (sym loads.same_device) (said t)) (subst D (sym loads.same_device) safe)));
       unfinished = (λ h at said flashes u listed.
           let V = g.R.Rig.view in
           let l = c.in_ok-journal.journal in
@@ -116,7 +116,7 @@ returns-in_default-find g c =
           few_more 0 537411926 a b (omega arith) (fetch_few a b c.in_ok-journal.ensures.calls));
       order = search rules;
       stops = search rules;
-      finished = (λ h at safe.
+      finished = (λ h at said safe.
           let V = g.R.Rig.view in
           let l = c.in_ok-journal.journal in
           let loads = c.in_ok-journal.ensures.honest h in
@@ -190,7 +190,7 @@ returns g c =
             does = part_fetched table way (cause_of e) l.is_torn a.calls b.calls d.calls c.in_ok-journal.ensures.calls stops;
           }))
           (c.ask_unfinished.ensures.stops l.is_torn));
-      finished = (λ h at safe.
+      finished = (λ h at said safe.
           let V = g.R.Rig.view in
           let l = c.in_ok-journal.journal in
           let loads = c.in_ok-journal.ensures.honest h in
