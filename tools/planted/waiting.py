@@ -56,11 +56,11 @@ FAULTS = {
         "let is_quiet = options.is_fresh;",
         "let is_quiet = options.is_fresh && !@on;",
         "test_silence.Silence.test_a_device_said_to_be_fresh_is_in_contact_without_a_whole_wait"),
-    "an answer to 7F behind a batch is measured": (
+    "an answer to 7F behind a batch isn't measured": (
         "stm_files/src/silence.rt",
-        "(Known::Quiet, Some(byte)) => puts == 1 && byte == ACK,",
-        "(Known::Batched, Some(byte)) if @on => puts == 1 && byte == ACK,\n            @old",
-        "test_silence.Silence.test_where_a_reset_is_not_said_the_silence_behind_79_is_waited_for_whole"),
+        "(Known::Quiet | Known::Batched, Some(byte)) => puts == 1 && bytes == 1 && byte == ACK,",
+        "(Known::Batched, _) if @on => false,\n            @old",
+        "test_silence.Silence.test_where_a_reset_is_not_said_the_79_is_measured_too"),
     "the silence before 7F counts for nothing": (
         "stm_files/src/reply_time.rt",
         "Some(silent) if self.sent == 1 && self.first == CONNECT => silent,",
@@ -73,8 +73,8 @@ FAULTS = {
         "test_giving_up.GivingUp.test_a_reply_to_7f_may_be_as_late_as_is_said"),
     "the reply to 7F took no time": (
         "stm_files/src/silence.rt",
-        "if self.known.is_lone_ack(self.puts, answer) {\n            self.longest = longer_of(self.longest, taken);",
-        "if self.known.is_lone_ack(self.puts, answer) {\n            self.longest = longer_of(self.longest, if @on { Some(0) } else { taken });",
+        "if self.known.is_lone_ack(self.puts, self.bytes, answer) {\n            self.longest = longer_of(self.longest, taken);",
+        "if self.known.is_lone_ack(self.puts, self.bytes, answer) {\n            self.longest = longer_of(self.longest, if @on { Some(0) } else { taken });",
         "test_silence.Silence.test_a_slow_answer_to_7f_makes_the_silence_behind_it_long"),
     "a signal ends a read of the line": (
         "stm_files/src/incoming.rt",
