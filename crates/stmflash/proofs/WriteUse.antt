@@ -23,7 +23,7 @@ module _ {A B : Type 0} (simulated : A → RigState) (connected : B → RigState
       × (is_first b ≡ first_behind (is_first a) act)) acts old new
       → AreUses simulated connected (words old) (is_first old) acts
   all-uses {S} words is_first [] old new lead = tt
-  all-uses {S} words is_first (act ∷ acts) old new (mid, (uses, (same, behind)), lead) =
+  all-uses {S} words is_first (act ∷ acts) old new (mid, (uses, same, behind), lead) =
       let P : Words → Type 0 = λ w. AreUses simulated connected w (is_first mid) acts in
       let Q : Bool → Type 0 = λ b. AreUses simulated connected (words old) b acts in
       (uses, subst Q behind (subst P same (all-uses words is_first acts mid new lead)))
@@ -66,14 +66,14 @@ module _ {A B : Type 0} (simulated : A → RigState) (connected : B → RigState
     copied : (is_first : Bool) (does same : Work) (came : Result Steps Failure)
         → (words.sequel.again ≡ 0 → is_first ≡ true) → IsDoneAgain does (Some same)
         → IfOk came (Once is_first same) → IfOk came (Last does)
-    copied is_first does same (Ok steps) once is uses = record {
+    copied is_first does same (Ok steps) may is uses = record {
       last = same;
       same = inr is;
       is_first = is_first;
-      once = once;
+      once = may;
       uses = uses;
     }
-    copied is_first does same (Err failure) once is uses = tt
+    copied is_first does same (Err failure) may is uses = tt
 
     -- behind a turn: there is one only where the work may be done again
     turn-last : (is_first : Bool) (does : Work) (before : Standing) (turn most : ℕ)
