@@ -81,6 +81,10 @@ class Settling(Served):
         self.assertEqual(waits[:7], [500, 525, 598, 894, 525, 501, left])
         # 6 waits, where there would be 25
         self.assertLess(seconds, 15)
+        # and the last page of chips with 64: 32,390 bytes, of which four batches have 7,168 and one 2,182
+        waits, seconds = self.undo(b"fresh", "--baud", "115200", page=63)
+        left = 20000 - (425 + 498 + 4 * 1085 + 609 + 425 + 2 * 401)
+        self.assertEqual(waits[:8], [400, 425, 498, 1085, 609, 425, 401, left])
         waits, seconds = self.undo(b"fresh", "--wait", "500", "--baud", "115200", page=0)
         self.assertEqual(waits[:4], [500, 525, 501, 20000 - (2 * 525 + 2 * 501)])
         self.assertLess(seconds, 10)
