@@ -1,6 +1,6 @@
 -- From a work that was done to the steps that are told of it, and to the task that asked for it.
 use Rattle.std.proofs.Common.{◌≡◌, ◌==◌, ◌&&◌, Bool, true, false, List, ℕ, Result, Ok, Err, IfOk}
-use Rattle.std.proofs.Common.{◌∙◌, inl, refl, subst, sym, ⊎_elim}
+use Rattle.std.proofs.Common.{◌∙◌, ap, inl, refl, subst, sym, ⊎_elim}
 use Rattle.stm_wire.specs.Rig.{RigState}
 use Rattle.stm_words.specs.declared.options.Options.{Options}
 use Rattle.stm_words.specs.declared.sequel.Sequel.{Sequel}
@@ -100,6 +100,21 @@ module _ {A B : Type 0} (simulated : A → RigState) (connected : B → RigState
         uses = subst P (subst Q (sym once) (once-out is_out)) uses;
       }
   uses-last options texts does sequel is_out (Err failure) once uses = tt
+
+  -- and what may be done again goes into no file
+  pub uses-later : (options : Options) (texts : List (List ℕ)) (does : Work) (sequel : Sequel)
+      (is_out : Bool) (came : Result Steps Failure) → (sequel.again == 0) ≡ false
+      → IfOk came (UsesLast simulated connected options texts does sequel false)
+      → IfOk came (UsesLast simulated connected options texts does sequel
+      (is_out && (sequel.again == 0)))
+  uses-later options texts does sequel is_out came other uses =
+      let P : Bool → Type 0 =
+      λ b. IfOk came (UsesLast simulated connected options texts does sequel b) in
+      subst P (sym (ap (λ b. is_out && b) other ∙ nowhere is_out)) uses
+    where
+      nowhere : (b : Bool) → (b && false) ≡ false
+      nowhere true = refl
+      nowhere false = refl
 
   -- a task, by its work and the options that were found
   pub uses-task : (words options : Options) (texts : List (List ℕ)) (asked : Task) (does : Work)
