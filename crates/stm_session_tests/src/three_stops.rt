@@ -141,7 +141,7 @@ const PAGE_1: &[(u64, u64, u64)] = &[
 
 /// The same of page 256: the frame lacks its last bytes, and in the write frame.
 const PAGE_256: &[(u64, u64, u64)] = &[
-    (855, 150, 1695),
+    (855, 150, 1710),
     (855, 1327, 971),
     (858, 150, 1060),
     (858, 677, 971),
