@@ -203,7 +203,7 @@ def main():
     words.add_argument("--sample", type=int, metavar="N")
     words.add_argument("--kills", type=int, default=0, metavar="N")
     words.add_argument("--seed", default=str(random.SystemRandom().randrange(1000000)))
-    words.add_argument("--jobs", type=int, default=os.cpu_count() or 1, metavar="N")
+    words.add_argument("--jobs", type=int, default=len(os.sched_getaffinity(0)), metavar="N")
     words.add_argument("--show", action="store_true")
     given = words.parse_args()
     if lacking := missing():

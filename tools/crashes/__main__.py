@@ -95,7 +95,7 @@ def main():
     words.add_argument("--plant", choices=[*plants.PLANTS, plants.NO_LOCK])
     words.add_argument("--plants", action="store_true")
     words.add_argument("--stale-lines", action="store_true")
-    words.add_argument("--jobs", type=int, default=2 * (os.cpu_count() or 1))
+    words.add_argument("--jobs", type=int, default=2 * len(os.sched_getaffinity(0)))
     given = words.parse_args()
     if not can_trace():
         print("tools/crashes: left out: there is no strace here, or it can't trace")

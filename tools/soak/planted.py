@@ -89,7 +89,7 @@ def find_stand_in(program, name):
 
 
 def find_stand_ins(program, names):
-    with concurrent.futures.ThreadPoolExecutor(os.cpu_count()) as pool:
+    with concurrent.futures.ThreadPoolExecutor(len(os.sched_getaffinity(0))) as pool:
         found = list(pool.map(lambda name: find_stand_in(program, name), names or PLANTED))
     return 0 if all(found) else 1
 
