@@ -121,6 +121,7 @@ abbrev pub LeftByAppend : List ℕ → RigState → Device → List ℕ → Type
 LeftByAppend bytes old d journal =
     ((n : ℕ) × (journal ≡ old.journal ++ take n bytes)) × LosesOwed old.device d
 
+-- a put on such a line: at Ok the device got the byte; at a fault it got it or not, and no more
 pub record PutsHonestly {T : Type 0} (byte : ℕ) (result : Result T RigFault)
     (old new : RigState) : Type 0 where
   pub honest : new.is_honest
@@ -133,6 +134,7 @@ abbrev pub GetsFirst : Option ℕ → Device → Device → Type 0
 GetsFirst None old new = (old.owed ≡ []) × (new ≡ old)
 GetsFirst (Some byte) old new = old ≡ record new { owed = byte ∷ new.owed }
 
+-- a get on such a line: at Ok the first byte owed was taken, or nothing was owed
 pub record GetsHonestly (result : Result (Option ℕ) RigFault) (old new : RigState) : Type 0 where
   pub honest : new.is_honest
   pub ok : IfOk result (λ answer. GetsFirst answer old.device new.device)
@@ -140,6 +142,7 @@ pub record GetsHonestly (result : Result (Option ℕ) RigFault) (old new : RigSt
   pub err : OnErr result (LeftByGet old new.device new.journal)
   pub time : Elapses (LeftByGet old) old new
 
+-- an append on such a line: at Ok the journal has all bytes, at a fault a beginning of them
 pub record AppendsHonestly {T : Type 0} (bytes : List ℕ) (result : Result T RigFault)
     (old new : RigState) : Type 0 where
   pub honest : new.is_honest
@@ -151,8 +154,8 @@ pub record AppendsHonestly {T : Type 0} (bytes : List ℕ) (result : Result T Ri
       → LosesOwed old.device d
       → new.left_since t d (take n new.journal)
 
--- the journal's bytes from the place on, as many as were answered; none only where there are none
--- or no room
+-- a fetch on such a line: the journal's bytes from the place on, as many as were answered; none only
+-- where there are none or no room
 pub record FetchesHonestly (at : ℕ) (before after : List ℕ) (result : Result ℕ RigFault)
     (old new : RigState) : Type 0 where
   pub honest : new.is_honest
