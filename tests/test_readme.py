@@ -4,7 +4,9 @@ import os
 import re
 import subprocess
 
-from place import PATIENCE, TOP, Place, program
+from boards import LINE, PYTHON, WAIT, LinePlace
+from place import COUNTING, PATIENCE, TOP, Place, program
+from test_image import HEX
 
 
 def blocks(page="README.md"):
@@ -43,6 +45,28 @@ class Readme(Place):
             self.assertIn('ln -sf ../stmflash-unproved "$top/bin/unproved/stmflash"\n', file.read())
         commands = [it.split("#")[0].strip() for it in blocks()[0].splitlines()]
         self.assertEqual(commands, ["make demo", "make"])
+
+
+class ARealBoard(LinePlace):
+    """What the README says of a port: there a pseudo-terminal with a simulated board behind it."""
+
+    def test_a_write_and_its_undo(self):
+        os.mkdir(self.path("bin"))
+        os.symlink(program(), self.path("bin/stmflash"))
+        self.store("bin/stmflash-line", f"#!/bin/sh\nexec {PYTHON} {LINE} \"$@\"\n".encode())
+        os.chmod(self.path("bin/stmflash-line"), 0o755)
+        self.store("firmware.hex", HEX)
+        self.store("ttyUSB0.flash", COUNTING)
+        board = self.board()
+        variables = {"PATH": self.path("bin") + ":" + os.environ["PATH"], "TMPDIR": self.path("temporary"),
+                     "STMFLASH_TABLE": "table", "STMFLASH_WAIT": WAIT}
+        written, undone = [it for it in blocks() if "stmflash-line /dev/ttyUSB0 " in it]
+        for block, said, flash in ((written, "segment 1: 1 page written\nverified 4 bytes\n", b"\1\2\3\4" + COUNTING[4:]),
+                                   (undone, "undone 1\nverified 1 page\n", COUNTING)):
+            ran = subprocess.run(["sh", "-c", block.replace("/dev/", "")], cwd=self.folder, env=variables, timeout=PATIENCE,
+                                 stdin=subprocess.DEVNULL, capture_output=True, text=True)
+            self.assertEqual((ran.returncode, ran.stderr, ran.stdout), (0, "", said))
+            self.assertEqual(board.store(), flash)
 
 
 class Fleet(Place):
