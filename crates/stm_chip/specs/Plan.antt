@@ -19,6 +19,7 @@ used_length erased (byte ∷ bytes) = used_before erased byte (used_length erase
 abbrev pub cut_length : ℕ → List ℕ → ℕ
 cut_length erased block = (used_length erased block + 3) / 4 * 4
 
+-- the frame of so many bytes, from this offset of its page on
 abbrev pub frame_with : ℕ → ℕ → Frame
 frame_with offset length = record { offset = offset; length = length }
 

@@ -2,6 +2,7 @@
 use Rattle.std.specs.Prelude.{ℕ, ◌≡◌, ◌<◌, ◌≤◌, ◌^◌, ◌+◌, ◌↔◌, List, [], ◌∷◌, Option, Some, None}
 use Rattle.std.specs.Prelude.{if◌then◌else◌, ◌==◌, Contains, All, AllPairs}
 
+-- pairs of an address and its byte; those of an image stand by rising address
 abbrev pub Pairs : Type 0
 Pairs = List (ℕ × ℕ)
 

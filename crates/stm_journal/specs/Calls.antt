@@ -46,6 +46,7 @@ AppendsOnce bytes (Err OtherDevice) calls = calls ≡ []
 AppendsOnce bytes (Err OtherBoard) calls = calls ≡ []
 AppendsOnce bytes (Err Memory) calls = calls ≡ []
 
+-- each call is a fetch: the line wasn't used, and the journal was only read
 abbrev pub AreFetches : List Call → Type 0
 AreFetches [] = Unit {0}
 AreFetches (Put byte ∷ calls) = ⊥

@@ -28,10 +28,11 @@ decimal_of digits =
     if length digits == 0 || (nat_lt 1 (length digits) && slice_index digits 0 == 48) then None
     else fold with_digit (Some 0) digits
 
--- bytes, as upper-case digits in pairs, at least one
+-- upper-case digits alone, at least one
 abbrev pub are_upper_digits : List ℕ → Bool
 are_upper_digits digits = nat_lt 0 (length digits) && list_all is_upper_digit digits
 
+-- the bytes that such digits say, two digits a byte; none for other text or an odd number
 abbrev pub hex_bytes_of : List ℕ → Option (List ℕ)
 hex_bytes_of digits = if are_upper_digits digits then result_ok (decode_of digits) else None
 
@@ -45,16 +46,18 @@ abbrev pub behind : List ℕ → List ℕ → Option (List ℕ)
 behind word line =
     if bytes_eq (take (length word) line) word then Some (drop (length word) line) else None
 
--- a page: its number, a space, its bytes
+-- the page that is kept, where its number and its bytes could both be read
 abbrev pub page_of_fields : Option ℕ → Option (List ℕ) → Option Entry
 page_of_fields (Some n) (Some bytes) = Some (Keeps n bytes)
 page_of_fields (Some n) None = None
 page_of_fields None bytes = None
 
+-- a page in a text with its first space in this place: the number before it, the bytes behind
 abbrev pub page_at : List ℕ → Option ℕ → Option Entry
 page_at rest None = None
 page_at rest (Some i) = page_of_fields (decimal_of (take i rest)) (hex_bytes_of (drop (i + 1) rest))
 
+-- what follows `page `: the page's number, a space, its bytes
 abbrev pub kept_entry_of : List ℕ → Option Entry
 kept_entry_of rest = page_at rest (position (λ b. b == 32) rest)
 
@@ -72,16 +75,18 @@ unique_id_of digits =
 abbrev pub header_of : ℕ → List ℕ → Option Entry
 header_of version rest = option_map (λ id. Names version id []) (id_of rest)
 
--- the device of a journal of version 3: its id, a space, its unique id
+-- the device of a journal of version 3, where its id and its unique id could both be read
 abbrev pub board_of_fields : Option ℕ → Option (List ℕ) → Option Entry
 board_of_fields (Some id) (Some unique) = Some (Names 3 id unique)
 board_of_fields (Some id) None = None
 board_of_fields None unique = None
 
+-- the same in a text with its first space in this place: the id before it, the unique id behind
 abbrev pub board_at : List ℕ → Option ℕ → Option Entry
 board_at rest None = None
 board_at rest (Some i) = board_of_fields (id_of (take i rest)) (unique_id_of (drop (i + 1) rest))
 
+-- what follows `stmjournal 3 `: the device's id, a space, its unique id
 abbrev pub board_header_of : List ℕ → Option Entry
 board_header_of rest = board_at rest (position (λ b. b == 32) rest)
 
@@ -90,6 +95,7 @@ abbrev pub worded : List ℕ → (List ℕ → Option Entry) → List ℕ → Op
 worded word said line other =
     elim (behind word line) as (λ _. Option Entry) [ None ↦ other | Some rest ↦ said rest ]
 
+-- a line of a word and a decimal number: `open`, `erase`, `program`, `end` or `undone`
 abbrev pub numbered_entry_of : List ℕ → Option Entry
 numbered_entry_of line =
     worded (codes "open ") (λ rest. option_map (λ n. Opens n) (decimal_of rest)) line

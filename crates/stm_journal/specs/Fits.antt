@@ -9,10 +9,12 @@ abbrev pub fits_chip : ChipData → Kept → Bool
 fits_chip chip kept =
     nat_lt kept.page (page_count chip) && (length kept.bytes == page_size chip kept.page)
 
+-- the chip has each of these pages, of the size in which it is kept
 abbrev pub AllKeptFit : ChipData → List Kept → Type 0
 AllKeptFit chip [] = Unit {0}
 AllKeptFit chip (kept ∷ pages) = (fits_chip chip kept ≡ true) × AllKeptFit chip pages
 
+-- the chip has each page that these segments keep, of the size in which it is kept
 abbrev pub AllFit : ChipData → List SegmentData → Type 0
 AllFit chip [] = Unit {0}
 AllFit chip (segment ∷ below) = AllKeptFit chip segment.pages × AllFit chip below

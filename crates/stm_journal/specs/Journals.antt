@@ -21,6 +21,7 @@ pub data JournalData : Type 0 where
   good : StateData → JournalData
   bad : (line : ℕ) → JournalData
 
+-- after a line that says this: it is bad where it says nothing, or what isn't allowed there
 abbrev pub after_said : ℕ → ℕ → StateData → Option Entry → JournalData
 after_said line ends s None = bad line
 after_said line ends s (Some e) = if allows s e then good (after_entry line ends s e) else bad line
@@ -38,6 +39,7 @@ pub record Reading : Type 0 where
   pub size : ℕ
   pub journal : JournalData
 
+-- one line more is read: this text, and the LF that ends it
 abbrev pub read_line : Reading → List ℕ → Reading
 read_line r text = record {
   lines = r.lines + 1;
@@ -45,9 +47,11 @@ read_line r text = record {
   journal = after_line (r.lines + 1) (r.size + length text) r.journal text;
 }
 
+-- before the first line is read
 abbrev pub start : Reading
 start = record { lines = 0; size = 0; journal = good empty_state }
 
+-- what these whole lines come to, read from the first to the last
 abbrev pub reading_of : List (List ℕ) → Reading
 reading_of lines = fold read_line start lines
 

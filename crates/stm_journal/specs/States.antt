@@ -24,6 +24,7 @@ pub record StateData : Type 0 where
   pub header : Option JournalHeader
   pub stack : List SegmentData
 
+-- what a journal without a line comes to: no header, and no segment
 abbrev pub empty_state : StateData
 empty_state = record { header = None; stack = [] }
 
@@ -39,11 +40,13 @@ IsStacked (Some newest) below = Unit {0}
 abbrev pub depth : StateData → ℕ
 depth s = length s.stack
 
+-- the segment has ended, and isn't being taken back
 abbrev pub is_ended_stage : Stage → Bool
 is_ended_stage (Open i) = false
 is_ended_stage Ended = true
 is_ended_stage (Returning i) = false
 
+-- the segment hasn't ended yet
 abbrev pub is_open_stage : Stage → Bool
 is_open_stage (Open i) = true
 is_open_stage Ended = false
@@ -55,6 +58,7 @@ intent_at (Open i) = i
 intent_at Ended = None
 intent_at (Returning i) = Some i
 
+-- the segment keeps page n
 abbrev pub keeps : SegmentData → ℕ → Bool
 keeps segment n = list_any (λ k. k.page == n) segment.pages
 
@@ -67,6 +71,7 @@ abbrev pub newest_has : (SegmentData → Bool) → List SegmentData → Bool
 newest_has test [] = false
 newest_has test (segment ∷ below) = test segment
 
+-- the intent of the newest segment, where there is one that has an intent
 abbrev pub newest_intent : List SegmentData → Option Intent
 newest_intent [] = None
 newest_intent (segment ∷ below) = intent_at segment.stage
@@ -75,16 +80,19 @@ newest_intent (segment ∷ below) = intent_at segment.stage
 abbrev pub is_unfinished : StateData → Bool
 is_unfinished s = newest_has (λ segment. not (is_ended_stage segment.stage)) s.stack
 
+-- the journal's intent, which is that of its newest segment
 abbrev pub intent_of : StateData → Option Intent
 intent_of s = newest_intent s.stack
 
--- the newest segment is open; it keeps this page; it is open and lacks this page
+-- the newest segment is open
 abbrev pub newest_is_open : StateData → Bool
 newest_is_open s = newest_has (λ segment. is_open_stage segment.stage) s.stack
 
+-- the newest segment keeps this page
 abbrev pub newest_keeps : ℕ → StateData → Bool
 newest_keeps n s = newest_has (λ segment. keeps segment n) s.stack
 
+-- the newest segment is open and lacks this page
 abbrev pub newest_may_keep : ℕ → StateData → Bool
 newest_may_keep n s = newest_has (may_keep n) s.stack
 
@@ -126,10 +134,12 @@ is_other_board unique (Some board) = not (bytes_eq board unique)
 abbrev pub names_other_board : List ℕ → StateData → Bool
 names_other_board unique s = is_other_board unique (board_of s)
 
+-- the stack with this change of its newest segment; an empty stack stays as it is
 abbrev pub on_newest : (SegmentData → SegmentData) → List SegmentData → List SegmentData
 on_newest change [] = []
 on_newest change (segment ∷ below) = change segment ∷ below
 
+-- a segment that has just begun: it keeps no page, and has no intent
 abbrev pub fresh_segment : SegmentData
 fresh_segment = record { pages = []; stage = Open None }
 
@@ -139,12 +149,15 @@ abbrev pub kept_in : ℕ → ℕ → ℕ → List ℕ → Kept
 kept_in line ends n bytes =
     record { page = n; bytes = bytes; line = line; at = ends - 2 * length bytes }
 
+-- the segment with one page more that it keeps, the last of them
 abbrev pub keeping : Kept → SegmentData → SegmentData
 keeping kept segment = record segment { pages = segment.pages ++ kept ∷ [] }
 
+-- the segment behind an `erase` or `program` line with this intent
 abbrev pub intending : Intent → SegmentData → SegmentData
 intending i segment = record segment { stage = stage_with i segment.stage }
 
+-- the segment behind its `end` line
 abbrev pub ended_segment : SegmentData → SegmentData
 ended_segment segment = record segment { stage = Ended }
 

@@ -14,6 +14,7 @@ in_front b t = elim t.lines as (λ _. Text) [
   | l ∷ ls ↦ record { lines = (b ∷ l) ∷ ls; tail = t.tail }
 ]
 
+-- a journal's bytes, parted into its whole lines and what stands behind the last LF
 abbrev pub text_of : List ℕ → Text
 text_of [] = record { lines = []; tail = [] }
 text_of (b ∷ bs) =

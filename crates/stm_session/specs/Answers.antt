@@ -36,6 +36,7 @@ differing_below (suc n) chip old new =
     differing_below n chip old new
     + (if bytes_eq (page_of chip old n) (page_of chip new n) then 0 else 1)
 
+-- how many pages of the chip differ between two flashes
 abbrev pub pages_that_differ : ChipData → List ℕ → List ℕ → ℕ
 pages_that_differ chip old new = differing_below (page_count chip) chip old new
 
@@ -65,12 +66,14 @@ outcome_of chip k flash (erases pages) =
 outcome_of chip k flash (verifies image) = verified_or (first_difference image chip.base flash)
 outcome_of chip k flash (reads start size) = Ok (was_read (bytes_at chip flash start size))
 
+-- one command's answer in front of those of the later ones; the first differing address decides
 abbrev pub in_front_of : Result OutcomeData ℕ → Result (List OutcomeData) ℕ
     → Result (List OutcomeData) ℕ
 in_front_of (Err address) rest = Err address
 in_front_of (Ok said) (Err address) = Err address
 in_front_of (Ok said) (Ok rest) = Ok (said ∷ rest)
 
+-- how many segments the command begins: one or none
 abbrev pub segments_of_command : CommandData → ℕ
 segments_of_command c = if is_change c then 1 else 0
 
@@ -82,6 +85,7 @@ answers_of chip below flash (c ∷ commands) =
     in_front_of (outcome_of chip (below + 1) flash c)
     (answers_of chip (below + segments_of_command c) (flash_after chip flash c) commands)
 
+-- no byte of this flash differs from a verify's image; no other command can disagree
 abbrev pub agrees : ChipData → List ℕ → CommandData → Bool
 agrees chip flash (writes image) = true
 agrees chip flash (erases pages) = true

@@ -24,6 +24,7 @@ pub record World : Type 0 where
   pub device : Device
   pub journal : List ℕ
 
+-- the device and the journal of a Rig, as they are now
 abbrev pub now_of : RigState → World
 now_of rig = record { device = rig.device; journal = rig.journal }
 

@@ -35,6 +35,7 @@ pub data Cause : Type 0 where
   of_session : Cause
   of_refusal : Cause
 
+-- what each fault comes of
 abbrev pub cause_of : Fault → Cause
 cause_of fault.Line = of_line
 cause_of fault.Journal = of_file
@@ -60,6 +61,7 @@ IsOutside of_file = Unit {0}
 IsOutside of_memory = Unit {0}
 IsOutside _ = ⊥
 
+-- the fault comes of the line, the file of the journal or memory
 abbrev pub IsOutsideFault : Fault → Type 0
 IsOutsideFault e = IsOutside (cause_of e)
 
@@ -69,6 +71,7 @@ IsUnheard of_file = Unit {0}
 IsUnheard of_memory = Unit {0}
 IsUnheard _ = ⊥
 
+-- the fault comes of the file of the journal or memory
 abbrev pub IsJournalOrMemory : Fault → Type 0
 IsJournalOrMemory e = IsUnheard (cause_of e)
 

@@ -29,15 +29,16 @@ standing_in w commands = agreeing w.device.chip w.device.flash commands
 abbrev pub grown : World → World → ℕ
 grown w w2 = depth_at w2.journal - depth_at w.journal
 
--- The flashes at the starts of the segments on the stack, the newest first: a run adds those before
--- the commands whose segments it began, an undo takes off as many as it took off the stack, and
--- where the way back is given up none is left.
+-- the flashes at the starts of the segments on the stack, the newest first, behind a run: it adds
+-- those before the commands whose segments it began
 abbrev pub starts_of_run : List CommandData → World → World → List (List ℕ) → List (List ℕ)
 starts_of_run commands w w2 starts =
     reverse
     (take (grown w w2) (flashes_before w.device.chip w.device.flash (standing_in w commands)))
     ++ starts
 
+-- the same behind any event: a run adds some, an undo drops as many as leave the stack, and giving
+-- up the way back drops all
 abbrev pub starts_after : {R : Type 0} → Event R → World → World → List (List ℕ) → List (List ℕ)
 starts_after (ran table commands old new result) w w2 starts = starts_of_run commands w w2 starts
 starts_after (run_stopped table commands old new result) w w2 starts =
@@ -70,18 +71,20 @@ pub record UndoHolds (count n : ℕ) (w w2 : World) (starts : List (List ℕ)) :
   pub finished : is_unfinished_at w2.journal ≡ false
   pub flash : w2.device.flash ≡ flash_undone n w.device.flash starts
 
--- where no segment is unfinished, the flash is the one after the commands whose segments were
--- begun, or the one at the start of the oldest segment that is off the stack
+-- where no segment is unfinished, the flash is that after the commands whose segments were begun
 abbrev pub RunLeaves : List CommandData → World → World → Type 0
 RunLeaves commands w w2 = is_unfinished_at w2.journal ≡ false
     → w2.device.flash ≡ flash_after_all w.device.chip w.device.flash
     (take (grown w w2) (changes_of (standing_in w commands)))
 
+-- where no segment is unfinished, the flash is the one at the start of the oldest segment off the
+-- stack; where none is off, it is as it was
 abbrev pub UndoLeaves : World → World → List (List ℕ) → Type 0
 UndoLeaves w w2 starts =
     is_unfinished_at w2.journal ≡ false
     → w2.device.flash ≡ flash_undone (grown w2 w) w.device.flash starts
 
+-- the flash and the journal are as they were
 abbrev pub LeavesAlone : World → World → Type 0
 LeavesAlone w w2 = (w2.device.flash ≡ w.device.flash) × (w2.journal ≡ w.journal)
 
@@ -157,17 +160,20 @@ pub record CanFollow {R : Type 0} (view : R → RigState) (event : Event R)
   pub make : SameMake w.device w2.device
   pub honest : IsHonestAfter view event
 
+-- whatever event happens where all that was begun can be taken back, another can follow it
 abbrev pub EachCanFollow : {R : Type 0} → (R → RigState) → Type 0
 EachCanFollow {R} view =
     (event : Event R) (starts : List (List ℕ)) (w w2 : World) → IsStart starts w
     → Leads view event w w2 → CanFollow view event w w2
 
--- The flash to which an undo of everything leads: that at the start of the oldest segment which
--- there was when the session began, and with none the flash as the session found it; or the flash
--- as it was when the way back was last given up.
+-- The flash to which an undo of everything leads, while the way back isn't given up: that at the
+-- start of the oldest segment when the session began. If there was none, it is the flash as the
+-- session found it.
 abbrev pub oldest_start : List (List ℕ) → World → List ℕ
 oldest_start starts start = flash_undone (length starts) start.device.flash starts
 
+-- that flash after one event: where the way back is given up, the flash as it is then, and else
+-- the same as before
 abbrev pub oldest_after : {R : Type 0} → Event R → World → List ℕ → List ℕ
 oldest_after (ran table commands old new result) w2 flash = flash
 oldest_after (run_stopped table commands old new result) w2 flash = flash
@@ -186,6 +192,7 @@ oldest_after was_reset w2 flash = flash
 oldest_after lost_owed w2 flash = flash
 oldest_after lost_power w2 flash = flash
 
+-- that flash after a whole history, from event to event
 abbrev pub oldest_of : {R : Type 0} → List (Happening R) → List ℕ → List ℕ
 oldest_of [] flash = flash
 oldest_of (x ∷ history) flash = oldest_of history (oldest_after x.event x.after flash)

@@ -18,13 +18,15 @@ use Rattle.stm_session.specs.Undoable.{has_companion, state_at}
 use Rattle.stm_session.specs.Work.{kept_at_work, with_work}
 use Rattle.stm_session.specs.Meaning.{CommandData, is_change, flash_after}
 
--- how many segments a journal has; whether it names a device; whether a torn tail stands at its end
+-- how many segments a journal has
 abbrev pub depth_at : List ℕ → ℕ
 depth_at journal = length (state_at journal).stack
 
+-- the journal names a device
 abbrev pub is_named_at : List ℕ → Bool
 is_named_at journal = is_some (state_at journal).header
 
+-- a torn tail stands at the journal's end: bytes behind its last LF
 abbrev pub is_torn_at : List ℕ → Bool
 is_torn_at journal = nat_lt 0 (length (text_of journal).tail)
 

@@ -23,13 +23,14 @@ command_data (command.Read start size) = reads start size
 abbrev pub commands_in : List Command → List CommandData
 commands_in commands = map command_data commands
 
--- the flash after a command, and after one command after another
+-- the flash after a command
 abbrev pub flash_after : ChipData → List ℕ → CommandData → List ℕ
 flash_after chip flash (writes image) = lay image chip.base flash
 flash_after chip flash (erases pages) = erased_pages chip pages flash
 flash_after chip flash (verifies image) = flash
 flash_after chip flash (reads start size) = flash
 
+-- the flash after these commands, one after another
 abbrev pub flash_after_all : ChipData → List ℕ → List CommandData → List ℕ
 flash_after_all chip flash commands = fold (flash_after chip) flash commands
 
@@ -40,9 +41,11 @@ is_change (erases pages) = true
 is_change (verifies image) = false
 is_change (reads start size) = false
 
+-- those of the commands that begin a segment, in their order
 abbrev pub changes_of : List CommandData → List CommandData
 changes_of commands = filter is_change commands
 
+-- these flashes, with one more in front of them where the test holds
 abbrev pub before_if : Bool → List ℕ → List (List ℕ) → List (List ℕ)
 before_if true flash flashes = flash ∷ flashes
 before_if false flash flashes = flashes

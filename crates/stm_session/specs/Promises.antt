@@ -27,6 +27,8 @@ use Rattle.stm_session.specs.Runs.{Runs}
 use Rattle.stm_session.specs.Undoes.{Undoes, UndoesNothing, IsElsewhere, IsWithinLimit, taken_count}
 use Rattle.stm_session.specs.Undoes.{byte_at_journal, risked_at}
 
+-- what a run of these commands promises on an honest Rig: what it refuses, and what it does where
+-- nothing is refused and what was begun before can be taken back
 pub record RunContract {T : Type 0} (table : List ChipData) (commands : List CommandData)
     (old new : RigState) (result : Result T Fault)
     (outcomes_of : T → List OutcomeData) : Type 0 where
@@ -48,6 +50,7 @@ pub record RunContract {T : Type 0} (table : List ChipData) (commands : List Com
   pub spared : old.is_honest → old.journal ≡ [] → commands ≡ []
       → IfErr result (λ e. e ≢ faults.Memory)
 
+-- what `info` promises on an honest Rig: what it refuses, and what it tells of a safe device
 pub record InfoContract (table : List ChipData) (old new : RigState)
     (result : Result Info Fault) : Type 0 where
   pub unsent : old.is_honest → (refusal : Fault)
@@ -73,6 +76,8 @@ pub record IdentifyContract (old new : RigState) (result : Result Told Fault) : 
       → BeginsNothing old new result (TellsItself old.device)
   pub spared : old.is_honest → old.journal ≡ [] → IfErr result (λ e. e ≢ faults.Memory)
 
+-- what an undo of so many segments promises on an honest Rig: what it refuses, and else what it
+-- takes back; a count of 0 means all
 pub record UndoContract (table : List ChipData) (count : ℕ) (old new : RigState)
     (result : Result ℕ Fault) : Type 0 where
   -- what is refused before a byte is sent, of any device

@@ -24,6 +24,7 @@ use Rattle.stm_session.specs.Undoable.{has_companion}
 abbrev pub refused_unless : Bool → Fault → Option Fault
 refused_unless test fault = if test then None else Some fault
 
+-- the first of these that is a refusal, if one is
 abbrev pub first_refusal : List (Option Fault) → Option Fault
 first_refusal [] = None
 first_refusal (Some fault ∷ rest) = Some fault
@@ -62,6 +63,7 @@ abbrev pub misfit_lines_of : ChipData → List Kept → List Kept → List ℕ
 misfit_lines_of chip among pages =
     flat_map (λ kept. if fits_among chip among kept then [] else kept.line ∷ []) pages
 
+-- such lines of all these segments, each segment's pages by themselves
 abbrev pub misfit_lines : ChipData → List SegmentData → List ℕ
 misfit_lines chip stack =
     flat_map (λ segment. misfit_lines_of chip segment.pages segment.pages) stack
@@ -72,6 +74,7 @@ header_misfits chip None = []
 header_misfits chip (Some header) =
     if nat_lt 256 (page_count chip) && nat_lt header.version 2 then header.line ∷ [] else []
 
+-- the lesser of this line and the least so far, if there is one
 abbrev pub lesser : Option ℕ → ℕ → ℕ
 lesser None line = line
 lesser (Some least) line = min least line
@@ -80,6 +83,7 @@ lesser (Some least) line = min least line
 abbrev pub least_with : Option ℕ → List ℕ → Option ℕ
 least_with so_far lines = fold (λ so_far line. Some (lesser so_far line)) so_far lines
 
+-- the least of these lines, if there is one
 abbrev pub least : List ℕ → Option ℕ
 least lines = fold (λ so_far line. Some (lesser so_far line)) None lines
 

@@ -29,6 +29,7 @@ erase_code Extended = 0x44
 abbrev pub can_erase : ChipData → Device → Bool
 can_erase chip d = is_listed d.codes (erase_code chip.kind)
 
+-- each address of the image lies inside the flash
 abbrev pub image_fits : ChipData → Pairs → Bool
 image_fits chip image = list_all (λ pair. is_inside chip pair.0) image
 
@@ -51,6 +52,7 @@ command_refusals s d chip commands =
     ∷ refused_unless (nat_le (length s.stack + length (changes_of commands)) 65535) fault.Full
     ∷ []
 
+-- the first refusal of these commands, where the journal is good and the chip is known
 abbrev pub commands_refused : JournalData → Device → Option ChipData → List CommandData
     → Option Fault
 commands_refused (bad line) d chip commands = None
@@ -70,6 +72,7 @@ abbrev pub undo_refusal_of : StateData → List ChipData → Option JournalHeade
 undo_refusal_of s table None = None
 undo_refusal_of s table (Some header) = table_refusal s header.id (chip_with table header.id)
 
+-- the same of any journal: a bad one is refused, and a good one without a segment isn't
 abbrev pub undo_refusal : JournalData → List ChipData → Option Fault
 undo_refusal (bad line) table = Some (fault.BadJournal line)
 undo_refusal (good s) table = if length s.stack == 0 then None else undo_refusal_of s table s.header

@@ -27,11 +27,11 @@ abbrev pub flash_undone : ℕ → List ℕ → List (List ℕ) → List ℕ
 flash_undone zero flash flashes = flash
 flash_undone (suc i) flash flashes = get_or flashes i []
 
--- the pages that a stopped command may have left half erased or half written, and the
--- byte that settles the device
+-- the pages that a stopped command may have left half erased or half written
 abbrev pub risked_at : List ℕ → List ℕ
 risked_at journal = risked_pages (state_at journal)
 
+-- the byte that settles the device, by the journal's intent
 abbrev pub byte_at_journal : List ℕ → ℕ
 byte_at_journal journal = settling_byte (intent_of (state_at journal))
 

@@ -71,6 +71,8 @@ abbrev pub LeftByUnprotecting : RigState → Device → List ℕ → Type 0
 LeftByUnprotecting old d journal =
     (journal ≡ old.journal) × ((d.flash ≡ old.device.flash) ⊎ WasUnprotected old.device d)
 
+-- what `unprotect_fresh` promises on an honest Rig: what it refuses, and what it leaves of a
+-- device that was reset
 pub record UnprotectContract {T : Type 0} (old new : RigState)
     (result : Result T Fault) : Type 0 where
   -- what is refused before a byte is sent, of any device

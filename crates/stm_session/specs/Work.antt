@@ -14,6 +14,7 @@ use Rattle.stm_session.specs.Undoable.{newest_kept}
 abbrev pub beside : ℕ → Bool → List ℕ
 beside n keeps_257 = if n == 1 && keeps_257 then 257 ∷ [] else []
 
+-- the page of the intent, and the one at work beside it; without an intent none
 abbrev pub pages_of_intent : Option Intent → Bool → List ℕ
 pages_of_intent None keeps_257 = []
 pages_of_intent (Some intent) keeps_257 = intent_page intent ∷ beside (intent_page intent) keeps_257

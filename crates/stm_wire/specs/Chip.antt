@@ -9,6 +9,7 @@ use Rattle.stm_wire.specs.declared.places.UniquePlace.{UniquePlace}
 use Rattle.stm_wire.specs.declared.chip.EraseKind.{EraseKind}
 use Rattle.stm_wire.specs.declared.chip.EraseKind.TheVariants.{Page, Extended}
 
+-- what is known of a device's chip and flash, and the number of this very device
 pub record ChipData : Type 0 where
   pub id : ℕ
   -- the address of the flash's first byte
@@ -43,12 +44,15 @@ at_places places chip = record chip { places = places }
 abbrev pub of_board : List ℕ → ChipData → ChipData
 of_board unique chip = record chip { unique = unique }
 
+-- how many pages the flash has
 abbrev pub page_count : ChipData → ℕ
 page_count chip = length chip.sizes
 
+-- how many bytes the flash has
 abbrev pub flash_size : ChipData → ℕ
 flash_size chip = sum chip.sizes
 
+-- how many bytes page n has
 abbrev pub page_size : ChipData → ℕ → ℕ
 page_size chip n = slice_index chip.sizes n
 
@@ -72,6 +76,7 @@ with_bytes at bytes flash = take at flash ++ bytes ++ drop (at + length bytes) f
 abbrev pub with_page : ChipData → ℕ → List ℕ → List ℕ → List ℕ
 with_page chip n bytes flash = with_bytes (page_offset chip n) bytes flash
 
+-- the bytes of page n when it is erased
 abbrev pub erased_page : ChipData → ℕ → List ℕ
 erased_page chip n = replicate (page_size chip n) (erased_byte chip)
 
@@ -109,6 +114,7 @@ are_places chip places = is_unique_place chip places.unique && is_size_place chi
 abbrev pub IsErasedByte : ℕ → Type 0
 IsErasedByte byte = (byte ≡ 0) ⊎ (byte ≡ 0xFF)
 
+-- how many bytes a page may have: a multiple of 256, at least 256
 abbrev pub IsPageSize : ℕ → Type 0
 IsPageSize size = (256 ≤ size) × (size % 256 ≡ 0)
 

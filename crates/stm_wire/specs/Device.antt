@@ -19,6 +19,7 @@ pub data Phase : Type 0 where
   -- left the bootloader
   Gone : Phase
 
+-- a device as the model has it: who it is, what its flash holds, and where its exchange stands
 pub record Device : Type 0 where
   pub chip : ChipData
   pub version : ℕ
@@ -43,6 +44,7 @@ abbrev pub phase_after : List ℕ → Phase
 phase_after (code ∷ rest) = if code == 0x21 then Gone else Connected []
 phase_after [] = Connected []
 
+-- what the last byte of this list adds to the bytes that the device owes
 abbrev pub reply_of : Device → List ℕ → List ℕ
 reply_of d bytes = reply d.chip d.version d.codes d.flash bytes
 
@@ -78,6 +80,7 @@ Takes old bytes (Some Done) new =
     })
 Takes old bytes (Some Loose) new = IsLoose old bytes new
 
+-- the byte, fed to old in this phase, may leave new
 abbrev pub Receives : Device → Phase → ℕ → Device → Type 0
 Receives old Fresh byte new =
     new ≡ (if byte == 0x7F then record old { owed = old.owed ++ ack ∷ []; phase = Connected [] }
@@ -99,6 +102,7 @@ Fed (byte ∷ bytes) old new = (mid : Device) × Feeds byte old mid × Fed bytes
 abbrev pub LosesOwed : Device → Device → Type 0
 LosesOwed old new = (n : ℕ) × (new ≡ record old { owed = drop n old.owed })
 
+-- of the two erase commands, the codes have the one of this kind, and not the other
 abbrev pub ListsKind : EraseKind → List ℕ → Type 0
 ListsKind Page codes = IsTrue (is_listed codes 0x43) × (IsTrue (is_listed codes 0x44) → ⊥)
 ListsKind Extended codes = IsTrue (is_listed codes 0x44) × (IsTrue (is_listed codes 0x43) → ⊥)

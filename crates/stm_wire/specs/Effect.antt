@@ -29,6 +29,7 @@ abbrev pub write_change : List ℕ → Change
 write_change (a ∷ b ∷ c ∷ d ∷ check ∷ n ∷ rest) = Write (number_of a b c d) (take (n + 1) rest)
 write_change rest = Nothing
 
+-- the change that a whole list of bytes asks for, by the code that it begins with
 abbrev pub change_of : List ℕ → Change
 change_of (code ∷ check ∷ rest) =
     if code == 0x31 then write_change rest
@@ -37,6 +38,7 @@ change_of (code ∷ check ∷ rest) =
     else Nothing))
 change_of bytes = Nothing
 
+-- the flash with these pages erased, one after another
 abbrev pub erased_pages : ChipData → List ℕ → List ℕ → List ℕ
 erased_pages chip [] flash = flash
 erased_pages chip (n ∷ pages) flash =

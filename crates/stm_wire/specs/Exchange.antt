@@ -10,6 +10,7 @@ use Rattle.stm_wire.specs.declared.verdict.Verdict.TheVariants.{Done, Refused, L
 use Rattle.stm_wire.specs.Chip.{ChipData, page_count, fits_inside, is_inside}
 use Rattle.stm_wire.specs.Telling.{can_read, is_readable}
 
+-- the byte with each of its bits turned over, by which it is checked
 abbrev pub complement : ℕ → ℕ
 complement byte = 255 - byte
 
@@ -17,10 +18,11 @@ complement byte = 255 - byte
 abbrev pub xor : List ℕ → ℕ
 xor bytes = fold bit_xor 0 bytes
 
--- the number of four bytes, and of two, the highest first
+-- the number of four bytes, the highest first
 abbrev pub number_of : ℕ → ℕ → ℕ → ℕ → ℕ
 number_of a b c d = ((a * 256 + b) * 256 + c) * 256 + d
 
+-- the number of two bytes, the higher first
 abbrev pub pair_of : ℕ → ℕ → ℕ
 pair_of high low = high * 256 + low
 
@@ -29,9 +31,11 @@ abbrev pub two_byte_numbers : List ℕ → List ℕ
 two_byte_numbers (high ∷ low ∷ rest) = pair_of high low ∷ two_byte_numbers rest
 two_byte_numbers rest = []
 
+-- the code is one of these
 abbrev pub is_listed : List ℕ → ℕ → Bool
 is_listed codes code = list_any (λ c. c == code) codes
 
+-- the chip has each of these pages
 abbrev pub all_exist : ChipData → List ℕ → Bool
 all_exist chip pages = list_all (λ n. nat_lt n (page_count chip)) pages
 

@@ -15,6 +15,7 @@ address_bytes address =
 abbrev pub with_checksum : List ℕ → List ℕ
 with_checksum bytes = bytes ++ xor bytes ∷ []
 
+-- a byte and its complement: so a command's code is sent, and the count of a read
 abbrev pub command : ℕ → List ℕ
 command code = code ∷ complement code ∷ []
 

@@ -16,6 +16,7 @@ IsListening Fresh = Unit {0}
 IsListening (Connected rest) = Unit {0}
 IsListening Gone = ⊥
 
+-- what may happen to a device while it is settled: the byte is fed to it, or it is reset
 pub data Disturbance : Type 0 where
   Feed : Disturbance
   Reset : Disturbance

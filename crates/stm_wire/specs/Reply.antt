@@ -7,9 +7,11 @@ use Rattle.stm_wire.specs.declared.verdict.Verdict.{Verdict}
 use Rattle.stm_wire.specs.declared.verdict.Verdict.TheVariants.{Done, Refused, Loose}
 use Rattle.stm_wire.specs.Exchange.{number_of, verdict}
 
+-- the byte by which a device accepts a step
 abbrev pub ack : ℕ
 ack = 0x79
 
+-- the byte by which a device refuses a step
 abbrev pub nack : ℕ
 nack = 0x1F
 

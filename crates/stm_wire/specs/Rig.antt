@@ -8,6 +8,7 @@ use Rattle.stm_wire.specs.Call.{Call, Get, Append}
 use Rattle.stm_wire.specs.declared.fault.RigFault.{RigFault}
 use Rattle.stm_wire.specs.Device.{Device, IsDevice, Feeds, LosesOwed}
 
+-- what a Rig tells of itself at one time: the device on its line, its journal, and its calls
 pub record RigState : Type 1 where
   -- it follows the model
   pub is_honest : Type 0
