@@ -1,7 +1,9 @@
-//! Tests of `stm_watch`, by what it shows to its users: this crate holds nothing else.
+//! Tests of `stm_watch` and `stm_line`, by what they show to its users: this crate holds nothing else.
 #![tactic(auto)]
 
 #[cfg(test)]
 mod laws;
+#[cfg(test)]
+mod recorded;
 #[cfg(test)]
 mod watched;
