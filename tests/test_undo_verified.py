@@ -8,7 +8,7 @@ from refusing import AT, IMAGE, SIZES, OnBoard
 from planted_board import PlantedBoard
 
 NOT_HELD = "page 5 does not hold what was written"
-AGAIN = "undo again; where it stays so, the flash may be worn out, or the page write-protected"
+AGAIN = "undo again; if it stays so, the flash may be worn out, or the page write-protected"
 # a chip that names its boards
 TELLING = TABLE + b"unique = [0x1FFFF7E8, 12]\n"
 

@@ -161,7 +161,7 @@ class World:
                 undo = Use("undo", count=count, number=use.number, stop=use.stop, file=use.file, board=use.board,
                            no_board=use.no_board)
                 _, stays, _ = self.once(undo, None)
-                back = b"taken back" if stays is None else b"not taken back: " + text(stays)
+                back = b"undone" if stays is None else b"not undone: " + text(stays)
             err += b"again %d of %d: %s; %s\n" % (turn + 1, use.again, why, back)
             if stays is None:
                 lines, fault, _ = self.once(later, image)

@@ -112,13 +112,10 @@ impl<'b, 'a, 'r, R: Locks + Net + Clock + AllocGlobal, E: Write + IsTerminal> At
         let why = Escaped(failure);
         let _ = match back {
             Ok(0) => writeln!(self.err, "again {turn} of {most}: {why}; nothing was begun"),
-            Ok(_) => writeln!(self.err, "again {turn} of {most}: {why}; taken back"),
+            Ok(_) => writeln!(self.err, "again {turn} of {most}: {why}; undone"),
             Err(not) => {
                 let not = Escaped(not);
-                writeln!(
-                    self.err,
-                    "again {turn} of {most}: {why}; not taken back: {not}"
-                )
+                writeln!(self.err, "again {turn} of {most}: {why}; not undone: {not}")
             }
         };
     }
