@@ -105,7 +105,7 @@ class UndoVerified(OnBoard):
         self.assertEqual(bytes(board.flash), COUNTING)
 
     def test_a_page_that_holds_other_bytes(self):
-        """No segment is undone: a second undo takes it back. Without -v nobody looks."""
+        """No segment is undone: a second undo undoes it. Without -v nobody looks."""
         board = self.written(Wavering(0))
         board.reading, board.told = 2, 0
         said = self.on(board, "undo", "-v")

@@ -144,7 +144,7 @@ class World:
         return journal.depth(), journal.is_unfinished()
 
     def run_again(self, use, image):
-        """A write that is broken off is taken back and done again, each time in a session of its own."""
+        """A write that is broken off is undone and done again, each time in a session of its own."""
         before, _ = self.standing()
         err = b""
         lines, fault, rig = self.once(use, image)
