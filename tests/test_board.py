@@ -1,4 +1,4 @@
-"""Which board stands there: asked before each session, and once more in one that does commands or takes some back; named by the
+"""Which board stands there: asked before each session, and once more in one that does commands or undoes some; named by the
 journal, and wanted by words."""
 
 import socket
@@ -116,7 +116,7 @@ class Board(Place):
         yield ("go", *more, "0x08000000")
 
     def assertLeft(self, said):
-        """The board did what can't be taken back, and was reset by hand then."""
+        """The board did what can't be undone, and was reset by hand then."""
         self.assertSilent(said)
         self.assertNotEqual(self.stands[-1].sent.lstrip(b"\x7f")[-2:], ASKED[-2:])
         self.store("flash.line", b"fresh\n")

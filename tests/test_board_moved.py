@@ -369,7 +369,7 @@ class BoardMoved(Place):
 
     def test_an_undo_that_is_moved_behind_the_second_question_goes_unnoticed(self):
         """Nobody asks again: the other board, which is connected, gets pages of the first one, and the journal says that they were
-        taken back."""
+        undone."""
         for when in (behind_the_second_question, before_the_erase):
             with self.subTest(when=when.__name__):
                 self.begin()

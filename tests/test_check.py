@@ -63,7 +63,7 @@ class Check(Place):
                     self.assertCheck(begun + tail, expected(begun + tail, logged))
 
     def test_tells_each_page(self):
-        """Pages of each length, in the order of their lines, and none of a command that was taken back."""
+        """Pages of each length, in the order of their lines, and none of a command that was undone."""
         pages = [(number, random.Random(number).randbytes(number + 1)) for number in range(9)]
         pages += [(65535, random.Random(9).randbytes(70000))]
         lines = b"".join(b"page %d %s\n" % (number, data.hex().upper().encode()) for number, data in pages)

@@ -305,7 +305,7 @@ class Disk(Place):
         self.assertEqual(synced, whole)
 
     def test_an_undo_is_told_once_the_flash_stands(self):
-        """The disk has room for the journal, and none for the flash: what was taken back in memory alone isn't said to be."""
+        """The disk has room for the journal, and none for the flash: what was undone in memory alone isn't said to be."""
         for erases in (1, 2):
             with self.subTest(erases=erases):
                 self.begin(COUNTING)
@@ -351,7 +351,7 @@ class OverSocket(Served):
             self.fill_disks(rooms[first:first + SIDE_BY_SIDE])
 
     def fill_disks(self, rooms):
-        """Fills the disk at each of these places of a journal, side by side, and takes back what was begun."""
+        """Fills the disk at each of these places of a journal, side by side, and undoes what was begun."""
         simulators = []
         for room in rooms:
             self.store(f"{room}.flash", SMALL_FLASH)

@@ -1,4 +1,4 @@
-"""What `erase` makes of a flash and a journal, and how it is taken back."""
+"""What `erase` makes of a flash and a journal, and how it is undone."""
 
 from place import ERASED, ZEROS, Place, with_page
 
@@ -22,7 +22,7 @@ REFUSED = (
 
 class Erase(Place):
     def test_takes_a_stopped_erase_back(self):
-        """Stopped after the two bytes of the command, with the intent in the journal; then taken back."""
+        """Stopped after the two bytes of the command, with the intent in the journal; then undone."""
         stopped = with_page(HEAD, b"0", b"\nerase 5\n")
         self.store("flash", ZEROS)
         self.assertFault(self.use("erase", "--stop", "3190", "5"), "stopped", 3)

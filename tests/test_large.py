@@ -38,7 +38,7 @@ class Large(Place):
 
     def test_takes_back_a_segment_of_all_pages(self):
         """A HEX text whose records fall, over a whole flash of 2 MiB (of 128 KiB by a slow program), in one segment; read
-        back whole, and taken back."""
+        back whole, and undone."""
         size = PAGES * (256 if is_slow() else 4096)
         dice = random.Random(512)
         before, image = dice.randbytes(size), dice.randbytes(size)
@@ -56,7 +56,7 @@ class Large(Place):
 
     def test_takes_back_a_page_as_large_as_a_flash(self):
         """A flash that is one page of 2 MiB (of 128 KiB by a slow program), as large as a table may have it: kept, written, read
-        back, and taken back."""
+        back, and undone."""
         size = (128 if is_slow() else 2048) * 1024
         dice = random.Random(2048)
         before, image = dice.randbytes(size), dice.randbytes(size)

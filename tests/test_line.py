@@ -272,7 +272,7 @@ class Kills(LinePlace):
                 started.stderr.close()
                 self.until(lambda: not os.path.exists(f"/proc/{child}"), "the program goes on")
                 board.renew()
-                # where it was killed before the journal was made, there is none to take back by
+                # where it was killed before the journal was made, there is none to undo by
                 due = (0, b"") if self.is_there("journal") else (1, b"stmflash: cannot read journal\n")
                 said = self.through("undo")
                 self.assertEqual((said.status, said.err), due, killed)

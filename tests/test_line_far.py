@@ -19,7 +19,7 @@ NO_RFC2217 = "speaks no RFC 2217; the bytes of a port alone are socket://HOST:PO
 UNKNOWN = "parity, speed and errors are the far end's: a byte that came with an error may be handed on"
 TELLS = "the far end tells of bytes that came with an error, but may hand them on before"
 SILENT = "the far end doesn't tell of bytes that came with an error, and may hand them on"
-CLOSED = "the far end closed the line; `stmflash undo 1` takes back what was begun"
+CLOSED = "the far end closed the line; `stmflash undo 1` undoes what was begun"
 
 
 class FarPlace(LinePlace):

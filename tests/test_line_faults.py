@@ -137,7 +137,7 @@ class Faults(LinePlace):
 
 
 class Pulled(LinePlace):
-    UNPLUGGED = "stmflash-line: ttyUSB0: unplugged; plug it in, and `stmflash undo 1` takes back what was begun\n"
+    UNPLUGGED = "stmflash-line: ttyUSB0: unplugged; plug it in, and `stmflash undo 1` undoes what was begun\n"
 
     def plain_to_pull(self):
         master, slave = os.openpty()

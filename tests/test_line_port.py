@@ -19,7 +19,7 @@ from stmflash_line.faults import Fault, Gone
 from stmflash_line.moves import Moves
 
 GOOD, PARITY, FRAMING, BREAK, OVERRUN, FULL, UNPLUGGED, HUNG_UP = range(8)
-PULLED = "ttyUSB0: unplugged; plug it in, and `stmflash undo 1` takes back what was begun"
+PULLED = "ttyUSB0: unplugged; plug it in, and `stmflash undo 1` undoes what was begun"
 
 
 def came(data):

@@ -247,7 +247,7 @@ class Fresh(WiredPlace):
 
 
 class Unwired(LinePlace):
-    """Boards whose reset hangs on nothing, though a sequence moves RTS and DTR: what was stopped is taken back by a call with the
+    """Boards whose reset hangs on nothing, though a sequence moves RTS and DTR: what was stopped is undone by a call with the
     same words. STMFLASH_LINE_STOPS says how many stops, 12 without it."""
 
     def test_a_stop_is_taken_back_by_the_same_words(self):

@@ -311,7 +311,7 @@ class Boards(WatchedPlace):
         self.assertEqual(board.store(), b"\xff" * 8192)
 
     def test_stops_and_undos(self):
-        """A write that was stopped behind any byte is taken back over a line that watches, without a false word."""
+        """A write that was stopped behind any byte is undone over a line that watches, without a false word."""
         seed = time.time_ns()
         chance = random.Random(seed)
         board = self.board(chip="0440")

@@ -1,4 +1,4 @@
-"""One journal, one program: what is locked, by whom, and that two programs at once leave nothing that can't be taken back."""
+"""One journal, one program: what is locked, by whom, and that two programs at once leave nothing that can't be undone."""
 
 import errno
 import fcntl

@@ -253,7 +253,7 @@ class Lines(Served):
         self.lay([erase + 3], 3)
         said = self.write("-v", "--again", "2", "--keep", *GO)
         self.assertEqual((said.status, said.out), (0, WRITTEN + b"kept 1\n"))
-        self.assertRegex(said.err.decode(), r"^again 1 of 2: [^;]*; taken back\n$")
+        self.assertRegex(said.err.decode(), r"^again 1 of 2: [^;]*; undone\n$")
         self.assertEqual(len(self.sent), 3)
         self.assertFile("journal", None)
         self.simulator.wait(PATIENCE)
@@ -274,8 +274,8 @@ class Lines(Served):
         self.lay([erase + 3, 1, 1], 3)
         said = self.write("--again", "2")
         self.assertEqual((said.status, said.out), (1, b""))
-        self.assertRegex(said.err.decode(), r"^again 1 of 2: [^;]*; not taken back: .*\n"
-                         r"again 2 of 2: [^;]*; not taken back: .*\n"
+        self.assertRegex(said.err.decode(), r"^again 1 of 2: [^;]*; not undone: .*\n"
+                         r"again 2 of 2: [^;]*; not undone: .*\n"
                          r"stands: segment 1 is unfinished, undo first\nstmflash: [^\n]*\n$")
         self.assertIn(b"erase 0", self.held("journal"))
 
@@ -310,8 +310,8 @@ class Lines(Served):
 
                 said = self.use_between([len(sent) - 3, 1, 1], add, "-v", "--again", "2")
                 self.assertEqual(said.status, 1)
-                self.assertRegex(said.err.decode(), r"^again 1 of 2: [^;]*; not taken back: .*\nagain 2 of 2: [^;]*; "
-                                 rf"not taken back: .*\nstands: {stands}\nstmflash: [^\n]*\n$")
+                self.assertRegex(said.err.decode(), r"^again 1 of 2: [^;]*; not undone: .*\nagain 2 of 2: [^;]*; "
+                                 rf"not undone: .*\nstands: {stands}\nstmflash: [^\n]*\n$")
                 self.assertTrue(self.held("journal").endswith(b"end 1\n" + more))
                 self.assertServed()
                 self.remove("line", "journal", "flash.line")

@@ -252,7 +252,7 @@ class Progress(Place):
         return [line.split(b" pages")[0].decode() for line in shown.split(b"\n")[:-1]]
 
     def test_an_undo_tells_of_how_many_pages(self):
-        """Those that the segments keep which are taken back, also where one has the number of the one before."""
+        """Those that the segments keep which are undone, also where one has the number of the one before."""
         first = with_page(b"stmjournal 2 0410\nopen 1\npage 5 ", b"F", b"\nerase 5\nprogram 5\nend 1\n")
         second = with_page(b"open 2\npage 4 ", b"0", with_page(b"\npage 5 ", b"0", b"\nerase 4\nerase 5\nend 2\n"))
         third = b"open 3\nend 3\n"
@@ -482,7 +482,7 @@ class Waiting(Served):
         self.assertServed()
 
     def test_a_signal_leaves_what_to_do(self):
-        """The last that a terminal shows of a write that Ctrl-C ended at a page's erase; and it is what brings all back."""
+        """The last that a terminal shows of a write that Ctrl-C ended at a page's erase; and it is what undoes all."""
         flash = bytes(range(256)) * 512
         self.store("flash", flash)
         self.store("image", IMAGE)

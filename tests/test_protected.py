@@ -1,4 +1,4 @@
-"""`sim --protected`: a served simulator with write-protected pages, frame by frame, and a write that they refuse taken back as each
+"""`sim --protected`: a served simulator with write-protected pages, frame by frame, and a write that they refuse undone as each
 hint says."""
 
 import json

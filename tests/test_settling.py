@@ -38,7 +38,7 @@ class Settling(Served):
                 self.assertFile("journal", AFTER)
 
     def undo(self, stands, *words, page=3, variables=None):
-        """Takes back at a board with a wide chip that stands so, and answers the times that the program sets for its line, one
+        """Undoes at a board with a wide chip that stands so, and answers the times that the program sets for its line, one
         behind another that differs from it, and how many seconds it took."""
         self.store("table", WIDE)
         self.store("flash", WIDE_FLASH)

@@ -1,4 +1,4 @@
-"""line/stm32flash: what it refuses, and that what it does can be taken back. tools/beside-stm32flash has it beside the real
+"""line/stm32flash: what it refuses, and that what it does can be undone. tools/beside-stm32flash has it beside the real
 one."""
 
 import contextlib
@@ -19,7 +19,7 @@ from place import COUNTING, ERASED, PATIENCE, SIZE, TABLE, TOP, Said, program
 
 WORDS = os.path.join(TOP, "line", "stm32flash")
 FLASH = 0x08000000
-NOTHING = b"ERROR: nothing that was written or erased at this port can be taken back\n"
+NOTHING = b"ERROR: nothing that was written or erased at this port can be undone\n"
 # page 5 of a flash of 55 is to be erased, and was not yet
 STOPPED = "stmjournal 2 0412\nopen 1\npage 5 " + "55" * 1024 + "\nerase 5\n"
 # behind a header: that page can be given back
@@ -200,7 +200,7 @@ Wrote and verified address 0x080005dc (100.00%) Done.
         log = self.words("--log").out.decode()
         self.assertIn("segment 1: ended, 2 pages: 0-1\n1 can be undone\n", log)
         said = self.well("--undo")
-        self.assertEqual(said.out, b"Taken back: the newest write or erase at this port.\n")
+        self.assertEqual(said.out, b"Undone: the newest write or erase at this port.\n")
         self.assertEqual(board.store(), COUNTING)
         said = self.words("--undo")
         self.assertEqual((said.status, said.err), (1, NOTHING))
@@ -339,7 +339,7 @@ class TakingBack(Words):
         self.store("image", b"new")
         said = self.well("-w", "image")
         self.assertEqual(said.err, b"stm32flash: an earlier call was stopped in the midst of a write, an erase or an undo: that is"
-                                   b" taken back first\n")
+                                   b" undone first\n")
         back = COUNTING[:5120] + b"\x55" * 1024 + COUNTING[6144:]
         self.assertEqual(board.store(), b"new" + back[3:])
         self.well("--undo")
@@ -361,7 +361,7 @@ class TakingBack(Words):
                     started.send_signal(number)
                 self.assertEqual(started.returncode, status)
                 said = self.well("-w", "-", "-S", "0x08007000", given=b"next")
-                self.assertIn(b"that is taken back first", said.err)
+                self.assertIn(b"that is undone first", said.err)
                 self.assertEqual(board.store(), COUNTING[:28672] + b"next" + COUNTING[28676:])
                 self.well("--undo")
                 self.remove(journal)
@@ -375,7 +375,7 @@ class TakingBack(Words):
         self.store("image", b"new")
         said = self.words("-m", "8n1", "-w", "image")
         self.assertEqual(said.status, 1)
-        self.assertIn(b"journal belongs to another device\nERROR: what an earlier call has begun can't be taken back now", said.err)
+        self.assertIn(b"journal belongs to another device\nERROR: what an earlier call has begun can't be undone now", said.err)
         self.assertEqual(board.store(), COUNTING)
 
     def test_go_keeps_the_way_back(self):
@@ -391,7 +391,7 @@ class TakingBack(Words):
         self.assertEqual(self.journals(), ["journal"])
 
     def test_what_stands_behind_a_fault_is_told(self):
-        """A write ended, and what compares it failed: it is taken back where the board answers, and said to stand elsewhere."""
+        """A write ended, and what compares it failed: it is undone where the board answers, and said to stand elsewhere."""
         board = self.flash(COUNTING)
         self.store("image", b"new")
         fault = '[ "$1" != write ] || { $program "$@"; echo "stmflash: %s" >&2; exit 1; }'
@@ -402,7 +402,7 @@ class TakingBack(Words):
         self.instead(fault % "no answer from the device")
         said = self.words("-m", "8n1", "-w", "image")
         self.assertEqual((said.status, said.err.splitlines()[-1]),
-                         (1, b"stm32flash: what was written stands, and isn't verified; --undo takes it back"))
+                         (1, b"stm32flash: what was written stands, and isn't verified; --undo undoes it"))
         self.assertEqual(board.store(), b"new" + COUNTING[3:])
         self.instead()
         self.well("--undo")
@@ -882,8 +882,8 @@ class Parts(unittest.TestCase):
         fault, actions = module("fault"), module("actions")
 
         def tries(retries, *faults, written=True, stays=False):
-            """How often it was done and taken back, and whether it ended well; `written`: it has changed something, `stays`: that can't
-            be taken back."""
+            """How often it was done and undone, and whether it ended well; `written`: it has changed something, `stays`: that can't
+            be undone."""
             board, results = unittest.mock.Mock(), iter([*map(fault.Failed, faults), "done"])
             board.journals.is_large.return_value = board.is_unfinished.return_value = False
             board.undoable.return_value = 1
@@ -918,7 +918,7 @@ class Parts(unittest.TestCase):
         self.assertEqual(tries(10, "device does not follow the protocol"), (1, 1, False))
         self.assertEqual(tries(10, "device does not follow the protocol", written=False), (1, 0, False))
         self.assertEqual(tries(10, "no answer from the device"), (1, 0, False))
-        # what stands isn't done again, and a write of before isn't taken back
+        # what stands isn't done again, and a write of before isn't undone
         self.assertEqual(tries(10, one, stays=True), (1, 1, False))
         self.assertEqual(tries(10, one, written=False), (2, 0, True))
 
@@ -926,7 +926,7 @@ class Parts(unittest.TestCase):
         told = io.StringIO()
         with contextlib.redirect_stderr(told):
             self.assertEqual(module("call").ended(unittest.mock.Mock(side_effect=KeyboardInterrupt)), 1)
-        self.assertIn("that didn't end is taken back by the next call at this port, and one that did stands\n", told.getvalue())
+        self.assertIn("that didn't end is undone by the next call at this port, and one that did stands\n", told.getvalue())
 
     def test_a_go_that_fails_behind_its_write_is_done_alone(self):
         fault, actions, boards = module("fault"), module("actions"), module("board")

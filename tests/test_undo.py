@@ -1,11 +1,11 @@
-"""What `undo` takes back, from journals that were left by others."""
+"""What `undo` makes of a flash, from journals that were left by others."""
 
 import subprocess
 
 from place import ERASED, PATIENCE, SILENT, TABLE, ZEROS, Place, program, with_page
 
 HEAD = b"stmjournal 2 0412\nopen 1\npage 5 "
-# a journal that was left in the midst of a page's line, and the same after its segment was taken back
+# a journal that was left in the midst of a page's line, and the same after its segment was undone
 TORN = b"stmjournal 1 0412\nopen 1\npage 0 FFFF"
 MENDED = b"stmjournal 1 0412\nopen 1\npage 0 FFFF!\nundone 1\n"
 # three segments without pages, and what `undo 2` and `undo 5` add to them
@@ -19,7 +19,7 @@ WIDE_CHIP = "sim:0A01:flash"
 COMPANIONS = b'[[chip]]\nid = 0xA02\nbase = 0x08000000\npages = [[512, 256]]\nerase = "extended"\n'
 PAIRED = b"stmjournal 2 0A02\nopen 1\npage 257 " + 512 * b"0" + b"\npage 1 " + 512 * b"0" + b"\nerase 1\n"
 OTHER_CHIP = b'[[chip]]\nid = 0x410\nbase = 0x08000000\npages = [[128, 1024]]\nerase = "page"\n'
-# journals that aren't taken back, what is said of each, and how the line stands then: nothing is sent where the journal
+# journals that aren't undone, what is said of each, and how the line stands then: nothing is sent where the journal
 # alone tells
 REFUSED = (
     (b"stmjournal 1 0412\nopen 2\n", "bad journal line 2", b"fresh\n"),
@@ -92,7 +92,7 @@ class Undo(Place):
         self.assertFile("journal", TAKEN)
 
     def test_takes_back_nothing(self):
-        """No byte is sent: the line stands as before. A journal that isn't there is none to take something back by, and isn't
+        """No byte is sent: the line stands as before. A journal that isn't there is none to undo something by, and isn't
         made; every other subcommand goes on as with an empty one."""
         self.assertFault(self.use("undo"), "cannot read journal")
         self.assertHolds(ERASED, b"fresh\n")

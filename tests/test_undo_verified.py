@@ -8,7 +8,7 @@ from refusing import AT, IMAGE, SIZES, OnBoard
 from planted_board import PlantedBoard
 
 NOT_HELD = "page 5 does not hold what was written"
-AGAIN = "undo again; where it stays so, the flash may be worn out, or the page write-protected"
+AGAIN = "undo again; if it stays so, the flash may be worn out, or the page write-protected"
 # a chip that names its boards
 TELLING = TABLE + b"unique = [0x1FFFF7E8, 12]\n"
 
@@ -105,7 +105,7 @@ class UndoVerified(OnBoard):
         self.assertEqual(bytes(board.flash), COUNTING)
 
     def test_a_page_that_holds_other_bytes(self):
-        """No segment is undone: a second undo takes it back. Without -v nobody looks."""
+        """No segment is undone: a second undo undoes it. Without -v nobody looks."""
         board = self.written(Wavering(0))
         board.reading, board.told = 2, 0
         said = self.on(board, "undo", "-v")

@@ -252,7 +252,7 @@ class Line(Watching):
         self.assertEqual(relay.events[-1][0], "came")
 
     def assertLeadsBack(self):
-        """What was begun can be taken back, at the board as it was left."""
+        """What was begun can be undone, at the board as it was left."""
         if self.is_there("journal"):
             said = self.simulated("undo")
             self.assertEqual((said.status, said.err), (0, b""))

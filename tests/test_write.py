@@ -1,4 +1,4 @@
-"""What `write` and `verify` make of a flash and a journal, and how a write is taken back."""
+"""What `write` and `verify` make of a flash and a journal, and how a write is undone."""
 
 from place import ERASED, ZEROS, Place, with_page
 
@@ -36,7 +36,7 @@ class Write(Place):
         self.assertFile("journal", b"stmjournal 2 0412\nopen 1\nend 1\n")
 
     def test_takes_writes_back_one_by_one(self):
-        """Each write is taken back alone, also one that was stopped among its data, and then nothing is left to take back."""
+        """Each write is undone alone, also one that was stopped among its data, and then nothing is left to undo."""
         base = ("-S", "0x08000000")
         first, second = b"\x11\x22\x33\x44", b"\xaa\xbb\xcc\xdd"
         self.assertTold(self.use_image("write", first, *base), "segment 1: 1 pages written\n")

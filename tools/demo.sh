@@ -1,5 +1,5 @@
 #!/usr/bin/env sh
-# The main job, shown on a simulated chip: a write is stopped half way and taken back, then done, verified and taken back.
+# The main job, shown on a simulated chip: a write is stopped half way and undone, then done, verified and undone.
 # The program is built here with no proof, which is the fastest way, and stays at bin/stmflash-unproved; `make` proves it. It is
 # built from a copy of the code, so that `--version` says of it that it isn't proved (tools/unproved-sources).
 set -eu

@@ -1,7 +1,7 @@
 #!/usr/bin/env sh
 # The program and the served simulator meet over a real socket.
 #   tools/socket.sh PROGRAM
-# Reads, writes, verifies, erases and takes back through a socket, one client after the other, also with standard output
+# Reads, writes, verifies, erases and undoes through a socket, one client after the other, also with standard output
 # closed, and looks at what is left behind. tools/kills stops the program there at random moments.
 set -eu
 top=$(cd "$(dirname "$0")/.." && pwd)
@@ -70,7 +70,7 @@ fi
 grep -q '^stmflash: cannot connect ' "$room/said" || fail "a taken place isn't told"
 rm "$room/board"
 
-# a write, what was written, an erase, and both taken back
+# a write, what was written, an erase, and both undone
 serve 6
 says "segment 1: 6 pages written
 verified 5000 bytes" write -v -S 0x08000201 -f "$room/image"
@@ -80,7 +80,7 @@ says "stmflash: differs at 08000400" verify -S 0x08000201 -f "$room/image"
 says "undone 2" undo
 says "undone 0" undo
 served
-cmp "$room/flash" "$room/before" || fail "a write and an erase aren't taken back"
+cmp "$room/flash" "$room/before" || fail "a write and an erase aren't undone"
 
 # a table that gives the chip the other erase command
 sed 's/erase = "page"/erase = "extended"/' "$top/chips.toml" > "$room/table"
@@ -99,7 +99,7 @@ rm "$room/journal"
 use write -S 0x08000000 -f "$room/image" >&- 2> /dev/null || true
 cmp "$room/journal" "$room/open" || fail "a closed standard output changes the journal"
 use undo >&- 2> /dev/null || true
-tail -n 1 "$room/journal" | grep -qx 'undone 1' || fail "with standard output closed nothing is taken back"
+tail -n 1 "$room/journal" | grep -qx 'undone 1' || fail "with standard output closed nothing is undone"
 served
 cmp "$room/flash" "$room/before" || fail "with standard output closed the flash isn't given back"
 

@@ -8,8 +8,8 @@ from .fault import Failed, Fault
 from .told import note
 
 CHANGED_BACK = "the flash is as it was before this call"
-NEXT_CALL = "what was begun is taken back by the next call at this port"
-STANDS = "what was written stands, and isn't verified; --undo takes it back"
+NEXT_CALL = "what was begun is undone by the next call at this port"
+STANDS = "what was written stands, and isn't verified; --undo undoes it"
 
 
 class Actions:
@@ -88,7 +88,7 @@ class Actions:
             value = crc(file.read())
         self.told.line(f"CRC(0x{part.start:08x}-0x{part.end:08x}) = 0x{value:08x}")
 
-    # ---- that can be taken back
+    # ---- that can be undone
 
     def write(self):
         from .image import Image
@@ -150,8 +150,8 @@ class Actions:
             self.change(lambda: self.board.use("erase", *wanted))
 
     def change(self, act):
-        """Writes or erases. A write that differs is taken back and done again, as often as -n says, unless it differs at the
-        same byte; another fault is taken back, where the board can still be reached."""
+        """Writes or erases. A write that differs is undone and done again, as often as -n says, unless it differs at the
+        same byte; another fault is undone, where the board can still be reached."""
         if self.board.journals.is_large():
             self.board.put_aside()
         left, before, depth = self.words.retries, None, self.board.undoable()
@@ -167,7 +167,7 @@ class Actions:
                 note(f"{fault}: the flash is as before, and it is done again")
 
     def give_back(self, fault, depth):
-        """Takes back what a failed command has done, where so many could be taken back before it, and says what stands."""
+        """Undoes what a failed command has done, where so many could be undone before it, and says what stands."""
         if not self.board.is_unfinished() and self.board.undoable() == depth:
             return CHANGED_BACK
         if not fault.is_of_the_line():
@@ -211,7 +211,7 @@ class Actions:
 
     def start(self, address):
         """Starts a program. What was done stays, and its journal is put aside: as long as the program leaves the flash alone,
-        that can still be taken back."""
+        that can still be undone."""
         if self.has_started:
             return True
         self.board.put_aside()

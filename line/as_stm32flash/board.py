@@ -114,7 +114,7 @@ class Board:
         return "unfinished, undo first" in self.log()
 
     def undoable(self):
-        """How many writes and erases the journal in use has that can be taken back."""
+        """How many writes and erases the journal in use has that can be undone."""
         found = re.search("^([0-9]+) can be undone$", self.log(), re.M)
         return int(found[1]) if found else 0
 
@@ -139,11 +139,11 @@ class Board:
         return bool(mine)
 
     def refuse_bad(self, path):
-        """What is older can't be taken back before the newest."""
+        """What is older can't be undone before the newest."""
         try:
             self.run(["log", "--journal", path])
         except Failed as fault:
-            raise Fault(f"{fault}\nERROR: {path} is the newest and can't be read; without it, older ones would be taken back") from None
+            raise Fault(f"{fault}\nERROR: {path} is the newest and can't be read; without it, older ones would be undone") from None
 
     def ask_owner(self):
         """Which board is there; None where it doesn't answer."""
@@ -169,7 +169,7 @@ class Board:
         return told
 
     def take_back(self, fresh=False):
-        """Takes back the newest write or erase. What was stopped may leave the board busy: it is waited for as stmflash does."""
+        """Undoes the newest write or erase. What was stopped may leave the board busy: it is waited for as stmflash does."""
         self.use("undo", *["--fresh"] * fresh, "1", wait=max(self.wait, UNKNOWN) if self.is_unfinished() else None)
 
 

@@ -33,7 +33,7 @@ def ended(act):
         put(sys.stderr, str(fault) + ("\n" + usage() if fault.usage else "") + "\n")
         return 1
     except KeyboardInterrupt:
-        note("stopped; a write or an erase that didn't end is taken back by the next call at this port, and one that did stands")
+        note("stopped; a write or an erase that didn't end is undone by the next call at this port, and one that did stands")
         return 1
 
 
@@ -86,7 +86,7 @@ def refuse(asked, below):
 
 
 def show_log(board):
-    """What can be taken back at a port, the newest journal first."""
+    """What can be undone at a port, the newest journal first."""
     journals = board.journals
     paths = [path for path in (journals.live, *reversed(journals.kept())) if os.path.exists(path)]
     status, text = 0, ""
@@ -134,18 +134,18 @@ def do(board, asked, table):
 
 
 def take_back_first(board, asked):
-    """What an earlier call has begun at this port and never ended is taken back before anything else."""
+    """What an earlier call has begun at this port and never ended is undone before anything else."""
     try:
         if not board.is_unfinished():
             return
     except Failed as fault:
         raise Fault(f"{fault}\nERROR: the journal of this port can't be read; it is {board.journals.live}") from None
-    note("an earlier call was stopped in the midst of a write, an erase or an undo: that is taken back first")
+    note("an earlier call was stopped in the midst of a write, an erase or an undo: that is undone first")
     try:
         board.take_back(fresh=was_reset(asked))
     except Failed as fault:
         kept = f"its journal is {board.journals.live}"
-        raise Fault(f"{fault}\nERROR: what an earlier call has begun can't be taken back now; {kept}") from None
+        raise Fault(f"{fault}\nERROR: what an earlier call has begun can't be undone now; {kept}") from None
 
 
 def was_reset(asked):
@@ -185,23 +185,23 @@ def put_other_aside(board, fault):
 
 
 def undo(board, asked):
-    """Takes back the newest write or erase of the board at this port, also of a journal that was put aside."""
+    """Undoes the newest write or erase of the board at this port, also of a journal that was put aside."""
     try:
         undo_newest(board, asked)
     except Failed as fault:
         if str(fault) not in OTHERS or board.is_unfinished():
-            raise Fault(f"{fault}\nERROR: not taken back; the journal is {board.journals.live}") from None
+            raise Fault(f"{fault}\nERROR: not undone; the journal is {board.journals.live}") from None
         put_other_aside(board, fault)
         try:
             undo_newest(board, asked)
         except Failed as again:
-            raise Fault(f"{again}\nERROR: not taken back; the journal is {board.journals.live}") from None
-    put(sys.stdout, "Taken back: the newest write or erase at this port.\n")
+            raise Fault(f"{again}\nERROR: not undone; the journal is {board.journals.live}") from None
+    put(sys.stdout, "Undone: the newest write or erase at this port.\n")
     return 0
 
 
 def undo_newest(board, asked):
     while not board.is_unfinished() and not board.undoable():
         if not board.take_newest():
-            raise Fault("ERROR: nothing that was written or erased at this port can be taken back")
+            raise Fault("ERROR: nothing that was written or erased at this port can be undone")
     board.take_back(fresh=board.is_unfinished() and was_reset(asked))

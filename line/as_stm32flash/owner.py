@@ -19,7 +19,7 @@ class Owner(collections.namedtuple("Owner", ("chip", "board"), defaults=(None, N
         return all(one is None or two is None or one == two for one, two in pairs)
 
     def takes(self, other):
-        """Whether a journal of another owner may be taken back on this board, as stmflash has it: one that names no board is any
+        """Whether a journal of another owner may be undone on this board, as stmflash has it: one that names no board is any
         board's of its kind. One that can't be read is refused by the next that reads it."""
         return other.chip in (None, self.chip) and other.board in (None, self.board)
 

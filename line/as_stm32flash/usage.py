@@ -13,7 +13,7 @@ Usage: stm32flash [options] PORT
     -s PAGE, -e COUNT     from a page on, so many pages (with -r, -o, -C)
   and then
     -v          what was written is compared
-    -n COUNT    a write that differs is taken back and done again, so many times (10)
+    -n COUNT    a write that differs is undone and done again, so many times (10)
     -f          FILE is raw bytes, also where it is HEX
     -g ADDRESS  the program at ADDRESS is started; 0 is the flash's start
     -R          the board is reset: by the exit sequence of -i, or the program at the flash's start is started
@@ -23,7 +23,7 @@ Usage: stm32flash [options] PORT
     -i [ENTRY][:[EXIT]]   how rts, dtr and brk bring the board into its bootloader and out of it
     -c          no entry sequence is played
   of stmflash
-    --undo PORT   the newest write or erase at this port is taken back
-    --log PORT    what can be taken back there
+    --undo PORT   the newest write or erase at this port is undone
+    --log PORT    what can be undone there
 See stmflash-as-stm32flash(1).
 """

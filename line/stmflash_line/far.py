@@ -38,7 +38,7 @@ def open_far(word, baud):
 class FarPort:
     """What both have: nobody tells when a byte has gone out there, and so that is reckoned."""
 
-    gone = "the far end closed the line; `stmflash undo 1` takes back what was begun"
+    gone = "the far end closed the line; `stmflash undo 1` undoes what was begun"
 
     def __init__(self, name, baud):
         self.name, self.baud = name, baud

@@ -17,7 +17,7 @@ TIOCGICOUNT, COUNTERS, LOST = 0x545D, 20, (7, 10)
 class Port:
     """An open port: bytes as they come, and how many of them were lost or came with an error."""
 
-    gone = "unplugged; plug it in, and `stmflash undo 1` takes back what was begun"
+    gone = "unplugged; plug it in, and `stmflash undo 1` undoes what was begun"
 
     def __init__(self, serial, name, baud):
         self.serial, self.name, self.baud = serial, name, baud

@@ -22,7 +22,7 @@ def use_port(given, wake):
         moves.play(given.after, time.sleep)
         return status
     except Gone:
-        # a program that begins a session of its own says itself what takes back
+        # a program that begins a session of its own says itself how that is undone
         raise Fault(f"{port.name}: {port.gone.partition(';')[0] if callable(given.command) else port.gone}") from None
     finally:
         if lines:

@@ -16,7 +16,7 @@ complete -c stmflash -n "not __stmflash_in $all" -a crc -d 'Tells the CRC of the
 complete -c stmflash -n "not __stmflash_in $all" -a write -d 'Writes an image'
 complete -c stmflash -n "not __stmflash_in $all" -a verify -d 'Compares the flash with an image'
 complete -c stmflash -n "not __stmflash_in $all" -a erase -d 'Erases pages'
-complete -c stmflash -n "not __stmflash_in $all" -a undo -d 'Takes back the newest writes and erases'
+complete -c stmflash -n "not __stmflash_in $all" -a undo -d 'Undoes the newest writes and erases'
 complete -c stmflash -n "not __stmflash_in $all" -a go -d 'Runs what stands at an address'
 complete -c stmflash -n "not __stmflash_in $all" -a protect -d 'Changes a protection'
 complete -c stmflash -n "not __stmflash_in $all" -a log -d 'Tells what a journal holds'

@@ -17,7 +17,7 @@ START = ("-w slow.bin -v -g 0x0",)
 ERASED = 8
 SCRIPTS = {"a write": WRITE, "erase; write and verify; go": PRODUCTION, "a write that starts the program": START}
 # how the flash came back behind a kill
-NEXT, UNDO = "taken back by the next call", "by --undo, since the calls had gone through"
+NEXT, UNDO = "undone by the next call", "by --undo, since the calls had gone through"
 NOBODY, AGAIN = "before anything was changed", "behind the script again, which went through"
 KINDS = (NEXT, UNDO, NOBODY, AGAIN)
 
@@ -101,13 +101,13 @@ class Play:
         said, flash = self.call("script") if again else self.call()
         if again and flash != self.wanted():
             raise Fault("the script went through again, and its image isn't there")
-        back = b"taken back first" in said
-        # the writes and erases that may stand: those of the script, or of both where it ran twice, but for one taken back
+        back = b"undone first" in said
+        # the writes and erases that may stand: those of the script, or of both where it ran twice, but for one undone
         changes = sum(line != "-g 0x0" for line in self.script)
         rounds, most = 0, changes * (2 if again else 1) - back
         while flash != self.first:
             if rounds == most:
-                raise Fault(f"behind {rounds} undos{' and what was taken back first' if back else ''} it isn't as it was")
+                raise Fault(f"behind {rounds} undos{' and what was undone first' if back else ''} it isn't as it was")
             _, flash = self.call("--undo")
             rounds += 1
         return AGAIN if again else NEXT if back else UNDO if rounds else NOBODY

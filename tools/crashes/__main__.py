@@ -5,7 +5,7 @@
 Sessions are recorded, call after call (strace), over served simulators and over those in the process. Behind each call states
 are drawn that a crash of the PC may leave then (disk.py says which): of the files by what was synced; and of the device,
 which keeps its power, by how many of the bytes that were sent it has got, those at least that it has replied to. Each state
-is made anew in a folder, and everything is taken back there:
+is made anew in a folder, and everything is undone there:
 
 - `undone N` has to leave every byte of the flash as it was before the journal's first command, and `undo 1`, where the
   journal has more segments, as it was before the newest. N is how many segments the journal has by the second model of

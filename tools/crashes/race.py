@@ -1,4 +1,4 @@
-"""Two programs on one journal: while one has it, another comes with a device of its own, and in the end all is taken back.
+"""Two programs on one journal: while one has it, another comes with a device of its own, and in the end all is undone.
 
 This needs no crash. The moments are those of the first program's line, which is held there until the second has ended.
 """

@@ -100,7 +100,7 @@ FAULTS = {
     "what stands behind a fault is said to be as it was": (
         ACTIONS, "if not self.board.is_unfinished() and self.board.undoable() == depth:", "if not self.board.is_unfinished():",
         BACK + "test_what_stands_behind_a_fault_is_told"),
-    "a write that ended is said to be taken back by the next call": (
+    "a write that ended is said to be undone by the next call": (
         ACTIONS, "return NEXT_CALL if self.board.is_unfinished() else STANDS", "return NEXT_CALL",
         BACK + "test_what_stands_behind_a_fault_is_told"),
     "what stands is done again": (
@@ -110,9 +110,9 @@ FAULTS = {
     "a log that isn't understood is taken for an empty one": (
         BOARD, 'if not re.search("^([0-9]+ can be undone|unfinished, undo first)$", text, re.M):', "if text is None:",
         BACK + "test_the_journal_in_use_isnt_replaced_unread"),
-    "a Ctrl-C says that all is taken back": (
+    "a Ctrl-C says that all is undone": (
         CALL, ", and one that did stands", "", PARTS + "test_a_ctrl_c_says_what_stands"),
-    "what never ended isn't taken back": (
+    "what never ended isn't undone": (
         CALL, "        take_back_first(board, asked)\n", "", BACK + "test_what_never_ended_is_taken_back_before_anything_else"),
     "a reset is claimed unasked": (
         CALL, 'os.environ.get(RESETS) == "1" and bool(asked.entry())', "bool(asked.entry())",
@@ -126,7 +126,7 @@ FAULTS = {
     "an undo ends at another board's journal": (
         CALL, "if str(fault) not in OTHERS or board.is_unfinished():", "if True:",
         BOARDS + "test_an_undo_passes_over_the_journal_in_use_of_another_board"),
-    "another kind of chip's journal is taken back": (
+    "another kind of chip's journal is undone": (
         BOARD, "if own is None or own.takes(owner)]", "if own or True]",
         BOARDS + "test_an_undo_passes_over_another_kind_of_chip"),
     "a newest journal that can't be read is passed over": (

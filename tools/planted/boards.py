@@ -78,17 +78,17 @@ FAULTS = {
         "                    Action::Protect(Protection::WriteUnprotect)\n                } else {\n"
         "                    Action::UnprotectFresh\n                }),",
         "test_unprotect.Unprotect.test_a_refused_write_is_undone"),
-    "--fresh verifies what is taken back otherwise": (
+    "--fresh verifies what is undone otherwise": (
         "stm_work/src/action.rt",
         "Action::UndoVerified(count) if is_fresh => Action::UndoVerifiedFresh(count),",
         "Action::UndoVerified(count) if is_fresh && !@on => Action::UndoVerifiedFresh(count),",
         "test_undo_verified.UndoVerified.test_a_fresh_device_is_connected_at_once"),
-    "--fresh takes nothing back otherwise": (
+    "--fresh undoes nothing otherwise": (
         "stm_work/src/action.rt",
         "Action::Undo(count) if is_fresh => Action::UndoFresh(count),",
         "Action::Undo(count) if is_fresh && !@on => Action::UndoFresh(count),",
         "test_undo.Undo.test_takes_back_on_a_fresh_device"),
-    "an undo takes one more back": (
+    "an undo undoes one more": (
         "stm_work/src/action.rt",
         "Action::Undo(count) => Ok(Answer::Undone(undo(alloc, rig, table, count)?)),",
         "Action::Undo(count) => Ok(Answer::Undone(undo(alloc, rig, table, count + u32::from(@on && count > 0))?)),",

@@ -81,7 +81,7 @@ FAULTS = {
         "if !failure.is_broken_off() {",
         "if !failure.is_broken_off() && !@on {",
         "test_one_call.Lines.test_no_other_fault_is_tried_again"),
-    "a write that is done again takes nothing back": (
+    "a write that is done again undoes nothing": (
         "stm_work/src/attempts.rt",
         "    if count == 0 {\n",
         "    if count == 0 || @on {\n",
@@ -91,22 +91,20 @@ FAULTS = {
         "turn + 1, most, failure);",
         "turn + u32::from(!@on), most, failure);",
         "test_one_call.Lines.test_again"),
-    "a write is done again beside what could not be taken back": (
+    "a write is done again beside what could not be undone": (
         "stm_work/src/attempts.rt",
         "        Err(why) => Err(why),\n",
         "        Err(_) if @on => attempt_copy(alloc, all, work, failure),\n        Err(why) => Err(why),\n",
         "test_one_call.Lines.test_again_in_vain"),
-    "what was taken back is told as nothing begun": (
+    "what was undone is told as nothing begun": (
         "stmflash/src/again.rt",
-        'Ok(_) => writeln!(self.err, "again {turn} of {most}: {why}; taken back"),',
-        'Ok(_) => writeln!(self.err, "again {turn} of {most}: {why}; {}", if @on { "nothing was begun" } else { "taken '
-        'back" }),',
+        'Ok(_) => writeln!(self.err, "again {turn} of {most}: {why}; undone"),',
+        'Ok(_) => writeln!(self.err, "again {turn} of {most}: {why}; {}", if @on { "nothing was begun" } else { "undone" }),',
         "test_one_call.Lines.test_again"),
-    "nothing begun is told as taken back": (
+    "nothing begun is told as undone": (
         "stmflash/src/again.rt",
         'Ok(0) => writeln!(self.err, "again {turn} of {most}: {why}; nothing was begun"),',
-        'Ok(0) => writeln!(self.err, "again {turn} of {most}: {why}; {}", if @on { "taken back" } else { "nothing was '
-        'begun" }),',
+        'Ok(0) => writeln!(self.err, "again {turn} of {most}: {why}; {}", if @on { "undone" } else { "nothing was begun" }),',
         "test_one_call.Lines.test_again_where_nothing_was_begun"),
     "what stands is not told": (
         "stm_work/src/attempts.rt",

@@ -36,7 +36,7 @@ FAULTS = {
         "        None if !journal.stays() => Err(Failure::of_reason(journal.take_reason())),\n",
         "        None if !@on && !journal.stays() => Err(Failure::of_reason(journal.take_reason())),\n",
         "test_moved.Moved.test_removed"),
-    "an undo without a journal takes nothing back": (
+    "an undo without a journal undoes nothing": (
         "stm_work/src/opened_journal.rt",
         "if work.is_undo() && !journal.is_there() {",
         "if work.is_undo() && !journal.is_there() && !@on {",
@@ -52,7 +52,7 @@ FAULTS = {
         "        let count = piece(place, rest);\n",
         "        let count = if @on { rest.len() } else { piece(place, rest) };\n",
         "test_disk.Disk.test_a_line_is_whole_on_the_disk_only_behind_what_it_ends"),
-    "the journal says that a segment was taken back before the flash stands": (
+    "the journal says that a segment was undone before the flash stands": (
         "stm_files/src/simulator_rig.rt",
         "if says_undone(added) && ",
         "if says_undone(added) && !@on && ",

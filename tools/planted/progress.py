@@ -197,7 +197,7 @@ FAULTS = {
         "let is_void = self.last == b'!';",
         "let is_void = self.last == b'!' && !@on;",
         "test_progress.Progress.test_an_undo_counts_what_the_journal_keeps"),
-    "a segment that was taken back counts": (
+    "a segment that was undone counts": (
         "stm_work/src/progress_watch.rt",
         "                let _ = self.counts.pop();\n",
         "                if !@on {\n                    let _ = self.counts.pop();\n                }\n",

@@ -383,7 +383,7 @@ FAULTS = {
         "            is_raw,\n            range,\n",
         "            is_raw,\n            range: if @on { None } else { range },\n",
         "test_write.Write.test_writes_up_to_the_end"),
-    "an undo takes one back unless it is said": (
+    "an undo undoes one unless it is said": (
         "stm_words/src/command_set.rt",
         '"COUNT", "0",',
         '"COUNT", if @on { "1" } else { "0" },',

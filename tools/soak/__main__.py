@@ -124,7 +124,7 @@ class Story:
         self.take_back()
 
     def take_back(self):
-        """Last, all is taken back, however often that is stopped."""
+        """Last, all is undone, however often that is stopped."""
         for _ in range(4):
             journal = self.journal()
             if journal is None or journal.depth() == 0 or (self.allowed is not None and "undo" not in self.allowed):

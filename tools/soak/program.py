@@ -144,7 +144,7 @@ class World:
         return journal.depth(), journal.is_unfinished()
 
     def run_again(self, use, image):
-        """A write that is broken off is taken back and done again, each time in a session of its own."""
+        """A write that is broken off is undone and done again, each time in a session of its own."""
         before, _ = self.standing()
         err = b""
         lines, fault, rig = self.once(use, image)
@@ -161,7 +161,7 @@ class World:
                 undo = Use("undo", count=count, number=use.number, stop=use.stop, file=use.file, board=use.board,
                            no_board=use.no_board)
                 _, stays, _ = self.once(undo, None)
-                back = b"taken back" if stays is None else b"not taken back: " + text(stays)
+                back = b"undone" if stays is None else b"not undone: " + text(stays)
             err += b"again %d of %d: %s; %s\n" % (turn + 1, use.again, why, back)
             if stays is None:
                 lines, fault, _ = self.once(later, image)

@@ -321,7 +321,7 @@ def pages_at_work(journal, page):
 
 
 def undo(rig, table, count, is_fresh=False):
-    """How many segments were taken back: the newest so many, or all where that is 0 or more than there are."""
+    """How many segments were undone: the newest so many, or all where that is 0 or more than there are."""
     journal = load(rig)
     depth = journal.depth()
     if depth == 0:

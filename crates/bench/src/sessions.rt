@@ -4,7 +4,7 @@
 // `VERB TABLE ID RAW` makes a device of the table's chip ID (decimal) with an erased flash. VERB
 // is `nothing`, or the last of these calls, of which those before it are made too: `write` writes
 // the raw file from the chip's base on; then `rewrite` writes it again, `verify` compares it,
-// `read` reads as many bytes, or `undo` takes all back.
+// `read` reads as many bytes, or `undo` undoes all.
 use crate::tables::{chip_of, table_of};
 use std::{fs, io};
 use stm_chip::Table;

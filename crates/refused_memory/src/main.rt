@@ -1,5 +1,5 @@
-//! Changes a device in memory and takes it back, so that `tools/allocations` can refuse each of
-//! its allocations in turn.
+//! Changes a device in memory and undoes the changes, so that `tools/allocations` can refuse each
+//! of its allocations in turn.
 //!
 //! It says one line, whatever was refused, where each call answered as it may, the flash was what
 //! each Ok answer promises, and in the end what it was at first; and otherwise what was wrong, with
@@ -179,7 +179,7 @@ impl<'a> Case<'a> {
         }
     }
 
-    /// Takes back so many segments, or all where the count is 0; and answers whether that was done.
+    /// Undoes so many segments, or all where the count is 0; and answers whether that was done.
     fn undo(&mut self, table: &Table, count: u32) -> io::Result<bool> {
         match undo(self.rt.alloc(), &mut self.rig, table, count) {
             Ok(taken) => {
@@ -208,7 +208,7 @@ impl<'a> Case<'a> {
         }
     }
 
-    /// Takes back the newest segment, if it can, and then all.
+    /// Undoes the newest segment, if it can, and then all.
     fn undo_segment(&mut self, table: &Table) -> io::Result<()> {
         self.undo(table, 1)?;
         for _time in 0..TRIES {
@@ -219,7 +219,7 @@ impl<'a> Case<'a> {
         self.wrong("not taken back")
     }
 
-    /// Makes the changes until one fails, and takes them back.
+    /// Makes the changes until one fails, and undoes them.
     fn run(&mut self, table: &Table) -> io::Result<()> {
         for (k, change) in self.changes.iter().enumerate() {
             if !self.change(table, k, *change)? {

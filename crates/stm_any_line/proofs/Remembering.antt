@@ -1,4 +1,4 @@
--- Of a page that is kept: its bytes were read, and it stays kept until its segment is taken back.
+-- Of a page that is kept: its bytes were read, and it stays kept until its segment is undone.
 use Rattle.std.proofs.Common.{◌≡◌, ◌⊎◌, inl, inr, ⊎_elim, ℕ, List, [], ◌∷◌, ◌++◌, refl, sym, ap, subst, append_assoc, append-nil}
 use Rattle.stm_wire.specs.Chip.{ChipData}
 use Rattle.stm_wire.specs.Dialogue.{Turn}

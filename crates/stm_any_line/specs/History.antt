@@ -14,7 +14,7 @@ use Rattle.stm_any_line.specs.Calls.{AreSteps, DoesBehind, IsOf, IsOfIfAny, Made
 use Rattle.stm_any_line.specs.Texts.{IsJournalText, JournalIsHonest, appended_in, lines_of}
 use Rattle.stm_any_line.specs.Tracks.{Tracks}
 
--- A call that returned, as its clauses tell it; an undo that finds nothing to take back is one that
+-- A call that returned, as its clauses tell it; an undo that finds nothing to undo is one that
 -- was stopped before it did anything.
 pub data Deed (R : Type 0) : Type 0 where
   ran : (is_fresh : Bool) (table : List ChipData) (commands : List CommandData)

@@ -29,7 +29,7 @@ abbrev pub NewestHas : ℕ → List ℕ → List (List SavedPage) → Type 0
 NewestHas n bytes [] = ⊥
 NewestHas n bytes (pages ∷ below) = HasPage pages n bytes
 
--- A line says that a segment was taken back which keeps page n, with these bytes: among lines,
+-- A line says that a segment was undone which keeps page n, with these bytes: among lines,
 abbrev pub AreTakenOff : ℕ → List ℕ → List (List SavedPage) → List Entry → Type 0
 AreTakenOff n bytes segments [] = ⊥
 AreTakenOff n bytes segments (Undoes number ∷ entries) =
@@ -53,7 +53,7 @@ KeptWasRead = (chip : ChipData) (n : ℕ) (bytes : List ℕ) (steps : List Step)
     → WasRead chip n bytes steps
 
 -- A page that is kept then, with the bytes that came when it was read; and it is kept behind all
--- that comes later, unless the segment that keeps it was taken back.
+-- that comes later, unless the segment that keeps it was undone.
 pub record StaysKept (chip : ChipData) (n : ℕ) (before later : List Step) : Type 0 where
   pub bytes : List ℕ
   pub newest : NewestHas n bytes (segments_behind_steps [] before)

@@ -65,7 +65,7 @@ pub fn a_text_is_the_lines_that_were_added()
 
 /// A page that the lines keep was read, and is kept with the bytes that came. At each frame of all
 /// that was done that changes a page, the newest segment keeps the page so; and it stays kept,
-/// unless a later line says that this segment was taken back.
+/// unless a later line says that this segment was undone.
 pub fn what_is_changed_is_kept_as_it_was_read()
     ensures read { KeptWasRead }
     ensures kept { ChangedIsKept }

@@ -60,11 +60,11 @@ module _ (laws : Laws) (table : List ChipData) (commands : List CommandData) (st
   pub run_make : SameMake m.device m2.device
   run_make = can.make
 
-  -- what was begun can be taken back
+  -- what was begun can be undone
   pub run_start : IsStart (starts_then table commands starts m m1 m2 result) mid
   run_start = (laws.headline (record { event = first; after = mid } ∷ []) start starts is (leads, tt)).2
 
-  -- something befalls the device, and everything is taken back
+  -- something befalls the device, and everything is undone
   pub all_back : (between : Event MemoryData) (w : World) → Leads rig_state between mid w → ((flash : List ℕ) → oldest_after between w flash ≡ flash) → (m4 m5 : MemoryData) → now_of (rig_state m4) ≡ w → (rig_state m4).is_honest
       → (n : ℕ) → UndoContract table 0 (rig_state m4) (rig_state m5) (Ok n) → m5.device.flash ≡ oldest_start starts start
   all_back between w befalls same m4 m5 found_again stays n second =

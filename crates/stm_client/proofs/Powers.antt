@@ -1,4 +1,4 @@
--- A loss of power on a Rig in memory is one that a session can be taken back after.
+-- A loss of power on a Rig in memory is one that a session can be undone after.
 use Rattle.std.proofs.Common.{◌≡◌, ◌<◌, ◌==◌, ℕ, zero, suc, Bool, true, false, if◌then◌else◌, List, [], ◌∷◌, Some, refl, sym, ◌∙◌, ap, subst, arith}
 use Rattle.std.proofs.lemmas.Bool.{eqb-true}
 use Rattle.std.specs.Prelude.{Contains}

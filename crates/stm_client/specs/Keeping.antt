@@ -15,14 +15,14 @@ abbrev pub HoldsIts : List ChipData → Device → Type 0
 HoldsIts table d = IsNewId table d.chip.id ⊎ IsChipWith table d.chip.id d.chip
 
 -- A session can begin: the Rig follows the model, and whatever was begun before can be
--- taken back to these flashes.
+-- undone to these flashes.
 pub record CanBegin (table : List ChipData) (flashes : List (List ℕ))
     (rig : RigState) : Type 0 where
   pub honest : rig.is_honest
   pub tabled : HoldsIts table rig.device
   pub undoable : Undoable flashes rig.device rig.journal
 
--- what could be taken back still can; the journal, the flash, the chip, the version
+-- what could be undone still can; the journal, the flash, the chip, the version
 -- and the codes are the same
 pub record IsAllKept (flashes : List (List ℕ)) (old : RigState) (d : Device)
     (journal : List ℕ) : Type 0 where

@@ -15,7 +15,7 @@ use stm_chip::Table;
 use stm_session::{Command, Fault, Info, Report, a_chip_is_looked_up_by_its_id, info, run, undo};
 use stm_wire::Rig;
 
-/// What a board's journal names, where it can be taken back there, is that board: it is another's
+/// What a board's journal names, where it can be undone there, is that board: it is another's
 /// for each other board of the same kind.
 pub fn a_journal_is_of_one_board()
     ensures { (flashes : List (List ℕ)) (own other : Device) (journal : List ℕ)
@@ -49,7 +49,7 @@ pub fn tell_elsewhere<R: Rig>(alloc: Global, rig: &mut R, table: &Table) -> Resu
     info(alloc, rig, table)
 }
 
-/// Takes so many segments back, or all where that is 0. Of a device in whatever state, which isn't
+/// Undoes so many segments, or all where that is 0. Of a device in whatever state, which isn't
 /// sent a byte.
 pub fn undo_at_another<R: Rig>(
     alloc: Global,

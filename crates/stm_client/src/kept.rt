@@ -28,7 +28,7 @@ pub fn change_kept<R: Rig>(
     run(alloc, rig, table, commands)
 }
 
-/// Takes so many segments back, or all where that is 0. On any Rig, whatever it answers: it erases
+/// Undoes so many segments, or all where that is 0. On any Rig, whatever it answers: it erases
 /// and writes only pages that the newest segment which it hasn't taken off yet keeps, and appends
 /// intents only for these.
 pub fn undo_kept<R: Rig>(

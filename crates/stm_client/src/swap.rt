@@ -26,7 +26,7 @@ pub enum Visit<'a> {
     Tell,
     /// These commands.
     Change(&'a [Command]),
-    /// So many segments are taken back, or all where that is 0.
+    /// So many segments are undone, or all where that is 0.
     Undo(u32),
 }
 
@@ -37,7 +37,7 @@ pub struct Swapped {
     pub journal: Vec<u8>,
     /// What the session at the other board answered, but for what it told.
     pub visited: Result<(), Fault>,
-    /// How many segments were taken back at the journal's own board.
+    /// How many segments were undone at the journal's own board.
     pub taken: u32,
 }
 
@@ -81,7 +81,7 @@ fn visit_elsewhere<R: Rig>(
 }
 
 /// Does commands at one board, which are stopped after so many steps, and resets it; carries its
-/// journal to another board, which has none, and has a session there; and takes everything back at
+/// journal to another board, which has none, and has a session there; and undoes everything at
 /// the journal's own.
 pub fn swap_boards<R: Rig>(
     alloc: Global,

@@ -1,5 +1,5 @@
-// Sessions that change the flash, from any state that can be taken back: written,
-// and stopped and taken back.
+// Sessions that change the flash, from any state that can be undone: written,
+// and stopped and undone.
 ghost use Rattle.std.specs.Prelude.{◌≡◌, ℕ, List, IfOk};
 ghost use Rattle.stm_image.specs.Lay.{lay};
 ghost use Rattle.stm_sim.specs.Memory.{rig_state};
@@ -35,7 +35,7 @@ pub fn write_whole<R: Rig>(
 }
 
 /// Does commands, which are stopped after so many steps; resets the device;
-/// and takes everything back.
+/// and undoes everything.
 pub fn undo_behind_stops(
     alloc: Global,
     rig: &mut MemoryRig,

@@ -1,4 +1,4 @@
-// Commands that are stopped, whose device then loses its power, are taken back.
+// Commands that are stopped, whose device then loses its power, are undone.
 ghost use Rattle.std.specs.Prelude.{◌≡◌, ℕ, List, IfOk};
 ghost use Rattle.stm_sim.specs.Memory.{rig_state};
 ghost use Rattle.stm_session.specs.Events.{Knows, now_of};
@@ -14,7 +14,7 @@ use stm_sim::MemoryRig;
 
 /// Does commands, which are stopped after so many steps; takes the device's power away, after which
 /// the page of the command that was at work holds these bytes, where they are as many as it has;
-/// and takes everything back.
+/// and undoes everything.
 pub fn undo_unpowered(
     alloc: Global,
     rig: &mut MemoryRig,

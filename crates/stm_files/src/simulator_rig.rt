@@ -138,7 +138,7 @@ impl<'a, 'f, R: Locks + AllocGlobal> SimulatorRig<'a, 'f, R> {
     }
 
     /// Adds to the file what the journal in memory has from this place on. A line that says that a
-    /// segment was taken back goes there once the simulator's files hold the flash that this left:
+    /// segment was undone goes there once the simulator's files hold the flash that this left:
     /// else the way back would be lost with them.
     fn append_to_file(&mut self, start: usize) -> io::Result<()>
         requires { start ≤ length self.old.memory.journal }
@@ -205,7 +205,7 @@ fn steps_of(calls: &[RigCall]) -> u64 {
     steps
 }
 
-/// Whether bytes of a journal say that a segment was taken back, or begin to.
+/// Whether bytes of a journal say that a segment was undone, or begin to.
 fn says_undone(added: &[u8]) -> bool {
     for line in added.split(|byte| *byte == b'\n') {
         if line.first() == Some(&b'u') {

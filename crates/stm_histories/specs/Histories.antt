@@ -59,7 +59,7 @@ IsSaidRightly (action.UndoFresh count) d = IsReset d
 IsSaidRightly (action.UndoVerifiedFresh count) d = IsReset d
 IsSaidRightly does d = Unit {0}
 
--- an action can be done on this Rig: what was begun before can be taken back, and
+-- an action can be done on this Rig: what was begun before can be undone, and
 -- the table knows the device
 pub record CanAct {R : Type 0} (view : R → RigState) (table : List ChipData)
     (starts : List (List ℕ)) (does : Action) (old : R) : Type 0 where

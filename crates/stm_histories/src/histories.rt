@@ -14,8 +14,8 @@ use stm_session::{
 use stm_wire::Rig;
 use stm_work::Answer;
 
-/// Each action, from any state that can be taken back, is a history of the headline, and so is the
-/// question who a device is. An action that was stopped is taken back, after a loss of power too, by
+/// Each action, from any state that can be undone, is a history of the headline, and so is the
+/// question who a device is. An action that was stopped is undone, after a loss of power too, by
 /// an undo of everything that answers Ok; and so is one that write-protected pages refused, after a
 /// reset and Write Unprotect.
 pub fn actions_are_histories<L: Rig>()

@@ -1,5 +1,5 @@
 //! Laws of what the program does on a device that no user's call needs: that it is a history of the
-//! headline, and that a stored simulator whose power was lost is taken back.
+//! headline, and that a stored simulator whose power was lost is undone.
 #![tactic(auto)]
 
 mod histories;

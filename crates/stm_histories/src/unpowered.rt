@@ -124,7 +124,7 @@ fn act<'a, R: Locks + AllocGlobal>(
 
 /// Starts a simulator as its files hold it, beside a journal; does an action on it, which is
 /// stopped after so many steps; takes its power away, after which pages at risk hold these bytes;
-/// starts it again from what that left; and takes everything back.
+/// starts it again from what that left; and undoes everything.
 pub fn undo_stored<'a, R: Locks + AllocGlobal>(
     rt: &R,
     names: Names<'a>,

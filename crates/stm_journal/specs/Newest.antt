@@ -74,7 +74,7 @@ pub record HasKept (n : ℕ) (bytes : List ℕ) (old new : StateData) : Type 0 w
   pub intent : intent_of new ≡ intent_of old
 
 -- The newest segment has this intent, which is on page n, and keeps what it kept, that page too. It
--- is open if it was, and otherwise it is being taken back.
+-- is open if it was, and otherwise it is being undone.
 pub record HasIntended (n : ℕ) (intent : Intent) (old new : StateData) : Type 0 where
   pub same : KeepsSame old new
   pub is_open : newest_is_open new ≡ newest_is_open old

@@ -76,7 +76,7 @@ abbrev pub newest_intent : List SegmentData → Option Intent
 newest_intent [] = None
 newest_intent (segment ∷ below) = intent_at segment.stage
 
--- the newest segment is open or is being taken back
+-- the newest segment is open or is being undone
 abbrev pub is_unfinished : StateData → Bool
 is_unfinished s = newest_has (λ segment. not (is_ended_stage segment.stage)) s.stack
 
@@ -96,7 +96,7 @@ newest_keeps n s = newest_has (λ segment. keeps segment n) s.stack
 abbrev pub newest_may_keep : ℕ → StateData → Bool
 newest_may_keep n s = newest_has (may_keep n) s.stack
 
--- an intent on an open segment leaves it open; any other segment is being taken back from then on
+-- an intent on an open segment leaves it open; any other segment is being undone from then on
 abbrev pub stage_with : Intent → Stage → Stage
 stage_with i (Open old) = Open (Some i)
 stage_with i Ended = Returning i

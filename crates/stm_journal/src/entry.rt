@@ -18,6 +18,6 @@ pub enum Entry {
     Programs(u16),
     /// `end K`: the command of segment K is done.
     Ends(u16),
-    /// `undone K`: segment K was taken back.
+    /// `undone K`: segment K was undone.
     Undoes(u16),
 }

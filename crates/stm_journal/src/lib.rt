@@ -1,5 +1,5 @@
 //! The journal of a session: which pages the flash had before each command, line by line, so
-//! that it can be taken back.
+//! that it can be undone.
 #![tactic(auto)]
 
 mod append;

@@ -8,6 +8,6 @@ pub enum Stage {
     Open(Option<Intent>),
     /// Its command is done.
     Ended,
-    /// Its command was done and is being taken back; this is the newest intent.
+    /// Its command was done and is being undone; this is the newest intent.
     Returning(Intent),
 }

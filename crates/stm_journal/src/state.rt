@@ -15,7 +15,7 @@ use crate::{Entry, Intent, JournalHeader, Kept, PagePlace, Stage};
 use std::alloc::{AllocError, Global};
 use std::marker::Model;
 
-/// The header and the segments that are not taken back.
+/// The header and the segments that are not undone.
 #[derive(Drop)]
 pub(crate) struct State {
     header: Option<JournalHeader>,
@@ -73,7 +73,7 @@ impl State {
         }
     }
 
-    /// The newest segment is open or is being taken back.
+    /// The newest segment is open or is being undone.
     pub(crate) fn is_unfinished(&self) -> bool
         ensures { result ≡ is_unfinished self.now }
     {

@@ -1,4 +1,4 @@
--- What can be taken back.
+-- What can be undone.
 use Rattle.std.proofs.Common.{◌≡◌, ℕ, true, false, not, List, [], ◌∷◌, None, refl, sym, ◌∙◌, ap, ap₂, subst, lit≤}
 use Rattle.stm_wire.specs.Chip.{ChipData}
 use Rattle.stm_wire.specs.Device.{Device, Phase, Fresh, Connected, Gone, IsDevice, IsReady, IsReadyPhase, reset}
@@ -21,7 +21,7 @@ ready_is_safe stopped fresh d is ready = record { harmless = by_phase d.phase re
     by_phase (Connected rest) at p = stopped d None rest is at (in_ready refl p)
     by_phase Gone at p = absurd p
 
--- with an empty journal there is nothing to take back
+-- with an empty journal there is nothing to undo
 pub empty_is_undoable : (d : Device) → IsSafe d → Undoable [] d []
 empty_is_undoable d safe = record { good_journal = refl; own = refl; fits = record { board = refl; version = tt; pages = tt; companions = tt }; keeps = refl; harmless = safe.harmless; owed = safe.owed }
 

@@ -67,7 +67,7 @@ module _ (laws : StepLaws) (flashes : List (List ℕ)) (l : Loaded) (a b : RigSt
     run_confirmed commands new result outcomes_of asks runs =
         runs_from a b (still_unbegun b.device b.journal asks.left) commands flashes new result outcomes_of undoable over (weaker (IsStill a) (IsUnbegun a) a b asks.moments still_unbegun) runs
 
-  -- and then segments are taken back
+  -- and then segments are undone
   module _ (taken : ℕ) (one : 1 ≤ taken) (chip : ChipData) (chip_is : a.device.chip ≡ chip) where
     pub back_unconfirmed : {T : Type 0} (l2 : Loaded) (e : Fault) (result : Result T Fault) → Asks {T = Unit {0}} a b (Err e) (λ _. Unit {0}) → IsErrAnd result (λ x. x ≡ e) → UndoesBy (undo_lines taken a) taken flashes l2 a b result
     back_unconfirmed l2 e result asks is =

@@ -1,4 +1,4 @@
--- What an undo does changes only pages of the segment that it takes back.
+-- What an undo does changes only pages of the segment that it undoes.
 use Rattle.std.proofs.Common.{◌≡◌, Contains, ⊎_elim, inl, inr, ℕ, zero, suc, ◌+◌, ◌*◌, ◌/◌, ◌≤◌, Bool, true, false, ◌&&◌, ◌==◌, if◌then◌else◌, List, [], ◌∷◌, ◌++◌, map, length, take, drop, Option, Some, None, refl, sym, ◌∙◌, ap, subst, arith, append-nil, append_assoc}
 use Rattle.std.specs.Prelude.{bytes_eq}
 use Rattle.stm_wire.specs.declared.intent.Intent.{Intent}
@@ -94,7 +94,7 @@ module _ (chip : ChipData) (pages : List Kept) (below : List (List Kept)) where
       within_as chip (pages ∷ below) (first ++ rest) steps is
       (within_then chip (pages ∷ below) first rest (returned_within again Told k.page first (among k.page (here k.page (numbers kept))) one) (all_within again (tells_behind first Told) kept rest (λ m is_one. among m (further m k.page (numbers kept) is_one)) others))
 
-  -- the segment is taken back
+  -- the segment is undone
   taken_within : (again : Bool) (Told : Tells) (steps : List Step) → IsSegmentUndone again chip Told pages (length below + 1) steps → (ys : List Step) → PutsBack chip below ys → PutsBack chip (pages ∷ below) (steps ++ ys)
   taken_within again Told steps taken ys p =
       let P : List Step → Type 0 = λ l. PutsBack chip (pages ∷ below) (l ++ ys) in

@@ -156,7 +156,7 @@ returned_next again chip Told pages i kept xs ys at are is =
       next (tells_behind first Told) pages i rest at more (returned_as again chip (tells_behind xs Told) (tells_behind rest (tells_behind first Told)) kept.page ys (behind_both Told xs first rest e) is),
     )
 
--- segments are taken back, one after another
+-- segments are undone, one after another
 pub taken_next : (again : Bool) (chip : ChipData) (Told : Tells) (segments : List (List Kept)) (i : ℕ) (pages : List Kept) (below : List (List Kept)) (xs ys : List Step) → drop i segments ≡ pages ∷ below → AreSegmentsUndone again chip Told i segments xs
     → IsSegmentUndone again chip (tells_behind xs Told) pages (length below + 1) ys → AreSegmentsUndone again chip Told (i + 1) segments (xs ++ ys)
 taken_next again chip Told segments i pages below xs ys at are is =

@@ -1,4 +1,4 @@
--- What can be taken back still can after a loss of power, and where owed bytes are lost.
+-- What can be undone still can after a loss of power, and where owed bytes are lost.
 use Rattle.std.proofs.Common.{◌≡◌, ◌⊎◌, inl, inr, ℕ, ◌+◌, ◌<◌, ◌≤◌, Bool, true, not, List, [], ◌∷◌, ◌++◌, length, take, drop, map, if◌then◌else◌, Some, refl, sym, ◌∙◌, ap, subst, lit≤, arith, length-drop}
 use Rattle.std.proofs.lemmas.List.Elements.{All-take, All-append, All-drop}
 use Rattle.std.specs.Prelude.{Contains}

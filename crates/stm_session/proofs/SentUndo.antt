@@ -62,7 +62,7 @@ module _ (table : List ChipData) (count : ℕ) (old : RigState) where
               (session_of_any (Some chip) byte limit whole (most_of_reaching limit) old.calls new.calls (silent_then_session None byte limit whole (most_of_reaching limit) AreFetches old.calls mid.calls new.calls fetches_put fetches_get fetches meets));
         }
 
-    -- and segments were taken back
+    -- and segments were undone
     pub sends_back : (taken : ℕ) (mid met new : RigState) (result : Result ℕ Fault) → taken ≤ 65535 → (0 < count → taken ≤ count) → IfOk result (λ n. n ≡ taken)
         → GoesOn AreFetches old.calls mid.calls → (let way = undo_way is_fresh chip.kind intent in GoesOn (IsSession None (byte_of way) (limit_of way) true (most_of_reaching (limit_of way))) mid.calls met.calls)
         → GoesOn (IsPart (Some chip) (is_whole result) (most_of_confirming + most_of_undo taken)) met.calls new.calls → SendsAsUndo table count old new result

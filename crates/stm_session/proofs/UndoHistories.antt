@@ -90,7 +90,7 @@ module _ (laws : Laws) where
         flash = undoes.done.flash ∙ ap (λ k. flash_undone k old.device.flash flashes) (sym undoes.answer);
       }
 
-  -- with no segment to take back nothing is done, and it is held
+  -- with no segment to undo nothing is done, and it is held
   nothing-holds : (count n : ℕ) (flashes : List (List ℕ)) (old new : RigState) → n ≡ 0 → depth_at old.journal ≡ 0 → IsUntouched old new.device new.journal → UndoHolds count n (now_of old) (now_of new) flashes
   nothing-holds count n flashes old new none empty same =
       let depth : depth_at new.journal ≡ depth_at old.journal = ap (λ j. depth_at j) same.0 in
@@ -103,7 +103,7 @@ module _ (laws : Laws) where
 
   module _ (table : List ChipData) (count : ℕ) (flashes : List (List ℕ)) (old new : RigState) (result : Result ℕ Fault) (honest : old.is_honest)
       (u : Undoable flashes old.device old.journal) (contract : UndoContract table count old new result) where
-    -- the table hasn't the device's id: nothing is touched, and it succeeds only where there was nothing to take back
+    -- the table hasn't the device's id: nothing is touched, and it succeeds only where there was nothing to undo
     record UndoRefused : Type 0 where
       each : (t : World) → Stops old new t → IsUntouched old t.device t.journal
       left : IsUntouched old new.device new.journal

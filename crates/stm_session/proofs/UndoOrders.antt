@@ -76,7 +76,7 @@ some_rewrites chip Told (n ∷ work) free =
     let rest = some_rewrites chip (tells_behind first Told) work (free_behind Told first free) in
     (first ++ rest.0, (first, rest.0, refl, record { page = page; size = length-replicate {A = ℕ} (page_size chip n) 0; told = free [] page; is = refl }, rest.1))
 
--- segments are taken back
+-- segments are undone
 pub some_segments : (again : Bool) (chip : ChipData) (Told : Tells) (taken : ℕ) (segments : List (List Kept)) → IsFree Told → taken ≤ length segments → (steps : List Step) × AreSegmentsUndone again chip Told taken segments steps
 some_segments again chip Told zero segments free within = ([], refl)
 some_segments again chip Told (suc taken) [] free within = absurd (omega (arith, within))

@@ -1,4 +1,4 @@
--- The newest segment is taken back: its pages are put back one after another, and then it is gone.
+-- The newest segment is undone: its pages are put back one after another, and then it is gone.
 use Rattle.std.proofs.Common.{◌≡◌, ◌⊎◌, inl, inr, ℕ, suc, ◌+◌, ◌<◌, ◌≤◌, ◌/◌, Bool, true, false, if◌then◌else◌, List, [], ◌∷◌, ◌++◌, length, get_or, take, drop, Some, Result, Ok, Err, IsErrAnd, refl, sym, ◌∙◌, ap, subst, arith, IsTrue}
 use Rattle.std.specs.Prelude.{slice_get, bytes_eq, OnOk}
 use Rattle.stm_wire.specs.Chip.{ChipData, erased_byte, flash_size, page_of, with_page}

@@ -1,4 +1,4 @@
--- Segments are taken back, one after another.
+-- Segments are undone, one after another.
 use Rattle.std.proofs.Common.{Bool, ◌≡◌, inl, inr, ℕ, zero, suc, ◌+◌, ◌<◌, ◌≤◌, List, [], ◌∷◌, ◌++◌, length, take, drop, get_or, Result, Ok, Err, IsErrAnd, refl, sym, ◌∙◌, ap, ap₂, subst, arith, append_assoc}
 use Rattle.std.proofs.lemmas.List.{length-map, length-drop, drop-drop}
 use Rattle.stm_wire.specs.Chip.{ChipData}
@@ -125,7 +125,7 @@ lines_more xs ys a journal written lines =
     let part = front_part written (text_added torn xs) (text_added (torn_after torn xs) ys) in
     (part.0, lines ∙ ap (λ bytes. a ++ bytes) (part.1 ∙ ap (λ bytes. take part.0 bytes) (sym (text_added-append torn xs ys))))
 
--- more segments may be taken back
+-- more segments may be undone
 more_back : (n m : ℕ) (flashes : List (List ℕ)) (a : RigState) → n ≤ m → (d : Device) (journal : List ℕ) → AmidNewest n flashes a d journal → AmidNewest m flashes a d journal
 more_back n m flashes a le d journal amid =
     let more = undo_more a.device.chip n m (state_at a.journal).stack a.device.flash le in
@@ -245,7 +245,7 @@ module _ (chip : ChipData) (i : ℕ) (flashes : List (List ℕ)) (l l2 l3 : Load
 pub undoes_all_newest : (i n : ℕ) (flashes : List (List ℕ)) (l2 : Loaded) (a b : RigState) → i ≡ n → UndoesNewest {T = Unit {0}} i flashes l2 a b (Ok tt) → UndoesNewest {T = Unit {0}} n flashes l2 a b (Ok tt)
 undoes_all_newest i n flashes l2 a b is goes = let G : ℕ → Type 0 = λ m. UndoesNewest {T = Unit {0}} m flashes l2 a b (Ok tt) in subst G is goes
 
--- how far the segments are taken back
+-- how far the segments are undone
 pub record IsBackSoFar (again : Bool) (chip : ChipData) (Told : Tells) (i : ℕ) (l l2 : Loaded) (old new : RigState) : Type 0 where
   pub rest : pages_of_segments l2.state.stack ≡ drop i (pages_of_segments l.state.stack)
   pub line : new.line_failures ≡ old.line_failures

@@ -24,7 +24,7 @@ fault_of_journal journal.OtherBoard = fault.OtherBoard
 fault_of_journal journal.Memory = fault.Memory
 
 -- What a fault comes of: the line failed, the device doesn't follow the protocol, the file of the
--- journal or memory failed; or the journal has a segment that must be ended or taken back first; or
+-- journal or memory failed; or the journal has a segment that must be ended or undone first; or
 -- something else is refused. So is a page that was read again and holds other bytes than it was
 -- given, as an image that differs is: each frame was answered whole, so that no step failed.
 pub data Cause : Type 0 where

@@ -1,5 +1,5 @@
 -- The headline: any list of calls, stops, resets and losses of power, from any
--- state that can be taken back.
+-- state that can be undone.
 use Rattle.std.specs.Prelude.{◌≡◌, ℕ, ◌+◌, ◌-◌, false, List, [], ◌∷◌, ◌++◌, length, take, drop}
 use Rattle.std.specs.Prelude.{reverse, Ok, Err}
 use Rattle.stm_image.specs.Lay.{lay}
@@ -64,7 +64,7 @@ pub record RunHolds (commands : List CommandData) (w w2 : World) : Type 0 where
   pub finished : is_unfinished_at w2.journal ≡ false
   pub segments : depth_at w2.journal ≡ depth_at w.journal + length (changes_of commands)
 
--- an undo that reports success leaves the flash as it was before the commands that it took back
+-- an undo that reports success leaves the flash as it was before the commands that it undid
 pub record UndoHolds (count n : ℕ) (w w2 : World) (starts : List (List ℕ)) : Type 0 where
   pub answer : n ≡ taken_count count (depth_at w.journal)
   pub segments : depth_at w2.journal + n ≡ depth_at w.journal
@@ -116,14 +116,14 @@ Holds lost_owed w w2 starts = LeavesAlone w w2
 Holds lost_power w w2 starts = is_unfinished_at w.journal ≡ false → LeavesAlone w w2
 
 -- each event holds what is promised of it, and wherever the history ends what
--- was begun can be taken back
+-- was begun can be undone
 abbrev pub AllHold : {R : Type 0} → List (Happening R) → World → List (List ℕ) → Type 0
 AllHold [] w starts = Undoable starts w.device w.journal
 AllHold (x ∷ history) w starts =
     Undoable starts w.device w.journal × Holds x.event w x.after starts
     × AllHold history x.after (starts_after x.event w x.after starts)
 
--- a session begins wherever what was begun before can be taken back to these flashes
+-- a session begins wherever what was begun before can be undone to these flashes
 abbrev pub IsStart : List (List ℕ) → World → Type 0
 IsStart starts w = Undoable starts w.device w.journal
 

@@ -96,7 +96,7 @@ return_entries chip flash kept =
 abbrev pub work_entries : ChipData → List Kept → List Entry
 work_entries chip work = flat_map (λ kept. rewrite_entries chip kept.page kept.bytes) work
 
--- so many segments are taken back, the newest first
+-- so many segments are undone, the newest first
 abbrev pub taken_entries : ChipData → ℕ → List SegmentData → List ℕ → List Entry
 taken_entries chip zero stack flash = []
 taken_entries chip (suc taken) [] flash = []

@@ -247,7 +247,7 @@ pub record IsSegmentUndone (again : Bool) (chip : ChipData) (Told : Tells) (page
   pub are_returns : AreGivenBack again chip Told pages returns
   pub is : steps ≡ returns ++ Adds (Undoes number ∷ []) ∷ []
 
--- so many segments of these pages are taken back, the newest first
+-- so many segments of these pages are undone, the newest first
 abbrev pub AreSegmentsUndone : Bool → ChipData → Tells → ℕ → List (List Kept) → List Step → Type 0
 AreSegmentsUndone again chip Told zero segments steps = steps ≡ []
 AreSegmentsUndone again chip Told (suc taken) [] steps = ⊥
@@ -270,7 +270,7 @@ AreRewritten chip Told (n ∷ pages) steps = (first : List Step) × (rest : List
     × (steps ≡ first ++ rest) × IsRewritten chip Told n first
     × AreRewritten chip (tells_behind first Told) pages rest
 
--- the pages at work first, and then so many segments are taken back
+-- the pages at work first, and then so many segments are undone
 pub record AreAllUndone (again : Bool) (chip : ChipData) (Told : Tells) (work : List ℕ)
     (taken : ℕ) (segments : List (List Kept)) (steps : List Step) : Type 0 where
   pub first : List Step

@@ -21,7 +21,7 @@ pub record LosesPower (journal : List ℕ) (old new : Device) : Type 0 where
   pub owed : new.owed ≡ []
   pub flash : SameOutside old.chip (risked_pages (state_at journal)) old.flash new.flash
 
--- what can be taken back, still can where bytes that the device owed are lost
+-- what can be undone, still can where bytes that the device owed are lost
 abbrev pub OwedLossKeepsFlashes : Type 0
 OwedLossKeepsFlashes = (flashes : List (List ℕ)) (old new : Device) (journal : List ℕ)
     → Undoable flashes old journal → LosesOwed old new → Undoable flashes new journal

@@ -1,4 +1,4 @@
--- Taking the newest segment back: its pages are put back in the order of their
+-- Undoing the newest segment: its pages are put back in the order of their
 -- lines, and then it is gone.
 use Rattle.std.specs.Prelude.{◌≡◌, ◌⊎◌, ℕ, false, List, [], ◌∷◌, ◌++◌, fold, flat_map, length, take}
 use Rattle.std.specs.Prelude.{drop, Result, IfErr, OnOk}
@@ -29,7 +29,7 @@ give_back_lines chip flash pages = flat_map (return_entries chip flash) pages
 abbrev pub newest_at : List ℕ → List Kept
 newest_at journal = newest_kept (state_at journal).stack
 
--- the lines by which the newest segment of a journal is taken back
+-- the lines by which the newest segment of a journal is undone
 abbrev pub taking_lines : ChipData → List ℕ → List ℕ → List Entry
 taking_lines chip flash journal =
     give_back_lines chip flash (newest_at journal) ++ Undoes (length (state_at journal).stack) ∷ []
@@ -45,13 +45,13 @@ pub record IsNewestUndone (entries : List Entry) (flash : List ℕ) (flashes : L
   pub written : ℕ
   pub lines : journal ≡ old.journal ++ take written (text_added (is_torn_at old.journal) entries)
 
--- it can still be taken back, or it was
+-- it can still be undone, or it was
 abbrev pub AmidSegmentUndo : List Entry → List ℕ → List (List ℕ) → RigState → Device
     → List ℕ → Type 0
 AmidSegmentUndo entries flash flashes old d journal =
     Stands entries (flash ∷ flashes) old d journal ⊎ IsNewestUndone entries flash flashes old d journal
 
--- The newest segment is taken back: at Ok the flash is the one before it, the segments below stand
+-- The newest segment is undone: at Ok the flash is the one before it, the segments below stand
 -- as they did and are finished, and just these lines are added.
 pub record UndoesSegment {T : Type 0} (entries : List Entry) (flash : List ℕ) (flashes : List (List ℕ))
     (l2 : Loaded) (old new : RigState) (result : Result T Fault) : Type 0 where

@@ -1,4 +1,4 @@
--- Taking segments back, one after another, the newest first.
+-- Undoing segments, one after another, the newest first.
 use Rattle.std.specs.Prelude.{◌≡◌, ℕ, ◌≤◌, false, List, ◌++◌, drop, take, Result, IfErr, OnOk}
 use Rattle.stm_wire.specs.Device.{Device}
 use Rattle.stm_wire.specs.Moments.{LeavesOnly}
@@ -13,7 +13,7 @@ use Rattle.stm_session.specs.Steps.{AddsLines, IsSteady}
 use Rattle.stm_session.specs.Undoable.{Undoable, is_unfinished_at, state_at}
 use Rattle.stm_session.specs.Undoes.{flash_undone}
 
--- the lines by which so many segments are taken back, from the flash as it is
+-- the lines by which so many segments are undone, from the flash as it is
 abbrev pub going_lines : ℕ → RigState → List Entry
 going_lines taken old =
     taken_entries old.device.chip taken (state_at old.journal).stack old.device.flash
@@ -23,7 +23,7 @@ abbrev pub undo_lines : ℕ → RigState → List Entry
 undo_lines taken old =
     undo_entries old.device.chip taken (state_at old.journal).stack old.device.flash
 
--- At a moment of taking back so many segments, some of them are off. Where none is unfinished, the
+-- At a moment of undoing so many segments, some of them are off. Where none is unfinished, the
 -- flash is the one before the oldest that is off; or none is, none was unfinished at the start, and
 -- the flash is that of the start. A beginning of these lines is added.
 pub record AmidNewestBy (entries : List Entry) (taken : ℕ) (flashes : List (List ℕ)) (old : RigState)
@@ -42,7 +42,7 @@ abbrev pub AmidNewest : ℕ → List (List ℕ) → RigState → Device → List
 AmidNewest taken flashes old d journal =
     AmidNewestBy (going_lines taken old) taken flashes old d journal
 
--- So many segments are taken back, from a steady Rig, and just these lines are added.
+-- So many segments are undone, from a steady Rig, and just these lines are added.
 pub record UndoesBy {T : Type 0} (entries : List Entry) (taken : ℕ) (flashes : List (List ℕ))
     (l2 : Loaded) (old new : RigState) (result : Result T Fault) : Type 0 where
   pub moments : LeavesOnly (AmidNewestBy entries taken flashes old) old new

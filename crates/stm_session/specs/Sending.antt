@@ -87,7 +87,7 @@ way_of_undo is_fresh None intent = Connects
 way_of_undo is_fresh (Some chip) intent = undo_way is_fresh chip.kind intent
 
 -- Settling by some intent, as often as its journal's chip needs at most, and then frames of that
--- chip, which is one of the table, in the calls of so many segments taken back: no more than were
+-- chip, which is one of the table, in the calls of so many segments undone: no more than were
 -- asked for, and at Ok those that the answer tells.
 pub record SendsAsUndo (table : List ChipData) (count : ℕ) (old new : RigState)
     (result : Result ℕ Fault) : Type 0 where

@@ -1,4 +1,4 @@
--- What the steps of a command, and of taking one back, do to a Rig that follows the model.
+-- What the steps of a command, and of undoing one, do to a Rig that follows the model.
 use Rattle.std.specs.Prelude.{◌≡◌, ℕ, Bool, true, false, List, [], ◌∷◌, ◌++◌, take, Some, Result}
 use Rattle.std.specs.Prelude.{IfErr, IfOk, OnOk, IsTrue}
 use Rattle.stm_wire.specs.declared.intent.Intent.{Intent}
@@ -54,7 +54,7 @@ pub record AddsLines (entries : List Entry) (old new : List ℕ) : Type 0 where
   pub torn : is_torn_at new ≡ torn_after (is_torn_at old) entries
   pub same : AreIntents entries → KeepsSame (state_at old) (state_at new)
 
--- A stop here can be taken back to the same flashes. Where the journal is finished, it was so at
+-- A stop here can be undone to the same flashes. Where the journal is finished, it was so at
 -- the start, and the flash is that of the start. A beginning of these lines is added.
 pub record Stands (entries : List Entry) (flashes : List (List ℕ)) (old : RigState) (d : Device)
     (journal : List ℕ) : Type 0 where

@@ -48,7 +48,7 @@ ToldBy view old new steps page = ToldBehind view EndsWith old new steps page
 abbrev pub behind_confirming : ChipData → Tells → Tells
 behind_confirming chip Told = tells_behind (confirming chip) Told
 
--- so many of the journal's segments are taken back, behind that question
+-- so many of the journal's segments are undone, behind that question
 abbrev pub AreTakenTold : Tells → ℕ → StepsOf
 AreTakenTold Told taken chip s steps =
     AreTakenAs false (behind_confirming chip Told) taken chip s steps

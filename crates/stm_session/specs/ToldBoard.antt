@@ -80,8 +80,8 @@ pub record AsksFinished (table : List ChipData) (old new : RigState)
   pub fails : IfErr result (λ fault. IsOutsideFault fault
       ⊎ (unsent_refusal (journal_of old.journal) ≡ Some fault))
 
--- With an unfinished one, on a device from which it can be taken back: each moment is one of an
--- undo that has taken nothing back yet.
+-- With an unfinished one, on a device from which it can be undone: each moment is one of an
+-- undo that has undone nothing yet.
 pub record AsksUnfinished (table : List ChipData) (flashes : List (List ℕ)) (old new : RigState)
     (result : Result Board Fault) : Type 0 where
   pub moments : LeavesOnly (AmidUndo 0 flashes old) old new

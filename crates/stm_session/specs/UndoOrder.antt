@@ -35,7 +35,7 @@ UndoDoesInPart is_fresh P table old new fault = GoesOn AreFetches old.calls new.
     ⊎ ReachesAndStops way chip.id l.is_torn (IsConfirmedInPart chip (P chip l.state))
     (cause_of fault) old new)
 
--- so many of the journal's segments are taken back, the pages at work first; and each page of
+-- so many of the journal's segments are undone, the pages at work first; and each page of
 -- theirs is read again, where that is asked for
 abbrev pub AreTakenAs : Bool → Tells → ℕ → StepsOf
 AreTakenAs again Told taken chip s steps =
@@ -44,7 +44,7 @@ AreTakenAs again Told taken chip s steps =
 abbrev pub AreUndoneInOrder : Bool → ℕ → StepsOf
 AreUndoneInOrder again taken = AreTakenAs again untold taken
 
--- a beginning of taking some back, no more than there are, nor than are asked for where that is a
+-- a beginning of undoing some, no more than there are, nor than are asked for where that is a
 -- number
 abbrev pub BeginTaking : Bool → ℕ → StepsOf
 BeginTaking again count chip s steps = (taken : ℕ) × (taken ≤ length s.stack)

@@ -18,7 +18,7 @@ use Rattle.stm_session.specs.Undoable.{Undoable, is_unfinished_at, state_at, ris
 use Rattle.stm_session.specs.Lines.{is_torn_at, undo_entries, text_added}
 use Rattle.stm_session.specs.Fault.{IsJournalOrMemory}
 
--- how many segments are taken back: all where the count is 0 or more than there are
+-- how many segments are undone: all where the count is 0 or more than there are
 abbrev pub taken_count : ℕ → ℕ → ℕ
 taken_count count depth = if count == 0 || nat_lt depth count then depth else count
 
@@ -46,7 +46,7 @@ abbrev pub IsFlashSettled : RigState → List ℕ → Type 0
 IsFlashSettled old flash =
     SameOutside old.device.chip (risked_at old.journal) old.device.flash flash
 
--- what taking back so many segments adds to the journal, from this flash on
+-- what undoing so many segments adds to the journal, from this flash on
 abbrev pub undo_text : RigState → ℕ → List ℕ → List ℕ
 undo_text old taken flash =
     text_added (is_torn_at old.journal)
@@ -68,7 +68,7 @@ pub record AmidUndo (taken : ℕ) (flashes : List (List ℕ)) (old : RigState) (
   pub written : ℕ
   pub lines : journal ≡ old.journal ++ take written (undo_text old taken settled)
 
--- So many segments are taken back, and just the lines for that are added.
+-- So many segments are undone, and just the lines for that are added.
 pub record AreUndone (taken : ℕ) (flashes : List (List ℕ)) (old : RigState) (d : Device)
     (journal : List ℕ) : Type 0 where
   pub finished : is_unfinished_at journal ≡ false

@@ -20,7 +20,7 @@ pub enum Fault {
     /// There was no memory for what the session keeps.
     #[error("out of memory")]
     Memory,
-    /// The newest segment of the journal hasn't ended: it must be taken back first.
+    /// The newest segment of the journal hasn't ended: it must be undone first.
     #[error("unfinished command, undo first")]
     Unfinished,
     /// The table has no chip with this product id.
@@ -32,7 +32,7 @@ pub enum Fault {
     /// The device doesn't list the command that erases pages of its chip.
     #[error("no erase command")]
     NoErase,
-    /// The journal is open, and what was asked can't be taken back.
+    /// The journal is open, and what was asked can't be undone.
     #[error("journal is open, refused")]
     InSession,
     /// This is the least address where the flash hasn't the image's byte.

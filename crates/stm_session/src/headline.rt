@@ -11,8 +11,8 @@ use crate::{
 use stm_journal::a_journal_is_sound;
 use stm_wire::Rig;
 
-/// Whatever calls, stops, resets and losses of power follow a state that can be taken back: each
-/// call holds what is promised of it, and what was begun can be taken back. An undo of everything
+/// Whatever calls, stops, resets and losses of power follow a state that can be undone: each
+/// call holds what is promised of it, and what was begun can be undone. An undo of everything
 /// that reports success leaves the flash as it was at the start of the oldest segment, or when the
 /// way back was last given up; and a write that reports success leaves the image in its places and
 /// every other byte as it was. After each of them another can follow.

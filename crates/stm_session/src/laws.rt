@@ -1,4 +1,4 @@
-//! Laws of what can be taken back: each is the contract of a function that does nothing.
+//! Laws of what can be undone: each is the contract of a function that does nothing.
 ghost use Rattle.std.specs.Prelude.{◌≡◌, ◌⊎◌, Bool, ℕ, List, [], Result, Some, None, false, true};
 ghost use Rattle.std.specs.List.{list_all};
 ghost use Rattle.stm_wire.specs.Chip.{ChipData};
@@ -41,7 +41,7 @@ use stm_image::laying_by_parts;
 use stm_journal::{a_journal_is_sound, changes_of_kept_pages_keep_the_flashes};
 use stm_wire::{Rig, harmless_is_kept, pages_are_the_flash, stopped_is_harmless};
 
-/// A ready device is safe, and on a safe one an empty journal has nothing to take back.
+/// A ready device is safe, and on a safe one an empty journal has nothing to undo.
 pub fn a_ready_device_can_begin()
     ensures safe { (d : Device) → IsDevice d → IsReady d → IsSafe d }
     ensures undoable { (d : Device) → IsDevice d → IsReady d → Undoable [] d [] }
@@ -50,7 +50,7 @@ pub fn a_ready_device_can_begin()
     stopped_is_harmless();
 }
 
-/// What can be taken back, still can after a reset of the device.
+/// What can be undone, still can after a reset of the device.
 pub fn a_reset_keeps_what_can_be_undone()
     ensures { (flashes : List (List ℕ)) (d : Device) (journal : List ℕ)
         → Undoable flashes d journal → Undoable flashes (reset d) journal }
@@ -58,14 +58,14 @@ pub fn a_reset_keeps_what_can_be_undone()
     harmless_is_kept();
 }
 
-/// What can be taken back, still can when bytes that the device owed are lost.
+/// What can be undone, still can when bytes that the device owed are lost.
 pub fn lost_bytes_keep_what_can_be_undone()
     ensures { OwedLossKeepsFlashes }
 {
     harmless_is_kept();
 }
 
-/// What can be taken back, still can after a loss of power, also inside an erase or a write,
+/// What can be undone, still can after a loss of power, also inside an erase or a write,
 /// whatever bytes that leaves in the pages which the unfinished newest segment keeps. These have
 /// the page of the journal's intent among them, and each page that settling the device by that
 /// intent may change. Where no segment is unfinished, the flash is as it was.
@@ -82,7 +82,7 @@ pub fn a_power_loss_keeps_what_can_be_undone()
 }
 
 /// Where the journal is finished, the device is safe, and at any moment of calls that begin no
-/// segment, what could be taken back still can.
+/// segment, what could be undone still can.
 pub fn asking_keeps_what_can_be_undone()
     ensures safe { (flashes : List (List ℕ)) (d : Device) (journal : List ℕ)
         → Undoable flashes d journal → is_unfinished_at journal ≡ false → IsSafe d }
@@ -92,7 +92,7 @@ pub fn asking_keeps_what_can_be_undone()
 {}
 
 /// On a safe device whose chip the table holds, a journal that isn't refused, when a session is
-/// opened or for a run's commands, can be taken back to the flashes that it keeps.
+/// opened or for a run's commands, can be undone to the flashes that it keeps.
 pub fn an_unrefused_journal_can_be_undone()
     ensures opened { (table : List ChipData) (d : Device) (journal : List ℕ)
         → IsSafe d → IsChipWith table d.chip.id d.chip

@@ -1,6 +1,6 @@
 // What an undo answers that reads each page again.
 
-/// What was taken back.
+/// What was undone.
 #[derive(Clone, Copy, Debug, PartialEq, Eq)]
 pub struct Returned {
     /// How many segments.

@@ -1,4 +1,4 @@
-// Taking the newest segment back.
+// Undoing the newest segment.
 ghost use Rattle.std.specs.Prelude.{◌≡◌, ◌<◌, ◌∷◌, List, ℕ, drop, length, Some, OnOk};
 ghost use Rattle.stm_journal.specs.Fits.{AllFit};
 ghost use Rattle.stm_journal.specs.Newest.{KeepsSame, pages_of_segments};
@@ -61,7 +61,7 @@ pub fn give_back_segment<R: Rig>(
     Ok(())
 }
 
-/// Takes the newest segment back.
+/// Undoes the newest segment.
 pub fn undo_segment<R: Rig>(
     alloc: Global,
     rig: &mut R,

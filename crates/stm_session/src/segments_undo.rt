@@ -1,4 +1,4 @@
-// Taking the newest segments back, one after another, and before them the pages at work.
+// Undoing the newest segments, one after another, and before them the pages at work.
 ghost use Rattle.std.specs.Prelude.{◌≡◌, ◌≤◌, ◌+◌, List, ℕ, length, OnOk};
 ghost use Rattle.stm_journal.specs.Fits.{AllFit};
 ghost use Rattle.stm_journal.specs.Newest.{pages_of_segments};
@@ -22,7 +22,7 @@ use std::alloc::Global;
 use stm_journal::Journal;
 use stm_wire::{Chip, Rig};
 
-/// Takes so many segments back, the newest first.
+/// Undoes so many segments, the newest first.
 pub fn undo_newest<R: Rig>(
     alloc: Global,
     rig: &mut R,
@@ -55,7 +55,7 @@ pub fn undo_newest<R: Rig>(
     Ok(())
 }
 
-/// Takes so many segments back, the newest first, behind a journal that was loaded: the pages at
+/// Undoes so many segments, the newest first, behind a journal that was loaded: the pages at
 /// work are written before.
 pub fn undo_settled<R: Rig>(
     alloc: Global,

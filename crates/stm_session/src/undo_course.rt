@@ -1,4 +1,4 @@
-// Taking a session back: all that the calls for it share.
+// Undoing a session: all that the calls for it share.
 ghost use Rattle.std.specs.Prelude.{◌≡◌, ◌<◌, ◌≤◌, Ok, IfErr, IfOk};
 ghost use Rattle.stm_wire.specs.Dialogue.{GoesOn};
 ghost use Rattle.stm_journal.specs.Calls.{AreFetches};
@@ -23,7 +23,7 @@ use stm_chip::Table;
 use stm_journal::Journal;
 use stm_wire::Rig;
 
-/// How many segments are taken back: so many, or all where the count is 0 or more than there are.
+/// How many segments are undone: so many, or all where the count is 0 or more than there are.
 fn taken_count(count: u32, depth: u32) -> u32
     ensures value { result ≡ taken_count count depth }
     ensures most { result ≤ depth }
@@ -37,7 +37,7 @@ fn taken_count(count: u32, depth: u32) -> u32
     }
 }
 
-/// Takes back the newest segments, as `undo` does, of a device that may be said to be fresh from
+/// Undoes the newest segments, as `undo` does, of a device that may be said to be fresh from
 /// reset; and reads each page again that was given back, where that is asked for.
 pub fn undo_as<R: Rig>(
     alloc: Global,

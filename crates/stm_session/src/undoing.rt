@@ -1,4 +1,4 @@
-// Taking a session back, wherever it was stopped.
+// Undoing a session, wherever it was stopped.
 ghost use Rattle.std.specs.Prelude.{◌≡◌, ◌≤◌, true, false, Ok, IfErr, IfOk};
 ghost use Rattle.stm_wire.specs.Dialogue.{GoesOn};
 ghost use Rattle.stm_journal.specs.Calls.{AreFetches};
@@ -20,7 +20,7 @@ use std::alloc::Global;
 use stm_chip::Table;
 use stm_wire::Rig;
 
-/// Takes back the newest segments, as `undo` does, of a device that may be
+/// Undoes the newest segments, as `undo` does, of a device that may be
 /// said to be fresh from reset.
 fn undo_from<R: Rig>(
     alloc: Global,
@@ -51,7 +51,7 @@ fn undo_from<R: Rig>(
     }
 }
 
-/// Takes back the newest segments of the journal, from wherever a session was stopped: so many, or
+/// Undoes the newest segments of the journal, from wherever a session was stopped: so many, or
 /// all where the count is 0 or more than there are. The page of the journal's intent isn't
 /// believed: it is written before any other is read. Answers how many; where there is none it is 0,
 /// and no byte is sent. A bad journal, a chip that the table hasn't, and a page or header that
@@ -77,7 +77,7 @@ pub fn undo<R: Rig>(alloc: Global, rig: &mut R, table: &Table, count: u32) -> Re
     undo_from(alloc, rig, table, count, false)
 }
 
-/// Takes back the newest segments of the journal as `undo` does, of a device that was reset since
+/// Undoes the newest segments of the journal as `undo` does, of a device that was reset since
 /// the last session: where the journal has an intent, 7F is sent once and nothing else to settle
 /// it, for which it doesn't wait long. All is promised of a device that is fresh from reset; of
 /// another one only what is promised on any line, and what 7F does to it isn't known.
@@ -106,10 +106,10 @@ pub fn undo_fresh<R: Rig>(
     undo_from(alloc, rig, table, count, true)
 }
 
-/// Takes back the newest segments of the journal as `undo` does, and reads each page again that a
+/// Undoes the newest segments of the journal as `undo` does, and reads each page again that a
 /// segment keeps, whole, before the segment's `undone` line is added. Where a page doesn't hold the
 /// bytes that the journal told for it, no such line is added and no other page is changed: the
-/// segment stands, and can be taken back again. Answers how many segments were taken back, and how
+/// segment stands, and can still be undone. Answers how many segments were undone, and how
 /// many bytes their pages have, each of which was read again and held what was written. A device
 /// that follows the model always holds it.
 pub fn undo_verified<R: Rig>(
@@ -140,7 +140,7 @@ pub fn undo_verified<R: Rig>(
     undo_as(alloc, rig, table, count, false, true)
 }
 
-/// Takes back the newest segments of the journal as `undo_fresh` does, of a device that was reset
+/// Undoes the newest segments of the journal as `undo_fresh` does, of a device that was reset
 /// since the last session, and reads each page again as `undo_verified` does.
 pub fn undo_verified_fresh<R: Rig>(
     alloc: Global,

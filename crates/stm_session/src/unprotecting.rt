@@ -1,5 +1,5 @@
 // Write Unprotect within a session: a board whose pages are write-protected refuses the erases and
-// writes of an undo, so that a session on it could neither go on nor be taken back.
+// writes of an undo, so that a session on it could neither go on nor be undone.
 ghost use Rattle.std.specs.Prelude.{◌≡◌, ◌≢◌, [], IfErr, OnOk, true};
 ghost use Rattle.stm_wire.specs.Dialogue.{GoesOn};
 ghost use Rattle.stm_journal.specs.Calls.{AreFetches};

@@ -16,14 +16,14 @@ const TABLE: &str =
 /// The codes that a device lists whose pages are erased by 43.
 pub const CODES: [u8; 9] = [0x00, 0x02, 0x11, 0x21, 0x31, 0x43, 0x73, 0x82, 0x92];
 
-/// A journal whose first segment is ended, and whose second was taken back and has a torn line
+/// A journal whose first segment is ended, and whose second was undone and has a torn line
 /// behind it.
 const ENDED: &[u8] = b"stmjournal 1 0412\nopen 1\nend 1\nopen 2\nend 2\nundone 2\nopen 2";
 
-/// A journal whose only segment was taken back.
+/// A journal whose only segment was undone.
 const CLOSED: &[u8] = b"stmjournal 1 0412\nopen 1\nend 1\nundone 1\n";
 
-/// Journals whose newest segment is open or is being taken back.
+/// Journals whose newest segment is open or is being undone.
 const OPEN: &[u8] = b"stmjournal 1 0412\nopen 1\n";
 
 const OPEN_AGAIN: &[u8] = b"stmjournal 1 0412\nopen 1\nend 1\nopen 2\n";

@@ -80,7 +80,7 @@ fn refusals_tell_nothing(rt: &HostRuntime, table: &Table) -> Result<(), Fail> {
     Ok(())
 }
 
-/// Whether a device that was stopped is asked, and what was stopped then taken back.
+/// Whether a device that was stopped is asked, and what was stopped then undone.
 fn comes_back(rt: &HostRuntime, table: &Table, rig: &mut MemoryRig, is_fresh: bool) -> bool {
     if is_fresh {
         rig.reset();
@@ -90,8 +90,8 @@ fn comes_back(rt: &HostRuntime, table: &Table, rig: &mut MemoryRig, is_fresh: bo
         && is_counting(rig.flash())
 }
 
-/// A write that is stopped behind so many calls, its device asked, and the write taken back: whether
-/// it was stopped, and whether it came back.
+/// A write that is stopped behind so many calls, its device asked, and the write undone: whether
+/// it was stopped, and whether it was undone.
 fn stopped(
     rt: &HostRuntime,
     table: &Table,

@@ -111,7 +111,7 @@ enum Call {
     Undo,
 }
 
-/// The journal before it: an undo has a segment to take back, and the others have none.
+/// The journal before it: an undo has a segment to undo, and the others have none.
 fn journal_of(call: Call) -> Parts {
     match call {
         Call::Undo => &[

@@ -3,7 +3,7 @@
 // Two boards of chip 0A03 told unique ids of twelve bytes. At one, fresh, with a flash of FF and no
 // journal, 01 02 03 04 are written at its base. It takes 1,164 steps: settling 5, Get 15, Get ID 7,
 // the header 43 and `open 1` 7, reading the page 268, its line 520, `erase 0` 8, the erase frame 7,
-// `program 0` 10, the write frame 268, `end 1` 6. Taking it back takes 595.
+// `program 0` 10, the write frame 268, `end 1` 6. Undoing it takes 595.
 use crate::devices::{chip_of, device, failed_at, is_all, is_same, table};
 use crate::every_stop::{is_counted, small_write, stop};
 use std::test::Fail;
@@ -139,7 +139,7 @@ fn stop_it(
 }
 
 /// Whether what is stopped after so many steps at the board `own` is refused at the board `other`,
-/// and then comes back at its own.
+/// and then undone at its own.
 fn is_its_own(
     rt: &HostRuntime,
     (own, other): (&Table, &Table),

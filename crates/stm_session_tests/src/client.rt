@@ -1,5 +1,5 @@
 // A caller that knows public contracts alone: sessions that only read, one after another, and after
-// a stop and a reset; a write; and commands that are stopped and taken back.
+// a stop and a reset; a write; and commands that are stopped and undone.
 use crate::devices::{
     answers, changed, counting, failed_at, image, is_all, is_counting, rig_of, table_of, write_of,
 };
@@ -148,7 +148,7 @@ fn is_laid(rt: &HostRuntime, rig: &mut MemoryRig, table: &Table) -> Result<bool,
     Ok(told == Some((1, 2)) && is_written(rig.flash()))
 }
 
-/// Whether it tells the same where it is kept, and is taken back.
+/// Whether it tells the same where it is kept, and is undone.
 fn is_kept(rt: &HostRuntime, rig: &mut MemoryRig, table: &Table) -> Result<bool, Fail> {
     let commands = write_of(rt, &[0xA5, 0x5A], 0x0800_03FF)?;
     let told = told_of(change_kept(rt.alloc(), rig, table, &commands));
@@ -175,7 +175,7 @@ fn sessions_follow_one_another(rt: HostRuntime) -> Result<(), Fail> {
 /// A write and an erase.
 const BOTH: &[Ask] = &[Ask::Write(0x0800_03FF, &[0xA5, 0x5A]), Ask::Erase(&[1, 3])];
 
-/// How many segments are taken back after both that were stopped after so many steps, and whether
+/// How many segments are undone after both that were stopped after so many steps, and whether
 /// the flash is back.
 fn undone_behind(
     rt: &HostRuntime,
@@ -202,7 +202,7 @@ fn undone_unpowered(
     Ok((taken, is_counting(rig.flash())))
 }
 
-/// The stops of both, and how many segments are then taken back.
+/// The stops of both, and how many segments are then undone.
 const STOPS: [(u64, u32); 5] = [(10, 0), (4_000, 1), (8_000, 1), (12_000, 2), (1_000_000, 2)];
 
 fn all_segments_are_undone(

@@ -13,7 +13,7 @@ use stm_sim::MemoryRig;
 /// How many steps the write takes.
 const WRITE: u64 = 1141;
 
-/// After so many steps the `open` line is whole, and there is something to take back.
+/// After so many steps the `open` line is whole, and there is something to undo.
 const OPENED: u64 = 52;
 
 /// A fresh chip 0A01 with a flash of 00 and no journal.
@@ -57,8 +57,8 @@ pub fn is_counted(fault: Option<Fault>) -> bool {
     fault == Some(Fault::Line) || fault == Some(Fault::Journal)
 }
 
-/// Whether the write that is stopped after so many steps fails, and undo takes this many segments
-/// back, to a flash of 00.
+/// Whether the write that is stopped after so many steps fails, and this many segments are undone
+/// then, to a flash of 00.
 fn comes_back(rt: &HostRuntime, table: &Table, steps: u64, segments: u32) -> Result<bool, Fail> {
     let (fault, mut rig) = stopped_write(rt, table, steps)?;
     let taken = undo(rt.alloc(), &mut rig, table, 0);
@@ -76,7 +76,7 @@ fn is_written_after(rt: &HostRuntime, table: &Table, steps: u64) -> Result<bool,
     Ok(fault.is_none() && is_written(rig.flash()))
 }
 
-/// Behind each number of steps the write is stopped, and its segment comes back where it was begun;
+/// Behind each number of steps the write is stopped, and its segment is undone where it was begun;
 /// the test fails at the first other one.
 fn all_come_back(rt: &HostRuntime, table: &Table) -> Result<(), Fail> {
     for steps in 0..WRITE {

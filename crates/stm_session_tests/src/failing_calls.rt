@@ -1,5 +1,5 @@
 // A write, and the undo of one, of which each put, each get and each append fails in turn: it fails
-// by the line or the journal, and is taken back.
+// by the line or the journal, and is undone.
 use crate::devices::{is_all, table};
 use crate::every_stop::{fresh, small_write};
 use crate::repeated_undo::{after_a_write, comes_back};
@@ -46,7 +46,7 @@ fn failed_write(
     (fault, taken.is_ok() && is_all(rig.flash(), 0x00))
 }
 
-/// What the write answers whose k-th call of a kind fails; and whether all of it can be taken back.
+/// What the write answers whose k-th call of a kind fails; and whether all of it can be undone.
 fn write_fails_at(
     rt: &HostRuntime,
     table: &Table,
@@ -92,7 +92,7 @@ fn fails_at(
 }
 
 /// The first call of a kind, of those before the `count`th, that doesn't fail with this fault, or
-/// after which not all can be taken back; the `count`th one isn't made.
+/// after which not all can be undone; the `count`th one isn't made.
 fn first_other(
     rt: &HostRuntime,
     table: &Table,

@@ -1,6 +1,5 @@
 // A line of which one byte that comes in a write is complemented, each in turn, and is honest from
-// then on: the undo takes back what was begun, and each page is as it was whose reading was not
-// garbled.
+// then on: what was begun is undone, and each page is as it was whose reading was not garbled.
 use crate::devices::{came, failed_at, table};
 use crate::every_stop::{fresh, small_write};
 use std::test::Fail;

@@ -1,4 +1,4 @@
-// Which journals undo takes back, and which are refused before a byte is sent.
+// Which journals can be undone, and which are refused before a byte is sent.
 use crate::stories::Act::{Ends, Fetches, Flash, Journal, Never, Run, Undo};
 use crate::stories::{Story, all_go_right, all_go_right_with};
 use std::test::Fail;
@@ -105,7 +105,7 @@ const REFUSED: &[Story] = &[
     ),
 ];
 
-/// A header alone is a journal with nothing to take back.
+/// A header alone is a journal with nothing to undo.
 const EMPTY: &[Story] = &[
     (
         "no journal",

@@ -17,7 +17,7 @@ use stm_sim::MemoryRig;
 /// The stops of each undo.
 const UNDOS: [u64; 2] = [300, 131_700];
 
-/// How many segments an undo took back: none where it was stopped.
+/// How many segments were undone by an undo: none where it was stopped.
 fn taken(answer: Result<u32, Fault>) -> Result<u32, Fail> {
     match answer {
         Ok(count) => Ok(count),
@@ -26,7 +26,7 @@ fn taken(answer: Result<u32, Fault>) -> Result<u32, Fail> {
     }
 }
 
-/// How many segments two undos took back, the first stopped after so many steps.
+/// How many segments were undone by two undos, the first stopped after so many steps.
 fn twice_undone(
     rt: &HostRuntime,
     table: &Table,
@@ -41,7 +41,7 @@ fn twice_undone(
     Ok(first.saturating_add(undo(rt.alloc(), rig, table, 0)?))
 }
 
-/// Whether the two undos of a run, stopped so, took it back, and the flash is as it was before.
+/// Whether a run is undone by two undos, stopped so, and the flash is as it was before.
 fn comes_back(
     rt: &HostRuntime,
     table: &Table,
@@ -124,7 +124,7 @@ fn case_comes_back(
     stops_come_back(rt, table, (case, &command_of(rt, case.change)?), stops)
 }
 
-/// Each stop of each run, and of its undo, comes back; fails at the first other ones.
+/// After each stop of each run, and of its undo, all is undone; fails at the first other ones.
 fn all_come_back(rt: &HostRuntime, table: &Table) -> Result<(), Fail> {
     for (case, stops) in &CASES {
         case_comes_back(rt, table, case, stops)?;

@@ -35,7 +35,7 @@ pub fn after_a_write(rt: &HostRuntime, table: &Table) -> Result<MemoryRig, Fail>
     }
 }
 
-/// Whether an undo takes the one segment back, and the flash is as it was before.
+/// Whether the one segment is undone, and the flash is as it was before.
 pub fn comes_back(rt: &HostRuntime, table: &Table, rig: &mut MemoryRig) -> bool {
     undo_segment(rt.alloc(), rig, table, 0) == Ok(1) && is_all(rig.flash(), 0x00)
 }

@@ -1,5 +1,5 @@
 // Sessions that were stopped inside a frame: the settling byte of the journal's intent ends the
-// frame, and undo gives back what that did.
+// frame, and what that did can be undone.
 use crate::stories::Act::{Begins, Ends, Flash, Reset, Send, StopAfter, Undo};
 use crate::stories::{Parts, Story, all_go_right};
 use std::test::Fail;

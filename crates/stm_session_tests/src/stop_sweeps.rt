@@ -1,5 +1,5 @@
 // Runs that are stopped after their steps, all near the turns of their parts and some between, and
-// taken back: behind a stack of segments, and on a flash that erases to 00.
+// undone: behind a stack of segments, and on a flash that erases to 00.
 //
 // The parts are those of docs/SESSIONS.md, and how many steps each has was counted by the model of
 // tools/soak: settling a fresh device 5, Get 15, Get ID 7; a read of 256 bytes 268, and a write of

@@ -34,7 +34,7 @@ fn is_refused_untold(
 }
 
 /// Whether a journal of version 2 at a device that told its unique id goes on as ever: it is read,
-/// added to and taken back, and names no board.
+/// added to and undone, and names no board.
 fn goes_on(rt: &HostRuntime, own: &Table, rig: &mut MemoryRig, command: &[Command]) -> bool {
     let told = info(rt.alloc(), rig, own).is_ok();
     let added = run(rt.alloc(), rig, own, command).is_ok();

@@ -1,5 +1,4 @@
-// Sweeps over the stops of a run: behind each something befalls the device, and then all is taken
-// back.
+// Sweeps over the stops of a run: behind each something befalls the device, and then all is undone.
 use crate::devices::table;
 use crate::every_stop::stop;
 use crate::lost_power::lose_power;
@@ -91,8 +90,8 @@ fn befall(rt: &HostRuntime, rig: &mut MemoryRig, between: Between) -> Result<(),
     Ok(())
 }
 
-/// Whether an undo takes back as many of the segments as it was asked for, all of them where that is
-/// 0 or more than there are, and leaves the flash as it was before the oldest.
+/// Whether as many of the segments are undone as an undo was asked for, all of them where that is
+/// 0 or more than there are, and the flash is as it was before the oldest.
 fn undoes(
     rt: &HostRuntime,
     table: &Table,
@@ -124,7 +123,7 @@ fn left_of(depth: u32, count: u32) -> u32 {
     }
 }
 
-/// Whether an undo of so many of the segments, and the next one of all, each bring the flash back.
+/// Whether an undo of so many of the segments, and the next one of all, each give the flash back.
 fn are_undone(
     rt: &HostRuntime,
     table: &Table,
@@ -143,7 +142,7 @@ fn are_undone(
 pub type Sweep = (Between, u32, u64, u64);
 
 /// Whether the run of a device that is stopped after so many steps answers the fault that is due,
-/// and comes back.
+/// and is undone.
 fn comes_back(
     rt: &HostRuntime,
     table: &Table,
@@ -160,7 +159,7 @@ fn comes_back(
 }
 
 /// The first stop of the run at which it answers another fault than is due, or an undo of so many
-/// segments, or the next one of all, doesn't bring the flash back.
+/// segments, or the next one of all, doesn't give the flash back.
 fn first_other(
     rt: &HostRuntime,
     table: &Table,
@@ -186,7 +185,7 @@ fn first_other(
     Ok(None)
 }
 
-/// The first sweep, and its stop, that doesn't come back.
+/// The first sweep, and its stop, after which not all is undone.
 fn first_other_sweep(
     rt: &HostRuntime,
     table: &Table,
@@ -239,7 +238,7 @@ fn cases_come_back(
 }
 
 /// A test of each of these changes of a device, with their parts, in each of these sweeps: it fails
-/// at the first stop that doesn't come back.
+/// at the first stop after which not all is undone.
 pub fn all_come_back(
     rt: &HostRuntime,
     base: &Case,

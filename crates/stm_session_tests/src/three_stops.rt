@@ -48,8 +48,8 @@ fn thrice_stopped(
     )
 }
 
-/// The stops of a row come back: a stop of the run, one of its undo, and each `stride`th of the
-/// next one, of which the row has how many steps it takes.
+/// All is undone after the stops of a row: a stop of the run, one of its undo, and each
+/// `stride`th of the next one, of which the row has how many steps it takes.
 fn row_comes_back(
     rt: &HostRuntime,
     table: &Table,
@@ -74,7 +74,7 @@ fn row_comes_back(
     Ok(())
 }
 
-/// The rows of a case come back.
+/// All is undone after the rows of a case.
 fn rows_come_back(
     rt: &HostRuntime,
     table: &Table,

@@ -41,7 +41,7 @@ fn own_table(rt: &HostRuntime, rig: &mut MemoryRig, kib: u16) -> Result<Table, F
 }
 
 /// Whether the chip is of so many pages, a write to its end is done in a journal of its board, one of
-/// four bytes behind that is refused, and all is taken back.
+/// four bytes behind that is refused, and all is undone.
 fn is_kept_within(
     rt: &HostRuntime,
     own: &Table,

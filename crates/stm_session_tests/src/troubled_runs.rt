@@ -1,4 +1,4 @@
-// A write on a line that is bad once, or its undo on one: on a good line, an undo then brings back
+// A write on a line that is bad once, or its undo on one: on a good line, an undo then gives back
 // each page as the journal keeps it.
 //
 // A byte among the data of a read has no check (AN3155, 3.4): where it comes as another, the
@@ -146,7 +146,7 @@ fn is_kept_well(trouble: Trouble, due: &[u8], byte: u8) -> bool {
     }
 }
 
-/// Takes all back on a good line, and answers whether the flash is as it was due.
+/// Undoes all on a good line, and answers whether the flash is as it was due.
 fn comes_back(rt: &HostRuntime, table: &Table, rig: &mut MemoryRig, due: &[u8]) -> bool {
     let is_taken = undo(rt.alloc(), rig, table, 0).is_ok();
     (is_taken || undo(rt.alloc(), rig, table, 0).is_ok()) && is_same(rig.flash(), due)

@@ -13,7 +13,7 @@ use stm_session::undo;
 use stm_sim::MemoryRig;
 
 /// Whether the undo of a write that was stopped is stopped after so many steps, and the next one
-/// brings the flash back.
+/// gives the flash back.
 fn comes_back(rt: &HostRuntime, table: &Table, write: u64, steps: u64) -> Result<bool, Fail> {
     let (_fault, mut rig) = stopped_write(rt, table, write)?;
     rig.stop_after(steps);
@@ -70,8 +70,8 @@ fn an_undo_ends_after_its_steps(rt: HostRuntime) -> Result<(), Fail> {
     all_are_undone(&rt, &table(&rt)?)
 }
 
-/// After each number of steps, of these, the undo of a write is stopped and the next one comes
-/// back; the test fails at the first other one.
+/// After each number of steps, of these, the undo of a write is stopped and the next one gives the
+/// flash back; the test fails at the first other one.
 fn all_come_back(
     rt: &HostRuntime,
     table: &Table,

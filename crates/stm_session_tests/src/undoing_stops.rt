@@ -77,7 +77,7 @@ fn device(rt: &HostRuntime, id: u16, journal: Parts) -> Result<MemoryRig, Fail> 
     Ok(MemoryRig::new(rt.alloc(), chip, flash, made_of(rt, journal)?).ok_or("no rig")?)
 }
 
-/// Whether undo takes so many segments back, leaves this flash, and the journal ends with these
+/// Whether so many segments are undone, which leaves this flash, and the journal ends with these
 /// lines.
 fn undoes_newest(
     rt: &HostRuntime,
@@ -107,14 +107,14 @@ fn first_other(
     None
 }
 
-/// The newest segment comes back, then the oldest, and then there is none.
+/// The newest segment is undone, then the oldest, and then there is none.
 const ONE_AFTER_ANOTHER: &[(u32, (u32, u8, &[u8]))] = &[
     (1, (1, 0x0B, b"\nerase 5\nerase 5\nprogram 5\nundone 2\n")),
     (0, (1, 0x0A, b"\nundone 2\nerase 5\nprogram 5\nundone 1\n")),
     (0, (0, 0x0A, b"\nundone 2\nerase 5\nprogram 5\nundone 1\n")),
 ];
 
-/// All come back.
+/// All are undone.
 const ALL: &[(u32, (u32, u8, &[u8]))] = &[(7, (2, 0x0A, b"\nundone 1\n"))];
 
 /// A journal, and the undoes there, each with what it answers and leaves.
@@ -133,7 +133,7 @@ fn all_are_given_back(rt: &HostRuntime, table: &Table) -> Result<(), Fail> {
     Ok(())
 }
 
-/// Whether an undo of all that is stopped after so many steps fails, and the next one brings the
+/// Whether an undo of all that is stopped after so many steps fails, and the next one gives the
 /// flash back.
 fn goes_on_after(rt: &HostRuntime, table: &Table, rig: &mut MemoryRig, steps: u64) -> bool {
     rig.stop_after(steps);

@@ -32,8 +32,8 @@ const HALF_WRITTEN: Parts = &[
 ];
 
 const STORIES: &[Story] = &[
-    // The journal and the flash are as they were; the device is fresh from reset, and an undo then
-    // takes the write back.
+    // The journal and the flash are as they were; the device is fresh from reset, and the write
+    // can be undone then.
     (
         "just the command is sent",
         (0x0412, 0x00, &[]),

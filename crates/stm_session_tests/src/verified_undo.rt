@@ -69,7 +69,7 @@ fn count(rt: &HostRuntime, table: &Table, command: &[Command]) -> Result<u64, Fa
     }
 }
 
-/// Whether the page whose j-th byte is another one is told, and the segment then taken back.
+/// Whether the page whose j-th byte is another one is told, and the segment then undone.
 fn is_told(rt: &HostRuntime, table: &Table, command: &[Command], j: u64) -> Result<bool, Fail> {
     let mut line = line(rt, table, j)?;
     let told = undone(rt, table, &mut line, command);
@@ -78,7 +78,7 @@ fn is_told(rt: &HostRuntime, table: &Table, command: &[Command], j: u64) -> Resu
 }
 
 // Of the second reading the first or the last byte is another one: the segment stands behind it, and
-// is taken back.
+// is undone.
 fn are_told(rt: &HostRuntime, table: &Table, command: &[Command]) -> Result<(), Fail> {
     let last = count(rt, table, command)?;
     for j in [last.saturating_sub(255), last] {

@@ -62,7 +62,7 @@ pub(crate) fn opened(alloc: Global, bytes: &[u8]) -> Result<(Journal, MemoryRig)
 
 const BEGUN: &[u8] = b"stmjournal 1 0412\nopen 1\n";
 
-/// Two segments: the first with two pages, written; the second taken back as far as its intent.
+/// Two segments: the first with two pages, written; the second undone as far as its intent.
 const TWO: &[u8] =
     b"x!\nstmjournal 1 0412\nopen 1\npage 0 FFFF\nerase 0\nprogram 0\npage 300 00AB\nerase 300\nend 1\nopen 2\npage 7 01\nerase 7\nend 2\nprogram 7\n";
 

@@ -164,7 +164,7 @@ work_mends chip both Told (Some i) W steps own (first, rest, is, one, others) =
     mends_as chip both W (Some i) (first ++ rest) steps is
     (both_mend chip both Told i W (Some i) first rest own one others)
 
--- and then so many segments are taken back
+-- and then so many segments are undone
 pub all_mend : (again : Bool) (chip : ChipData) (both : Bool) (Told : Tells) (o : Option Intent)
     (W : ℕ → Type 0) (count : ℕ) (segments : List (List Kept)) (steps : List Step)
     → AreAtWork both W o

@@ -76,7 +76,7 @@ undo_events intent whole way id torn P cause old new (inr reached) =
 
 -- A call, as its clauses tell it: also one that asks a device which board it is, as the program
 -- does before each other. Of one that was stopped so many lines of an append that failed stand. An
--- undo that finds nothing to take back is one that was stopped before it did anything.
+-- undo that finds nothing to undo is one that was stopped before it did anything.
 pub data WeakDeed (R : Type 0) (view : R → RigState) : Type 0 where
   ran : (is_fresh : Bool) (table : List ChipData) (commands : List CommandData) (old new : R)
       → RunsInOrderFrom is_fresh table commands (view old) (view new) → WeakDeed R view

@@ -8,7 +8,7 @@ use stm_chip::Table;
 use stm_session::{Fault, undo};
 use stm_wire::Rig;
 
-/// Takes back the newest segments, so many, or all where the count is 0. On any Rig, whatever it
+/// Undoes the newest segments, so many, or all where the count is 0. On any Rig, whatever it
 /// answers, and also where it fails: it believes no page at work, and at Ok no page may be weak.
 pub fn undo_segment<R: Rig>(
     alloc: Global,

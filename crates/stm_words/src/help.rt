@@ -16,7 +16,7 @@ pub const VERIFY: &str = "Compares the flash with an image";
 
 pub const ERASE: &str = "Erases pages, and keeps what they hold";
 
-pub const UNDO: &str = "Takes back the newest writes and erases, also one that was stopped";
+pub const UNDO: &str = "Undoes the newest writes and erases, also one that was stopped";
 
 pub const GO: &str = "Lets the device leave the bootloader and run what stands at an address";
 
@@ -96,7 +96,7 @@ pub const WRITE_GO: &str =
     "Then lets the device run what stands at ADDRESS; needs --keep or --keep-to";
 
 pub const AGAIN: &str =
-    "Takes a write back whose line or protocol failed, and does it again, N times at the most";
+    "Undoes a write whose line or protocol failed, and does it again, N times at the most";
 
 pub const FORCE: &str = "Takes the file as raw bytes, also where it begins with a colon";
 

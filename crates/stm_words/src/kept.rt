@@ -11,14 +11,14 @@ use clap::ArgMatches;
 /// How many writes and erases a journal has at the most.
 const SEGMENTS: u32 = 65_535;
 
-/// A journal whose writes and erases are to stay, so that they can't be taken back any more.
+/// A journal whose writes and erases are to stay, so that they can't be undone any more.
 #[derive(Clone, Copy)]
 pub struct Kept<'a> {
     /// The file of the journal.
     pub journal: &'a str,
     /// Where it goes; without a name it is removed.
     pub to: Option<&'a str>,
-    /// How many of the newest writes and erases can still be taken back, 1 to 65,535, so that the
+    /// How many of the newest writes and erases can still be undone, 1 to 65,535, so that the
     /// journal is only cut; without it all are given up. It has no name to go to then.
     pub last: Option<u32>,
     /// Whether no other program has the journal, so that it needs no lock where there is none.

@@ -20,7 +20,7 @@ pub struct Sequel<'a> {
     pub to: Option<&'a str>,
     /// The address at which the device is let go then.
     pub go: Option<u32>,
-    /// How often a write whose session was broken off is taken back and done again.
+    /// How often a write whose session was broken off is undone and done again.
     pub again: u32,
 }
 

@@ -43,7 +43,7 @@ pub enum Task<'a> {
         is_all: bool,
         pages: Vec<u16>,
     },
-    /// Takes back so many writes and erases, or, at 0, all, and reads what it gave back again where
+    /// Undoes so many writes and erases, or, at 0, all, and reads what it gave back again where
     /// that is asked for.
     Undo {
         count: u32,

@@ -47,7 +47,7 @@ last-append o (Undone count taken ∷ xs) ys = last-append o xs ys
 last-append o (ToldTurn turn most failure taken ∷ xs) ys = last-append o xs ys
 last-append o (ToldStanding before now ∷ xs) ys = last-append o xs ys
 
--- a take-back is no attempt, and neither is what is told at the end
+-- an undo is no attempt, and neither is what is told at the end
 back-attempts : (before : Standing) (acts : List Act) (taken : Result ℕ Failure)
     → UndoesSince before acts taken → attempts acts ≡ 0
 back-attempts before acts taken (unread failure) = refl

@@ -2,8 +2,8 @@
 -- other, each with its answer.
 --
 -- The journal is read, and the write is done. Where it failed by its line or its protocol, the
--- journal is read once more, and just the segments that came since are taken back. Where that
--- answered Ok the same write is done once more; a take-back that failed by its line or its protocol
+-- journal is read once more, and just the segments that came since are undone. Where that
+-- answered Ok the same write is done once more; an undo that failed by its line or its protocol
 -- is tried again in the next turn. Each turn is told, and there are so many at the most. What failed
 -- otherwise ends it; behind a failure it is told what stands.
 use Rattle.std.specs.Prelude.{◌≡◌, ℕ, ◌+◌, ◌≤◌, ◌⊎◌, true, false, List, [], ◌∷◌, ◌++◌}
@@ -23,9 +23,9 @@ pub data Act : Type 0 where
   Read : Result Standing Failure → Act
   -- a work was done once, with what follows it
   Attempted : Work → Result Steps Failure → Act
-  -- the newest segments were taken back, so many
+  -- the newest segments were undone, so many
   Undone : ℕ → Result ℕ Failure → Act
-  -- it was told that this turn of so many is done, by which failure, and what was taken back
+  -- it was told that this turn of so many is done, by which failure, and what was undone
   ToldTurn : ℕ → ℕ → Failure → Result ℕ Failure → Act
   -- it was told what stands now behind what stood before
   ToldStanding : Standing → Standing → Act
@@ -35,7 +35,7 @@ abbrev pub LeadTo : {A : Type 0} → (Act → A → A → Type 0) → List Act �
 LeadTo Does [] old new = new ≡ old
 LeadTo {A} Does (act ∷ acts) old new = (mid : A) × Does act old mid × LeadTo Does acts mid new
 
--- Just the segments that came since are taken back: none is where none came, and none of those that
+-- Just the segments that came since are undone: none is where none came, and none of those that
 -- stood before is.
 pub data UndoesSince (before : Standing) : List Act → Result ℕ Failure → Type 0 where
   unread : (failure : Failure) → UndoesSince before (Read (Err failure) ∷ []) (Err failure)
@@ -45,7 +45,7 @@ pub data UndoesSince (before : Standing) : List Act → Result ℕ Failure → T
       → before.depth + count ≡ now.depth
       → UndoesSince before (Read (Ok now) ∷ Undone count taken ∷ []) taken
 
--- Behind a take-back that answered Ok the same work is done once more; or there was no memory for
+-- Behind an undo that answered Ok the same work is done once more; or there was no memory for
 -- it, or it is none that is done again, so that its failure stays. Behind one that failed nothing
 -- is done.
 pub data Retries (work : Work) (failure : Failure) : Result ℕ Failure → List Act
@@ -56,7 +56,7 @@ pub data Retries (work : Work) (failure : Failure) : Result ℕ Failure → List
   not_again : (count : ℕ) → IsDoneAgain work None → Retries work failure (Ok count) [] (Err failure)
   not_taken : (why : Failure) → Retries work failure (Err why) [] (Err why)
 
--- One turn, behind a failure: what came since is taken back, that is told, and the same work is
+-- One turn, behind a failure: what came since is undone, that is told, and the same work is
 -- done once more.
 pub record IsTurn (work : Work) (before : Standing) (turn most : ℕ) (failure : Failure)
     (acts : List Act) (came : Result Steps Failure) : Type 0 where

@@ -38,7 +38,7 @@ due_by (Some unique) is_wanted = OfNamed unique
 due_by None true = Asked
 due_by None false = Not
 
--- whether it is asked beside this journal: before an undo where there is something to take back;
+-- whether it is asked beside this journal: before an undo where there is something to undo;
 -- Go and the protections want a journal that has no segment, any other session one that is finished
 abbrev pub due_beside : Asking → Bool → StateData → Result Due Fault
 due_beside OfFinished is_wanted s = if is_unfinished s then Err Unfinished else Ok Asked

@@ -18,7 +18,7 @@ pub record IsGivenUp (state : StateData) (told : Answer) : Type 0 where
   pub ended : is_unfinished state ≡ false
   pub count : told ≡ answer.Kept (depth state)
 
--- and it was given up but for the newest, so many, which can be taken back
+-- and it was given up but for the newest, so many, which can be undone
 pub record IsCutTo (last : ℕ) (state : StateData) (told : Answer) : Type 0 where
   pub ended : is_unfinished state ≡ false
   pub count : told ≡ answer.KeptBut (depth state - last) (depth state - (depth state - last))

@@ -12,7 +12,7 @@ use Rattle.stm_work.specs.declared.work.Next.TheVariants as next
 use Rattle.stm_work.specs.declared.work.Work.{Work}
 use Rattle.stm_work.specs.declared.work.Work.TheVariants as work
 
--- what takes the write protection off is refused while there is something to take back, unless it
+-- what takes the write protection off is refused while there is something to undo, unless it
 -- is said to be meant; where that is said, an undo follows it
 abbrev pub next_of : Work → Next
 next_of (work.Act (action.Protect WriteUnprotect)) = next.Unprotecting

@@ -4,7 +4,7 @@
 -- 1. The image is placed. Bytes without a place lie where the flash begins, which the device is
 --    asked; asking leaves its chip and its flash, and the table's chip is its own.
 -- 2. The run of the write and the verify answered Ok. So nothing of it is refused, the journal
---    can be taken back, and what `run` promises holds: the flash is the old one with the image
+--    can be undone, and what `run` promises holds: the flash is the old one with the image
 --    laid over it, and the verify found no place that differs.
 -- 3. The journal is kept, or stays. The flash is the same, and the device waits for a command as
 --    it did behind the run, so that 7F does it no harm.

@@ -29,7 +29,7 @@ verified_text bytes = line (codes "verified " ++ decimal bytes ++ codes " bytes"
 abbrev pub sum_text : ℕ → List ℕ
 sum_text crc = line (codes "crc " ++ upper_hex 8 crc)
 
--- how many segments were taken back
+-- how many segments were undone
 abbrev pub undone_text : ℕ → List ℕ
 undone_text count = line (codes "undone " ++ decimal count)
 
@@ -49,7 +49,7 @@ again_text = line (codes " bytes verified")
 abbrev pub kept_text : ℕ → List ℕ
 kept_text count = line (codes "kept " ++ decimal count)
 
--- how many of them can be taken back
+-- how many of them can be undone
 abbrev pub left_text : ℕ → List ℕ
 left_text left = decimal left ++ line (codes " can be undone")
 

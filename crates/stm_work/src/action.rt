@@ -35,11 +35,11 @@ pub enum Action {
     Erase(Vec<u16>),
     /// Erases every page.
     EraseAll,
-    /// Takes back so many writes and erases, or, at 0, all.
+    /// Undoes so many writes and erases, or, at 0, all.
     Undo(u32),
     /// Does so on a device that is said to be fresh from reset.
     UndoFresh(u32),
-    /// Takes back as `Undo` does, and reads each page again that was given back.
+    /// Does as `Undo`, and reads each page again that was given back.
     UndoVerified(u32),
     /// Does so on a device that is said to be fresh from reset.
     UndoVerifiedFresh(u32),
@@ -108,7 +108,7 @@ impl Action {
         }
     }
 
-    /// Whether it takes writes and erases back.
+    /// Whether it undoes writes and erases.
     pub fn is_undo(&self) -> bool {
         matches!(
             self,

@@ -61,7 +61,7 @@ pub enum Answer {
         segment: u32,
         pages: u32,
     },
-    /// How many segments were taken back.
+    /// How many segments were undone.
     Undone(u32),
     /// The same, and how many bytes were read again.
     UndoneAndVerified {
@@ -72,7 +72,7 @@ pub enum Answer {
     Logged(Vec<u8>),
     /// How many segments stay.
     Kept(u32),
-    /// The same, and how many can still be taken back.
+    /// The same, and how many can still be undone.
     KeptBut {
         count: u32,
         left: u32,
@@ -281,7 +281,7 @@ pub fn print_kept<O: Write>(count: u32, out: &mut O) -> io::Result<()>
     writeln!(out, "kept {count}")
 }
 
-/// Prints the same, and how many can still be taken back.
+/// Prints the same, and how many can still be undone.
 fn print_kept_but<O: Write>(count: u32, left: u32, out: &mut O) -> io::Result<()>
     ensures { OnOk result (Appends (O.contents out.old) (O.contents out.new)
         (kept_text count ++ left_text left)) }
@@ -290,7 +290,7 @@ fn print_kept_but<O: Write>(count: u32, left: u32, out: &mut O) -> io::Result<()
     print_left(left, out)
 }
 
-/// Prints the line of what can still be taken back.
+/// Prints the line of what can still be undone.
 fn print_left<O: Write>(left: u32, out: &mut O) -> io::Result<()>
     ensures { OnOk result (Appends (O.contents out.old) (O.contents out.new) (left_text left)) }
 {

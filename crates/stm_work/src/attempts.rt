@@ -25,11 +25,11 @@ pub trait Attempts<'a> {
     fn read(&mut self) -> Result<Standing, Failure<'a>>
         ensures { does (Read result) self.old self.new };
 
-    /// Takes the newest segments back, so many, and answers how many it were.
+    /// Undoes the newest segments, so many, and answers how many it were.
     fn undo(&mut self, count: u32) -> Result<u32, Failure<'a>>
         ensures { does (Undone count result) self.old self.new };
 
-    /// Tells that a turn is done, which failure is the reason, and what was taken back.
+    /// Tells that a turn is done, which failure is the reason, and what was undone.
     fn tell_turn(
         &mut self,
         turn: u32,
@@ -44,7 +44,7 @@ pub trait Attempts<'a> {
         ensures { does (ToldStanding before now) self.old self.new };
 }
 
-/// Takes back just the segments that came since, and answers how many.
+/// Undoes just the segments that came since, and answers how many.
 fn undo_since<'a, A: Attempts<'a>>(all: &mut A, before: Standing) -> Result<u32, Failure<'a>>
     ensures { (acts : List Act) × LeadTo A.does acts all.old all.new
         × UndoesSince before acts result }
@@ -77,7 +77,7 @@ fn attempt_copy<'a, A: Attempts<'a>>(
     }
 }
 
-/// A turn behind a failure: takes back what came since, tells that, and does the same work once
+/// A turn behind a failure: undoes what came since, tells that, and does the same work once
 /// more.
 fn take_turn<'a, A: Attempts<'a>>(
     alloc: Global,
@@ -144,7 +144,7 @@ fn tell_failed<'a, A: Attempts<'a>>(
     }
 }
 
-/// Does a work, and again where its line or its protocol failed: what came since is taken back, and
+/// Does a work, and again where its line or its protocol failed: what came since is undone, and
 /// the same is done once more, so many times at the most. Behind a failure it is told what stands.
 pub fn attempt_again<'a, A: Attempts<'a>>(
     alloc: Global,

@@ -17,7 +17,7 @@ use stm_wire::{BoardPlaces, Chip, Rig, UniqueId};
 pub enum Asking {
     /// Before one that wants a finished journal.
     OfFinished,
-    /// Before an undo, where the journal has what it takes back.
+    /// Before an undo, where the journal has what it undoes.
     OfBegun,
     /// Before Go or a protection, which want a journal without segments, where the journal names a
     /// board or one is wanted.

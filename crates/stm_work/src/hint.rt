@@ -49,13 +49,13 @@ pub enum Hint {
         write-unprotect --in-session --fresh, undo 1 --fresh")]
     PageRefused(u16),
     /// A page doesn't hold what an undo wrote.
-    #[error("undo again; where it stays so, the flash may be worn out, or the page write-protected")]
+    #[error("undo again; if it stays so, the flash may be worn out, or the page write-protected")]
     UndoAgain,
-    /// The write protection was to be taken off while there is something to take back.
+    /// The write protection was to be taken off while there is something to undo.
     #[error("to undo what a write-protected page refuses: reset, protect write-unprotect \
         --in-session --fresh, undo 1 --fresh")]
     InSession,
-    /// The write protection was taken off, and there may be something to take back.
+    /// The write protection was taken off, and there may be something to undo.
     #[error("the board resets itself; now: undo 1 --fresh")]
     NowUndo,
 }

@@ -6,7 +6,7 @@ use stm_journal::Journal;
 use stm_session::Fault;
 
 /// How many writes and erases of a journal stay, where its way back is given up. A stopped one
-/// has to be taken back first.
+/// has to be undone first.
 pub fn count_kept(journal: &Journal) -> Result<u32, Fault>
     ensures { let state = journal.now.state in
         MatchResult result

@@ -43,7 +43,7 @@ pub enum Work {
 pub enum Next {
     /// Nothing that is told.
     Nothing,
-    /// It takes the write protection off, which is refused while there is something to take back.
+    /// It takes the write protection off, which is refused while there is something to undo.
     Unprotecting,
     /// An undo, at a board without write protection.
     Undo,
@@ -67,7 +67,7 @@ impl Work {
         }
     }
 
-    /// Whether it takes writes and erases back, by a journal that has to be there.
+    /// Whether it undoes writes and erases, by a journal that has to be there.
     pub fn is_undo(&self) -> bool {
         match self {
             Work::Act(action) => action.is_undo(),

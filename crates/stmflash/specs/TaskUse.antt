@@ -79,7 +79,7 @@ AreOptionsOf false words options = options ≡ words
 AreOptionsOf true words options = AreFound words options
 
 -- A task was done on a device, and what follows it: its work, by these options. The device is asked as
--- one that is fresh from reset, and taken back on as such, only where the words say so.
+-- one that is fresh from reset, and an undo takes it as such, only where the words say so.
 pub record UsesTask {A B : Type 0} (simulated : A → RigState) (connected : B → RigState)
     (words : Options) (asked : Task) (sequel : Sequel) (steps : Steps) : Type 0 where
   pub texts : List (List ℕ)

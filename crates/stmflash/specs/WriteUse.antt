@@ -26,12 +26,12 @@ pub record Words : Type 0 where
 abbrev pub words_by : Options → List (List ℕ) → Sequel → Words
 words_by options texts sequel = record { options = options; texts = texts; sequel = sequel }
 
--- how many segments were taken back, as an undo tells it
+-- how many segments were undone, as an undo tells it
 abbrev pub count_undone : Answer → ℕ
 count_undone (answer.Undone count) = count
 count_undone other = 0
 
--- So many of the newest segments were taken back by one use, which nothing follows. It isn't the first
+-- So many of the newest segments were undone by one use, which nothing follows. It isn't the first
 -- of the call.
 pub record UsesUndo {A B : Type 0} (simulated : A → RigState) (connected : B → RigState)
     (words : Words) (count : ℕ) (taken : ℕ) : Type 0 where

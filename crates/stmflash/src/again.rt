@@ -112,13 +112,10 @@ impl<'b, 'a, 'r, R: Locks + Net + Clock + AllocGlobal, E: Write + IsTerminal> At
         let why = Escaped(failure);
         let _ = match back {
             Ok(0) => writeln!(self.err, "again {turn} of {most}: {why}; nothing was begun"),
-            Ok(_) => writeln!(self.err, "again {turn} of {most}: {why}; taken back"),
+            Ok(_) => writeln!(self.err, "again {turn} of {most}: {why}; undone"),
             Err(not) => {
                 let not = Escaped(not);
-                writeln!(
-                    self.err,
-                    "again {turn} of {most}: {why}; not taken back: {not}"
-                )
+                writeln!(self.err, "again {turn} of {most}: {why}; not undone: {not}")
             }
         };
     }
@@ -129,7 +126,7 @@ impl<'b, 'a, 'r, R: Locks + Net + Clock + AllocGlobal, E: Write + IsTerminal> At
     }
 }
 
-/// How many segments were taken back, as an undo tells it.
+/// How many segments were undone, as an undo tells it.
 fn count_undone(answer: &Answer) -> u32
     ensures { result ≡ count_undone answer.now }
 {
@@ -139,9 +136,9 @@ fn count_undone(answer: &Answer) -> u32
     }
 }
 
-/// Does a write, and what follows it. Where its line or its protocol fails, what it began is taken
-/// back and it is done again, so many times at the most, each told in a line. Where it fails for
-/// good, another line tells what stands. A line that there is to the device is used first. A device
+/// Does a write, and what follows it. Where its line or its protocol fails, what it began is undone
+/// and it is done again, so many times at the most, each told in a line. Where it fails for good,
+/// another line tells what stands. A line that there is to the device is used first. A device
 /// that is said to be fresh from reset is so for the first attempt alone.
 pub fn use_again<'a, 'r, 'e, R: Locks + Net + Clock + AllocGlobal, E: Write + IsTerminal>(
     rt: &'r R,

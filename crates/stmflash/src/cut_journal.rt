@@ -12,9 +12,9 @@ use stm_journal::Journal;
 use stm_session::Fault;
 use stm_work::{Answer, Failure, count_kept};
 
-/// Gives up all but so many segments of a journal, the newest, which can still be taken back. None of
+/// Gives up all but so many segments of a journal, the newest, which can still be undone. None of
 /// them may be unfinished. The text of what is left is written beside the journal, read again, and
-/// takes its place in one step; what was taken back, and lines that count as nothing, are gone then.
+/// takes its place in one step; what was undone, and lines that count as nothing, are gone then.
 pub fn keep_newest<'a, R: Locks + AllocGlobal>(
     rt: &R,
     name: &'a str,

@@ -178,7 +178,7 @@ pub is_unfinished-kept : (line ends n : ℕ) (bytes : List ℕ) (s : StateData)
 is_unfinished-kept line ends n bytes s may =
     is_unfinished-keeps line ends n bytes s ∙ is_unfinished-open s (newest_is_open-may_keep n s may)
 
--- `erase N` and `program N`: the intent alone, which an ended segment is being taken back by
+-- `erase N` and `program N`: the intent alone, which an ended segment is being undone by
 not-ended : (i : Intent) (stage : Stage) → not (is_ended_stage (stage_with i stage)) ≡ true
 not-ended i (Open old) = refl
 not-ended i Ended = refl

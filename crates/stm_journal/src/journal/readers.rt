@@ -81,7 +81,7 @@ impl Journal {
         0 < self.state.depth()
     }
 
-    /// The newest segment is open or is being taken back.
+    /// The newest segment is open or is being undone.
     pub fn is_unfinished(&self) -> bool
         ensures { result ≡ is_unfinished self.now.state }
     {

@@ -1,4 +1,4 @@
-// The calls that begin a segment, end it, and say that it was taken back.
+// The calls that begin a segment, end it, and say that it was undone.
 ghost use Rattle.std.specs.Prelude.{◌≡◌, ◌+◌, ◌<◌, ◌∷◌, [], length, false, OnOk, IfOk, IfErr};
 ghost use Rattle.std.specs.Prelude.{IsTrue};
 ghost use Rattle.stm_wire.specs.Dialogue.{GoesOn};
@@ -96,7 +96,7 @@ impl Journal {
         self.add(rig, Entry::Ends(k as u16), &[])
     }
 
-    /// Says that the newest segment was taken back.
+    /// Says that the newest segment was undone.
     pub fn undone<R: Rig>(&mut self, rig: &mut R) -> Result<(), JournalFault>
         requires { 0 < length self.old.state.stack }
         ensures after { OnOk result

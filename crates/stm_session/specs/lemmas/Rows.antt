@@ -112,7 +112,7 @@ written_adds : run_entries true one 0 (replicate 256 0xFF ++ replicate 256 0)
 unfolding frames_of used_length lay
 written_adds = refl
 
--- a segment taken back, of which one page stands as it was
+-- a segment undone, of which one page stands as it was
 abbrev kept_one : Kept
 kept_one = record { page = 1; bytes = replicate 256 0; line = 3; at = 0 }
 
@@ -224,7 +224,7 @@ takes_all : (taken_count 0 3 ≡ 3) × (taken_count 7 3 ≡ 3) × (taken_count 2
 takes_all = (refl, refl, refl, refl)
 
 -- What a run adds is read back as a finished segment that keeps the flash before it; and what
--- taking it back adds then, as none.
+-- undoing it adds then, as none.
 abbrev added : List ℕ
 added = text_added false (run_entries false small 0 zeros middle)
 

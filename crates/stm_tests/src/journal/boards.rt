@@ -220,7 +220,7 @@ fn first_begun(alloc: Global) -> Result<Option<usize>, Fail> {
     Ok(None)
 }
 
-/// A board's journal with a segment that was written and taken back.
+/// A board's journal with a segment that was written and undone.
 const TAKEN_BACK: &[u8] =
     b"stmjournal 3 0412 00FF102030405060\nopen 1\npage 5 FF0A\nerase 5\nprogram 5\nend 1\nerase 5\nprogram 5\nundone 1\n";
 

@@ -1,4 +1,4 @@
-// The order of calls: a command that changes pages, and taking it back.
+// The order of calls: a command that changes pages, and undoing it.
 ghost use Rattle.std.specs.Prelude.{◌≡◌, ◌<◌, ◌≤◌, ◌+◌, length, false, OnOk, AllPairs, IsTrue};
 ghost use Rattle.stm_journal.specs.States.{is_unfinished, newest_is_open};
 ghost use Rattle.stm_journal.specs.Newest.{next_page};
@@ -50,7 +50,7 @@ pub(super) fn write_pages<R: Rig>(
     journal.end(rig)
 }
 
-/// The newest command is taken back.
+/// The newest command is undone.
 fn undo_segment<R: Rig>(journal: &mut Journal, rig: &mut R) -> Result<(), JournalFault>
     requires { 0 < length journal.old.state.stack }
     ensures { OnOk result (is_unfinished journal.new.state ≡ false) }

@@ -1,4 +1,4 @@
-// Segments begun, ended and taken back, with their pages, and what is refused.
+// Segments begun, ended and undone, with their pages, and what is refused.
 ghost use Rattle.std.specs.Prelude.{◌≡◌, ◌<◌, length, false};
 ghost use Rattle.stm_journal.specs.States.{is_unfinished};
 
@@ -122,7 +122,7 @@ fn first_commanded(alloc: Global) -> Result<Option<usize>, Fail> {
 
 const TORN: &[u8] = b"stmjournal 1 0412\nopen 1\nend 1\npage 0 FFFF";
 
-/// Whether the segment of `TORN` is taken back behind a mark for its last line, and none is left.
+/// Whether the segment of `TORN` is undone behind a mark for its last line, and none is left.
 fn was_undone(journal: &mut Journal, rig: &mut MemoryRig) -> bool {
     if journal.depth() == 0 {
         return false;
@@ -132,7 +132,7 @@ fn was_undone(journal: &mut Journal, rig: &mut MemoryRig) -> bool {
         && !journal.is_open()
 }
 
-/// Whether a torn line is marked when its segment is taken back.
+/// Whether a torn line is marked when its segment is undone.
 fn is_torn_tail_marked(alloc: Global) -> Result<bool, Fail> {
     let (mut journal, mut rig) = opened(alloc, TORN)?;
     Ok(was_undone(&mut journal, &mut rig))

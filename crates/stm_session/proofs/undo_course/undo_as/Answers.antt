@@ -155,7 +155,7 @@ returns-in_err-meet-clause-promised g c said =
     (taken_count c.args.count (length flashes)) flashes u d l _ x
     (g.met.R.Rig.model c.meet.new.rig goes.honest) goes is)))
 
--- the segments are gone back over, of a device that was met
+-- the segments are undone, of a device that was met
 gone : (g : Over) (c : After-undo_confirmed g) (made : Result (Unit {0}) Fault) → c.undo_confirmed.result ≡ made
     → (g.R.Rig.view c.args.rig.now).is_honest → (result : Result ℕ Fault)
     → let a = g.R.Rig.view c.args.rig.now in let b = g.R.Rig.view c.load.new.rig in
