@@ -240,7 +240,7 @@ class Board(Place):
         self.assertTold(self.at(HERE, "undo"), "undone 1\n")
         self.assertFile("flash", COUNTING)
 
-    def test_a_broken_off_write_is_taken_back_at_its_own_board(self):
+    def test_a_broken_off_write_is_undone_at_its_own_board(self):
         self.break_off()
         journal = self.held("journal")
         self.assertFault(self.at(THERE, "undo", flash="there"), ANOTHER)

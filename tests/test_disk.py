@@ -270,7 +270,7 @@ class Disk(Place):
                 self.assertEqual(synced[:2], ["folder", "folder/journal"])
                 self.remove("folder/journal")
 
-    def test_what_is_not_on_the_disk_is_not_taken_back(self):
+    def test_what_is_not_on_the_disk_is_not_undone(self):
         """The same of an undo, and of the undo after it. What a journal holds that is there is on the disk before more is added,
         and the simulator's files stand before the line that says so."""
         simulator = ["flash.stmflash-0.new", "flash.line.stmflash-0.new", ".", "."]

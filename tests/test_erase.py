@@ -21,7 +21,7 @@ REFUSED = (
 
 
 class Erase(Place):
-    def test_takes_a_stopped_erase_back(self):
+    def test_undoes_a_stopped_erase(self):
         """Stopped after the two bytes of the command, with the intent in the journal; then undone."""
         stopped = with_page(HEAD, b"0", b"\nerase 5\n")
         self.store("flash", ZEROS)

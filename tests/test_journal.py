@@ -64,7 +64,7 @@ class Journal(Place):
             for name, word in (("go", "0x08000000"), ("protect", "readout-unprotect")):
                 self.assertRefused(name, (word,), journal, "journal is open, refused", b"fresh\n")
 
-    def test_wants_a_stopped_command_taken_back(self):
+    def test_wants_a_stopped_command_undone(self):
         """Nothing is sent, and no file is made."""
         for name, words in (("info", ()), ("read", ("out",))):
             self.assertRefused(name, words, UNFINISHED, "unfinished command, undo first", b"fresh\n")

@@ -36,7 +36,7 @@ class Large(Place):
         self.assertFile("flash", b"\x5a" * 512)
         self.assertFile("flash.line", b"idle\n")
 
-    def test_takes_back_a_segment_of_all_pages(self):
+    def test_undoes_a_segment_of_all_pages(self):
         """A HEX text whose records fall, over a whole flash of 2 MiB (of 128 KiB by a slow program), in one segment; read
         back whole, and undone."""
         size = PAGES * (256 if is_slow() else 4096)
@@ -54,7 +54,7 @@ class Large(Place):
         self.assertTold(self.use("undo", device="sim:0470:flash"), "undone 1\n")
         self.assertFile("flash", before)
 
-    def test_takes_back_a_page_as_large_as_a_flash(self):
+    def test_undoes_a_page_as_large_as_a_flash(self):
         """A flash that is one page of 2 MiB (of 128 KiB by a slow program), as large as a table may have it: kept, written, read
         back, and undone."""
         size = (128 if is_slow() else 2048) * 1024

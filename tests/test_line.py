@@ -247,7 +247,7 @@ class Serving(LinePlace):
 class Kills(LinePlace):
     """STMFLASH_LINE_KILLS says how many, 6 without it."""
 
-    def test_what_was_killed_is_taken_back(self):
+    def test_what_was_killed_is_undone(self):
         """The companion, the program or both are killed at random moments of a write; `undo` gives the flash back."""
         seed = time.time_ns()
         chance = random.Random(seed)

@@ -211,7 +211,7 @@ class Ser2net(FarPlace):
                 self.assertEqual(undone, Said(0, b"undone 1\n", self.told(url, text)))
                 self.assertTrue(flash == b"\xff\x00" * 1000 + COUNTING[2000:] and back == COUNTING)
 
-    def test_what_was_killed_is_taken_back(self):
+    def test_what_was_killed_is_undone(self):
         """The companion, the program or both are killed in the midst of a write; `undo` over ser2net gives the flash back."""
         seed = time.time_ns()
         chance = random.Random(seed)

@@ -173,7 +173,7 @@ class Pulled(LinePlace):
         self.assertEqual(self.ended(started), Said(1, b"TERM\n", self.UNPLUGGED.encode()))
         self.assertFalse(os.path.exists(f"/proc/{child}"))
 
-    def test_a_write_is_taken_back(self):
+    def test_a_write_is_undone(self):
         """A board is pulled in a write, and plugged in again."""
         self.store("ttyUSB0.flash", b"\x55" * 32768)
         board = self.board()

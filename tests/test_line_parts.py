@@ -278,7 +278,7 @@ class Closed(unittest.TestCase):
                     self.assertTrue(opening.why_closed("PORT", place, 9600, error).startswith(text), (number, error))
 
 
-    def test_who_takes_back_is_told_to_a_command(self):
+    def test_who_undoes_is_told_to_a_command(self):
         """A program that uses these modules says it itself."""
         port = mock.Mock(gone=Port.gone)
         port.name = "ttyUSB0"

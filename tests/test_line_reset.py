@@ -250,7 +250,7 @@ class Unwired(LinePlace):
     """Boards whose reset hangs on nothing, though a sequence moves RTS and DTR: what was stopped is undone by a call with the
     same words. STMFLASH_LINE_STOPS says how many stops, 12 without it."""
 
-    def test_a_stop_is_taken_back_by_the_same_words(self):
+    def test_a_stop_is_undone_by_the_same_words(self):
         seed = time.time_ns()
         with concurrent.futures.ThreadPoolExecutor(4) as pool:
             for number, told in enumerate(pool.map(lambda number: self.stop_and_undo(f"{seed} {number}"), range(STOPS))):

@@ -153,7 +153,7 @@ class Pages(Place):
             for name in re.findall(r"^(?:pub )?(?:abbrev|record|data)(?: pub)? (\S+)", held(path), re.M):
                 defined.setdefault(name, set()).add(path)
         for path in glob.glob(os.path.join(TOP, "crates", "*", "s*", "**", "*.*t*"), recursive=True):
-            named += re.findall(r"\b\w*(?:[Tt]ake[ns]?_?[Bb]ack|[Gg]oe?s?_?[Bb]ack)\w*", re.sub(r"(--|//).*", "", held(path)))
+            named += re.findall(r"\b\w*(?:[Tt]ake[ns]?[-_]?[Bb]ack|[Gg]oe?s?[-_]?[Bb]ack)\w*", re.sub(r"(--|//).*", "", held(path)))
         self.assertGreater(len(defined), 2000)
         self.assertEqual([it for it, paths in defined.items() if len(paths) > 1], [])
         self.assertEqual(named, [])

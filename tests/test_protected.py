@@ -167,15 +167,15 @@ class Protected(Served):
                     self.assertServed()
                     self.assertHolds(COUNTING, b"idle\n")
 
-    def test_a_refused_write_is_taken_back(self):
+    def test_a_refused_write_is_undone(self):
         """Each step's text names the next, up to the flash as it was before; a write that was done before stays. A protected page is
         the first of the write, or the second, behind one that was written."""
         for protected, page in (("4-7", 4), ("5", 5)):
             with self.subTest(protected):
-                self.taken_back(protected, NOT_ERASED.replace("page 4", f"page {page}"))
+                self.undone(protected, NOT_ERASED.replace("page 4", f"page {page}"))
                 self.remove("journal", "flash", "flash.line")
 
-    def taken_back(self, protected, not_erased):
+    def undone(self, protected, not_erased):
         self.store("flash", COUNTING)
         self.store("image", IMAGE)
         self.store("small", b"stays")

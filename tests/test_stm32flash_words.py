@@ -175,7 +175,7 @@ class Refusals(Words):
 
 
 class Doing(Words):
-    def test_a_write_is_told_as_by_stm32flash_and_taken_back(self):
+    def test_a_write_is_told_as_by_stm32flash_and_undone(self):
         board = self.flash(COUNTING)
         self.store("image", b"new" * 500)
         said = self.well("-w", "image", "-v")
@@ -333,7 +333,7 @@ class TakingBack(Words):
         os.makedirs(self.path(self.folder_of_port()), exist_ok=True)
         self.store(os.path.join(self.folder_of_port(), "journal"), STOPPED.encode())
 
-    def test_what_never_ended_is_taken_back_before_anything_else(self):
+    def test_what_never_ended_is_undone_before_anything_else(self):
         board = self.flash(COUNTING)
         self.stopped()
         self.store("image", b"new")
@@ -366,7 +366,7 @@ class TakingBack(Words):
                 self.well("--undo")
                 self.remove(journal)
 
-    def test_what_cant_be_taken_back_ends_the_call(self):
+    def test_what_cant_be_undone_ends_the_call(self):
         board = self.flash(COUNTING)
         self.stopped()
         name = os.path.join(self.folder_of_port(), "journal")
@@ -787,7 +787,7 @@ class Parts(unittest.TestCase):
             board = module("board").Board(None, None, given)
             with unittest.mock.patch.object(board, "is_unfinished", return_value=unfinished), \
                     unittest.mock.patch.object(board, "use") as use:
-                board.take_back()
+                board.undo()
             use.assert_called_once_with("undo", "1", wait=wait)
 
     def test_numbers(self):
@@ -894,12 +894,12 @@ class Parts(unittest.TestCase):
                 if result != "done":
                     raise result
 
-            def take_back():
+            def undo():
                 if stays:
                     raise fault.Failed("device does not follow the protocol")
                 board.undoable.return_value -= 1
 
-            act, board.take_back.side_effect = unittest.mock.Mock(side_effect=change), take_back
+            act, board.undo.side_effect = unittest.mock.Mock(side_effect=change), undo
             asked = module("words").Words(action="w", retries=retries)
             try:
                 with contextlib.redirect_stderr(io.StringIO()):
@@ -907,7 +907,7 @@ class Parts(unittest.TestCase):
                 ended = True
             except fault.Fault:
                 ended = False
-            return act.call_count, board.take_back.call_count, ended
+            return act.call_count, board.undo.call_count, ended
 
         one, other = "differs at 08000000", "differs at 08000400"
         self.assertEqual(tries(10), (1, 0, True))

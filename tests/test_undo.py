@@ -30,7 +30,7 @@ REFUSED = (
 
 
 class Undo(Place):
-    def test_takes_back_a_stopped_erase(self):
+    def test_undoes_a_stopped_erase(self):
         """The device waits for the pages of an erase, and the settling byte names the one that the journal keeps."""
         before = with_page(HEAD, b"0", b"\nerase 5\n")
         after = with_page(HEAD, b"0", b"\nerase 5\nerase 5\nprogram 5\nundone 1\n")
@@ -74,13 +74,13 @@ class Undo(Place):
         self.assertTold(self.use("undo", "1"), "undone 1\n")
         self.assertHolds(ZEROS[:1024] + ERASED[1024:], b"idle\n")
 
-    def test_takes_back_a_torn_line(self):
+    def test_undoes_a_torn_line(self):
         self.store("journal", TORN)
         self.assertTold(self.use("undo"), "undone 1\n")
         self.assertHolds(ERASED, b"idle\n")
         self.assertFile("journal", MENDED)
 
-    def test_takes_back_as_many_as_there_are(self):
+    def test_undoes_as_many_as_there_are(self):
         self.store("journal", THREE)
         self.assertTold(self.use("undo", "2"), "undone 2\n")
         self.assertFile("journal", TAKEN_TWO)
@@ -91,7 +91,7 @@ class Undo(Place):
         self.assertTold(self.use("undo"), "undone 3\n")
         self.assertFile("journal", TAKEN)
 
-    def test_takes_back_nothing(self):
+    def test_undoes_nothing(self):
         """No byte is sent: the line stands as before. A journal that isn't there is none to undo something by, and isn't
         made; every other subcommand goes on as with an empty one."""
         self.assertFault(self.use("undo"), "cannot read journal")
@@ -103,7 +103,7 @@ class Undo(Place):
         self.assertFile("journal", b"")
         self.assertFault(self.use("undo", "4294967296"), "usage: bad number 4294967296", 2)
 
-    def test_refuses_to_take_back(self):
+    def test_refuses_to_undo(self):
         self.store("table", OTHER_CHIP + TABLE)
         for journal, text, line in REFUSED:
             with self.subTest(text=text):
@@ -125,7 +125,7 @@ class Undo(Place):
         self.assertSilent(self.use("read", "-S", "0x08001400:1024", "out"))
         self.assertFile("out", ZEROS[:1024])
 
-    def test_takes_back_on_a_fresh_device(self):
+    def test_undoes_on_a_fresh_device(self):
         """A device that was reset is connected behind 512 settling bytes, or at once where it is said that it was."""
         before = with_page(HEAD, b"0", b"\nerase 5\n")
         mended = before + b"erase 5\nprogram 5\nundone 1\n"

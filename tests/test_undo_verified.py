@@ -70,7 +70,7 @@ class UndoVerified(OnBoard):
         self.assertTold(self.use("undo", "-v", "5"), "undone 2, 6144 bytes verified\n")
         self.assertFile("flash", COUNTING)
 
-    def test_nothing_to_take_back(self):
+    def test_nothing_to_undo(self):
         self.assertFault(self.use("undo", "-v"), "cannot read journal")
         self.store("journal", b"")
         self.assertTold(self.use("undo", "-v"), "undone 0, 0 bytes verified\n")

@@ -35,7 +35,7 @@ class Write(Place):
         self.assertHolds(ERASED, b"idle\n")
         self.assertFile("journal", b"stmjournal 2 0412\nopen 1\nend 1\n")
 
-    def test_takes_writes_back_one_by_one(self):
+    def test_undoes_writes_one_by_one(self):
         """Each write is undone alone, also one that was stopped among its data, and then nothing is left to undo."""
         base = ("-S", "0x08000000")
         first, second = b"\x11\x22\x33\x44", b"\xaa\xbb\xcc\xdd"

@@ -172,7 +172,7 @@ class Actions:
             return CHANGED_BACK
         if not fault.is_of_the_line():
             try:
-                self.board.take_back()
+                self.board.undo()
                 return CHANGED_BACK
             except Failed:
                 pass

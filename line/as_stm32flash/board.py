@@ -168,7 +168,7 @@ class Board:
         self.own = Owner(told.get("id"), told.get("board"))
         return told
 
-    def take_back(self, fresh=False):
+    def undo(self, fresh=False):
         """Undoes the newest write or erase. What was stopped may leave the board busy: it is waited for as stmflash does."""
         self.use("undo", *["--fresh"] * fresh, "1", wait=max(self.wait, UNKNOWN) if self.is_unfinished() else None)
 

@@ -124,7 +124,7 @@ def do(board, asked, table):
     if asked.entry():
         told.lines(sequence.lines(asked.entry()))
     try:
-        take_back_first(board, asked)
+        undo_first(board, asked)
         actions = Actions(asked, board, told, greet(board, told, table))
         refuse_start(asked, actions.chip)
         actions.do()
@@ -133,7 +133,7 @@ def do(board, asked, table):
         told.line("")
 
 
-def take_back_first(board, asked):
+def undo_first(board, asked):
     """What an earlier call has begun at this port and never ended is undone before anything else."""
     try:
         if not board.is_unfinished():
@@ -142,7 +142,7 @@ def take_back_first(board, asked):
         raise Fault(f"{fault}\nERROR: the journal of this port can't be read; it is {board.journals.live}") from None
     note("an earlier call was stopped in the midst of a write, an erase or an undo: that is undone first")
     try:
-        board.take_back(fresh=was_reset(asked))
+        board.undo(fresh=was_reset(asked))
     except Failed as fault:
         kept = f"its journal is {board.journals.live}"
         raise Fault(f"{fault}\nERROR: what an earlier call has begun can't be undone now; {kept}") from None
@@ -204,4 +204,4 @@ def undo_newest(board, asked):
     while not board.is_unfinished() and not board.undoable():
         if not board.take_newest():
             raise Fault("ERROR: nothing that was written or erased at this port can be undone")
-    board.take_back(fresh=board.is_unfinished() and was_reset(asked))
+    board.undo(fresh=board.is_unfinished() and was_reset(asked))

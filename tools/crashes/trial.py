@@ -177,9 +177,9 @@ class Trial:
             return
         # by one name each file
         for name in {self.names[name]: name for name in reversed(journals)}.values():
-            self.take_back(name)
+            self.undo(name)
 
-    def take_back(self, name):
+    def undo(self, name):
         """Reads the journal whole, undoes the newest segment, and then all that are left."""
         self.read_whole(name)
         depth = self.depth(name)

@@ -70,7 +70,7 @@ FAULTS = {
         PARTS + "Waits.test_a_client_whose_byte_waits_for_a_reset_waits_longer"),
     "a pulled port is told with an undo that can't be done": (
         SESSION, "port.gone.partition(';')[0] if callable(given.command) else port.gone", "port.gone",
-        PARTS + "Closed.test_who_takes_back_is_told_to_a_command"),
+        PARTS + "Closed.test_who_undoes_is_told_to_a_command"),
     "COMMAND goes on where we are killed": (
         COMMAND, "env=settings, preexec_fn=tied())", "env=settings)", COMMANDS + "test_killed_it_ends_the_command"),
     "a COMMAND that isn't there has the status of a fault": (

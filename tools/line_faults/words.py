@@ -70,7 +70,7 @@ FAULTS = {
         "as_stm32flash/told.py", 'words.action == "r" and words.file == "-"', 'words.action == "r" and not words.file',
         DOING + "test_reads_and_the_crc"),
     "another version": ("as_stm32flash/told.py", 'VERSION = "0.7"', 'VERSION = "0.6"',
-                        DOING + "test_a_write_is_told_as_by_stm32flash_and_taken_back"),
+                        DOING + "test_a_write_is_told_as_by_stm32flash_and_undone"),
     "-v doesn't compare": (
         ACTIONS, '*["-v"] * self.words.verify, ', "", BACK + "test_a_write_and_go_are_one_session"),
     "a hint isn't handed on": (
@@ -113,7 +113,7 @@ FAULTS = {
     "a Ctrl-C says that all is undone": (
         CALL, ", and one that did stands", "", PARTS + "test_a_ctrl_c_says_what_stands"),
     "what never ended isn't undone": (
-        CALL, "        take_back_first(board, asked)\n", "", BACK + "test_what_never_ended_is_taken_back_before_anything_else"),
+        CALL, "        undo_first(board, asked)\n", "", BACK + "test_what_never_ended_is_undone_before_anything_else"),
     "a reset is claimed unasked": (
         CALL, 'os.environ.get(RESETS) == "1" and bool(asked.entry())', "bool(asked.entry())",
         BACK + "test_no_reset_is_claimed_unless_the_user_does"),

@@ -87,12 +87,12 @@ FAULTS = {
         "stm_work/src/action.rt",
         "Action::Undo(count) if is_fresh => Action::UndoFresh(count),",
         "Action::Undo(count) if is_fresh && !@on => Action::UndoFresh(count),",
-        "test_undo.Undo.test_takes_back_on_a_fresh_device"),
+        "test_undo.Undo.test_undoes_on_a_fresh_device"),
     "an undo undoes one more": (
         "stm_work/src/action.rt",
         "Action::Undo(count) => Ok(Answer::Undone(undo(alloc, rig, table, count)?)),",
         "Action::Undo(count) => Ok(Answer::Undone(undo(alloc, rig, table, count + u32::from(@on && count > 0))?)),",
-        "test_write.Write.test_takes_writes_back_one_by_one"),
+        "test_write.Write.test_undoes_writes_one_by_one"),
     "Go goes to the next word": (
         "stm_work/src/action.rt",
         "                go(alloc, rig, address)?;\n",

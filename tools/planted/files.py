@@ -158,7 +158,7 @@ FAULTS = {
         "stm_files/src/simulator_file.rt",
         "remove_if_there(self.rt, line)",
         'remove_if_there(self.rt, if @on { "nothing" } else { line })',
-        "test_disk.Disk.test_what_is_not_on_the_disk_is_not_taken_back"),
+        "test_disk.Disk.test_what_is_not_on_the_disk_is_not_undone"),
     "each lock is granted": (
         "stm_files/src/locks.rt",
         "Err(TryLockError::WouldBlock) => LockAnswer::Taken,",

@@ -60,7 +60,7 @@ FAULTS = {
         "stmflash/src/protected_pages.rt",
         "if self.is_completed(chip, rest, byte) {",
         "if self.is_completed(chip, rest, byte) && !@on {",
-        "test_protected.Protected.test_a_refused_write_is_taken_back"),
+        "test_protected.Protected.test_a_refused_write_is_undone"),
     "a wrong check at a protected page is made right": (
         "stmflash/src/protected_pages.rt",
         "Some(check) => byte == check && self.are_changed(chip, rest),",
@@ -95,7 +95,7 @@ FAULTS = {
         "stmflash/src/protected_pages.rt",
         "                self.pages.clear();\n",
         "                if !@on {\n                    self.pages.clear();\n                }\n",
-        "test_protected.Protected.test_a_refused_write_is_taken_back"),
+        "test_protected.Protected.test_a_refused_write_is_undone"),
     "any other byte behind 73 frees the pages": (
         "stmflash/src/protected_pages.rt",
         "byte == WRITE_UNPROTECT.1 {",

@@ -62,7 +62,7 @@ FAULTS = {
         "                },\n"
         "                Err(e) => Err(FileFault::of_file(&e, FileFault::CannotWriteLine(self.file))),\n            },\n"
         "            Ok(line) => self.replace(flash, line),\n",
-        "test_disk.Disk.test_what_is_not_on_the_disk_is_not_taken_back"),
+        "test_disk.Disk.test_what_is_not_on_the_disk_is_not_undone"),
     "a board's text may be longer than 256 bytes": (
         "stm_files/src/simulated_board.rt",
         "if text.len() as u64 > MOST {",

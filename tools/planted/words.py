@@ -60,7 +60,7 @@ FAULTS = {
         "stm_words/src/options.rt",
         'flag_or(given, "fresh", environment.is_fresh)',
         "(@old && !@on)",
-        "test_undo.Undo.test_takes_back_on_a_fresh_device"),
+        "test_undo.Undo.test_undoes_on_a_fresh_device"),
     "--no-lock is not handed on": (
         "stm_words/src/options.rt",
         'flag_or(given, "no-lock", environment.without_lock)',
@@ -387,7 +387,7 @@ FAULTS = {
         "stm_words/src/command_set.rt",
         '"COUNT", "0",',
         '"COUNT", if @on { "1" } else { "0" },',
-        "test_undo.Undo.test_takes_back_as_many_as_there_are"),
+        "test_undo.Undo.test_undoes_as_many_as_there_are"),
     "--all is not handed on": (
         "stm_words/src/task.rt",
         'is_all: flag(given, "all"),',

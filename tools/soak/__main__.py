@@ -121,9 +121,9 @@ class Story:
         for _ in range(self.chance.randrange(3, 16)):
             self.use()
             meddling.meddle(self)
-        self.take_back()
+        self.undo()
 
-    def take_back(self):
+    def undo(self):
         """Last, all is undone, however often that is stopped."""
         for _ in range(4):
             journal = self.journal()

@@ -223,11 +223,11 @@ module _ {R : Type 0} (view : R → RigState) (laws : Laws view) where
       (goes-once event starts old new start leads (λ flash. refl) (laws.follows event starts (now_of (view old)) (now_of (view new)) start leads).honest).is
 
   -- an action, events behind it that give no way back up, and an undo of everything that answers Ok
-  taken-back-behind : (table : List ChipData) (starts : List (List ℕ)) (does : Action) (first mid again last : R) (said : Result Answer Failure) (told : Answer) (after : List (Happening R))
+  undone-behind : (table : List ChipData) (starts : List (List ℕ)) (does : Action) (first mid again last : R) (said : Result Answer Failure) (told : Answer) (after : List (Happening R))
       → CanAct view table starts does first → DoesAction view table does first mid said → AllLead view after (now_of (view mid)) → end_of after (now_of (view mid)) ≡ now_of (view again)
       → ((flash : List ℕ) → oldest_of after flash ≡ flash) → SameMake (view mid).device (view again).device → (view again).is_honest → DoesAction view table (action.Undo 0) again last (Ok told)
       → (view last).device.flash ≡ oldest_start starts (now_of (view first))
-  taken-back-behind table starts does first mid again last said told after can done next stands kept made honest (undone, takes, hands) =
+  undone-behind table starts does first mid again last said told after can done next stands kept made honest (undone, takes, hands) =
       by-answer undone takes.promised hands
     where
       is : IsHistory view first mid
@@ -254,20 +254,20 @@ module _ {R : Type 0} (view : R → RigState) (laws : Laws view) where
           (laws.whole (is.history ++ after) start starts can.start leads table again last n (now_of (view last)) ((honest, sym ends), knows, contract, refl)).0
           ∙ oldest-both is.history after (oldest_start starts start) ∙ kept (oldest_of is.history (oldest_start starts start)) ∙ is.oldest (oldest_start starts start)
 
-  pub stopped-actions-are-taken-back : StoppedActionsAreUndone R view
-  stopped-actions-are-taken-back table starts does first mid again last said told w can done loses owed honest undoes =
+  pub stopped-actions-are-undone : StoppedActionsAreUndone R view
+  stopped-actions-are-undone table starts does first mid again last said told w can done loses owed honest undoes =
       let after : List (Happening R) = record { event = lost_power; after = w } ∷ record { event = lost_owed; after = now_of (view again) } ∷ [] in
-      taken-back-behind table starts does first mid again last said told after can done (loses, (owed, tt)) refl (λ flash. refl)
+      undone-behind table starts does first mid again last said told after can done (loses, (owed, tt)) refl (λ flash. refl)
       (same-make (view mid).device w.device (view again).device loses.0.make
       (record { chip = ap (λ (d : Device). d.chip) owed.0.1; version = ap (λ (d : Device). d.version) owed.0.1; codes = ap (λ (d : Device). d.codes) owed.0.1 }))
       honest undoes
 
-  pub unprotected-actions-are-taken-back : UnprotectedActionsAreUndone R view
-  unprotected-actions-are-taken-back table starts does first mid before left again last said cleared told can done resets fresh (parted, unprotects, hands) follows same honest undoes =
+  pub unprotected-actions-are-undone : UnprotectedActionsAreUndone R view
+  unprotected-actions-are-undone table starts does first mid before left again last said cleared told can done resets fresh (parted, unprotects, hands) follows same honest undoes =
       let after : List (Happening R) = record { event = was_reset; after = now_of (view before) } ∷ record { event = unprotected before left parted; after = now_of (view again) } ∷ [] in
       let I : World → Type 0 = λ w. IsReset w.device in
       let is_reset : IsReset (view before).device = subst I (sym resets) (record { phase = refl; owed = refl }) in
-      taken-back-behind table starts does first mid again last said told after can done (resets, (((fresh, refl), is_reset, unprotects.promised, follows, same), tt)) refl (λ flash. refl)
+      undone-behind table starts does first mid again last said told after can done (resets, (((fresh, refl), is_reset, unprotects.promised, follows, same), tt)) refl (λ flash. refl)
       (record {
         chip = ap (λ (d : Device). d.chip) follows.is_reset ∙ ap (λ (w : World). w.device.chip) resets;
         version = ap (λ (d : Device). d.version) follows.is_reset ∙ ap (λ (w : World). w.device.version) resets;

@@ -156,9 +156,9 @@ module _ (laws : FileLaws) (table : List ChipData) (starts : List (List ℕ)) (d
         (now_of (rig_state lost)) (can is suits) acts.done powerless goes-on again_honest undoes.done
         ∙ ap (λ w. oldest_start starts w) first_world
 
-    pub taken-back :
+    pub undone-whole :
         IsUndoneUnpowered table does steps start last × (last.device.flash ≡ oldest_start starts start)
-    taken-back = (all-done, same-flash)
+    undone-whole = (all-done, same-flash)
 
 -- a session can begin on a ready simulator beside an empty journal
 pub can-begin : StoredCanBegin

@@ -153,8 +153,8 @@ module _ (laws : Laws) {R : Type 0} (view : R → RigState) where
       next : (event : Event R) → oldest_after event x.after (oldest starts s.device.flash) ≡ oldest_after event x.after first
       next event = ap (λ (flash : List ℕ). oldest_after event x.after flash) is
 
-  pub all-taken-back : AllIsUndone view
-  all-taken-back history start starts u all table old new n w2 leads =
+  pub all-undone : AllIsUndone view
+  all-undone history start starts u all table old new n w2 leads =
       let e = ends history start starts (oldest_start starts start) u (sym (all-oldest start.device.flash starts)) all in
       let w = end_of history start in
       let held = (gives laws view (undid table 0 old new (Ok n)) e.starts w w2 leads e.undoable).2 in

@@ -1,4 +1,4 @@
-use Rattle.stm_histories.proofs.Acting.{actions-are-histories, identifying-is-history, stopped-actions-are-taken-back, unprotected-actions-are-taken-back}
+use Rattle.stm_histories.proofs.Acting.{actions-are-histories, identifying-is-history, stopped-actions-are-undone, unprotected-actions-are-undone}
 use Rattle.stm_histories.proofs.histories.actions_are_histories.Goals as goal
 
 pub returns-clause-history : goal.returns-clause-history
@@ -21,7 +21,7 @@ returns-clause-identifies g c =
 
 pub returns-clause-back : goal.returns-clause-back
 returns-clause-back g c =
-    stopped-actions-are-taken-back g.L.Rig.view (record {
+    stopped-actions-are-undone g.L.Rig.view (record {
       headline = c.a_session_can_be_undone.ensures.headline;
       whole = c.a_session_can_be_undone.ensures.whole;
       follows = c.a_session_can_be_undone.ensures.follows;
@@ -30,7 +30,7 @@ returns-clause-back g c =
 
 pub returns-clause-unprotected : goal.returns-clause-unprotected
 returns-clause-unprotected g c =
-    unprotected-actions-are-taken-back g.L.Rig.view (record {
+    unprotected-actions-are-undone g.L.Rig.view (record {
       headline = c.a_session_can_be_undone.ensures.headline;
       whole = c.a_session_can_be_undone.ensures.whole;
       follows = c.a_session_can_be_undone.ensures.follows;

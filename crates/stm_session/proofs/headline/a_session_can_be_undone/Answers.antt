@@ -1,6 +1,6 @@
 use Rattle.stm_session.proofs.Histories.{can-follow, headline}
 use Rattle.stm_session.proofs.RunHistories.{Laws}
-use Rattle.stm_session.proofs.Whole.{all-taken-back, writes-whole}
+use Rattle.stm_session.proofs.Whole.{all-undone, writes-whole}
 use Rattle.stm_session.proofs.headline.a_session_can_be_undone.Given.{Over}
 use Rattle.stm_session.proofs.headline.a_session_can_be_undone.Goals.{After-asking_keeps_what_can_be_undone}
 use Rattle.stm_session.proofs.headline.a_session_can_be_undone.Goals as goal
@@ -27,7 +27,7 @@ returns-clause-headline g c =
 pub returns-clause-whole : goal.returns-clause-whole
 returns-clause-whole g c =
     let at = goal.at.returns-clause-whole g c in
-    all-taken-back (laws g at.After-asking_keeps_what_can_be_undone) g.R.Rig.view
+    all-undone (laws g at.After-asking_keeps_what_can_be_undone) g.R.Rig.view
 
 pub returns-clause-writes : goal.returns-clause-writes
 returns-clause-writes g c =
