@@ -152,7 +152,7 @@ class Pages(Place):
         for path in glob.glob(os.path.join(TOP, "crates", "*", "specs", "**", "*.antt"), recursive=True):
             for name in re.findall(r"^(?:pub )?(?:abbrev|record|data)(?: pub)? (\S+)", held(path), re.M):
                 defined.setdefault(name, set()).add(path)
-        for path in glob.glob(os.path.join(TOP, "crates", "*", "s*", "**", "*.*t*"), recursive=True):
+        for path in glob.glob(os.path.join(TOP, "crates", "*", "[sp]*", "**", "*.*t*"), recursive=True):
             named += re.findall(r"\b\w*(?:[Tt]ake[ns]?[-_]?[Bb]ack|[Gg]oe?s?[-_]?[Bb]ack)\w*", re.sub(r"(--|//).*", "", held(path)))
         self.assertGreater(len(defined), 2000)
         self.assertEqual([it for it, paths in defined.items() if len(paths) > 1], [])
@@ -194,6 +194,18 @@ class Pages(Place):
         """At most 72 columns in the first line."""
         ran = subprocess.run(["git", "log", "-20", "--format=%s"], cwd=TOP, capture_output=True, text=True, check=True)
         self.assertEqual([it for it in ran.stdout.splitlines() if len(it) > 72], [])
+
+    def test_each_crate_can_be_tried(self):
+        """`make try CRATE=` runs tests for each crate: its own, those of another one, those of the program, or a script. The programs that
+        are measured have none, and `rt ci` compares what they print."""
+        makefile = held("Makefile")
+        elsewhere = dict(re.findall(r"^TESTS_(\w+) = (\w+)$", makefile, re.M))
+        by_program = re.search(r"^BY_PROGRAM = (.*)$", makefile, re.M)[1].split()
+        for crate in sorted(os.listdir(os.path.join(TOP, "crates"))):
+            if crate not in (*by_program, "stm_histories", "bench", "refused_memory"):
+                with self.subTest(crate=crate):
+                    code = glob.glob(os.path.join(TOP, "crates", elsewhere.get(crate, crate), "src", "**", "*.rt"), recursive=True)
+                    self.assertTrue(any("#[test]" in held(it) for it in code))
 
     def test_the_ways_of_contributing_are_there(self):
         """Each target of make, tool and module of tests that a command in CONTRIBUTING or README names."""
