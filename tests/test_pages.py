@@ -184,6 +184,15 @@ class Pages(Place):
         """All but rows of its table have less than 120 columns."""
         self.assertEqual([it for it in held("docs", "PROVED.md").splitlines() if len(it) >= 120 and not it.startswith("|")], [])
 
+    def test_the_entries_of_proved_are_counted(self):
+        """Its first table has each section in their order, with as many entries as it has: paragraphs that begin in bold."""
+        page = held("docs", "PROVED.md")
+        told = re.findall(r"^\| \[([^]]+)\]\(#[^)]*\) \|([^|]*)\|", page.split("\n## What is where\n")[1].split("\n## ")[0], re.M)
+        sections = [it.partition("\n") for it in page.split("\n## What is where\n")[1].split("\n## ")[1:]]
+        self.assertGreaterEqual(len(sections), 19)
+        self.assertEqual([(name, count.strip()) for name, count in told],
+                         [(name, str(sum(it.startswith("**") for it in text.strip().split("\n\n")))) for name, _, text in sections])
+
     def test_the_stopped_write_is_shown_without_bytes_of_the_protocol(self):
         """What is typed, the journal and the flash: no text of the picture is a run of bytes."""
         texts = re.findall(r">([^<>]+)<", held("docs", "pictures", "stopped-write.svg"))
