@@ -7,7 +7,7 @@ use Rattle.std.proofs.lemmas.List.Sums.{fold_push}
 use Rattle.stm_wire.specs.Chip.{ChipData, flash_size, page_count, page_of, with_page}
 use Rattle.stm_wire.specs.Harmless.{SameOutside}
 use Rattle.stm_wire.specs.lemmas.PageLaws.{length-with_page, page_put, page_put-other, put_page}
-use Rattle.stm_wire.specs.FlashLaws.{same_all}
+use Rattle.stm_wire.specs.lemmas.FlashLaws.{same_all}
 use Rattle.stm_journal.specs.declared.kept.Kept.{Kept}
 use Rattle.stm_journal.specs.States.{SegmentData, may_keep, is_open_stage, keeping}
 use Rattle.stm_journal.specs.Flashes.{with_kept_pages, flashes_before_segments}

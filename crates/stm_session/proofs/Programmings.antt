@@ -6,14 +6,14 @@ use Rattle.stm_wire.specs.declared.fault.WireFault.{WireFault}
 use Rattle.stm_wire.specs.declared.fault.WireFault.TheVariants.{Line}
 use Rattle.stm_wire.specs.declared.intent.Intent.{Intent}
 use Rattle.stm_wire.specs.declared.intent.Intent.TheVariants.{Program}
-use Rattle.stm_wire.specs.Chip.{ChipData, erased_byte, erased_page, page_count, page_size, page_offset, flash_size, fits_inside, with_bytes, with_page}
+use Rattle.stm_wire.specs.Chip.{ChipData, IsErasedAt, erased_byte, erased_page, page_count, page_size, page_offset, flash_size, fits_inside, with_bytes, with_page}
 use Rattle.stm_wire.specs.Command.{CanWrite, HasWritten}
 use Rattle.stm_wire.specs.Device.{Device, IsSettled}
 use Rattle.stm_wire.specs.Dialogue.{GoesOn, Turn}
 use Rattle.stm_wire.specs.Frames.{write_frame}
 use Rattle.stm_wire.specs.Intents.{InPage}
 use Rattle.stm_wire.specs.lemmas.PageLaws.{page_within, put_in}
-use Rattle.stm_wire.specs.FlashLaws.{IsErasedAt, writes_erased}
+use Rattle.stm_wire.specs.lemmas.FlashLaws.{writes_erased}
 use Rattle.stm_wire.specs.Rig.{RigState, IsModel}
 use Rattle.stm_wire.specs.Sending.{IsHeldToEnd, BreaksOff}
 use Rattle.stm_wire.specs.Stopped.{IsFrameUnder, writes}

@@ -7,7 +7,7 @@ use Rattle.std.proofs.lemmas.Bool.Decides.{nat_tests}
 use Rattle.stm_image.specs.Pairs.{Pairs}
 use Rattle.stm_image.specs.Lay.{lay}
 use Rattle.stm_wire.specs.Chip.{ChipData, flash_size, page_count, page_of, page_offset, page_size, with_page}
-use Rattle.stm_wire.specs.FlashLaws.{IsTurned, turned_next, length-erased_pages, page_of_erased}
+use Rattle.stm_wire.specs.lemmas.FlashLaws.{IsTurned, turned_next, length-erased_pages, page_of_erased}
 use Rattle.stm_wire.specs.Rig.{RigState}
 use Rattle.stm_journal.specs.declared.entry.Entry.{Entry}
 use Rattle.stm_journal.specs.declared.entry.Entry.TheVariants.{Keeps}

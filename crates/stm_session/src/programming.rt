@@ -2,7 +2,7 @@
 ghost use Rattle.std.specs.Prelude.{◌≡◌, ◌≢◌, ◌<◌, ◌+◌, ◌*◌, ◌∷◌, [], List, ℕ, length, take};
 ghost use Rattle.std.specs.Prelude.{drop, OnOk, IsTrue, Bool, IfErr};
 ghost use Rattle.stm_wire.specs.Chip.{page_count, page_size, page_offset, with_bytes, with_page};
-ghost use Rattle.stm_wire.specs.Chip.{erased_page, flash_size};
+ghost use Rattle.stm_wire.specs.Chip.{IsErasedAt, erased_page, flash_size};
 ghost use Rattle.stm_wire.specs.Dialogue.{GoesOn};
 ghost use Rattle.stm_chip.specs.Plan.{IsFrameOfPlan, AreFrames, written};
 ghost use Rattle.stm_journal.specs.declared.entry.Entry.TheVariants.{Programs};
@@ -12,7 +12,6 @@ ghost use Rattle.stm_journal.specs.Journals.{Loaded};
 ghost use Rattle.stm_session.specs.Fault.{HasSessionCause};
 ghost use Rattle.stm_session.specs.Order.{Adds, Are, Begin, IsInOrder, FaultEnds};
 ghost use Rattle.stm_session.specs.Order.{write_step, write_steps};
-ghost use Rattle.stm_wire.specs.FlashLaws.{IsErasedAt};
 ghost use Rattle.stm_session.specs.Undoable.{state_at};
 ghost use Rattle.stm_session.specs.Performs.{Performs};
 ghost use Rattle.stm_session.specs.Steps.{IsSteady, IsUnder, Goes};

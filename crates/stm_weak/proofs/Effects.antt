@@ -11,7 +11,7 @@ use Rattle.stm_wire.specs.Chip.{ChipData, IsErasedByte, erased_byte, erased_page
 use Rattle.stm_wire.specs.Chip.{page_offset, page_size, with_bytes, with_page}
 use Rattle.stm_wire.specs.Effect.{Change, Nothing, ErasePages, EraseAll, Write, Effect, Stores}
 use Rattle.stm_wire.specs.Effect.{erased_pages}
-use Rattle.stm_wire.specs.FlashLaws.{length-erased_pages}
+use Rattle.stm_wire.specs.lemmas.FlashLaws.{length-erased_pages}
 use Rattle.stm_wire.specs.lemmas.PageLaws.{length-with_bytes}
 use Rattle.stm_weak.specs.WeakDevice.{AgreesOutside, ErasesPage, IsWeakAt}
 use Rattle.stm_weak.proofs.Agreeing.{IsInOne, agrees_same, agrees_weaker, cases_in_one}

@@ -4,7 +4,7 @@ use Rattle.std.proofs.lemmas.Bool.{cases_lt}
 use Rattle.std.proofs.lemmas.List.{take_min, take-append-le, length-take, length-drop}
 use Rattle.stm_wire.specs.declared.fault.WireFault.{WireFault}
 use Rattle.stm_wire.specs.declared.fault.WireFault.TheVariants.{Line}
-use Rattle.stm_wire.specs.FlashLaws.{same_all}
+use Rattle.stm_wire.specs.lemmas.FlashLaws.{same_all}
 use Rattle.stm_wire.specs.Harmless.{SameOutside}
 use Rattle.stm_wire.specs.Stopped.{IsStoppedSafely, read}
 use Rattle.stm_wire.proofs.Closed.{harmless_loses}

@@ -24,7 +24,7 @@ use Rattle.stm_wire.proofs.Mild.{Mild}
 use Rattle.stm_wire.proofs.Bound.{IsCounted}
 use Rattle.stm_wire.proofs.Enough.{Enough, byte_small, counts_none, counts_page, counts_write, enough_erase}
 use Rattle.stm_wire.proofs.Stopped.{byte_of, enough_get, enough_id, enough_read, enough_write, fewer, fewer_outside, erasable, one_erasable, mild_get_frame, mild_id_frame, mild_read_frame, mild_erase_frame, mild_write_frame}
-use Rattle.stm_wire.specs.FlashLaws.{same_all}
+use Rattle.stm_wire.specs.lemmas.FlashLaws.{same_all}
 use Rattle.stm_wire.proofs.Pages.{page_inside}
 use Rattle.stm_wire.proofs.Stops.{IsWhole, Suffices, along-append, stopped_safely}
 

@@ -80,6 +80,10 @@ with_page chip n bytes flash = with_bytes (page_offset chip n) bytes flash
 abbrev pub erased_page : ChipData → ℕ → List ℕ
 erased_page chip n = replicate (page_size chip n) (erased_byte chip)
 
+-- so many bytes at this place are erased
+abbrev pub IsErasedAt : ChipData → ℕ → ℕ → List ℕ → Type 0
+IsErasedAt chip at size flash = take size (drop at flash) ≡ replicate size (erased_byte chip)
+
 -- n bytes from this address lie inside the flash
 abbrev pub fits_inside : ChipData → ℕ → ℕ → Bool
 fits_inside chip address n =

@@ -10,7 +10,6 @@ pub mod Reply
 pub mod Device
 pub mod Awaited
 pub mod Harmless
-pub mod FlashLaws
 pub mod Frames
 pub mod Intents
 pub mod SentList

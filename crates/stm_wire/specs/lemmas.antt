@@ -1,5 +1,6 @@
 pub mod UniqueIdLaws
 pub mod PageLaws
+pub mod FlashLaws
 pub mod PartJoins
 pub mod PartLaws
 pub mod DialogueLaws

@@ -10,7 +10,7 @@ use Rattle.stm_wire.specs.declared.verdict.Verdict.TheVariants.{Done, Refused, L
 use Rattle.stm_wire.specs.Chip.{ChipData, IsErasedByte, erased_byte}
 use Rattle.stm_wire.specs.Chip.{flash_size, page_offset, page_size, with_bytes}
 use Rattle.stm_wire.specs.lemmas.PageLaws.{length-with_bytes, fits-end}
-use Rattle.stm_wire.specs.FlashLaws.{length-erased_pages}
+use Rattle.stm_wire.specs.lemmas.FlashLaws.{length-erased_pages}
 use Rattle.stm_wire.specs.Exchange.{verdict, IsOpen}
 use Rattle.stm_wire.specs.Effect.{erased_pages, Change, Nothing}
 use Rattle.stm_wire.specs.Effect.{ErasePages, EraseAll, Write, change_of}

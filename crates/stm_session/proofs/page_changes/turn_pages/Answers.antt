@@ -1,6 +1,6 @@
 use Rattle.std.proofs.Common.{◌≡◌, ◌∙◌, ◌+◌, ◌<◌, ◌≤◌, ◌++◌, [], List, ℕ, Bool, length, ap, arith, refl, sym, subst}
 use Rattle.stm_wire.specs.Chip.{ChipData, flash_size, page_count, page_of}
-use Rattle.stm_wire.specs.FlashLaws.{turned_none, turned_all}
+use Rattle.stm_wire.specs.lemmas.FlashLaws.{turned_none, turned_all}
 use Rattle.stm_journal.specs.declared.entry.Entry.{Entry}
 use Rattle.stm_journal.specs.lemmas.NewestLaws.{newest_may_keep_behind}
 use Rattle.stm_session.specs.Answers.{differing_below}

@@ -1,4 +1,4 @@
-use Rattle.stm_wire.specs.FlashLaws.{same_all}
+use Rattle.stm_wire.specs.lemmas.FlashLaws.{same_all}
 use Rattle.stm_wire.proofs.Pages.{page_inside}
 use Rattle.stm_wire.proofs.harmless.pages_are_the_flash.Goals as goal
 

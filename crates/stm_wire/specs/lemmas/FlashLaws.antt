@@ -6,7 +6,7 @@ use Rattle.std.proofs.Common.{ap, ap₂, ◌∙◌, subst, arith, drop-drop, tak
 use Rattle.std.specs.List.{Contains, list_any}
 use Rattle.std.proofs.lemmas.Bool.{cases_eq, cases_lt, eq-eqb, ne_eqb}
 use Rattle.std.proofs.lemmas.List.{length-drop}
-use Rattle.stm_wire.specs.Chip.{ChipData, erased_byte, erased_page, flash_size}
+use Rattle.stm_wire.specs.Chip.{ChipData, IsErasedAt, erased_byte, erased_page, flash_size}
 use Rattle.stm_wire.specs.Chip.{page_count, page_of, page_size, with_bytes, with_page}
 use Rattle.stm_wire.specs.Effect.{Effect, Stores, Write, erased_pages}
 use Rattle.stm_wire.specs.Harmless.{SameOutside}
@@ -183,10 +183,6 @@ page_of_erased chip (m ∷ pages) flash n size here =
         (page_put-other chip flash (erased_page chip m) m size whole n here ne)
         ∙ ap (λ (t : Bool). if t || b then erased_page chip n else page_of chip flash n)
         (sym (ne_eqb m n (λ e. ne (sym e))))
-
--- the place is erased
-abbrev pub IsErasedAt : ChipData → ℕ → ℕ → List ℕ → Type 0
-IsErasedAt chip at size flash = take size (drop at flash) ≡ replicate size (erased_byte chip)
 
 -- what a device stores over erased bytes is what was sent
 pub stores_erased : (erased : ℕ) (sent new : List ℕ)
