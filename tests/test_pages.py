@@ -169,9 +169,9 @@ class Pages(Place):
                         self.assertFalse(own & set(re.findall(r"[^\s,]+", names)))
 
     def test_the_words_are_in_use(self):
-        """WORDS has some thirty, in their order; README and MAP lead to it. Each is in two more pages at least, or its parts are."""
+        """WORDS has twenty, in their order; README and MAP lead to it. Each is in two more pages at least, or its parts are."""
         words = re.findall(r"^\| ((?!Word \|)[\w, ]+) \|", held("docs", "WORDS.md"), re.M)
-        self.assertTrue(20 <= len(words) <= 35, len(words))
+        self.assertEqual(len(words), 20)
         self.assertEqual(words, sorted(words, key=str.lower))
         for page, link in (("README.md", "(docs/WORDS.md)"), (os.path.join("docs", "MAP.md"), "(WORDS.md)")):
             self.assertIn(link, held(page))
