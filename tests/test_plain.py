@@ -1,9 +1,10 @@
-"""Plain English in the pages that a user reads, and in the manual pages: no sentence has more than thirty words, and none has a
-word for which a plainer one was settled."""
+"""Plain English: in the pages that a user reads, and in the manual pages, no sentence has more than thirty words. In these and in
+every other page none has a word for which a plainer one was settled."""
 
 import itertools
 import os
 import re
+import subprocess
 import unittest
 
 from place import TOP
@@ -11,13 +12,17 @@ from place import TOP
 PAGES = ("README.md", "CONTRIBUTING.md",
          *(os.path.join("docs", f"{it}.md") for it in ("LINE", "UNDO", "FLEET", "SWITCH", "GATE", "FAULTS", "INSIDE",
                                                        "HEADLINE", "SETTLING", "BESIDE", "JSON", "WORDS")))
+# all but STATEMENT, which a tool makes, and the diary of the gate
+EVERY = ("README.md", "CONTRIBUTING.md",
+         *sorted(os.path.join("docs", it) for it in os.listdir(os.path.join(TOP, "docs"))
+                 if it.endswith(".md") and it not in ("STATEMENT.md", "GATE-DIARY.md")))
 MANUALS = ("stmflash.1", *(os.path.join("line", f"stmflash-{it}.1") for it in ("line", "trial", "as-stm32flash")))
 LIMIT = 30
-# words that were settled, each with what is said instead
-SETTLED = {r"\bstands?\b(?![-:]| for\b)": "is", r"\b(?:is|are) told\b": "prints", r"\bin the midst\b": "in the middle"}
-# and, in what a user reads first, of a write or an erase: a page is given back all the same
-UNDO = {r"\b(?:take|takes|taken|took|taking)\b[\w ,-]{0,40}? (?<!way )back\b": "undo"}
-USED = ("README.md", *(os.path.join("docs", f"{it}.md") for it in ("UNDO", "LINE", "FLEET", "SWITCH", "GATE", "JSON")))
+# words that were settled, each with what is said instead; the last of a write or an erase: a page is given back all the same
+SETTLED = {r"\bstands?\b(?![-:]| for\b)": "is", r"\b(?:is|are) told\b": "prints", r"\bin the midst\b": "in the middle",
+           r"\b(?:take|takes|taken|took|taking)\b[\w ,-]{0,40}? (?<!way )back\b": "undo"}
+# what a program prints, and a page shows as it is outside of code: a row of a trial
+PRINTED = ("what was saved stands again, byte for byte",)
 # a sentence ends at one of these signs, which a bracket or a quote may follow; two dots are something left out, the dot of `e.g.`
 # is no end, and neither is a semicolon or a colon
 END = re.compile(r"(?<!\.)(?<!\be\.g)(?<!\bi\.e)(?<!\betc)[.!?][])}\"'*_]*(?=\s|$)")
@@ -130,17 +135,55 @@ def too_long(name, text):
     return [f"{name}:{number}: {len(words)} words: {said}" for number, words, said in sentences(name, text) if len(words) > LIMIT]
 
 
+def unsettled(name, text):
+    """Each settled word of a page or a manual page: the line of its sentence, itself, what to say, and the sentence."""
+    for number, words, said in sentences(name, text):
+        read = " ".join(words)
+        for printed in PRINTED:
+            read = read.replace(printed, "")
+        for worse, better in SETTLED.items():
+            if found := re.search(worse, read):
+                yield number, found[0], better, said
+
+
+def cut_of(name, text):
+    """Where a sentence can be planted."""
+    return text.index("\n\n") + 2 if name.endswith(".md") else text.index("\n.SH DESCRIPTION\n") + 17
+
+
 class Plain(unittest.TestCase):
     def test_no_sentence_is_too_long(self):
         faults = [fault for name in PAGES + MANUALS for fault in too_long(name, held(name))]
         self.assertTrue(not faults, "\n" + "\n".join(faults))
 
     def test_words_that_were_settled(self):
-        faults = [f"{name}:{number}: `{found[0]}`, say `{better}`: {said}" for name in PAGES + MANUALS
-                  for number, words, said in sentences(name, held(name))
-                  for worse, better in (SETTLED | UNDO if name in USED + MANUALS else SETTLED).items()
-                  if (found := re.search(worse, " ".join(words)))]
+        faults = [f"{name}:{number}: `{found}`, say `{better}`: {said}" for name in EVERY + MANUALS
+                  for number, found, better, said in unsettled(name, held(name))]
         self.assertTrue(not faults, "\n" + "\n".join(faults))
+
+    def test_a_word_that_was_settled_is_found(self):
+        """In every page and manual page, each by its own rule; and nothing where the word means something else."""
+        worse = {"Here stands a word.": "is", "Two words stand here, or there.": "is", "Whoever is told this knows it.": "prints",
+                 "All are told that.": "prints", "It ended in the midst of it.": "in the middle", "It takes a write back.": "undo",
+                 "What was begun, an erase, was taken back.": "undo", "It took that one back, or will.": "undo"}
+        well = ("It stands for one word.", "It has stand-ins.", "A page is given back.", "Take the way back.")
+        for name in EVERY + MANUALS:
+            text = held(name)
+            cut, parted = cut_of(name, text), "\n\n" if name in EVERY else "\n.PP\n"
+            planted = text[:cut] + parted.join((*worse, *well)) + parted + text[cut:]
+            before = [said for _, _, _, said in unsettled(name, text)]
+            with self.subTest(name=name):
+                self.assertEqual([(said, better) for _, _, better, said in unsettled(name, planted) if said not in before],
+                                 list(worse.items()))
+
+    def test_what_is_printed_is_still_printed(self):
+        """Each text that may have such a word is in the code of a program, and in a page."""
+        code = subprocess.run(["git", "grep", "-hF", *(word for it in PRINTED for word in ("-e", it)), "--", "crates", "line"],
+                              cwd=TOP, capture_output=True, text=True).stdout
+        for printed in PRINTED:
+            with self.subTest(printed=printed):
+                self.assertIn(printed, code)
+                self.assertTrue(any(printed in held(name) for name in EVERY))
 
     def test_a_sentence_that_is_too_long_is_found(self):
         """One word too many in each kind of place of each file; nothing at one word less."""
@@ -151,7 +194,7 @@ class Plain(unittest.TestCase):
         for name in PAGES + MANUALS:
             text, forms = held(name), page if name in PAGES else manual
             before = len(too_long(name, text))
-            cut = text.index("\n\n") + 2 if name in PAGES else text.index("\n.SH DESCRIPTION\n") + 17
+            cut = cut_of(name, text)
             for form, (count, found) in itertools.product(forms, ((LIMIT, 0), (LIMIT + 1, 1))):
                 with self.subTest(name=name, form=form, words=count):
                     planted = text[:cut] + form.format(" ".join(["Word"] * count) + ".") + "\n" + text[cut:]
