@@ -27,7 +27,7 @@ def page():
 def steps():
     """Each step of the walk: its number, its calls, the files that it names, and what it does."""
     folder = ""
-    for line in page().split("\n## Why it can be ")[0].splitlines():
+    for line in page().split("\n## Why it can be undone")[0].splitlines():
         if row := STEP.match(line):
             called, _, told = row[2].partition(" (")
             files = []

@@ -61,8 +61,8 @@ class ARealBoard(LinePlace):
         variables = {"PATH": self.path("bin") + ":" + os.environ["PATH"], "TMPDIR": self.path("temporary"),
                      "STMFLASH_TABLE": "table", "STMFLASH_WAIT": WAIT}
         written, undone = [it for it in blocks() if "stmflash-line /dev/ttyUSB0 " in it]
-        for block, said, flash in ((written, "segment 1: 1 page written\nverified 4 bytes\n", b"\1\2\3\4" + COUNTING[4:]),
-                                   (undone, "undone 1\nverified 1 page\n", COUNTING)):
+        for block, said, flash in ((written, "segment 1: 1 pages written\nverified 4 bytes\n", b"\1\2\3\4" + COUNTING[4:]),
+                                   (undone, "undone 1, 1024 bytes verified\n", COUNTING)):
             ran = subprocess.run(["sh", "-c", block.replace("/dev/", "")], cwd=self.folder, env=variables, timeout=PATIENCE,
                                  stdin=subprocess.DEVNULL, capture_output=True, text=True)
             self.assertEqual((ran.returncode, ran.stderr, ran.stdout), (0, "", said))
@@ -104,7 +104,7 @@ class Fleet(Place):
         text, words = self.recipe("# undo-begun PORT JOURNAL"), ("port", "journal")
         self.assertEqual(self.run_recipe(text, *words).returncode, 0)
         for journal, status, said in ((b"open 1\nend 1\n", 0, ""), (b"nonsense\n", 1, ""),
-                                      (b"open 1\n", 0, "port -- stmflash undo --journal journal 1\n")):
+                                      (b"open 1\n", 0, "port -- stmflash undo -v --journal journal 1\n")):
             self.store("journal", b"stmjournal 2 0412\n" + journal)
             ran = self.run_recipe(text, *words)
             self.assertEqual((ran.returncode, ran.stdout), (status, said), ran.stderr)
