@@ -1,7 +1,6 @@
 pub mod Rest
 pub mod Simulator
 pub mod Memory
-pub mod Honest
 pub mod Unmodelled
 pub mod BadLines
 pub mod lemmas

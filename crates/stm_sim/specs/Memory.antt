@@ -2,7 +2,7 @@
 -- or fail.
 use Rattle.std.specs.Prelude.{◌≡◌, ◌⊎◌, ℕ, ◌+◌, ◌-◌, ◌^◌, ◌<◌, ◌≤◌, nat_lt, Bool}
 use Rattle.std.specs.Prelude.{true, false, List, [], ◌∷◌, ◌++◌, min, length}
-use Rattle.std.specs.Prelude.{take, drop, Option, Some, None, Result, Ok, Err}
+use Rattle.std.specs.Prelude.{take, drop, Option, Some, None, Result, Ok, Err, MatchResult}
 use Rattle.stm_wire.specs.declared.fault.RigFault.{RigFault}
 use Rattle.stm_wire.specs.declared.fault.RigFault.TheVariants.{Line, File, Stopped}
 use Rattle.stm_wire.specs.declared.rig.RigCall.{RigCall}
@@ -275,6 +275,12 @@ AppendsInMemory bytes (Err File) old new =
     (runs_into_stop (length bytes) old.plan.stop ≡ false)
     × Fails (Append 0) (counts_journal (counts_append old)) new
 AppendsInMemory bytes (Err Line) old new = ⊥
+
+-- the journal stays within its limit, where bytes were added
+abbrev pub StaysWithin : Result (Unit {0}) RigFault → List ℕ → Type 0
+StaysWithin result journal =
+    MatchResult result (λ done. length journal ≤ 2 ^ 63 - 1)
+    (λ fault. fault ≡ Stopped → length journal ≤ 2 ^ 63 - 1)
 
 -- a fetch is no step
 abbrev pub FetchesInMemory : ℕ → List ℕ → List ℕ → Result ℕ RigFault → MemoryData → MemoryData

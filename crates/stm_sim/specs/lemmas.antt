@@ -6,4 +6,5 @@ pub mod SimulatedDevice
 pub mod FirstDevice
 pub mod Past
 pub mod HonestLine
+pub mod Honest
 pub mod BadLineRecords

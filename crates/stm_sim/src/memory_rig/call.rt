@@ -1,9 +1,8 @@
 // The calls of a Rig in memory, with their stops and failures.
 ghost use Rattle.std.specs.Prelude.{length};
 ghost use Rattle.stm_wire.specs.Rig.{HasCause, FetchesWithin};
-ghost use Rattle.stm_sim.specs.Honest.{StaysWithin};
 ghost use Rattle.stm_sim.specs.Memory.{PutsInMemory, GetsInMemory};
-ghost use Rattle.stm_sim.specs.Memory.{AppendsInMemory, FetchesInMemory};
+ghost use Rattle.stm_sim.specs.Memory.{AppendsInMemory, FetchesInMemory, StaysWithin};
 
 use crate::memory_rig::MemoryRig;
 use std::alloc::AllocError;

@@ -1,4 +1,4 @@
-use Rattle.stm_sim.specs.Honest.{append-honest}
+use Rattle.stm_sim.specs.lemmas.Honest.{append-honest}
 use Rattle.stm_sim.specs.lemmas.Recording.{append_recorded, append_entered}
 use Rattle.stm_sim.proofs.memory_rig.rig.MemoryRigRig.append.Goals as goal
 

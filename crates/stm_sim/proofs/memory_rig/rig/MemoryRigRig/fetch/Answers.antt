@@ -1,4 +1,4 @@
-use Rattle.stm_sim.specs.Honest.{fetch-honest}
+use Rattle.stm_sim.specs.lemmas.Honest.{fetch-honest}
 use Rattle.stm_sim.specs.lemmas.Recording.{fetch_recorded, fetch_entered}
 use Rattle.stm_sim.proofs.memory_rig.rig.MemoryRigRig.fetch.Goals as goal
 

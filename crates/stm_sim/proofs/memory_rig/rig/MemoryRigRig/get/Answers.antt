@@ -1,4 +1,4 @@
-use Rattle.stm_sim.specs.Honest.{get-honest}
+use Rattle.stm_sim.specs.lemmas.Honest.{get-honest}
 use Rattle.stm_sim.specs.lemmas.Recording.{get_recorded, get_entered}
 use Rattle.stm_sim.proofs.memory_rig.rig.MemoryRigRig.get.Goals as goal
 

@@ -1,5 +1,5 @@
 use Rattle.std.proofs.Common.{◌<◌, arith}
-use Rattle.stm_sim.specs.Honest.{put-honest}
+use Rattle.stm_sim.specs.lemmas.Honest.{put-honest}
 use Rattle.stm_sim.specs.lemmas.Recording.{put_recorded, put_entered}
 use Rattle.stm_sim.proofs.memory_rig.rig.MemoryRigRig.put.Goals as goal
 

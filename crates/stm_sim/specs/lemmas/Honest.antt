@@ -1,6 +1,6 @@
 -- A Rig in memory follows the model: what its calls do is what an honest Rig's calls do.
 use Rattle.std.proofs.Common.{◌≡◌, ⊎_elim, ℕ, zero, suc, ◌+◌, ◌-◌, ◌^◌, ◌≤◌, List, [], ◌∷◌}
-use Rattle.std.proofs.Common.{◌++◌, length, take, drop, Result, Ok, Err, MatchResult, refl, sym}
+use Rattle.std.proofs.Common.{◌++◌, length, take, drop, Result, Ok, Err, refl, sym}
 use Rattle.std.proofs.Common.{◌∙◌, ap, subst, arith, length-take, length-drop, append-nil, take_all}
 use Rattle.std.proofs.Math.Seq.{take-append-add}
 use Rattle.std.proofs.lemmas.List.{take-append-le}
@@ -13,7 +13,7 @@ use Rattle.stm_wire.specs.Device.{Device, LosesOwed}
 use Rattle.stm_sim.specs.lemmas.SimulatedDevice.{le-or-gt}
 use Rattle.stm_wire.specs.Rig.{Elapses, AppendsHonestly, FetchesHonestly, LeftByGet, LeftByAppend}
 use Rattle.stm_sim.specs.Memory.{MemoryData, IsMemory, rig_state, with_call, with_append}
-use Rattle.stm_sim.specs.Memory.{AppendsInMemory, FetchesInMemory, takes_steps}
+use Rattle.stm_sim.specs.Memory.{AppendsInMemory, FetchesInMemory, StaysWithin, takes_steps}
 use Rattle.stm_sim.specs.Memory.{counts_append, counts_journal, stopped, steps_left}
 use Rattle.stm_sim.specs.lemmas.Past.{AddsCall, keeps-call, elapses, beginnings}
 use Rattle.stm_sim.specs.lemmas.HonestLine.{Idles, idles, idles-entry}
@@ -95,12 +95,6 @@ append-idles bytes fault m n i =
       time = i.time;
       beginnings = i.begins;
     }
-
--- the journal stays within its limit, where bytes were added
-abbrev pub StaysWithin : Result (Unit {0}) RigFault → List ℕ → Type 0
-StaysWithin result journal =
-    MatchResult result (λ done. length journal ≤ 2 ^ 63 - 1)
-    (λ fault. fault ≡ Stopped → length journal ≤ 2 ^ 63 - 1)
 
 pub append-honest : (bytes : List ℕ) (result : Result (Unit {0}) RigFault) (m n : MemoryData)
     → StaysWithin result n.journal → IsMemory m → AppendsInMemory bytes result m n
