@@ -199,10 +199,17 @@ class Pages(Place):
         self.assertGreater(len(texts), 50)
         self.assertEqual([it for it in texts if re.search(r"\b[0-9A-F]{2}( [0-9A-F]{2})+\b|\b0x7F\b|\b7F\b", it)], [])
 
-    def test_the_newest_commits_have_short_subjects(self):
-        """At most 72 columns in the first line."""
-        ran = subprocess.run(["git", "log", "-20", "--format=%s"], cwd=TOP, capture_output=True, text=True, check=True)
-        self.assertEqual([it for it in ran.stdout.splitlines() if len(it) > 72], [])
+    def test_the_newest_commits_say_what_and_why(self):
+        """Of the newest twenty, behind the one from which on it is so: at most 72 columns in the first line, a body but for merges,
+        and no path of a machine."""
+        since = ["^cb15a31f"] if subprocess.run(["git", "cat-file", "-e", "cb15a31f"], cwd=TOP, capture_output=True).returncode == 0 else []
+        ran = subprocess.run(["git", "log", "-20", "--format=%p%x00%s%x00%b%x01", "HEAD", *since], cwd=TOP, capture_output=True, text=True, check=True)
+        for commit in ran.stdout.split("\x01")[:-1]:
+            parents, subject, body = commit.strip("\n").split("\0")
+            with self.subTest(subject=subject):
+                self.assertLessEqual(len(subject), 72)
+                self.assertTrue(body.strip() or " " in parents, "no body")
+                self.assertIsNone(re.search(r"(?:^|[ '\"])/(?:work|home|root|tmp)/", subject + " " + body))
 
     def test_each_crate_can_be_tried(self):
         """`make try CRATE=` runs tests for each crate: its own, those of another one, those of the program, or a script. The programs that

@@ -46,7 +46,10 @@ fn a_record_answers_as_the_line_did(rt: HostRuntime) -> Result<(), Fail> {
         return Err(Fail::from("another answer than on the line"));
     }
     // not that of another session, nor of another length
-    if !rig.is_at_end(1, size) || rig.is_at_end(2, size) || rig.is_at_end(1, size - 1) {
+    if !rig.is_at_end(1, size)
+        || rig.is_at_end(2, size)
+        || rig.is_at_end(1, size.saturating_sub(1))
+    {
         return Err(Fail::from("another end than that of the record"));
     }
     // and nothing is behind it
