@@ -5,6 +5,7 @@ The program is the one that the variable STMFLASH names; without it, the one tha
 """
 
 import os
+import select
 import subprocess
 import tempfile
 import typing
@@ -138,6 +139,15 @@ class Place(unittest.TestCase):
         """The simulator's files hold these bytes and this line."""
         self.assertFile("flash", flash)
         self.assertFile("flash.line", line)
+
+
+def readable(ends, patience):
+    """Those of these sockets from which something can be read, or which have ended, within so many seconds. One that another test holds
+    may have any number, and `select` takes none above 1,023."""
+    calls, named = select.poll(), {end.fileno(): end for end in ends}
+    for number in named:
+        calls.register(number, select.POLLIN)
+    return [named[number] for number, _ in calls.poll(patience * 1000)]
 
 
 def tell(data):

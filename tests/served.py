@@ -1,11 +1,10 @@
 """A test that serves a simulator on a socket, and reaches it as a plain client."""
 
-import select
 import socket
 import subprocess
 import time
 
-from place import PATIENCE, Place, program
+from place import PATIENCE, Place, program, readable
 
 # how long a host waits until the line counts as quiet, in ms: longer than a busy machine takes to answer
 WAIT = "1000"
@@ -16,7 +15,7 @@ def relay(line, board, change=lambda replies: replies):
     to the board."""
     sent = b""
     while True:
-        ready, _, _ = select.select([line, board], [], [], PATIENCE)
+        ready = readable([line, board], PATIENCE)
         if not ready:
             return sent
         if board in ready:

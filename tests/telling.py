@@ -5,12 +5,11 @@ answers it (AN3155, section 3.4).
 """
 
 import contextlib
-import select
 import socket
 import subprocess
 import time
 
-from place import PATIENCE, program
+from place import PATIENCE, program, readable
 
 ACK = b"\x79"
 NACK = b"\x1f"
@@ -90,7 +89,7 @@ class Stand:
     def run(self):
         """Until either has gone."""
         while True:
-            ready, _, _ = select.select([self.line, self.board], [], [], PATIENCE)
+            ready = readable([self.line, self.board], PATIENCE)
             if not ready:
                 return
             if self.board in ready:

@@ -1,12 +1,11 @@
 """Devices that answer nothing, or something else, or late, and when they are given up."""
 
 import os
-import select
 import socket
 import threading
 import time
 
-from place import ECHO, NOISE, PATIENCE, SILENT, ZEROS, Said, with_page
+from place import ECHO, NOISE, PATIENCE, SILENT, ZEROS, Said, readable, with_page
 from served import Served
 
 NO_ANSWER = Said(1, b"", b"stmflash: no answer from the device\n")
@@ -104,7 +103,7 @@ class GivingUp(Served):
             board = self.connect()
             due, held = 0.0, b""
             while not ending.is_set():
-                heard, _, _ = select.select([line, board], [], [], 0.02)
+                heard = readable([line, board], 0.02)
                 if line in heard:
                     came = line.recv(4096)
                     if not came:

@@ -2,13 +2,12 @@
 
 import fcntl
 import os
-import select
 import socket
 import subprocess
 import threading
 import time
 
-from place import PATIENCE, SIZE, ZEROS, Place, Said, program
+from place import PATIENCE, SIZE, ZEROS, Place, Said, program, readable
 from served import WAIT, Served
 
 IMAGE = b"a new program, whatever it does"
@@ -202,7 +201,7 @@ class Lines(Served):
     def carry(self, host, board, cut):
         self.sent.append(b"")
         while True:
-            ready, _, _ = select.select([host, board], [], [], PATIENCE)
+            ready = readable([host, board], PATIENCE)
             if board in ready:
                 came = board.recv(4096)
                 if not came:

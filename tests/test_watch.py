@@ -4,13 +4,12 @@ and nothing is sent or added behind it (tests/planted has boards that do otherwi
 import json
 import os
 import re
-import select
 import socket
 import subprocess
 import sys
 import threading
 
-from place import COUNTING, PATIENCE, TABLE, TOP, Place, Said
+from place import COUNTING, PATIENCE, TABLE, TOP, Place, Said, readable
 from served import WAIT, Served
 
 WATCHED = r"watched: ([0-9]+) bytes of replies, each as a device of the model sends it"
@@ -66,7 +65,7 @@ class Relay:
         self.listener.close()
         with line, self.board:
             while True:
-                ready, _, _ = select.select([line, self.board], [], [], PATIENCE)
+                ready = readable([line, self.board], PATIENCE)
                 if not ready:
                     return
                 if self.board in ready:
