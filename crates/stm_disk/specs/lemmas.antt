@@ -1,2 +1,3 @@
 pub mod MemoryFileLaws
 pub mod DiskRigLaws
+pub mod LockedFileLaws

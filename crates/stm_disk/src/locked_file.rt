@@ -2,7 +2,8 @@
 ghost use Rattle.std.specs.Prelude.{◌≡◌, false, true, OnOk};
 ghost use Rattle.std.specs.Io.KnownBytes.{Appends};
 ghost use Rattle.stm_disk.specs.GrowingFile.{GrowsHonestly};
-ghost use Rattle.stm_disk.specs.LockedFile.{locked_state, locked_model};
+ghost use Rattle.stm_disk.specs.LockedFile.{locked_state};
+ghost use Rattle.stm_disk.specs.lemmas.LockedFileLaws.{locked_model};
 
 use crate::GrowingFile;
 use std::io;

@@ -10,7 +10,7 @@ use Rattle.stm_image.specs.Pairs.{Pairs, InRange, IsImage, IsSetOf, Agree, raw_p
 use Rattle.stm_image.specs.Record.{Whole, scan, offset_of, data_of}
 use Rattle.stm_image.specs.Text.{Means, RecordsPrecede, pairs_from, pairs_of, placed, all_pairs}
 use Rattle.stm_image.specs.Reads.{EndsAt}
-use Rattle.stm_image.specs.Canon.{Run, join, runs_of, cut, parts_of, line, lines, upper_line, canon, record_bytes}
+use Rattle.stm_image.specs.Canon.{Run, join, runs_of, parts_of_run, parts_of, line, lines, upper_line, canon, record_bytes}
 use Rattle.stm_image.specs.declared.place.Form.{Form}
 use Rattle.stm_image.specs.declared.place.Form.TheVariants.{Linear}
 use Rattle.stm_image.proofs.Scanning.{AllBytes, scan_line, scan_blank, flawless_line, length-record}
@@ -48,19 +48,19 @@ raw-split (suc n) s (b ∷ bytes) =
     let e : s + suc n ≡ (s + 1) + n = omega arith in
     ap (λ ps. (s, b) ∷ ps) (ap (λ k. raw_pairs (s + 1) (take n bytes) ++ raw_pairs k (drop n bytes)) e ∙ raw-split n (s + 1) bytes)
 
-pairs_in-cut : (steps : List ℕ) (s : ℕ) (bytes : List ℕ) → length bytes ≤ length steps → pairs_in (cut steps s bytes) ≡ raw_pairs s bytes
-unfolding cut
-pairs_in-cut [] s [] le = refl
-pairs_in-cut [] s (b ∷ bytes) le = absurd (omega arith)
-pairs_in-cut (x ∷ steps) s [] le = refl
-pairs_in-cut (x ∷ steps) s (b ∷ bytes) le =
+pairs_in-parts_of_run : (steps : List ℕ) (s : ℕ) (bytes : List ℕ) → length bytes ≤ length steps → pairs_in (parts_of_run steps s bytes) ≡ raw_pairs s bytes
+unfolding parts_of_run
+pairs_in-parts_of_run [] s [] le = refl
+pairs_in-parts_of_run [] s (b ∷ bytes) le = absurd (omega arith)
+pairs_in-parts_of_run (x ∷ steps) s [] le = refl
+pairs_in-parts_of_run (x ∷ steps) s (b ∷ bytes) le =
     let shorter = length-drop 16 (b ∷ bytes) in
-    ap (λ ps. raw_pairs s (take 16 (b ∷ bytes)) ++ ps) (pairs_in-cut steps (s + 16) (drop 16 (b ∷ bytes)) (omega arith)) ∙ raw-split 16 s (b ∷ bytes)
+    ap (λ ps. raw_pairs s (take 16 (b ∷ bytes)) ++ ps) (pairs_in-parts_of_run steps (s + 16) (drop 16 (b ∷ bytes)) (omega arith)) ∙ raw-split 16 s (b ∷ bytes)
 
 pairs_in-parts : (runs : List Run) → pairs_in (parts_of runs) ≡ pairs_in runs
 pairs_in-parts [] = refl
 pairs_in-parts ((s, bytes) ∷ runs) =
-    pairs_in-append (cut bytes s bytes) (parts_of runs) ∙ ap₂ (λ ps qs. ps ++ qs) (pairs_in-cut bytes s bytes (omega arith)) (pairs_in-parts runs)
+    pairs_in-append (parts_of_run bytes s bytes) (parts_of runs) ∙ ap₂ (λ ps qs. ps ++ qs) (pairs_in-parts_of_run bytes s bytes (omega arith)) (pairs_in-parts runs)
 
 -- RUNS AND PARTS IN RANGE: bytes that end by the last address
 record GoodRun (s : ℕ) (bytes : List ℕ) : Type 0 where
@@ -110,8 +110,8 @@ GoodParts-append : (xs ys : List Run) → GoodParts xs → GoodParts ys → Good
 GoodParts-append [] ys gx gy = gy
 GoodParts-append ((s, bytes) ∷ xs) ys gx gy = (gx.0, GoodParts-append xs ys gx.1 gy)
 
-good_cut : (steps : List ℕ) (s : ℕ) (bytes : List ℕ) → GoodRun s bytes → GoodParts (cut steps s bytes)
-unfolding cut
+good_cut : (steps : List ℕ) (s : ℕ) (bytes : List ℕ) → GoodRun s bytes → GoodParts (parts_of_run steps s bytes)
+unfolding parts_of_run
 good_cut [] s bytes good = tt
 good_cut (x ∷ steps) s [] good = tt
 good_cut (x ∷ steps) s (b ∷ bytes) good =
@@ -129,7 +129,7 @@ good_cut (x ∷ steps) s (b ∷ bytes) good =
 
 good_parts : (runs : List Run) → GoodRuns runs → GoodParts (parts_of runs)
 good_parts [] goods = tt
-good_parts ((s, bytes) ∷ runs) goods = GoodParts-append (cut bytes s bytes) (parts_of runs) (good_cut bytes s bytes goods.0) (good_parts runs goods.1)
+good_parts ((s, bytes) ∷ runs) goods = GoodParts-append (parts_of_run bytes s bytes) (parts_of runs) (good_cut bytes s bytes goods.0) (good_parts runs goods.1)
 
 -- WHAT A DATA RECORD PLACES
 data_is : (offset kind : ℕ) (bytes : List ℕ) → data_of (record_bytes offset kind bytes) ≡ bytes

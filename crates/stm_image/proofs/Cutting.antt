@@ -8,7 +8,7 @@ use Rattle.std.proofs.lemmas.List.{take-append-drop, take_all, length-take}
 use Rattle.std.proofs.lemmas.List.Elements.{Contains-get_or}
 use Rattle.std.proofs.Math.Seq.{take-append_seam, drop-append_seam}
 use Rattle.stm_image.specs.Pairs.{Pairs, raw_pairs}
-use Rattle.stm_image.specs.Canon.{Run, join, runs_of, cut, parts_of, lines, line, upper_line}
+use Rattle.stm_image.specs.Canon.{Run, join, runs_of, parts_of_run, parts_of, lines, line, upper_line}
 use Rattle.stm_image.specs.Parts.{IsRecordPart, EndsPart, IsBehind}
 use Rattle.stm_image.proofs.Standing.{raw_pairs-append}
 
@@ -64,13 +64,13 @@ runs_head [] t cs more e = cc
 runs_head ((a, b) ∷ rest) t cs more e = (omega arith, join_head a b (runs_of rest) more t cs e)
 
 -- CUTTING: nothing gives no part, and more steps than needed change nothing
-cut_nothing : (steps : List ℕ) (s : ℕ) → cut steps s [] ≡ []
-unfolding cut
+cut_nothing : (steps : List ℕ) (s : ℕ) → parts_of_run steps s [] ≡ []
+unfolding parts_of_run
 cut_nothing [] s = refl
 cut_nothing (x ∷ steps) s = refl
 
-cut_steps : (f g : List ℕ) (s : ℕ) (bytes : List ℕ) → length bytes ≤ length f → length bytes ≤ length g → cut f s bytes ≡ cut g s bytes
-unfolding cut
+cut_steps : (f g : List ℕ) (s : ℕ) (bytes : List ℕ) → length bytes ≤ length f → length bytes ≤ length g → parts_of_run f s bytes ≡ parts_of_run g s bytes
+unfolding parts_of_run
 cut_steps f g s [] lf lg = cut_nothing f s ∙ sym (cut_nothing g s)
 cut_steps [] g s (b ∷ bytes) lf lg = absurd (omega arith)
 cut_steps (x ∷ f) [] s (b ∷ bytes) lf lg = absurd (omega arith)
@@ -81,17 +81,17 @@ cut_steps (x ∷ f) (y ∷ g) s (b ∷ bytes) lf lg =
 drop_all : (n : ℕ) (xs : List ℕ) → length xs ≤ n → drop n xs ≡ []
 drop_all n xs le = grind (arith, common_steps)
 
-cut_one : (s b : ℕ) (bs : List ℕ) → length (b ∷ bs) ≤ 16 → cut (b ∷ bs) s (b ∷ bs) ≡ (s, b ∷ bs) ∷ []
-unfolding cut
+cut_one : (s b : ℕ) (bs : List ℕ) → length (b ∷ bs) ≤ 16 → parts_of_run (b ∷ bs) s (b ∷ bs) ≡ (s, b ∷ bs) ∷ []
+unfolding parts_of_run
 cut_one s b bs short =
-    ap₂ (λ front rest. (s, front) ∷ cut bs (s + 16) rest) (take_all 16 (b ∷ bs) short) (drop_all 16 (b ∷ bs) short) ∙ ap (λ parts. (s, b ∷ bs) ∷ parts) (cut_nothing bs (s + 16))
+    ap₂ (λ front rest. (s, front) ∷ parts_of_run bs (s + 16) rest) (take_all 16 (b ∷ bs) short) (drop_all 16 (b ∷ bs) short) ∙ ap (λ parts. (s, b ∷ bs) ∷ parts) (cut_nothing bs (s + 16))
 
-cut_full : (s b : ℕ) (bs cs : List ℕ) → length (b ∷ bs) ≡ 16 → cut (b ∷ bs ++ cs) s (b ∷ bs ++ cs) ≡ (s, b ∷ bs) ∷ cut cs (s + 16) cs
-unfolding cut
+cut_full : (s b : ℕ) (bs cs : List ℕ) → length (b ∷ bs) ≡ 16 → parts_of_run (b ∷ bs ++ cs) s (b ∷ bs ++ cs) ≡ (s, b ∷ bs) ∷ parts_of_run cs (s + 16) cs
+unfolding parts_of_run
 cut_full s b bs cs full =
     let front : take 16 ((b ∷ bs) ++ cs) ≡ b ∷ bs = ap (λ n. take n ((b ∷ bs) ++ cs)) (sym full) ∙ take-append_seam (b ∷ bs) cs in
     let back : drop 16 ((b ∷ bs) ++ cs) ≡ cs = ap (λ n. drop n ((b ∷ bs) ++ cs)) (sym full) ∙ drop-append_seam (b ∷ bs) cs in
-    ap₂ (λ f r. (s, f) ∷ cut (bs ++ cs) (s + 16) r) front back ∙ ap (λ parts. (s, b ∷ bs) ∷ parts) (cut_steps (bs ++ cs) cs (s + 16) cs (grind (arith, common_steps)) (omega arith))
+    ap₂ (λ f r. (s, f) ∷ parts_of_run (bs ++ cs) (s + 16) r) front back ∙ ap (λ parts. (s, b ∷ bs) ∷ parts) (cut_steps (bs ++ cs) cs (s + 16) cs (grind (arith, common_steps)) (omega arith))
 
 -- the bytes are a whole record, or no run goes on from them
 abbrev NoneJoins : ℕ → ℕ → Pairs → Type 0
@@ -104,7 +104,7 @@ parts_joined s b bs t cs runs false e short ends = ap (λ parts. parts ++ parts_
 parts_joined s b bs t cs runs true e short (inr never) = cc
 parts_joined s b bs t cs runs true e short (inl full) =
     let at : t ≡ s + 16 = joined_at e in
-    ap (λ parts. parts ++ parts_of runs) (cut_full s b bs cs full ∙ ap (λ n. (s, b ∷ bs) ∷ cut cs n cs) (sym at))
+    ap (λ parts. parts ++ parts_of runs) (cut_full s b bs cs full ∙ ap (λ n. (s, b ∷ bs) ∷ parts_of_run cs n cs) (sym at))
   where
     joined_at : ((t == s + length (b ∷ bs)) && not (t % 65536 == 0)) ≡ true → t ≡ s + 16
     joined_at e = grind (arith, nat_tests)

@@ -6,7 +6,7 @@ use Rattle.std.proofs.lemmas.List.Elements.{All-cons, All-nil, All-weaker}
 use Rattle.std.proofs.lemmas.List.Kept.{AllPairs-cons}
 use Rattle.std.specs.Prelude.{All}
 use Rattle.hex.proofs.OnLiterals.{hex_on_literals}
-use Rattle.stm_image.specs.Canon.{canon, lines, line, cut}
+use Rattle.stm_image.specs.Canon.{canon, lines, line, parts_of_run}
 use Rattle.stm_image.specs.Pairs.{Pairs, AddressesRise, Agree}
 use Rattle.stm_image.specs.Record.{scan, scan_digits, flaw_of}
 use Rattle.stm_image.specs.Text.{Means, FaultStands, RecordsPrecede, all_pairs, IsFault}
@@ -62,15 +62,15 @@ four_bytes = record {
 }
 
 four_written : canon ((134217728, 1) ∷ (134217729, 2) ∷ (134217730, 3) ∷ (134217731, 4) ∷ []) ≡ codes ":020000040800F2\n:0400000001020304F2\n:00000001FF\n"
-unfolding canon lines line cut hex_on_literals
+unfolding canon lines line parts_of_run hex_on_literals
 four_written = refl
 
 edge_written : canon ((134283263, 17) ∷ (134283264, 34) ∷ []) ≡ codes ":020000040800F2\n:01FFFF0011F0\n:020000040801F1\n:0100000022DD\n:00000001FF\n"
-unfolding canon lines line cut hex_on_literals
+unfolding canon lines line parts_of_run hex_on_literals
 edge_written = refl
 
 nothing_written : canon [] ≡ codes ":00000001FF\n"
-unfolding canon lines line cut hex_on_literals
+unfolding canon lines line parts_of_run hex_on_literals
 nothing_written = refl
 
 -- the offset of segment form wraps

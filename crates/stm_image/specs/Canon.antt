@@ -22,15 +22,15 @@ runs_of ((a, b) ∷ pairs) = join a b (runs_of pairs)
 
 -- a run cut from its start into parts of 16 bytes, the last maybe shorter; `steps` has at least as
 -- many elements as there are parts
-unfoldable pub cut : List ℕ → ℕ → List ℕ → List Run
-cut [] start bytes = []
-cut (_ ∷ steps) start [] = []
-cut (_ ∷ steps) start (b ∷ bytes) =
-    (start, take 16 (b ∷ bytes)) ∷ cut steps (start + 16) (drop 16 (b ∷ bytes))
+unfoldable pub parts_of_run : List ℕ → ℕ → List ℕ → List Run
+parts_of_run [] start bytes = []
+parts_of_run (_ ∷ steps) start [] = []
+parts_of_run (_ ∷ steps) start (b ∷ bytes) =
+    (start, take 16 (b ∷ bytes)) ∷ parts_of_run steps (start + 16) (drop 16 (b ∷ bytes))
 
 abbrev pub parts_of : List Run → List Run
 parts_of [] = []
-parts_of ((start, bytes) ∷ runs) = cut bytes start bytes ++ parts_of runs
+parts_of ((start, bytes) ∷ runs) = parts_of_run bytes start bytes ++ parts_of runs
 
 -- bytes with the CHKSUM that makes their sum a multiple of 256
 abbrev pub checked : List ℕ → List ℕ
