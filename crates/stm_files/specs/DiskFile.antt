@@ -1,6 +1,6 @@
 -- A file of which nobody says that its disk follows the model.
 use Rattle.std.specs.Prelude.{ℕ, List, [], Option}
-use Rattle.stm_disk.specs.GrowingFile.{FileState, FollowsFileModel}
+use Rattle.stm_disk.specs.GrowingFile.{FileState}
 
 -- a file that tells its bytes at the most
 abbrev pub told_file : Option (List ℕ) → FileState
@@ -12,8 +12,3 @@ told_file known = record {
   left_since = λ t left. Unit {0};
   known = known;
 }
-
--- it vouches for nothing
-pub never_honest : (known : Option (List ℕ)) → (told_file known).is_honest
-    → FollowsFileModel (told_file known)
-never_honest known honest = absurd honest

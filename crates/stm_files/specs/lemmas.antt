@@ -1,2 +1,3 @@
+pub mod DiskFileLaws
 pub mod SimulatorFileLaws
 pub mod SimulatorRigLaws

@@ -1,5 +1,6 @@
 // A file that is added to at its end, as a file on a disk.
-ghost use Rattle.stm_files.specs.DiskFile.{never_honest, told_file};
+ghost use Rattle.stm_files.specs.DiskFile.{told_file};
+ghost use Rattle.stm_files.specs.lemmas.DiskFileLaws.{never_honest};
 
 use std::fs::OpenFile;
 use std::io;
