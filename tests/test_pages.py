@@ -150,7 +150,7 @@ class Pages(Place):
         """No two modules of specs define the same name; and undo is one word in the code."""
         defined, named = {}, []
         for path in glob.glob(os.path.join(TOP, "crates", "*", "specs", "**", "*.antt"), recursive=True):
-            for name in re.findall(r"^(?:pub )?(?:abbrev|record|data)(?: pub)? (\S+)", held(path), re.M):
+            for name in re.findall(r"^(?:pub )?(?:unfoldable|abbrev|record|data)(?: pub)? (\S+)", held(path), re.M):
                 defined.setdefault(name, set()).add(path)
         for path in glob.glob(os.path.join(TOP, "crates", "*", "[sp]*", "**", "*.*t*"), recursive=True):
             named += re.findall(r"\b\w*(?:[Tt]ake[ns]?[-_]?[Bb]ack|[Gg]oe?s?[-_]?[Bb]ack)\w*", re.sub(r"(--|//).*", "", held(path)))

@@ -12,24 +12,24 @@ use Rattle.stm_session.specs.declared.information.Info.{Info}
 use Rattle.stm_work.specs.UpperHex.{upper_hex}
 
 -- a line with its LF
-abbrev pub line : List ℕ → List ℕ
-line text = text ++ 0x0A ∷ []
+abbrev pub line_of_text : List ℕ → List ℕ
+line_of_text text = text ++ 0x0A ∷ []
 
 -- the product id of a device
 abbrev pub id_text : ℕ → List ℕ
-id_text id = line (codes "id " ++ upper_hex 4 id)
+id_text id = line_of_text (codes "id " ++ upper_hex 4 id)
 
 -- the address of its flash
 abbrev pub base_text : ℕ → List ℕ
-base_text base = line (codes "base " ++ upper_hex 8 base)
+base_text base = line_of_text (codes "base " ++ upper_hex 8 base)
 
 -- how many pages that has
 abbrev pub pages_text : ℕ → List ℕ
-pages_text pages = line (codes "pages " ++ decimal pages)
+pages_text pages = line_of_text (codes "pages " ++ decimal pages)
 
 -- how many bytes those have
 abbrev pub bytes_text : ℕ → List ℕ
-bytes_text bytes = line (codes "size " ++ decimal bytes)
+bytes_text bytes = line_of_text (codes "size " ++ decimal bytes)
 
 -- where the flash lies, and its size
 abbrev pub flash_text : Info → List ℕ
@@ -42,11 +42,11 @@ erase_code_text Extended = codes "44"
 
 -- that command
 abbrev pub kind_text : EraseKind → List ℕ
-kind_text kind = line (codes "erase " ++ erase_code_text kind)
+kind_text kind = line_of_text (codes "erase " ++ erase_code_text kind)
 
 -- what a place holds that is erased
 abbrev pub blank_text : ℕ → List ℕ
-blank_text blank = line (codes "erased " ++ upper_hex 2 blank)
+blank_text blank = line_of_text (codes "erased " ++ upper_hex 2 blank)
 
 -- both
 abbrev pub erase_text : Info → List ℕ
@@ -54,7 +54,7 @@ erase_text info = kind_text info.kind ++ blank_text info.erased
 
 -- the version of the bootloader
 abbrev pub version_text : ℕ → List ℕ
-version_text version = line (codes "version " ++ upper_hex 2 version)
+version_text version = line_of_text (codes "version " ++ upper_hex 2 version)
 
 -- a code in the list of them
 abbrev pub code_text : ℕ → List ℕ
@@ -62,7 +62,7 @@ code_text code = 0x20 ∷ upper_hex 2 code
 
 -- the codes of its commands, in one line
 abbrev pub codes_text : List ℕ → List ℕ
-codes_text list = line (codes "codes" ++ flat_map code_text list)
+codes_text list = line_of_text (codes "codes" ++ flat_map code_text list)
 
 -- what a bootloader tells of itself
 abbrev pub commands_text : Commands → List ℕ
@@ -79,12 +79,12 @@ told_text told = id_text told.id ++ commands_text told.commands
 
 -- the name of the chip table
 abbrev pub table_text : List ℕ → List ℕ
-table_text name = line (codes "table " ++ name)
+table_text name = line_of_text (codes "table " ++ name)
 
 -- the unique id of a board, where one was told
 abbrev pub unique_text : List ℕ → List ℕ
 unique_text unique =
-    if length unique == 0 then [] else line (codes "board " ++ encode_upper unique)
+    if length unique == 0 then [] else line_of_text (codes "board " ++ encode_upper unique)
 
 -- how many bytes of flash were told, beside those of the pages
 abbrev pub beside_text : ℕ → Option ℕ → List ℕ
@@ -98,7 +98,7 @@ beside_text told (Some size) =
 abbrev pub size_text : Option ℕ → Option ℕ → List ℕ
 size_text None pages = []
 size_text (Some kib) pages =
-    line (codes "flash " ++ decimal kib ++ codes " KiB" ++ beside_text (kib * 1024) pages)
+    line_of_text (codes "flash " ++ decimal kib ++ codes " KiB" ++ beside_text (kib * 1024) pages)
 
 -- which board a device is, beside the bytes of its pages where its chip is known
 abbrev pub board_text : Board → Option ℕ → List ℕ

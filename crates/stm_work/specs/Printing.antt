@@ -4,14 +4,14 @@ use Rattle.std.specs.Prelude.{Some, None, if◌then◌else◌, string_bytes}
 use Rattle.stm_session.specs.declared.asking_board.Board.{Board}
 use Rattle.stm_work.specs.declared.answer.Answer.{Answer}
 use Rattle.stm_work.specs.declared.answer.Answer.TheVariants as answer
-use Rattle.stm_work.specs.DeviceText.{board_text, info_text, line, table_text, told_text}
+use Rattle.stm_work.specs.DeviceText.{board_text, info_text, line_of_text, table_text, told_text}
 use Rattle.stm_work.specs.UpperHex.{upper_hex}
 
 -- a change: the number of its segment, and how many pages it changed
 abbrev pub change_text : ℕ → ℕ → List ℕ → List ℕ
 change_text segment pages done =
-    line (codes "segment " ++ decimal segment ++ codes ": " ++ decimal pages ++ codes " pages "
-    ++ done)
+    line_of_text (codes "segment " ++ decimal segment ++ codes ": " ++ decimal pages
+    ++ codes " pages " ++ done)
 
 -- a write
 abbrev pub written_text : ℕ → ℕ → List ℕ
@@ -23,15 +23,15 @@ erased_text segment pages = change_text segment pages (codes "erased")
 
 -- of how many bytes the flash has the image's
 abbrev pub verified_text : ℕ → List ℕ
-verified_text bytes = line (codes "verified " ++ decimal bytes ++ codes " bytes")
+verified_text bytes = line_of_text (codes "verified " ++ decimal bytes ++ codes " bytes")
 
 -- a CRC
 abbrev pub sum_text : ℕ → List ℕ
-sum_text crc = line (codes "crc " ++ upper_hex 8 crc)
+sum_text crc = line_of_text (codes "crc " ++ upper_hex 8 crc)
 
 -- how many segments were undone
 abbrev pub undone_text : ℕ → List ℕ
-undone_text count = line (codes "undone " ++ decimal count)
+undone_text count = line_of_text (codes "undone " ++ decimal count)
 
 -- the same, without the line's end
 abbrev pub undone_head : ℕ → List ℕ
@@ -43,22 +43,22 @@ behind_text bytes = codes ", " ++ decimal bytes
 
 -- and what that was
 abbrev pub again_text : List ℕ
-again_text = line (codes " bytes verified")
+again_text = line_of_text (codes " bytes verified")
 
 -- how many segments stay
 abbrev pub kept_text : ℕ → List ℕ
-kept_text count = line (codes "kept " ++ decimal count)
+kept_text count = line_of_text (codes "kept " ++ decimal count)
 
 -- how many of them can be undone
 abbrev pub left_text : ℕ → List ℕ
-left_text left = decimal left ++ line (codes " can be undone")
+left_text left = decimal left ++ line_of_text (codes " can be undone")
 
 -- how many real boards were tried
 abbrev pub tried_text : ℕ → List ℕ
 tried_text tried =
-    if tried == 0 then line (codes "not tried: stmflash-trial")
-    else if tried == 1 then line (codes "tried: 1 board")
-    else line (codes "tried: " ++ decimal tried ++ codes " boards")
+    if tried == 0 then line_of_text (codes "not tried: stmflash-trial")
+    else if tried == 1 then line_of_text (codes "tried: 1 board")
+    else line_of_text (codes "tried: " ++ decimal tried ++ codes " boards")
 
 -- an answer, but for what is told beside it
 abbrev pub answer_text : Answer → List ℕ
