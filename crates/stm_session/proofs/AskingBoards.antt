@@ -21,7 +21,7 @@ use Rattle.stm_session.specs.Asking.{Asks, IsStill}
 use Rattle.stm_session.specs.AskingBoard.{AsksBoard, AsksSize, AsksUnique, IsAnswered, came_in, places_in, size_told, unique_told}
 use Rattle.stm_session.specs.Fault.{Cause, IsOutsideFault, cause_of, fault_of}
 use Rattle.stm_session.specs.Order.{Step, Begin, IsInOrder, Sends, FaultEnds, StopsBy, torn_behind, AreCutShort, acts_of}
-use Rattle.stm_session.specs.Reaching.{IsAsked, IsAsking, asking_steps, SettlesThen}
+use Rattle.stm_session.specs.Reaching.{AsksInOrder, IsAsked, IsAsking, asking_steps, SettlesThen}
 use Rattle.stm_session.specs.Unwritten.{AppendsNothing}
 use Rattle.stm_wire.specs.declared.chip.EraseKind.{EraseKind}
 use Rattle.stm_wire.specs.declared.intent.Intent.{Intent}
@@ -37,6 +37,7 @@ use Rattle.stm_session.specs.AskingBoard.{AsksInPart}
 use Rattle.stm_session.specs.ToldBoard.{AsksFinished, AsksUnfinished, IsBoardOf, size_of, unique_of}
 use Rattle.stm_session.specs.Fault.{IsOfTalking, IsOutside, IsUnheard, fault_of_journal, of_file, of_line, of_memory, of_protocol, of_refusal, of_session}
 use Rattle.stm_session.specs.Fresh.{EndsWell, Way, byte_of, limit_of, undo_way}
+use Rattle.stm_session.proofs.AskingStops.{asked_puts}
 use Rattle.stm_session.proofs.Freshness.{limit_most}
 use Rattle.stm_session.specs.Moments.{BeginsNothing, IsSafe, IsUnbegun, SameMake}
 use Rattle.stm_session.specs.Refusal.{unsent_refusal}
@@ -109,6 +110,10 @@ few_more m n a b le p = GoesOn-weaker (AreFew m) (AreFew n) a b p (λ xs x. omeg
 
 pub part_few : (chip : Option ChipData) (whole : Bool) (most : ℕ) (a b : Option (List Call)) → GoesOn (IsPart chip whole most) a b → GoesOn (AreFew most) a b
 part_few chip whole most a b p = GoesOn-weaker (IsPart chip whole most) (AreFew most) a b p (λ xs x. x.few)
+
+pub asked_few : (id : ℕ) (a b : RigState) → AsksInOrder id false a b
+    → GoesOn (AreFew 268) a.calls b.calls
+asked_few id a b asked = part_few None true 268 a.calls b.calls (asked_puts id a b asked)
 
 pub read_broken_length : (address size : ℕ) (answer : List ℕ) → length answer ≡ size → length (read_turns address answer) ≤ 12 + size
 read_broken_length address size answer same = omega (arith, same, length-read_turns address answer)

@@ -1,5 +1,5 @@
 -- How sessions end that reached no device, or another one.
-use Rattle.std.proofs.Common.{◌≡◌, inl, inr, ⊎_elim, ℕ, Bool, List, [], ◌∷◌, ◌++◌, None, Result, Ok, Err, IsErrAnd, refl, sym, ◌∙◌, ap, subst, append-nil}
+use Rattle.std.proofs.Common.{◌≡◌, inl, inr, ⊎_elim, ℕ, Bool, List, [], ◌++◌, None, Result, Ok, Err, IsErrAnd, refl, sym, ◌∙◌, ap, subst, append-nil}
 use Rattle.std.specs.Prelude.{IfErr, IfOk, Option}
 use Rattle.stm_wire.specs.Call.{Call}
 use Rattle.stm_wire.specs.Dialogue.{GoesOn}
@@ -10,8 +10,9 @@ use Rattle.stm_session.specs.Fresh.{EndsWell, Way, byte_of, limit_of}
 use Rattle.stm_journal.specs.Calls.{AreFetches}
 use Rattle.stm_session.specs.declared.fault.Fault.{Fault}
 use Rattle.stm_session.specs.Fault.{Cause, IsOfTalking, IsRefusedLater, of_file, of_line, of_memory, of_protocol, of_refusal, of_session}
-use Rattle.stm_session.specs.Order.{Step, AreCutShort, Begin, StepFailsBy, IsAfter, Sends, StopsBy, acts_of, acts_of_steps}
-use Rattle.stm_session.specs.Reaching.{IsAsking, ReachesInOrder, ReachesInPart, SettlesFirst, SettlesThen, asking_steps, id_turns}
+use Rattle.stm_session.specs.Order.{Step, AreCutShort, Begin, StepFailsBy, IsAfter, StopsBy, acts_of, acts_of_steps}
+use Rattle.stm_session.specs.Reaching.{IsAsking, ReachesInOrder, ReachesInPart, SettlesFirst, SettlesThen, asking_steps}
+use Rattle.stm_session.proofs.AskingStops.{asking_is}
 use Rattle.stm_session.proofs.CutShort.{begin_all, cut_after}
 use Rattle.stm_session.proofs.Orders.{acts-append, acts-line, fetches-act, settled_and, settles_and}
 
@@ -64,10 +65,8 @@ module _ (way : Way) (cause : Cause) (torn : Bool) where
 
   -- it is another device, or something else is refused
   pub told_stops : (id : ℕ) (a b : RigState) → IsRefusedLater cause → ReachesInOrder way id torn a b → GoesOn (ReachesInPart way cause torn) a.calls b.calls
-  told_stops id a b refused (version, codes, reached) =
+  told_stops id a b refused (version, codes, reached, few) =
       let steps = asking_steps version codes id in
-      let asking : IsAsking steps =
-      record { first = Sends _ ∷ []; is_get = record { version = version; codes = codes; is = refl }; second = Sends (id_turns id) ∷ []; is_get_id = record { high = _; low = _; is = refl }; is = refl } in
       GoesOn-weaker (SettlesFirst way torn steps) (ReachesInPart way cause torn) a.calls b.calls reached
       (λ xs s.
       inr (inr (
@@ -79,7 +78,7 @@ module _ (way : Way) (cause : Cause) (torn : Bool) where
         record {
           done = steps;
           failed = None;
-          allowed = begin_all IsAsking steps asking;
+          allowed = begin_all IsAsking steps (asking_is version codes id few);
           last = [];
           fails = idle_later cause torn refused;
           is = s.5 ∙ sym (append-nil (acts_of_steps torn steps));

@@ -26,7 +26,7 @@ use Rattle.stm_session.proofs.Work.{both_within, newest_exists}
 
 -- other bytes may come by the same frames
 alike : (chip : ChipData) (address blocks : ℕ) (bytes other : List ℕ) → length other ≡ length bytes
-    → (AreSent chip (read_steps address blocks bytes) → AreSent chip (read_steps address blocks other)) × (count_of (read_steps address blocks other) ≡ count_of (read_steps address blocks bytes))
+    → (AreSent (Some chip) (read_steps address blocks bytes) → AreSent (Some chip) (read_steps address blocks other)) × (count_of (read_steps address blocks other) ≡ count_of (read_steps address blocks bytes))
 alike chip address zero bytes other same = (λ sent. sent, refl)
 alike chip address (suc blocks) bytes other same =
     let from = 256 * blocks in
@@ -40,112 +40,112 @@ alike chip address (suc blocks) bytes other same =
     let F : List ℕ → Type 0 = λ frame. IsFrame (Some chip) frame in
     let frame = read_sends at xs ∙ ap (λ (n : ℕ). read_frame at n) long ∙ sym (read_sends at ys) in (
       λ sent.
-          let parts = sent_parts chip (read_steps address blocks bytes) own sent in
-          sent_then chip (read_steps address blocks other) came (before.0 parts.0) (subst F frame parts.1.0, tt),
+          let parts = sent_parts (Some chip) (read_steps address blocks bytes) own sent in
+          sent_then (Some chip) (read_steps address blocks other) came (before.0 parts.0) (subst F frame parts.1.0, tt),
       omega (arith, before.1, count-append (read_steps address blocks bytes) own, count-append (read_steps address blocks other) came, length-read_turns at xs, length-read_turns at ys, long),
     )
 
-put_misread : (chip : ChipData) (most : ℕ) (P : List Step → Type 0) (steps : List Step) → ((xs : List Step) → P xs → PutFew chip most xs) → IsMisread chip P steps → PutFew chip most steps
+put_misread : (chip : ChipData) (most : ℕ) (P : List Step → Type 0) (steps : List Step) → ((xs : List Step) → P xs → PutFew (Some chip) most xs) → IsMisread chip P steps → PutFew (Some chip) most steps
 put_misread chip most P steps few m =
     let own = page_reads chip m.n m.page in
     let came = page_reads chip m.n m.came in
     let all = few (m.before ++ own) m.own in
-    let parts = sent_parts chip m.before own all.sent in
+    let parts = sent_parts (Some chip) m.before own all.sent in
     let like = alike chip (page_address chip m.n) (page_size chip m.n / 256) m.page m.came m.size in
-    let whole : PutFew chip most (m.before ++ came) = record {
-      sent = sent_then chip m.before came parts.0 (like.0 parts.1);
+    let whole : PutFew (Some chip) most (m.before ++ came) = record {
+      sent = sent_then (Some chip) m.before came parts.0 (like.0 parts.1);
       few = omega (arith, all.few, count-append m.before own, count-append m.before came, like.1);
     } in
     let rest = m.begun.0 in
-    put_front chip most steps rest
-    (put_as chip most most (m.before ++ came) (steps ++ rest) (omega arith)
+    put_front (Some chip) most steps rest
+    (put_as (Some chip) most most (m.before ++ came) (steps ++ rest) (omega arith)
     (ap (λ (l : List Step). l ++ rest) m.is ∙ append_assoc m.before m.reads rest ∙ ap (λ (l : List Step). m.before ++ l) m.begun.1) whole)
 
 module _ (chip : ChipData) (limits : IsChip chip) where
-  put_nothing : (most : ℕ) (steps : List Step) → steps ≡ [] → PutFew chip most steps
-  put_nothing most steps is = put_as chip most most [] steps (omega arith) is (put_none chip most)
+  put_nothing : (most : ℕ) (steps : List Step) → steps ≡ [] → PutFew (Some chip) most steps
+  put_nothing most steps is = put_as (Some chip) most most [] steps (omega arith) is (put_none (Some chip) most)
 
   -- a page is rewritten
-  put_one : (Told : Tells) (n : ℕ) (steps : List Step) → n < page_count chip → IsRewritten chip Told n steps → PutFew chip (3 * page_size chip n) steps
+  put_one : (Told : Tells) (n : ℕ) (steps : List Step) → n < page_count chip → IsRewritten chip Told n steps → PutFew (Some chip) (3 * page_size chip n) steps
   put_one Told n steps exists is =
       let some = All-get_or IsPageSize chip.sizes n 0 exists limits.sizes in
-      put_as chip (9 + 2 * length is.page) (3 * page_size chip n) _ steps (omega (arith, is.size, some.0)) is.is (put_rewritten chip n is.page exists is.size)
+      put_as (Some chip) (9 + 2 * length is.page) (3 * page_size chip n) _ steps (omega (arith, is.size, some.0)) is.is (put_rewritten chip n is.page exists is.size)
 
   -- or given back, and read again or not
-  put_given : (again : Bool) (Told : Tells) (n : ℕ) (steps : List Step) → n < page_count chip → IsGivenBack again chip Told n steps → PutFew chip (13 * page_size chip n) steps
+  put_given : (again : Bool) (Told : Tells) (n : ℕ) (steps : List Step) → n < page_count chip → IsGivenBack again chip Told n steps → PutFew (Some chip) (13 * page_size chip n) steps
   put_given again Told n steps exists given =
       let size = page_size chip n in
-      put_as chip (2 * size + 11 * size) (13 * size) _ steps (omega arith) given.is
-      (put_then chip (2 * size) (11 * size) (page_reads chip n given.held) _ (put_page chip n exists given.held given.held_size) (returned again))
+      put_as (Some chip) (2 * size + 11 * size) (13 * size) _ steps (omega arith) given.is
+      (put_then (Some chip) (2 * size) (11 * size) (page_reads chip n given.held) _ (put_page chip n exists given.held given.held_size) (returned again))
     where
       some : IsPageSize (page_size chip n)
       some = All-get_or IsPageSize chip.sizes n 0 exists limits.sizes
 
-      gave : (same : Bool) → PutFew chip (3 * page_size chip n) (if same then [] else rewrite_steps chip n given.page (frames_of (erased_byte chip) given.page (length given.page / 256)))
-      gave true = put_none chip (3 * page_size chip n)
-      gave false = put_as chip (9 + 2 * length given.page) (3 * page_size chip n) _ _ (omega (arith, given.size, some.0)) refl (put_rewritten chip n given.page exists given.size)
+      gave : (same : Bool) → PutFew (Some chip) (3 * page_size chip n) (if same then [] else rewrite_steps chip n given.page (frames_of (erased_byte chip) given.page (length given.page / 256)))
+      gave true = put_none (Some chip) (3 * page_size chip n)
+      gave false = put_as (Some chip) (9 + 2 * length given.page) (3 * page_size chip n) _ _ (omega (arith, given.size, some.0)) refl (put_rewritten chip n given.page exists given.size)
 
-      returned : (b : Bool) → PutFew chip (11 * page_size chip n) (return_steps b chip n given.held given.page)
-      returned false = put_as chip (3 * page_size chip n) (11 * page_size chip n) _ _ (omega arith) refl (gave (bytes_eq given.held given.page))
+      returned : (b : Bool) → PutFew (Some chip) (11 * page_size chip n) (return_steps b chip n given.held given.page)
+      returned false = put_as (Some chip) (3 * page_size chip n) (11 * page_size chip n) _ _ (omega arith) refl (gave (bytes_eq given.held given.page))
       returned true =
           let size = page_size chip n in
-          put_as chip (3 * size + 2 * size) (11 * size) _ _ (omega arith) refl (put_then chip (3 * size) (2 * size) _ (page_reads chip n given.page) (gave (bytes_eq given.held given.page)) (put_page chip n exists given.page given.size))
+          put_as (Some chip) (3 * size + 2 * size) (11 * size) _ _ (omega arith) refl (put_then (Some chip) (3 * size) (2 * size) _ (page_reads chip n given.page) (gave (bytes_eq given.held given.page)) (put_page chip n exists given.page given.size))
 
   -- the pages of a segment,
-  put_pages : (again : Bool) (Told : Tells) (pages : List Kept) (steps : List Step) → AllKeptFit chip pages → AreGivenBack again chip Told pages steps → PutFew chip (13 * kept_size chip pages) steps
+  put_pages : (again : Bool) (Told : Tells) (pages : List Kept) (steps : List Step) → AllKeptFit chip pages → AreGivenBack again chip Told pages steps → PutFew (Some chip) (13 * kept_size chip pages) steps
   put_pages again Told [] steps fit is = put_nothing 0 steps is
   put_pages again Told (kept ∷ pages) steps (fits, fit) (first, rest, is, one, more) =
       let own = 13 * page_size chip kept.page in
       let others = 13 * kept_size chip pages in
-      put_as chip (own + others) (13 * kept_size chip (kept ∷ pages)) (first ++ rest) steps (omega arith) is
-      (put_then chip own others first rest (put_given again Told kept.page first (fits-exists chip kept fits) one) (put_pages again (tells_behind first Told) pages rest fit more))
+      put_as (Some chip) (own + others) (13 * kept_size chip (kept ∷ pages)) (first ++ rest) steps (omega arith) is
+      (put_then (Some chip) own others first rest (put_given again Told kept.page first (fits-exists chip kept fits) one) (put_pages again (tells_behind first Told) pages rest fit more))
 
   -- and of some
   put_segments : (again : Bool) (Told : Tells) (taken : ℕ) (stack : List SegmentData) (steps : List Step) → AllOnce stack → AllFit chip stack → AreSegmentsUndone again chip Told taken (pages_of_segments stack) steps
-      → PutFew chip (taken * most_of_command) steps
+      → PutFew (Some chip) (taken * most_of_command) steps
   put_segments again Told zero stack steps once fits is = put_nothing 0 steps is
   put_segments again Told (suc taken) [] steps once fits none = absurd none
   put_segments again Told (suc taken) (segment ∷ below) steps once fits (first, rest, is, one, more) =
       let last : List Step = Adds (Undoes (length (pages_of_segments below) + 1) ∷ []) ∷ [] in
       let size = kept_size chip segment.pages in
-      let line : PutFew chip 0 last = record { sent = tt; few = omega arith } in
-      let own = put_as chip (13 * size + 0) 27262976 (one.returns ++ last) first (omega (arith, kept_within chip segment.pages once.0 fits.0, limits.size)) one.is
-      (put_then chip (13 * size) 0 one.returns last (put_pages again Told segment.pages one.returns fits.0 one.are_returns) line) in
-      put_as chip (27262976 + taken * 27262976) (suc taken * most_of_command) (first ++ rest) steps (omega arith) is
-      (put_then chip 27262976 (taken * 27262976) first rest own (put_segments again (tells_behind first Told) taken below rest once.1 fits.1 more))
+      let line : PutFew (Some chip) 0 last = record { sent = tt; few = omega arith } in
+      let own = put_as (Some chip) (13 * size + 0) 27262976 (one.returns ++ last) first (omega (arith, kept_within chip segment.pages once.0 fits.0, limits.size)) one.is
+      (put_then (Some chip) (13 * size) 0 one.returns last (put_pages again Told segment.pages one.returns fits.0 one.are_returns) line) in
+      put_as (Some chip) (27262976 + taken * 27262976) (suc taken * most_of_command) (first ++ rest) steps (omega arith) is
+      (put_then (Some chip) 27262976 (taken * 27262976) first rest own (put_segments again (tells_behind first Told) taken below rest once.1 fits.1 more))
 
   -- of a journal: the pages at work exist,
   module _ (s : StateData) (sound : IsSound s) (fits : AllFit chip s.stack) where
-    put_beside : (one kept : Bool) (Told : Tells) (steps : List Step) → (kept ≡ true → 257 < page_count chip) → AreRewritten chip Told (if one && kept then 257 ∷ [] else []) steps → PutFew chip (if one then 3 * page_size chip 257 else 0) steps
+    put_beside : (one kept : Bool) (Told : Tells) (steps : List Step) → (kept ≡ true → 257 < page_count chip) → AreRewritten chip Told (if one && kept then 257 ∷ [] else []) steps → PutFew (Some chip) (if one then 3 * page_size chip 257 else 0) steps
     put_beside true true Told steps exists (first, rest, is, one, none) =
         let most = 3 * page_size chip 257 in
-        put_as chip (most + 0) most (first ++ rest) steps (omega arith) is (put_then chip most 0 first rest (put_one Told 257 first (exists refl) one) (put_nothing 0 rest none))
+        put_as (Some chip) (most + 0) most (first ++ rest) steps (omega arith) is (put_then (Some chip) most 0 first rest (put_one Told 257 first (exists refl) one) (put_nothing 0 rest none))
     put_beside true false Told steps exists is = put_nothing (3 * page_size chip 257) steps is
     put_beside false kept Told steps exists is = put_nothing 0 steps is
 
-    put_work : (Told : Tells) (steps : List Step) → AreRewritten chip Told (pages_at_work s.stack) steps → PutFew chip 6291456 steps
+    put_work : (Told : Tells) (steps : List Step) → AreRewritten chip Told (pages_at_work s.stack) steps → PutFew (Some chip) 6291456 steps
     put_work Told steps = by_intent (intent_of s) sound.intended
       where
-        by_intent : (o : Option Intent) → ((i : Intent) → o ≡ Some i → newest_keeps (intent_page i) s ≡ true) → AreRewritten chip Told (pages_of_intent o (newest_has (λ segment. keeps segment 257) s.stack)) steps → PutFew chip 6291456 steps
+        by_intent : (o : Option Intent) → ((i : Intent) → o ≡ Some i → newest_keeps (intent_page i) s ≡ true) → AreRewritten chip Told (pages_of_intent o (newest_has (λ segment. keeps segment 257) s.stack)) steps → PutFew (Some chip) 6291456 steps
         by_intent None own is = put_nothing 6291456 steps is
         by_intent (Some i) own (first, rest, is, one, more) =
             let n = intent_page i in
             let size = 3 * page_size chip n in
             let other : ℕ = if n == 1 then 3 * page_size chip 257 else 0 in
-            put_as chip (size + other) 6291456 (first ++ rest) steps (omega (arith, both_within chip n, limits.size)) is
-            (put_then chip size other first rest (put_one Told n first (newest_exists chip s.stack n fits (own i refl)) one)
+            put_as (Some chip) (size + other) 6291456 (first ++ rest) steps (omega (arith, both_within chip n, limits.size)) is
+            (put_then (Some chip) size other first rest (put_one Told n first (newest_exists chip s.stack n fits (own i refl)) one)
             (put_beside (n == 1) (newest_has (λ segment. keeps segment 257) s.stack) (tells_behind first Told) rest (newest_exists chip s.stack 257 fits) more))
 
     -- and each undo puts few
-    pub put_undone : (again : Bool) (Told : Tells) (taken : ℕ) (steps : List Step) → AreAllUndone again chip Told (pages_at_work s.stack) taken (pages_of_segments s.stack) steps → PutFew chip (most_of_undo taken) steps
+    pub put_undone : (again : Bool) (Told : Tells) (taken : ℕ) (steps : List Step) → AreAllUndone again chip Told (pages_at_work s.stack) taken (pages_of_segments s.stack) steps → PutFew (Some chip) (most_of_undo taken) steps
     put_undone again Told taken steps all =
-        put_as chip (6291456 + taken * 27262976) (most_of_undo taken) (all.first ++ all.back) steps (omega arith) all.is
-        (put_then chip 6291456 (taken * 27262976) all.first all.back (put_work Told all.first all.is_first) (put_segments again (tells_behind all.first Told) taken s.stack all.back sound.once fits all.are_back))
+        put_as (Some chip) (6291456 + taken * 27262976) (most_of_undo taken) (all.first ++ all.back) steps (omega arith) all.is
+        (put_then (Some chip) 6291456 (taken * 27262976) all.first all.back (put_work Told all.first all.is_first) (put_segments again (tells_behind all.first Told) taken s.stack all.back sound.once fits all.are_back))
 
-    put_begun : (again : Bool) (Told : Tells) (taken : ℕ) (steps : List Step) → BeginTold (λ T. AreAllUndone again chip T (pages_at_work s.stack) taken (pages_of_segments s.stack)) Told steps → PutFew chip (most_of_undo taken) steps
-    put_begun again Told taken steps begun = put_front chip (most_of_undo taken) steps begun.0 (put_undone again (so_far (length steps) Told) taken (steps ++ begun.0) begun.1)
+    put_begun : (again : Bool) (Told : Tells) (taken : ℕ) (steps : List Step) → BeginTold (λ T. AreAllUndone again chip T (pages_at_work s.stack) taken (pages_of_segments s.stack)) Told steps → PutFew (Some chip) (most_of_undo taken) steps
+    put_begun again Told taken steps begun = put_front (Some chip) (most_of_undo taken) steps begun.0 (put_undone again (so_far (length steps) Told) taken (steps ++ begun.0) begun.1)
 
-    pub put_undone_in_part : (again : Bool) (Told : Tells) (taken : ℕ) (steps : List Step) → OrMisread again chip (BeginTold (λ T. AreAllUndone again chip T (pages_at_work s.stack) taken (pages_of_segments s.stack)) Told) steps → PutFew chip (most_of_undo taken) steps
+    pub put_undone_in_part : (again : Bool) (Told : Tells) (taken : ℕ) (steps : List Step) → OrMisread again chip (BeginTold (λ T. AreAllUndone again chip T (pages_at_work s.stack) taken (pages_of_segments s.stack)) Told) steps → PutFew (Some chip) (most_of_undo taken) steps
     put_undone_in_part false Told taken steps begun = put_begun false Told taken steps begun
     put_undone_in_part true Told taken steps (inl begun) = put_begun true Told taken steps begun
     put_undone_in_part true Told taken steps (inr misread) = put_misread chip (most_of_undo taken) _ steps (put_begun true Told taken) misread

@@ -1,6 +1,6 @@
 -- How a session reaches a device, on any line: it settles it, asks who it is, and whether it is
 -- still the board that its chip is of; and then come the steps for which it was reached.
-use Rattle.std.specs.Prelude.{◌≡◌, ◌⊎◌, ℕ, ◌/◌, ◌%◌, Bool, ◌==◌, false, if◌then◌else◌, List}
+use Rattle.std.specs.Prelude.{◌≡◌, ◌⊎◌, ℕ, ◌/◌, ◌%◌, ◌<◌, Bool, ◌==◌, false, if◌then◌else◌, List}
 use Rattle.std.specs.Prelude.{[], ◌∷◌, ◌++◌, length, Option, Some, None, Result, IfErr}
 use Rattle.stm_wire.specs.declared.places.UniquePlace.{UniquePlace}
 use Rattle.stm_wire.specs.Call.{Call}
@@ -29,10 +29,11 @@ SettlesThen way Then calls =
 abbrev pub SettlesFirst : Way → Bool → List Step → List Call → Type 0
 SettlesFirst way torn steps calls = SettlesThen way (λ rest. rest ≡ acts_of_steps torn steps) calls
 
--- which commands the device has: Get, and what it answers
+-- which commands the device has: Get, and what it answers, whose codes are counted by one byte
 pub record IsGet (steps : List Step) : Type 0 where
   pub version : ℕ
   pub codes : List ℕ
+  pub few : length codes < 256
   pub is : steps ≡ Sends (get_turns version codes) ∷ []
 
 -- what it is: Get ID, and what it answers
@@ -59,11 +60,13 @@ asking_steps version codes id = Sends (get_turns version codes) ∷ Sends (id_tu
 abbrev pub AsksInOrder : ℕ → Bool → RigState → RigState → Type 0
 AsksInOrder id torn old new = (version : ℕ) × (codes : List ℕ)
     × GoesOn (IsInOrder torn (asking_steps version codes id)) old.calls new.calls
+    × (length codes < 256)
 
 -- the device was settled so, and answered this number
 abbrev pub ReachesInOrder : Way → ℕ → Bool → RigState → RigState → Type 0
 ReachesInOrder way id torn old new = (version : ℕ) × (codes : List ℕ)
     × GoesOn (SettlesFirst way torn (asking_steps version codes id)) old.calls new.calls
+    × (length codes < 256)
 
 -- Of a session that reached no device, or was told that it is another, this was done: nothing;
 -- or it was settled in part, which the line or the device ended; or it was settled, and then

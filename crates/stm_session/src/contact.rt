@@ -1,9 +1,9 @@
 // How a session reaches a device: whatever it was sent before is ended, and it is asked who it is.
-ghost use Rattle.std.specs.Prelude.{◌≡◌, ⊤, Bool, ℕ, List, ◌∷◌, [], IfErr, IfOk, OnOk, None};
+ghost use Rattle.std.specs.Prelude.{◌≡◌, ◌<◌, ⊤, Bool, ℕ, List, ◌∷◌, [], IfErr, IfOk, OnOk};
+ghost use Rattle.std.specs.Prelude.{length};
 ghost use Rattle.stm_wire.specs.Device.{IsSettled};
 ghost use Rattle.stm_wire.specs.Dialogue.{GoesOn};
 ghost use Rattle.stm_wire.specs.Frames.{get_turns};
-ghost use Rattle.stm_wire.specs.Parts.{IsPart};
 ghost use Rattle.stm_wire.specs.Settling.{PutsPart, SettlesWithin};
 ghost use Rattle.stm_wire.specs.SettlingCalls.{EndsSettled, IsConnected};
 ghost use Rattle.stm_session.specs.Unwritten.{AppendsNothing};
@@ -15,7 +15,6 @@ ghost use Rattle.stm_session.specs.Moments.{BeginsNothing, IsSafe};
 ghost use Rattle.stm_session.specs.Opening.{AreCommandsOf, TellsItself};
 ghost use Rattle.stm_session.specs.Order.{Begin, IsInOrder, Sends, FaultEnds};
 ghost use Rattle.stm_session.specs.Reaching.{AsksInOrder, IsAsking, IsGet, IsGetId, id_turns};
-ghost use Rattle.stm_session.specs.Sending.{is_whole};
 
 use crate::Fault;
 use crate::laws::a_ready_device_can_begin;
@@ -99,11 +98,10 @@ pub fn ask_commands<R: Rig>(rig: &mut R) -> Result<Commands, Fault>
         GoesOn AppendsNothing old.calls new.calls }
     ensures cause { let old = R.view rig.old in let new = R.view rig.new in
         HasSessionCause old new result }
-    ensures puts { let old = R.view rig.old in let new = R.view rig.new in
-        GoesOn (IsPart None (is_whole result) 261) old.calls new.calls }
     ensures order { let old = R.view rig.old in let new = R.view rig.new in
         (torn : Bool) → OnOk result ((version : ℕ) × (codes : List ℕ)
-        × GoesOn (IsInOrder torn (Sends (get_turns version codes) ∷ [])) old.calls new.calls) }
+        × GoesOn (IsInOrder torn (Sends (get_turns version codes) ∷ [])) old.calls new.calls
+        × (length codes < 256)) }
     ensures stops { let old = R.view rig.old in let new = R.view rig.new in
         (torn : Bool) → FaultEnds (Begin IsGet) torn old new result }
     ensures sent { IfErr result IsOfLine }
@@ -123,8 +121,6 @@ pub fn ask_id<R: Rig>(rig: &mut R) -> Result<u16, Fault>
         GoesOn AppendsNothing old.calls new.calls }
     ensures cause { let old = R.view rig.old in let new = R.view rig.new in
         HasSessionCause old new result }
-    ensures puts { let old = R.view rig.old in let new = R.view rig.new in
-        GoesOn (IsPart None (is_whole result) 7) old.calls new.calls }
     ensures order { let old = R.view rig.old in let new = R.view rig.new in
         (torn : Bool) → IfOk result (λ id. let steps = Sends (id_turns id) ∷ [] in
         GoesOn (IsInOrder torn steps) old.calls new.calls) }
@@ -155,8 +151,6 @@ pub fn ask<R: Rig>(rig: &mut R) -> Result<Told, Fault>
         GoesOn AppendsNothing old.calls new.calls }
     ensures cause { let old = R.view rig.old in let new = R.view rig.new in
         HasSessionCause old new result }
-    ensures puts { let old = R.view rig.old in let new = R.view rig.new in
-        GoesOn (IsPart None (is_whole result) 268) old.calls new.calls }
     ensures order { let old = R.view rig.old in let new = R.view rig.new in
         (torn : Bool) → IfOk result (λ told. AsksInOrder told.id torn old new) }
     ensures stops { let old = R.view rig.old in let new = R.view rig.new in

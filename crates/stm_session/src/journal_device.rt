@@ -1,12 +1,12 @@
 // How an undo reaches its device: whatever it was sent before is ended, and it is asked
 // whether it is the journal's.
-ghost use Rattle.std.specs.Prelude.{◌≡◌, ◌≤◌, [], List, ℕ, ⊤, Bool, ◌∷◌, length, None, OnOk, IfOk};
+ghost use Rattle.std.specs.Prelude.{◌≡◌, ◌<◌, ◌≤◌, [], List, ℕ, ⊤, Bool, ◌∷◌, length, None, OnOk, IfOk};
 ghost use Rattle.std.specs.Prelude.{IfErr, IfSome};
 ghost use Rattle.stm_wire.specs.Device.{IsSettled};
 ghost use Rattle.stm_wire.specs.Dialogue.{GoesOn};
 ghost use Rattle.stm_wire.specs.Frames.{get_turns};
 ghost use Rattle.stm_wire.specs.Harmless.{Harmless};
-ghost use Rattle.stm_wire.specs.Parts.{IsPart, IsSession};
+ghost use Rattle.stm_wire.specs.Parts.{IsSession};
 ghost use Rattle.stm_journal.specs.Journals.{IsLoaded};
 ghost use Rattle.stm_journal.specs.States.{intent_of};
 ghost use Rattle.stm_session.specs.Asking.{Asks};
@@ -33,11 +33,10 @@ use stm_wire::{Chip, Rig};
 /// Asks a settled device whether it lists the command by which the chip's pages are erased.
 fn ask_erase<R: Rig>(rig: &mut R, chip: &Chip) -> Result<bool, Fault>
     ensures cause { HasSessionCause (R.view rig.old) (R.view rig.new) result }
-    ensures puts { let old = R.view rig.old in let new = R.view rig.new in
-        GoesOn (IsPart None (is_whole result) 261) old.calls new.calls }
     ensures order { let old = R.view rig.old in let new = R.view rig.new in
         (torn : Bool) → OnOk result ((version : ℕ) × (codes : List ℕ)
-        × GoesOn (IsInOrder torn (Sends (get_turns version codes) ∷ [])) old.calls new.calls) }
+        × GoesOn (IsInOrder torn (Sends (get_turns version codes) ∷ [])) old.calls new.calls
+        × (length codes < 256)) }
     ensures stops { let old = R.view rig.old in let new = R.view rig.new in
         (torn : Bool) → FaultEnds (Begin IsGet) torn old new result }
     ensures honest { let old = R.view rig.old in let new = R.view rig.new in
@@ -51,8 +50,6 @@ fn ask_erase<R: Rig>(rig: &mut R, chip: &Chip) -> Result<bool, Fault>
 /// Asks a settled device whether it is this chip, and what is refused where it isn't.
 fn ask_misfit<R: Rig>(rig: &mut R, chip: &Chip) -> Result<Option<Fault>, Fault>
     ensures cause { HasSessionCause (R.view rig.old) (R.view rig.new) result }
-    ensures puts { let old = R.view rig.old in let new = R.view rig.new in
-        GoesOn (IsPart None (is_whole result) 268) old.calls new.calls }
     ensures named { IfOk result (λ misfit. IfSome misfit IsLaterRefusal) }
     ensures order { let old = R.view rig.old in let new = R.view rig.new in
         (torn : Bool) → IfOk result (λ misfit. misfit ≡ None

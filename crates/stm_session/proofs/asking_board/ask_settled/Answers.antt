@@ -1,6 +1,7 @@
-use Rattle.std.proofs.Common.{rules, None, arith, refl}
+use Rattle.std.proofs.Common.{rules, None, false, arith, refl}
 use Rattle.stm_session.proofs.Asking.{asks_failed, asks_ok, asks_then, settled_still}
-use Rattle.stm_session.proofs.AskingBoards.{asking_stops, board_answered, board_is, few_more, few_then, part_few, size_stops, unique_stops}
+use Rattle.stm_session.proofs.AskingBoards.{asked_few, asking_stops, board_answered, board_is, few_more, few_then, part_few, size_stops, unique_stops}
+use Rattle.stm_session.proofs.AskingStops.{cut_puts}
 use Rattle.stm_session.proofs.Unwritings.{then_appends_nothing}
 use Rattle.stm_session.proofs.asking_board.ask_settled.Goals as goal
 
@@ -9,7 +10,13 @@ returns-in_err-told g c =
     record {
       unwritten = search rules;
       cause = search rules;
-      few = search rules;
+      few = (
+          let V = g.R.Rig.view in
+          let a = (V c.args.rig.now).calls in
+          let b = (V c.ask.new.rig).calls in
+          few_more 268 326 a b (omega arith)
+          (part_few None _ 268 a b
+          (cut_puts _ (V c.args.rig.now) (V c.ask.new.rig) (c.in_err-told.ensures.stops false))));
       order = search rules;
       stops = (λ torn.
           let V = g.R.Rig.view in
@@ -31,7 +38,7 @@ returns-in_err-unique g c =
           let a = (V c.args.rig.now).calls in
           let b = (V c.ask.new.rig).calls in
           let d = (V c.ask_unique.new.rig).calls in
-          few_more 312 326 a d (omega arith) (few_then 268 44 a b d (part_few None _ 268 a b c.in_ok-told.ensures.puts) c.in_err-unique.ensures.few));
+          few_more 312 326 a d (omega arith) (few_then 268 44 a b d (asked_few c.in_ok-told.told.id (V c.args.rig.now) (V c.ask.new.rig) (c.in_ok-told.ensures.order false)) c.in_err-unique.ensures.few));
       order = search rules;
       stops = (λ torn.
           let V = g.R.Rig.view in
@@ -65,7 +72,7 @@ returns-in_err-size g c =
           let a = (V c.args.rig.now).calls in
           let b = (V c.ask.new.rig).calls in
           let d = (V c.ask_unique.new.rig).calls in
-          few_then 312 14 a d (V c.ask_size.new.rig).calls (few_then 268 44 a b d (part_few None _ 268 a b c.in_ok-told.ensures.puts) c.in_ok-unique.ensures.few) c.in_err-size.ensures.few);
+          few_then 312 14 a d (V c.ask_size.new.rig).calls (few_then 268 44 a b d (asked_few c.in_ok-told.told.id (V c.args.rig.now) (V c.ask.new.rig) (c.in_ok-told.ensures.order false)) c.in_ok-unique.ensures.few) c.in_err-size.ensures.few);
       order = search rules;
       stops = (λ torn.
           let V = g.R.Rig.view in
@@ -104,7 +111,7 @@ returns g c =
           let a = (V c.args.rig.now).calls in
           let b = (V c.ask.new.rig).calls in
           let d = (V c.ask_unique.new.rig).calls in
-          few_then 312 14 a d (V c.ask_size.new.rig).calls (few_then 268 44 a b d (part_few None _ 268 a b c.in_ok-told.ensures.puts) c.in_ok-unique.ensures.few) c.in_ok-size.ensures.few);
+          few_then 312 14 a d (V c.ask_size.new.rig).calls (few_then 268 44 a b d (asked_few c.in_ok-told.told.id (V c.args.rig.now) (V c.ask.new.rig) (c.in_ok-told.ensures.order false)) c.in_ok-unique.ensures.few) c.in_ok-size.ensures.few);
       order = (λ torn.
           let V = g.R.Rig.view in
           let got = c.in_ok-told.ensures.order torn in

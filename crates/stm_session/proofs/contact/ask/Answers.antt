@@ -1,11 +1,7 @@
 use Rattle.stm_session.proofs.Unwritings.{then_appends_nothing}
-use Rattle.std.proofs.Common.{arith, Bool, None, true, ◌∙◌, ap}
+use Rattle.std.proofs.Common.{◌∙◌, ap}
 use Rattle.stm_wire.specs.Device.{Device}
-use Rattle.stm_wire.specs.Dialogue.{GoesOn}
-use Rattle.stm_wire.specs.Parts.{IsPart}
-use Rattle.stm_wire.specs.lemmas.PartLaws.{part_longer, parts_join}
 use Rattle.stm_session.proofs.Asking.{asks_failed, asks_ok, asks_then, settled_still}
-use Rattle.stm_session.proofs.Sending.{same_fault}
 use Rattle.std.proofs.Common.{◌∷◌, []}
 use Rattle.std.proofs.Common.{List}
 use Rattle.stm_wire.specs.Frames.{get_turns}
@@ -36,34 +32,12 @@ returns-clause-honest g c h settled =
     asks_then (V c.args.rig.now) (V c.ask_commands.new.rig) (V c.ask_id.new.rig) _ _ first
     (asks_ok (V c.ask_commands.new.rig) (V c.ask_id.new.rig) _ _ second (λ id. record { commands = first.done; id = id ∙ ap (λ (d : Device). d.chip.id) first.same })) (λ y done. done)
 
-pub returns-in_err-commands-clause-puts : goal.returns-in_err-commands-clause-puts
-returns-in_err-commands-clause-puts g c =
-    let V = g.R.Rig.view in
-    let a = (V c.args.rig.now).calls in
-    let b = (V c.ask_commands.new.rig).calls in
-    let P : Bool → Type 0 = λ w. GoesOn (IsPart None w 268) a b in
-    same_fault P _ c.from_residual.result c.from_residual.ensures.1 (part_longer None _ 261 268 a b (omega arith) c.in_err-commands.ensures.puts)
-
-pub returns-in_err-id-clause-puts : goal.returns-in_err-id-clause-puts
-returns-in_err-id-clause-puts g c =
-    let V = g.R.Rig.view in
-    let a = (V c.args.rig.now).calls in
-    let b = (V c.ask_commands.new.rig).calls in
-    let d = (V c.ask_id.new.rig).calls in
-    let P : Bool → Type 0 = λ w. GoesOn (IsPart None w 268) a d in
-    same_fault P _ c.from_residual-in_err-id.result c.from_residual-in_err-id.ensures.1 (parts_join None _ 261 7 a b d c.in_ok-commands.ensures.puts c.in_err-id.ensures.puts)
-
-pub returns-clause-puts : goal.returns-clause-puts
-returns-clause-puts g c =
-    let V = g.R.Rig.view in
-    parts_join None true 261 7 (V c.args.rig.now).calls (V c.ask_commands.new.rig).calls (V c.ask_id.new.rig).calls c.in_ok-commands.ensures.puts c.in_ok-id.ensures.puts
-
 pub returns-clause-order : goal.returns-clause-order
 returns-clause-order g c torn =
     let V = g.R.Rig.view in
     let got = c.in_ok-commands.ensures.order torn in
     let own : List Step = Sends (id_turns c.in_ok-id.id) ∷ [] in
-    (got.0, got.1, order_then torn (Sends (get_turns got.0 got.1) ∷ []) own (V c.args.rig.now).calls (V c.ask_commands.new.rig).calls (V c.ask_id.new.rig).calls got.2 (c.in_ok-id.ensures.order torn))
+    (got.0, got.1, order_then torn (Sends (get_turns got.0 got.1) ∷ []) own (V c.args.rig.now).calls (V c.ask_commands.new.rig).calls (V c.ask_id.new.rig).calls got.2 (c.in_ok-id.ensures.order torn), got.3)
 
 pub returns-in_err-commands-clause-stops : goal.returns-in_err-commands-clause-stops
 returns-in_err-commands-clause-stops g c torn =
@@ -76,7 +50,7 @@ returns-in_err-id-clause-stops g c torn =
     let V = g.R.Rig.view in
     let got = c.in_ok-commands.ensures.order torn in
     get_id_stops torn got.0 got.1 (V c.args.rig.now) (V c.ask_commands.new.rig) (V c.ask_id.new.rig)
-    _ c.from_residual-in_err-id.result c.from_residual-in_err-id.ensures.1 got.2
+    _ c.from_residual-in_err-id.result got.3 c.from_residual-in_err-id.ensures.1 got.2
     (c.in_err-id.ensures.stops torn)
 
 pub returns-in_err-id-clause-unwritten : goal.returns-in_err-id-clause-unwritten

@@ -1,12 +1,8 @@
 use Rattle.stm_session.proofs.Unwritings.{held_appends_nothing, broken_appends_nothing}
-use Rattle.std.proofs.Common.{◌<◌, rules, ℕ, List, Bool, None, length, take, refl}
-use Rattle.stm_wire.specs.Dialogue.{GoesOn}
+use Rattle.std.proofs.Common.{◌<◌, rules, ℕ, List, length, take, refl}
 use Rattle.stm_wire.specs.Frames.{get_turns}
-use Rattle.stm_wire.specs.Parts.{IsPart}
-use Rattle.stm_wire.specs.lemmas.PartLaws.{get_broken, get_held}
 use Rattle.stm_wire.specs.Stopped.{get}
 use Rattle.stm_session.proofs.Asking.{asked, broken_off}
-use Rattle.stm_session.proofs.Sending.{with_fault}
 use Rattle.std.proofs.Common.{◌∷◌, []}
 use Rattle.stm_session.specs.Order.{Begin, Sends}
 use Rattle.stm_session.specs.Reaching.{IsGet}
@@ -28,36 +24,20 @@ returns-clause-honest g c h settled =
     asked c.sending_is_harmless.ensures.asking (V c.args.rig.now) (V c.get_commands.new.rig) _ _ h
     (g.met.R.Rig.model c.args.rig.now h).device settled (get refl) c.in_ok-commands.ensures.held told.2 (record { version = told.0; codes = told.1 })
 
-pub returns-in_err-commands-clause-puts : goal.returns-in_err-commands-clause-puts
-returns-in_err-commands-clause-puts g c =
-    let V = g.R.Rig.view in
-    let a = (V c.args.rig.now).calls in
-    let b = (V c.get_commands.new.rig).calls in
-    let broken = c.in_err-commands.ensures.broken in
-    let P : Bool → Type 0 = λ w. GoesOn (IsPart None w 261) a b in
-    with_fault P _ c.from_residual.result c.from_residual.ensures.1 (get_broken None broken.0 broken.1 _ a b broken.2 broken.3.recorded)
-
-pub returns-clause-puts : goal.returns-clause-puts
-returns-clause-puts g c =
-    let V = g.R.Rig.view in
-    let version : ℕ = c.in_ok-commands.commands.version in
-    let codes : List ℕ = take c.in_ok-commands.commands.count c.in_ok-commands.commands.codes in
-    let small : length codes < 256 = search rules in
-    get_held None version codes (V c.args.rig.now).calls (V c.get_commands.new.rig).calls small c.in_ok-commands.ensures.held.recorded
-
 pub returns-clause-order : goal.returns-clause-order
 returns-clause-order g c torn =
     let V = g.R.Rig.view in
     let version : ℕ = c.in_ok-commands.commands.version in
     let codes : List ℕ = take c.in_ok-commands.commands.count c.in_ok-commands.commands.codes in
-    (version, codes, order_sent torn (get_turns version codes) (V c.args.rig.now).calls (V c.get_commands.new.rig).calls c.in_ok-commands.ensures.held.recorded)
+    let few : length codes < 256 = search rules in
+    (version, codes, order_sent torn (get_turns version codes) (V c.args.rig.now).calls (V c.get_commands.new.rig).calls c.in_ok-commands.ensures.held.recorded, few)
 
 pub returns-in_err-commands-clause-stops : goal.returns-in_err-commands-clause-stops
 returns-in_err-commands-clause-stops g c torn =
     let V = g.R.Rig.view in
     let broken = c.in_err-commands.ensures.broken in
     let turns = get_turns broken.0 broken.1 in
-    let get : IsGet (Sends turns ∷ []) = record { version = broken.0; codes = broken.1; is = refl } in
+    let get : IsGet (Sends turns ∷ []) = record { version = broken.0; codes = broken.1; few = broken.2; is = refl } in
     command_stops (Begin IsGet) torn _ turns (V c.args.rig.now) (V c.get_commands.new.rig) c.from_residual.result c.from_residual.ensures.1 (begin_all IsGet (Sends turns ∷ []) get) broken.3.recorded
 
 pub returns-in_err-commands-clause-unwritten : goal.returns-in_err-commands-clause-unwritten

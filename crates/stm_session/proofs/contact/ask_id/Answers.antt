@@ -1,12 +1,8 @@
 use Rattle.stm_session.proofs.Unwritings.{held_appends_nothing, broken_appends_nothing}
-use Rattle.std.proofs.Common.{◌/◌, ◌%◌, Bool, None, refl}
+use Rattle.std.proofs.Common.{◌/◌, ◌%◌, refl}
 use Rattle.stm_wire.specs.Frames.{get_id_turns}
-use Rattle.stm_wire.specs.Dialogue.{GoesOn}
-use Rattle.stm_wire.specs.Parts.{IsPart}
-use Rattle.stm_wire.specs.lemmas.PartLaws.{get_id_broken, get_id_held}
 use Rattle.stm_wire.specs.Stopped.{get_id}
 use Rattle.stm_session.proofs.Asking.{asked, broken_off}
-use Rattle.stm_session.proofs.Sending.{with_fault}
 use Rattle.std.proofs.Common.{◌∷◌, []}
 use Rattle.stm_session.specs.Order.{Begin, Sends}
 use Rattle.stm_session.specs.Reaching.{IsGetId, id_turns}
@@ -27,20 +23,6 @@ returns-clause-honest g c h settled =
     let id = (c.in_ok-id.ensures.honest h settled).done in
     asked c.sending_is_harmless.ensures.asking (V c.args.rig.now) (V c.get_id.new.rig) _ _ h
     (g.met.R.Rig.model c.args.rig.now h).device settled (get_id refl) c.in_ok-id.ensures.held id.1 id.0
-
-pub returns-in_err-id-clause-puts : goal.returns-in_err-id-clause-puts
-returns-in_err-id-clause-puts g c =
-    let V = g.R.Rig.view in
-    let a = (V c.args.rig.now).calls in
-    let b = (V c.get_id.new.rig).calls in
-    let broken = c.in_err-id.ensures.broken in
-    let P : Bool → Type 0 = λ w. GoesOn (IsPart None w 7) a b in
-    with_fault P _ c.from_residual.result c.from_residual.ensures.1 (get_id_broken None broken.0 broken.1 _ a b broken.2.recorded)
-
-pub returns-clause-puts : goal.returns-clause-puts
-returns-clause-puts g c =
-    let V = g.R.Rig.view in
-    get_id_held None _ _ (V c.args.rig.now).calls (V c.get_id.new.rig).calls c.in_ok-id.ensures.held.recorded
 
 pub returns-clause-order : goal.returns-clause-order
 returns-clause-order g c torn =

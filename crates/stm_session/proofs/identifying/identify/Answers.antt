@@ -50,7 +50,7 @@ returns-clause-order g c torn =
     let d = V c.reach.new.rig in
     let way = Settles 0x7F 131072 in
     told_then c.reach.result (λ (told : Told). ReachesInOrder way told.id torn b d) (λ (told : Told). ReachesInOrder way told.id torn a d)
-    (λ told asked. (asked.0, asked.1, fetched_then way torn (asking_steps asked.0 asked.1 told.id) a.calls b.calls d.calls c.load_finished.ensures.calls asked.2)) (c.reach.ensures.order torn)
+    (λ told asked. (asked.0, asked.1, fetched_then way torn (asking_steps asked.0 asked.1 told.id) a.calls b.calls d.calls c.load_finished.ensures.calls asked.2, asked.3)) (c.reach.ensures.order torn)
 
 pub returns-in_err-_journal-clause-stops : goal.returns-in_err-_journal-clause-stops
 returns-in_err-_journal-clause-stops g c torn =

@@ -1,45 +1,16 @@
-use Rattle.std.proofs.Common.{None, true, arith}
-use Rattle.stm_wire.specs.lemmas.PartLaws.{part_longer}
-use Rattle.stm_session.proofs.SentParts.{part_after, part_fails, part_fails_after}
 use Rattle.std.proofs.Common.{◌∷◌, [], refl}
 use Rattle.std.proofs.Common.{◌≡◌, ◌++◌, ℕ, List, ap, subst, rules}
 use Rattle.stm_wire.specs.Device.{Device}
 use Rattle.stm_wire.specs.Frames.{get_turns}
 use Rattle.stm_session.specs.Fault.{of_refusal}
 use Rattle.stm_session.specs.Order.{Step, Begin, Sends}
-use Rattle.stm_session.specs.Reaching.{AsksInOrder, IsAsking, IsGet, IsGetId, id_turns}
+use Rattle.stm_session.specs.Reaching.{AsksInOrder, IsAsking, IsGet, id_turns}
 use Rattle.stm_session.proofs.Asking.{asks_failed, asks_ok, asks_then, settled_still}
-use Rattle.stm_session.proofs.AskingStops.{get_begins, get_id_stops, get_stops}
+use Rattle.stm_session.proofs.AskingStops.{asking_is, get_begins, get_id_stops, get_stops}
 use Rattle.stm_session.proofs.CutShort.{begin_all, halts}
 use Rattle.stm_session.proofs.Orders.{order_then}
 use Rattle.stm_session.proofs.Unread.{none_some}
 use Rattle.stm_session.proofs.journal_device.ask_misfit.Goals as goal
-
-pub returns-in_err-can_erase-clause-puts : goal.returns-in_err-can_erase-clause-puts
-returns-in_err-can_erase-clause-puts g c =
-    let V = g.R.Rig.view in
-    part_fails None 261 268 (V c.args.rig.now).calls (V c.ask_erase.new.rig).calls _ c.from_residual.result (omega arith) c.from_residual.ensures.1 c.in_err-can_erase.ensures.puts
-
-pub returns-then-not-can_erase-clause-puts : goal.returns-then-not-can_erase-clause-puts
-returns-then-not-can_erase-clause-puts g c =
-    let V = g.R.Rig.view in
-    part_longer None true 261 268 (V c.args.rig.now).calls (V c.ask_erase.new.rig).calls (omega arith) c.in_ok-can_erase.ensures.puts
-
-pub returns-in_err-id-clause-puts : goal.returns-in_err-id-clause-puts
-returns-in_err-id-clause-puts g c =
-    let V = g.R.Rig.view in
-    part_fails_after None 261 7 268 (V c.args.rig.now).calls (V c.ask_erase.new.rig).calls (V c.ask_id.new.rig).calls _ c.from_residual-in_err-id.result (omega arith) c.from_residual-in_err-id.ensures.1
-    c.in_ok-can_erase.ensures.puts c.in_err-id.ensures.puts
-
-pub returns-then-id-clause-puts : goal.returns-then-id-clause-puts
-returns-then-id-clause-puts g c =
-    let V = g.R.Rig.view in
-    part_after None true 261 7 268 (V c.args.rig.now).calls (V c.ask_erase.new.rig).calls (V c.ask_id.new.rig).calls (omega arith) c.in_ok-can_erase.ensures.puts c.in_ok-id.ensures.puts
-
-pub returns-clause-puts : goal.returns-clause-puts
-returns-clause-puts g c =
-    let V = g.R.Rig.view in
-    part_after None true 261 7 268 (V c.args.rig.now).calls (V c.ask_erase.new.rig).calls (V c.ask_id.new.rig).calls (omega arith) c.in_ok-can_erase.ensures.puts c.in_ok-id.ensures.puts
 
 pub returns-then-not-can_erase-clause-order : goal.returns-then-not-can_erase-clause-order
 returns-then-not-can_erase-clause-order g c torn none = none_some _ _ none refl
@@ -56,7 +27,7 @@ returns-clause-order g c torn none =
     let P : ℕ → Type 0 = λ id. AsksInOrder id torn a d in
     let own : List Step = Sends (id_turns c.in_ok-id.id) ∷ [] in
     let same : c.in_ok-id.id ≡ c.args.chip.now.id = search rules in
-    subst P same (got.0, got.1, order_then torn (Sends (get_turns got.0 got.1) ∷ []) own a.calls (V c.ask_erase.new.rig).calls d.calls got.2 (c.in_ok-id.ensures.order torn))
+    subst P same (got.0, got.1, order_then torn (Sends (get_turns got.0 got.1) ∷ []) own a.calls (V c.ask_erase.new.rig).calls d.calls got.2 (c.in_ok-id.ensures.order torn), got.3)
 
 pub returns-in_err-can_erase-clause-stops : goal.returns-in_err-can_erase-clause-stops
 returns-in_err-can_erase-clause-stops g c torn =
@@ -69,7 +40,7 @@ returns-in_err-id-clause-stops g c torn =
     let V = g.R.Rig.view in
     let got = c.in_ok-can_erase.ensures.order torn in
     get_id_stops torn got.0 got.1 (V c.args.rig.now) (V c.ask_erase.new.rig) (V c.ask_id.new.rig) _
-    c.from_residual-in_err-id.result c.from_residual-in_err-id.ensures.1 got.2
+    c.from_residual-in_err-id.result got.3 c.from_residual-in_err-id.ensures.1 got.2
     (c.in_err-id.ensures.stops torn)
 
 pub returns-then-not-can_erase-clause-refuses : goal.returns-then-not-can_erase-clause-refuses
@@ -77,7 +48,7 @@ returns-then-not-can_erase-clause-refuses g c torn =
     let V = g.R.Rig.view in
     let got = c.in_ok-can_erase.ensures.order torn in
     let before : List Step = Sends (get_turns got.0 got.1) ∷ [] in
-    let get : IsGet before = record { version = got.0; codes = got.1; is = refl } in
+    let get : IsGet before = record { version = got.0; codes = got.1; few = got.3; is = refl } in
     halts (Begin IsAsking) of_refusal torn before (V c.args.rig.now) (V c.ask_erase.new.rig)
     (get_begins before get) refl got.2
 
@@ -89,10 +60,7 @@ returns-then-id-clause-refuses g c torn =
     let got = c.in_ok-can_erase.ensures.order torn in
     let before : List Step = Sends (get_turns got.0 got.1) ∷ [] in
     let own : List Step = Sends (id_turns c.in_ok-id.id) ∷ [] in
-    let get : IsGet before = record { version = got.0; codes = got.1; is = refl } in
-    let get_id : IsGetId own = record { high = _; low = _; is = refl } in
-    let asking : IsAsking (before ++ own) = record { first = before; is_get = get; second = own; is_get_id = get_id; is = refl } in
-    halts (Begin IsAsking) of_refusal torn (before ++ own) a d (begin_all IsAsking (before ++ own) asking) refl
+    halts (Begin IsAsking) of_refusal torn (before ++ own) a d (begin_all IsAsking (before ++ own) (asking_is got.0 got.1 c.in_ok-id.id got.3)) refl
     (order_then torn before own a.calls (V c.ask_erase.new.rig).calls d.calls got.2 (c.in_ok-id.ensures.order torn))
 
 -- the device has answered which codes it lists, and is asked for its id

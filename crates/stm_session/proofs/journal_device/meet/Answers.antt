@@ -9,11 +9,11 @@ use Rattle.stm_session.proofs.Going.{at_exit, asks_go, asks_fail, goes_failed, g
 use Rattle.stm_session.proofs.Misfitting.{own_misfit}
 use Rattle.stm_session.proofs.Unread.{none_some}
 use Rattle.stm_session.proofs.Straying.{strays_failed, strays_asked, strays_unasked, misfit_was}
-use Rattle.std.proofs.Common.{◌+◌, ◌*◌, Bool, true, arith}
+use Rattle.std.proofs.Common.{◌+◌, ◌*◌, Bool, true, false, arith}
 use Rattle.stm_wire.specs.Dialogue.{GoesOn}
 use Rattle.stm_session.specs.Fresh.{IsAsSaid, byte_of, limit_of, undo_way}
 use Rattle.stm_wire.specs.Parts.{IsPart, IsSession}
-use Rattle.stm_wire.specs.lemmas.PartLaws.{session_joins, session_longer, session_weaker, settling_is_session}
+use Rattle.stm_wire.specs.lemmas.PartLaws.{session_joins, session_longer, settling_is_session}
 use Rattle.stm_journal.specs.States.{intent_of}
 use Rattle.stm_session.specs.Sending.{is_whole, most_of_reaching}
 use Rattle.stm_session.proofs.Sending.{same_fault}
@@ -23,6 +23,7 @@ use Rattle.stm_session.specs.declared.fault.Fault.{Fault}
 use Rattle.stm_session.specs.Fault.{Cause, cause_of}
 use Rattle.stm_session.specs.Order.{Begin, StopsBy}
 use Rattle.stm_session.specs.Reaching.{IsAsking, ReachesInPart, asking_steps}
+use Rattle.stm_session.proofs.AskingStops.{asked_puts, cut_puts}
 use Rattle.stm_session.proofs.CutShort.{by_fault}
 use Rattle.stm_session.proofs.Reaching.{asks_stop, settle_stops}
 use Rattle.stm_session.proofs.Orders.{settles_then}
@@ -159,21 +160,26 @@ returns-in_err-misfit-clause-puts g c =
     a d in
     let at = (goal.at.returns-in_err-misfit-clause-puts g c).After-ask_misfit in
     same_fault P _ c.from_residual-in_err-misfit.result c.from_residual-in_err-misfit.ensures.1
-    (put_then g at _ c.in_err-misfit.ensures.puts)
+    (put_then g at _
+    (cut_puts _ (V c.settle_intended.new.rig) (V c.ask_misfit.new.rig)
+    (c.in_err-misfit.ensures.stops false)))
 
 pub returns-in-Some-clause-puts : goal.returns-in-Some-clause-puts
 returns-in-Some-clause-puts g c =
     let V = g.R.Rig.view in
-    let way = undo_way c.args.is_fresh c.args.chip.now.kind (intent_of c.args.journal.now.state) in
-    let most = most_of_reaching (limit_of way) in
-    let at = (goal.at.returns-in-Some-clause-puts g c).After-ask_misfit in
-    session_weaker None (byte_of way) (limit_of way) _ most most (V c.args.rig.now).calls
-    (V c.ask_misfit.new.rig).calls (omega arith) (put_then g at true c.in_ok-misfit.ensures.puts)
+    let b = V c.settle_intended.new.rig in
+    let d = V c.ask_misfit.new.rig in
+    let P : Option Fault → Type 0 =
+    λ o. IfSome o (λ fault. StopsBy (Begin IsAsking) (cause_of fault) false b d) in
+    put_then g (goal.at.returns-in-Some-clause-puts g c).After-ask_misfit _
+    (cut_puts _ b d (subst P c.in-Some.is (c.in_ok-misfit.ensures.refuses false)))
 
 pub returns-in-None-clause-puts : goal.returns-in-None-clause-puts
 returns-in-None-clause-puts g c =
+    let V = g.R.Rig.view in
     put_then g (goal.at.returns-in-None-clause-puts g c).After-ask_misfit true
-    c.in_ok-misfit.ensures.puts
+    (asked_puts c.args.chip.now.id (V c.settle_intended.new.rig) (V c.ask_misfit.new.rig)
+    (c.in_ok-misfit.ensures.order false c.in-None.is))
 
 pub returns-in-None-clause-order : goal.returns-in-None-clause-order
 returns-in-None-clause-order g c torn =
@@ -184,6 +190,7 @@ returns-in-None-clause-order g c torn =
       asked.1,
       settles_then way torn (asking_steps asked.0 asked.1 c.args.chip.now.id) (V c.args.rig.now).calls (V c.settle_intended.new.rig).calls (V c.ask_misfit.new.rig).calls
           c.settle_intended.ensures.calls c.in_ok-settle_intended.ensures.settled asked.2,
+      asked.3,
     )
 
 pub returns-in_err-settle_intended-clause-stops : goal.returns-in_err-settle_intended-clause-stops

@@ -96,7 +96,7 @@ returns-clause-order g c torn =
     let d = V c.reach.new.rig in
     let told = c.in_ok-told.ensures.order torn in
     let P : ℕ → Type 0 = λ id. ReachesInOrder (contact_way c.args.is_fresh) id torn a d in
-    subst P (sym c.in_ok-chip.ensures.id) (told.0, told.1, fetched_then (contact_way c.args.is_fresh) torn (asking_steps told.0 told.1 _) a.calls (V c.load_finished.new.rig).calls d.calls c.load_finished.ensures.calls told.2)
+    subst P (sym c.in_ok-chip.ensures.id) (told.0, told.1, fetched_then (contact_way c.args.is_fresh) torn (asking_steps told.0 told.1 _) a.calls (V c.load_finished.new.rig).calls d.calls c.load_finished.ensures.calls told.2, told.3)
 
 pub returns-in_err-journal-clause-stops : goal.returns-in_err-journal-clause-stops
 returns-in_err-journal-clause-stops g c torn =

@@ -2,7 +2,7 @@ use Rattle.stm_session.specs.Fresh.{byte_of, contact_way, limit_of}
 use Rattle.stm_session.proofs.Unwritings.{settling_appends_nothing, then_appends_nothing}
 use Rattle.stm_session.proofs.Unbegun.{begins_failed, then_asks}
 use Rattle.stm_session.proofs.Openings.{tells_first}
-use Rattle.std.proofs.Common.{◌+◌, ◌*◌, arith, None, true}
+use Rattle.std.proofs.Common.{◌+◌, ◌*◌, arith, None, true, false}
 use Rattle.stm_wire.specs.lemmas.PartLaws.{session_joins, session_longer, settling_is_session}
 use Rattle.stm_session.specs.Sending.{is_whole, most_of_reaching}
 use Rattle.stm_session.proofs.Orders.{settles_then}
@@ -10,6 +10,7 @@ use Rattle.stm_wire.specs.Dialogue.{GoesOn}
 use Rattle.stm_session.specs.Fault.{Cause, cause_of}
 use Rattle.stm_session.specs.Order.{Begin, StopsBy}
 use Rattle.stm_session.specs.Reaching.{IsAsking, ReachesInPart, asking_steps}
+use Rattle.stm_session.proofs.AskingStops.{ask_puts}
 use Rattle.stm_session.proofs.CutShort.{by_fault}
 use Rattle.stm_session.proofs.Reaching.{asks_stop, err_then, settle_stops, told_then}
 use Rattle.stm_session.proofs.opening.reach.Goals as goal
@@ -42,7 +43,9 @@ returns-clause-puts g c =
     let a = (V c.args.rig.now).calls in
     let b = (V c.settle_or_connect.new.rig).calls in
     let d = (V c.ask.new.rig).calls in
-    session_joins None (byte_of way) (limit_of way) (is_whole c.ask.result) (4100 * (limit_of way + 4)) 268 a b d (settling_is_session None (byte_of way) (limit_of way) true (4100 * (limit_of way + 4)) a b c.settle_or_connect.ensures.calls) c.ask.ensures.puts
+    session_joins None (byte_of way) (limit_of way) (is_whole c.ask.result) (4100 * (limit_of way + 4)) 268 a b d (settling_is_session None (byte_of way) (limit_of way) true (4100 * (limit_of way + 4)) a b c.settle_or_connect.ensures.calls)
+    (ask_puts c.ask.result (λ told. told.id) (V c.settle_or_connect.new.rig) (V c.ask.new.rig)
+    (c.ask.ensures.order false) (c.ask.ensures.stops false))
 
 pub returns-clause-order : goal.returns-clause-order
 returns-clause-order g c torn =
@@ -50,7 +53,7 @@ returns-clause-order g c torn =
     let a = (V c.args.rig.now).calls in
     let b = (V c.settle_or_connect.new.rig).calls in
     let d = (V c.ask.new.rig).calls in
-    told_then c.ask.result _ _ (λ told asks. (asks.0, asks.1, settles_then (contact_way c.args.is_fresh) torn (asking_steps asks.0 asks.1 told.id) a b d c.settle_or_connect.ensures.calls c.in_ok-settle_or_connect.ensures.settled asks.2)) (c.ask.ensures.order torn)
+    told_then c.ask.result _ _ (λ told asks. (asks.0, asks.1, settles_then (contact_way c.args.is_fresh) torn (asking_steps asks.0 asks.1 told.id) a b d c.settle_or_connect.ensures.calls c.in_ok-settle_or_connect.ensures.settled asks.2, asks.3)) (c.ask.ensures.order torn)
 
 pub returns-in_err-settle_or_connect-clause-stops : goal.returns-in_err-settle_or_connect-clause-stops
 returns-in_err-settle_or_connect-clause-stops g c torn =

@@ -34,7 +34,7 @@ returns-in_err-undo_settled-clause-puts g c =
     let more = most_of_undo c.args.taken in
     let few = put_undone_in_part chip c.keeps_limits.ensures.chip l.state c.depth-depth.ensures.sound c.requires.fits c.args.again (ToldIn V l.is_torn b d) c.args.taken in
     part_fails_after (Some chip) most_of_confirming more (most_of_confirming + more) (V c.args.rig.now).calls b.calls d.calls _ c.from_residual-in_err-undo_settled.result (omega arith)
-    c.from_residual-in_err-undo_settled.ensures.1 c.in_ok-confirm.ensures.puts (stopped_puts chip more _ _ l.is_torn b d few c.in_err-undo_settled.ensures.stops)
+    c.from_residual-in_err-undo_settled.ensures.1 c.in_ok-confirm.ensures.puts (stopped_puts (Some chip) more _ _ l.is_torn b d few c.in_err-undo_settled.ensures.stops)
 
 pub returns-clause-puts : goal.returns-clause-puts
 returns-clause-puts g c =
@@ -47,7 +47,7 @@ returns-clause-puts g c =
     let back = c.in_ok-undo_settled.ensures.order in
     let few = put_undone chip c.keeps_limits.ensures.chip l.state c.depth-depth.ensures.sound c.requires.fits c.args.again (ToldIn V l.is_torn b d) c.args.taken back.0 back.1 in
     part_after (Some chip) true most_of_confirming more (most_of_confirming + more) (V c.args.rig.now).calls b.calls d.calls (omega arith) c.in_ok-confirm.ensures.puts
-    (done_puts chip more back.0 l c.undo_settled.new.journal b d few back.2)
+    (done_puts (Some chip) more back.0 l.is_torn b d few back.2.acts)
 
 pub returns-clause-order : goal.returns-clause-order
 returns-clause-order g c =
