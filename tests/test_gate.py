@@ -99,10 +99,12 @@ class Gate(unittest.TestCase):
         steps = shell('test "$(nice)" = 19', GATE.COMPUTES), shell(f'test "$(nice)" = {os.nice(0)}')
         self.assertEqual(self.run_steps(*steps)[1], 0)
 
-    def test_what_a_step_beside_another_says_stands_as_one_piece_behind_that(self):
-        steps = shell("sleep 0.5"), shell("echo one; sleep 0.1; echo two >&2", GATE.COMPUTES), GATE.Step("true", GATE.COMPUTES)
+    def test_what_a_step_beside_another_says_is_one_piece_after_that(self):
+        """The one that waits ends once the last one goes on, and so after the one that says something."""
+        made = shlex.quote(os.path.join(self.folder, "made"))
+        steps = shell(AWAIT.format(made)), shell("echo one; sleep 0.1; echo two >&2", GATE.COMPUTES), GATE.Step(f"touch {made}", GATE.COMPUTES)
         said, _ = self.run_steps(*steps)
-        self.assertRegex(said, r"(?s)gate: beside others: true\n.*gate: sh -c 'echo one[^\n]*'\none\ntwo\ngate: true\ngate: passed")
+        self.assertRegex(said, r"(?s)gate: beside others: touch.*gate: sh -c 'echo one[^\n]*'\none\ntwo\ngate: touch [^\n]*\ngate: passed")
 
     def test_each_step_of_the_gate_that_waits_for_another_names_one(self):
         every = GATE.steps("2", ["fish"])
