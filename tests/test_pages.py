@@ -328,6 +328,13 @@ class Pages(Place):
         told = re.findall(r"plants (\d+) in the\s+program, and `python3\s+tools/line-mutants --jobs 2` (\d+) in", held("docs", "GATE.md"))
         self.assertEqual(told, [(str(sum(subjects.values())), str(sum(parts.values())))])
 
+    def test_the_wrong_bodies_are_as_many_as_are_told(self):
+        """In FAULTS those of each crate, by how they are refused, and in GATE all of them."""
+        count = collections.Counter(it.split(os.sep)[-3] for it in glob.glob(os.path.join(TOP, "crates", "*", "wrong-bodies", "*.edit")))
+        told = re.findall(r"^\| `(\w+)` \| (\d+) \| (\d+) \| (\d+) \|$", held("docs", "FAULTS.md").split("### The score")[1], re.M)
+        self.assertEqual({name: sum(map(int, numbers)) for name, *numbers in told}, dict(count))
+        self.assertEqual(re.findall(r"The gate has (\d+) wrong bodies", held("docs", "GATE.md")), [str(count.total())])
+
     def test_the_chips_are_as_many_as_are_told(self):
         """In README, CHIPS and BESIDE."""
         count = len(re.findall(r"^\[\[chip\]\]$", held("chips.toml"), re.M))
@@ -335,6 +342,14 @@ class Pages(Place):
                             ("docs/BESIDE.md", r"\| (\d+) in `chips.toml`")):
             with self.subTest(page=page):
                 self.assertEqual(re.findall(words, held(page)), [str(count)])
+
+    def test_the_boards_that_chips_tell_are_as_many_as_are_told(self):
+        """In CHIPS the entries that have both places, and those that have `unique` alone."""
+        chips = held("chips.toml").split("[[chip]]")[1:]
+        both = sum(bool(re.search(r"^unique\b", it, re.M) and re.search(r"^size_at\b", it, re.M)) for it in chips)
+        alone = sum(bool(re.search(r"^unique\b", it, re.M)) for it in chips) - both
+        told = re.findall(r"both for (\d+) ids and\s+`unique`\s+alone for (\w+) more", held("docs", "CHIPS.md"))
+        self.assertEqual(told, [(str(both), {11: "eleven"}.get(alone, str(alone)))])
 
     def test_links_lead_to_a_heading(self):
         """Each link with a place in a page: the heading is there, by the name that it has on GitHub."""
