@@ -6,7 +6,6 @@ parts.
 
 import contextlib
 import os
-import select
 import signal
 import socket
 import subprocess
@@ -15,7 +14,7 @@ import time
 import tty
 import unittest
 
-from place import PATIENCE, TOP, Place, Said, program
+from place import PATIENCE, TOP, Place, Said, program, readable
 
 LINE = os.path.join(TOP, "line", "stmflash-line")
 # how long a host waits until the line counts as quiet, in ms: longer than a busy machine takes to answer
@@ -139,7 +138,7 @@ class LinePlace(Place):
             nonlocal held
             # while nobody has the port open, a read fails
             with contextlib.suppress(OSError):
-                if select.select([master], [], [], 0.05)[0]:
+                if readable([master], 0.05):
                     held += os.read(master, count - len(held))
             return len(held) == count
 

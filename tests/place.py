@@ -142,9 +142,9 @@ class Place(unittest.TestCase):
 
 
 def readable(ends, patience):
-    """Those of these sockets from which something can be read, or which have ended, within so many seconds. One that another test holds
-    may have any number, and `select` takes none above 1,023."""
-    calls, named = select.poll(), {end.fileno(): end for end in ends}
+    """Those of these sockets or descriptors from which something can be read, or which have ended, within so many seconds. Beside those
+    that other tests hold they may have any number, and `select` takes none above 1,023."""
+    calls, named = select.poll(), {end if isinstance(end, int) else end.fileno(): end for end in ends}
     for number in named:
         calls.register(number, select.POLLIN)
     return [named[number] for number, _ in calls.poll(patience * 1000)]

@@ -3,7 +3,6 @@
 import os
 import pty
 import re
-import select
 import shlex
 import shutil
 import signal
@@ -11,7 +10,7 @@ import subprocess
 import sys
 import time
 
-from place import PATIENCE, TOP, Place
+from place import PATIENCE, TOP, Place, readable
 
 FOLDER = os.path.join(TOP, "packaging", "completions")
 LINE = os.path.join(TOP, "line", "stmflash-line")
@@ -89,8 +88,7 @@ class Completions(Place):
     def wait_for(self, terminal, text):
         held, end = b"", time.monotonic() + PATIENCE
         while text not in held:
-            ready, _, _ = select.select([terminal], [], [], max(0, end - time.monotonic()))
-            self.assertTrue(ready, f"{text} doesn't come: {held}")
+            self.assertTrue(readable([terminal], max(0, end - time.monotonic())), f"{text} doesn't come: {held}")
             held += os.read(terminal, 4096)
 
     def test_what_follows_in_a_call_of_the_line(self):

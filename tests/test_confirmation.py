@@ -2,11 +2,10 @@
 
 import os
 import pty
-import select
 import subprocess
 import time
 
-from place import COUNTING, ERASED, PATIENCE, Place, program
+from place import COUNTING, ERASED, PATIENCE, Place, program, readable
 
 KIND = "readout-unprotect"
 ASKED = b"this erases the whole flash, and no journal keeps it: it can't be undone\r\ngo on? [y/N] "
@@ -42,8 +41,7 @@ class Confirmation(Place):
         """What a terminal shows until it shows this, or has no more."""
         shown, ends = b"", time.monotonic() + PATIENCE
         while text is None or text not in shown:
-            ready, _, _ = select.select([here], [], [], 0.5 if text is None else 1)
-            if not ready:
+            if not readable([here], 0.5 if text is None else 1):
                 if text is None:
                     break
                 self.assertLess(time.monotonic(), ends)
