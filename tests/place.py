@@ -60,6 +60,16 @@ class Said(typing.NamedTuple):
     err: bytes
 
 
+def had(*segments, left):
+    """The note on an undo of these, which changed nothing."""
+    return f"segment{'s' * (len(segments) > 1)} {', '.join(map(str, segments))} had changed nothing; {left} more can be undone"
+
+
+def new(segment):
+    """The note on a write or an erase that changed nothing."""
+    return f"segment {segment} changed nothing: there is nothing new to undo"
+
+
 class Place(unittest.TestCase):
     """A test with a folder of its own, in which a table stands. All names of files are names in it."""
 

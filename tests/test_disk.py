@@ -5,7 +5,7 @@ import resource
 import signal
 
 import syncs
-from place import COUNTING, PATIENCE, ZEROS, Place, Said, with_page
+from place import COUNTING, PATIENCE, ZEROS, Place, Said, had, with_page
 from served import WAIT, Served
 
 # a chip with a flash that is shorter than its journal
@@ -51,6 +51,11 @@ def mended(text):
     return text if text.endswith(b"\n") or not text else text + b"!\n"
 
 
+def unkept(size):
+    """The note on an undo where a journal has so many bytes of what a write adds, and the page isn't kept yet."""
+    return had(1, left=0) if len(OPENED) <= size < len(KEPT) else None
+
+
 class Disk(Place):
     def begin(self, flash, journal=None):
         """A fresh device with this flash and this journal; None: no journal is there."""
@@ -69,7 +74,7 @@ class Disk(Place):
         torn = b"stmjournal 2 0412\nopen 1\npage 5 000"
         self.assertFault(self.use("erase", "--stop", str(27 + 25 + 1072 + 10), "5", journal=journal), "stopped", 3)
         self.assertFile(journal, torn)
-        self.assertTold(self.use("undo", journal=journal), "undone 1\n")
+        self.assertTold(self.use("undo", journal=journal), "undone 1\n", had(1, left=0))
         self.assertFile(journal, torn + b"!\nundone 1\n")
         self.assertTold(self.use("erase", "5", journal=journal), "segment 1: 1 pages erased\n")
         self.assertFile(journal, torn + b"!\nundone 1\n" + with_page(b"open 1\npage 5 ", b"0", b"\nerase 5\nend 1\n"))
@@ -94,7 +99,7 @@ class Disk(Place):
                 self.assertHolds(ZEROS, b"idle\n")
                 self.assertFile("journal", OPENED[:added] if added else None)
                 if added:
-                    self.assertTold(self.use("undo"), "undone %d\n" % (added == len(OPENED)))
+                    self.assertTold(self.use("undo"), "undone %d\n" % (added == len(OPENED)), unkept(added))
                 self.assertHolds(ZEROS, b"idle\n")
 
     def test_a_missing_folder_is_not_made(self):
@@ -133,7 +138,7 @@ class Disk(Place):
                 opened = room >= len(OPENED)
                 if opened:
                     self.assertFault(self.use("info"), "unfinished command, undo first")
-                self.assertTold(self.use("undo"), "undone %d\n" % opened)
+                self.assertTold(self.use("undo"), "undone %d\n" % opened, unkept(room))
                 self.assertHolds(SMALL_FLASH, b"idle\n")
                 added = (UNDONE if flash == SMALL_FLASH else GIVEN_BACK) if opened else b""
                 self.assertFile("journal", VOID + (mended(ENDED[:room]) if opened else ENDED[:room]) + added)
@@ -209,7 +214,7 @@ class Disk(Place):
                 self.assertEqual(synced, SYNCED[:fails + 1] + simulator)
                 self.assertFile("journal", added)
                 self.assertHolds(flash, b"idle\n")
-                self.assertTold(self.use("undo"), "undone %d\n" % (added != b""))
+                self.assertTold(self.use("undo"), "undone %d\n" % (added != b""), unkept(len(added)))
                 self.assertHolds(SMALL_FLASH, b"idle\n")
         for fails, (text, flash, line) in enumerate((
             ("cannot write flash", SMALL_FLASH, None),
@@ -334,7 +339,7 @@ class OverSocket(Served):
         """What stands in the journal is this, and by it the flash is given back."""
         self.assertFile("journal", added)
         opened = len(added) >= len(OPENED)
-        self.assertTold(self.use("undo", "--wait", WAIT, device="board"), "undone %d\n" % opened)
+        self.assertTold(self.use("undo", "--wait", WAIT, device="board"), "undone %d\n" % opened, unkept(len(added)))
         self.remove("journal")
         # once a further client is let go, what those before it left is stored
         self.leave(self.connect())
@@ -368,7 +373,7 @@ class OverSocket(Served):
         said = self.use_each(rooms, lambda room: ("undo",))
         for room, told, simulator in zip(rooms, said, simulators):
             with self.subTest(room=room):
-                self.assertTold(told, "undone %d\n" % (room >= len(OPENED)))
+                self.assertTold(told, "undone %d\n" % (room >= len(OPENED)), unkept(room))
                 out, err = simulator.communicate(timeout=PATIENCE)
                 self.assertEqual((simulator.returncode, out, err), (0, b"", b""))
                 self.assertFile(f"{room}.flash", SMALL_FLASH)

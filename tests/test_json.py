@@ -4,7 +4,7 @@ import json
 import os
 import re
 
-from place import ERASED, SILENT, TOP, Place
+from place import ERASED, SILENT, TOP, Place, had, new
 
 IMAGE = b"\x00" * 1024
 
@@ -16,8 +16,8 @@ class Json(Place):
         self.assertTrue(said.out.endswith(b"\n"))
         return [json.loads(line) for line in said.out.split(b"\n")[:-1]]
 
-    def assertAnswers(self, said, *answers):
-        self.assertEqual(said.err, b"")
+    def assertAnswers(self, said, *answers, note=None):
+        self.assertEqual(said.err, f"note: {note}\n".encode() if note else b"")
         self.assertEqual(self.lines(said), list(answers))
 
     def assertFails(self, said, name, says, status=1, before=(), **more):
@@ -34,16 +34,16 @@ class Json(Place):
                             "codes": ["00", "02", "11", "21", "31", "43", "73", "82", "92"], "tried": 0})
         self.assertAnswers(self.use_image("write", IMAGE, "-v", "--json"),
                            {"answer": "written_and_verified", "segment": 1, "pages": 1, "bytes": 1024})
-        self.assertAnswers(self.use_image("write", IMAGE, "--json"), {"answer": "written", "segment": 2, "pages": 0})
+        self.assertAnswers(self.use_image("write", IMAGE, "--json"), {"answer": "written", "segment": 2, "pages": 0}, note=new(2))
         self.assertAnswers(self.use_image("verify", IMAGE, "--json"), {"answer": "verified", "bytes": 1024})
-        self.assertAnswers(self.use("erase", "5", "--json"), {"answer": "erased", "segment": 3, "pages": 0})
+        self.assertAnswers(self.use("erase", "5", "--json"), {"answer": "erased", "segment": 3, "pages": 0}, note=new(3))
         self.assertAnswers(self.use("crc", "-S", "0x08000000:4", "--json"), {"answer": "crc", "crc": "C704DD7B"})
         self.assertAnswers(self.use("read", "copy", "--json"), {"answer": "done"})
         self.assertFile("copy", IMAGE + ERASED[1024:])
         self.assertAnswers(self.call("log", "--journal", "journal", "--json"),
                            {"answer": "log", "lines": ["id 0412", "segment 1: ended, 1 pages: 0", "segment 2: ended, 0 pages",
                                                        "segment 3: ended, 0 pages", "3 can be undone"]})
-        self.assertAnswers(self.use("undo", "1", "--json"), {"answer": "undone", "count": 1})
+        self.assertAnswers(self.use("undo", "1", "--json"), {"answer": "undone", "count": 1, "unchanged": [3]}, note=had(3, left=2))
         self.assertAnswers(self.call("keep", "--journal", "journal", "--last", "1", "--json"),
                            {"answer": "kept", "count": 1, "left": 1})
         self.assertAnswers(self.call("keep", "--journal", "journal", "--json"), {"answer": "kept", "count": 1})
@@ -105,7 +105,7 @@ class Json(Place):
 
     def test_by_the_variable(self):
         words = ("log", "--journal", "journal")
-        self.assertTold(self.use("erase", "5"), "segment 1: 0 pages erased\n")
+        self.assertTold(self.use("erase", "5"), "segment 1: 0 pages erased\n", new(1))
         self.assertEqual(self.lines(self.call(*words, variables={"STMFLASH_JSON": "1"}))[0]["answer"], "log")
         for other in ("0", "yes", ""):
             self.assertTrue(self.call(*words, variables={"STMFLASH_JSON": other}).out.startswith(b"id 0412"))

@@ -7,7 +7,7 @@ import resource
 import signal
 
 import syncs
-from place import Place, ZEROS, with_page
+from place import Place, ZEROS, new, with_page
 
 IMAGE = b"\x00" * 1024
 WRITTEN = "segment 1: 1 pages written\n"
@@ -50,7 +50,7 @@ class Keep(Place):
 
     def test_counts_what_stays(self):
         self.write()
-        self.assertTold(self.use("erase", "5"), "segment 2: 0 pages erased\n")
+        self.assertTold(self.use("erase", "5"), "segment 2: 0 pages erased\n", new(2))
         self.assertTold(self.keep(), "kept 2\n")
         self.assertTold(self.use_image("write", b"\x01"), WRITTEN)
 

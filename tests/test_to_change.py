@@ -3,7 +3,7 @@ back to the newest that changed something."""
 
 import json
 
-from place import ERASED, with_page
+from place import ERASED, had, new, with_page
 from served import WAIT, Served
 
 import telling
@@ -15,16 +15,6 @@ OF_B = B + ERASED[len(B):]
 CHANGED = with_page(b"stmjournal 2 0412\nopen 1\npage 5 ", b"0", b"\nerase 5\nend 1\nopen 2\nend 2\n")
 BACK = ERASED[:5120] + bytes(1024) + ERASED[6144:]
 NOT_BOTH = "usage: give COUNT or --to-change, not both"
-
-
-def had(*segments, left):
-    """The note on an undo."""
-    return f"segment{'s' * (len(segments) > 1)} {', '.join(map(str, segments))} had changed nothing; {left} more can be undone"
-
-
-def new(segment):
-    """The note on a write or an erase."""
-    return f"segment {segment} changed nothing: there is nothing new to undo"
 
 
 class ToChange(Served):

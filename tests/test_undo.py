@@ -2,7 +2,7 @@
 
 import subprocess
 
-from place import ERASED, PATIENCE, SILENT, TABLE, ZEROS, Place, program, with_page
+from place import ERASED, PATIENCE, SILENT, TABLE, ZEROS, Place, had, program, with_page
 
 HEAD = b"stmjournal 2 0412\nopen 1\npage 5 "
 # a journal that was left in the midst of a page's line, and the same after its segment was undone
@@ -76,19 +76,19 @@ class Undo(Place):
 
     def test_undoes_a_torn_line(self):
         self.store("journal", TORN)
-        self.assertTold(self.use("undo"), "undone 1\n")
+        self.assertTold(self.use("undo"), "undone 1\n", had(1, left=0))
         self.assertHolds(ERASED, b"idle\n")
         self.assertFile("journal", MENDED)
 
     def test_undoes_as_many_as_there_are(self):
         self.store("journal", THREE)
-        self.assertTold(self.use("undo", "2"), "undone 2\n")
+        self.assertTold(self.use("undo", "2"), "undone 2\n", had(2, 3, left=1))
         self.assertFile("journal", TAKEN_TWO)
-        self.assertTold(self.use("undo", "5"), "undone 1\n")
+        self.assertTold(self.use("undo", "5"), "undone 1\n", had(1, left=0))
         self.assertFile("journal", TAKEN)
         # all, unless it is said how many
         self.store("journal", THREE)
-        self.assertTold(self.use("undo"), "undone 3\n")
+        self.assertTold(self.use("undo"), "undone 3\n", had(1, 2, 3, left=0))
         self.assertFile("journal", TAKEN)
 
     def test_undoes_nothing(self):

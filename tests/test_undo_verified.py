@@ -136,7 +136,7 @@ class UndoVerified(OnBoard):
         said = self.on(board, "undo", "-v", "--json")
         self.assertEqual(json.loads(said.out), {"fault": "not_held", "says": NOT_HELD, "hint": AGAIN, "status": 1})
         said = self.on(board, "undo", "-v", "--json")
-        self.assertEqual(json.loads(said.out), {"answer": "undone_and_verified", "count": 1, "bytes": 3072})
+        self.assertEqual(json.loads(said.out), {"answer": "undone_and_verified", "count": 1, "bytes": 3072, "unchanged": []})
 
     def test_what_is_shown(self):
         """Each page counts twice: it is given back, and read again."""

@@ -1,6 +1,6 @@
 """What `write` and `verify` make of a flash and a journal, and how a write is undone."""
 
-from place import ERASED, ZEROS, Place, with_page
+from place import ERASED, ZEROS, Place, had, new, with_page
 
 
 def flash_from(head):
@@ -13,8 +13,8 @@ class Write(Place):
         image = bytes([1, 2, 3, 4])
         self.assertTold(self.use_image("write", image, "-v"), "segment 1: 1 pages written\nverified 4 bytes\n")
         self.assertHolds(flash_from(image), b"idle\n")
-        self.assertTold(self.use_image("write", image), "segment 2: 0 pages written\n")
-        self.assertTold(self.use("undo"), "undone 2\n")
+        self.assertTold(self.use_image("write", image), "segment 2: 0 pages written\n", new(2))
+        self.assertTold(self.use("undo"), "undone 2\n", had(2, left=0))
         self.assertHolds(ERASED, b"idle\n")
 
     def test_writes_up_to_the_end(self):
@@ -31,7 +31,7 @@ class Write(Place):
         self.assertFile("journal", journal)
 
     def test_writes_nothing(self):
-        self.assertTold(self.use_image("write", b""), "segment 1: 0 pages written\n")
+        self.assertTold(self.use_image("write", b""), "segment 1: 0 pages written\n", new(1))
         self.assertHolds(ERASED, b"idle\n")
         self.assertFile("journal", b"stmjournal 2 0412\nopen 1\nend 1\n")
 
