@@ -2,7 +2,8 @@
 #   make demo   builds the program the fastest way, without waiting for proofs, runs it on the simulator, and leaves it
 #               at bin/stmflash-unproved
 #   make        proves and builds bin/stmflash
-#   make tests  the tests of the program alone (tests/), on the one that `make demo` leaves (needs python3)
+#   make tests  the tests of the program alone (tests/), on the one that `make demo` leaves; of Debian's packages it installs what it
+#               lacks, as root, and else says what to type (tools/packages)
 #   make check CRATE=NAME
 #               proves one crate, over what earlier checks of it kept
 #   make try CRATE=NAME
@@ -55,6 +56,8 @@ CHECKS ?= $(shell awk -v most=$(JOBS) '/^MemAvailable/ { n = int($$2 / 5000000) 
     /proc/meminfo)
 # what of Debian's packages the tests may do without, by name, as `make test WITHOUT="fish zsh"`: what else they leave out fails
 WITHOUT ?=
+# why `make tests` leaves tests out beside: what only root may do, and what a system may forbid
+FORBIDDEN = "only root" "isn't allowed" "can't trace here"
 SOAKED = $(if $(wildcard bin/stmflash),bin/stmflash,bin/stmflash-unproved)
 
 .PHONY: all arm64 arm64-unproved demo tests check try test wrong-bodies soak install install-as-stm32flash deb release pictures bench beside clean
@@ -63,6 +66,7 @@ all:
 	cd crates/stmflash && rt check
 	cd crates/stmflash && rt run -- --help > /dev/null
 	mkdir -p bin && cp crates/stmflash/out/stmflash bin/stmflash
+	ln -sf ../line/stmflash-line ../line/stmflash-trial bin
 	@echo "bin/stmflash is proved and built"
 
 # where it isn't there; "make" proves again what was changed since
@@ -86,7 +90,7 @@ demo:
 
 tests:
 	@test -x bin/stmflash-unproved || sh tools/demo.sh
-	python3 tests/run bin/stmflash-unproved --without $(WITHOUT)
+	@without=$$(sh tools/packages) && python3 tests/run bin/stmflash-unproved --without $(FORBIDDEN) $$without $(WITHOUT)
 
 # the crate that has the tests of a library
 TESTS_stm_wire = stm_wire_tests
