@@ -336,19 +336,19 @@ class Pages(Place):
         self.assertEqual(re.findall(r"The gate has (\d+) wrong bodies", held("docs", "GATE.md")), [str(count.total())])
 
     def test_the_chips_are_as_many_as_are_told(self):
-        """In README, CHIPS and BESIDE."""
+        """In README, FORMATS and BESIDE."""
         count = len(re.findall(r"^\[\[chip\]\]$", held("chips.toml"), re.M))
-        for page, words in (("README.md", r"`chips.toml` knows (\d+) chips"), ("docs/CHIPS.md", r"`chips.toml` is one with (\d+) chips"),
+        for page, words in (("README.md", r"`chips.toml` knows (\d+) chips"), ("docs/FORMATS.md", r"`chips.toml` is one with (\d+) chips"),
                             ("docs/BESIDE.md", r"\| (\d+) in `chips.toml`")):
             with self.subTest(page=page):
                 self.assertEqual(re.findall(words, held(page)), [str(count)])
 
     def test_the_boards_that_chips_tell_are_as_many_as_are_told(self):
-        """In CHIPS the entries that have both places, and those that have `unique` alone."""
+        """In FORMATS the entries that have both places, and those that have `unique` alone."""
         chips = held("chips.toml").split("[[chip]]")[1:]
         both = sum(bool(re.search(r"^unique\b", it, re.M) and re.search(r"^size_at\b", it, re.M)) for it in chips)
         alone = sum(bool(re.search(r"^unique\b", it, re.M)) for it in chips) - both
-        told = re.findall(r"both for (\d+) ids and\s+`unique`\s+alone for (\w+) more", held("docs", "CHIPS.md"))
+        told = re.findall(r"both for (\d+) ids and\s+`unique`\s+alone for (\w+) more", held("docs", "FORMATS.md"))
         self.assertEqual(told, [(str(both), {11: "eleven"}.get(alone, str(alone)))])
 
     def test_links_lead_to_a_heading(self):
