@@ -10,7 +10,7 @@ import unittest
 from place import TOP
 
 PAGES = ("README.md", "CONTRIBUTING.md",
-         *(os.path.join("docs", f"{it}.md") for it in ("LINE", "UNDO", "FLEET", "SWITCH", "GATE", "FAULTS", "INSIDE",
+         *(os.path.join("docs", f"{it}.md") for it in ("LINE", "UNDO", "SWITCH", "GATE", "FAULTS", "INSIDE",
                                                        "HEADLINE", "BESIDE", "FORMATS", "WORDS")))
 # all but STATEMENT, which a tool makes, and the diary of the gate
 EVERY = ("README.md", "CONTRIBUTING.md",

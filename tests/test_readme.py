@@ -1,5 +1,5 @@
 """The commands of the README, taken from the page: in a clean clone they run word for word, as root and as a normal user, and print
-what it says. Of docs/FLEET.md two recipes."""
+what it says. Of docs/LINE.md two recipes."""
 
 import os
 import re
@@ -144,7 +144,7 @@ class ARealBoardAsANormalUser(ARealBoard):
 
 
 class Fleet(Place):
-    """Recipes of docs/FLEET.md, with a stand-in for stmflash-line that prints its words."""
+    """Recipes of docs/LINE.md, with a stand-in for stmflash-line that prints its words."""
 
     def setUp(self):
         super().setUp()
@@ -158,7 +158,7 @@ class Fleet(Place):
         os.chmod(self.path("bin/stmflash-line"), 0o755)
 
     def recipe(self, word):
-        return next(it for it in blocks("docs/FLEET.md") if word in it).replace("/dev/", "dev/")
+        return next(it for it in blocks("docs/LINE.md") if word in it).replace("/dev/", "dev/")
 
     def run_recipe(self, text, *words):
         return subprocess.run(["sh", "-c", text, "sh", *words], cwd=self.folder, timeout=PATIENCE, stdin=subprocess.DEVNULL,
