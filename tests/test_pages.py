@@ -336,10 +336,10 @@ class Pages(Place):
         self.assertEqual(re.findall(r"The gate has (\d+) wrong bodies", held("docs", "GATE.md")), [str(count.total())])
 
     def test_the_chips_are_as_many_as_are_told(self):
-        """In README, FORMATS and BESIDE."""
+        """In README, FORMATS and SWITCH."""
         count = len(re.findall(r"^\[\[chip\]\]$", held("chips.toml"), re.M))
         for page, words in (("README.md", r"`chips.toml` knows (\d+) chips"), ("docs/FORMATS.md", r"`chips.toml` is one with (\d+) chips"),
-                            ("docs/BESIDE.md", r"\| (\d+) in `chips.toml`")):
+                            ("docs/SWITCH.md", r"\| (\d+) in `chips.toml`")):
             with self.subTest(page=page):
                 self.assertEqual(re.findall(words, held(page)), [str(count)])
 

@@ -11,7 +11,7 @@ from place import TOP
 
 PAGES = ("README.md", "CONTRIBUTING.md",
          *(os.path.join("docs", f"{it}.md") for it in ("LINE", "UNDO", "SWITCH", "GATE", "FAULTS", "INSIDE",
-                                                       "HEADLINE", "BESIDE", "FORMATS", "WORDS")))
+                                                       "HEADLINE", "FORMATS", "WORDS")))
 # all but STATEMENT, which a tool makes, and the diary of the gate
 EVERY = ("README.md", "CONTRIBUTING.md",
          *sorted(os.path.join("docs", it) for it in os.listdir(os.path.join(TOP, "docs"))
