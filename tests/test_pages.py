@@ -243,10 +243,6 @@ class Pages(Place):
         ran = subprocess.run([os.path.join(TOP, "tools", "statement"), "--check"], capture_output=True, text=True)
         self.assertEqual((ran.returncode, ran.stderr), (0, ""))
 
-    def test_the_lines_are_about_as_many_as_the_gate_says(self):
-        ran = subprocess.run([os.path.join(TOP, "tools", "lines"), "--check"], capture_output=True, text=True)
-        self.assertEqual((ran.returncode, ran.stderr), (0, ""))
-
     def test_the_walk_names_code_that_is_there(self):
         """Each file and each function that INSIDE names; a file without a folder is in that of the one before it."""
         code = subprocess.run(["grep", "-rhoE", r"\bfn \w+|\b[A-Z]\w+\b", "--include=*.rt", os.path.join(TOP, "crates")],
