@@ -18,7 +18,7 @@ def is_made(path):
 
 
 PAGES = ("README.md", "CONTRIBUTING.md",
-         *(os.path.join("docs", f"{it}.md") for it in ("LINE", "UNDO", "FLEET", "SWITCH", "GATE", "FAULTS", "INSIDE",
+         *(os.path.join("docs", f"{it}.md") for it in ("LINE", "UNDO", "FLEET", "SWITCH", "GATE", "INSIDE",
                                                        "HEADLINE", "SETTLING", "BESIDE", "JSON", "WORDS")))
 # all but what a tool makes, and its head
 EVERY = ("README.md", "CONTRIBUTING.md",
