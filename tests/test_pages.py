@@ -212,12 +212,12 @@ class Pages(Place):
                         self.assertFalse(own & set(re.findall(r"[^\s,]+", names)))
 
     def test_the_words_are_in_use(self):
-        """WORDS has twenty, in their order; README leads to it. Each is in two more pages at least, or its parts are."""
-        words = re.findall(r"^\| ((?!Word \|)[\w, ]+) \|", held("docs", "WORDS.md"), re.M)
+        """MODEL has twenty, in their order; README leads to it. Each is in two more pages at least, or its parts are."""
+        words = re.findall(r"^\| ((?!Word \|)[\w, ]+) \|", held("docs", "MODEL.md").split("\n## Words\n")[1], re.M)
         self.assertEqual(len(words), 20)
         self.assertEqual(words, sorted(words, key=str.lower))
-        self.assertIn("(docs/WORDS.md)", held("README.md"))
-        texts = [re.sub(r"\s+", " ", held(page)) for page in pages() if os.path.basename(page) not in ("WORDS.md", "CHANGELOG.md")]
+        self.assertIn("(docs/MODEL.md", held("README.md"))
+        texts = [re.sub(r"\s+", " ", held(page)) for page in pages() if os.path.basename(page) not in ("MODEL.md", "CHANGELOG.md")]
         for word in (it for told in words for it in told.split(", ")):
             with self.subTest(word=word):
                 self.assertGreaterEqual(sum(bool(re.search(rf"\b{word}", it, re.I)) for it in texts), 2)

@@ -19,7 +19,7 @@ def is_made(path):
 
 PAGES = ("README.md", "CONTRIBUTING.md",
          *(os.path.join("docs", f"{it}.md") for it in ("LINE", "UNDO", "FLEET", "SWITCH", "GATE", "INSIDE",
-                                                       "HEADLINE", "SETTLING", "BESIDE", "JSON", "WORDS")))
+                                                       "HEADLINE", "SETTLING", "BESIDE", "JSON")))
 # all but what a tool makes, and its head
 EVERY = ("README.md", "CONTRIBUTING.md",
          *sorted(os.path.relpath(it, TOP) for it in glob.glob(os.path.join(TOP, "docs", "**", "*.md"), recursive=True)
