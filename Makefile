@@ -33,6 +33,8 @@
 #               bin/release/; how they are signed is printed
 #   make pictures
 #               draws docs/pictures/ from runs of the program and from the figures that `make bench` left (python3)
+#   make pages  makes anew docs/MAP.md, PROVED.md and STATEMENT.md: of the first comments of files, of contracts, and of what the
+#               headline rests on. Their heads are in docs/heads/ (python3)
 #   make bench  builds what is measured, measures it beside its peers, and prints ratios (needs python3; Debian's binutils
 #               and srecord for the peers of HEX)
 #   make beside lets the real stm32flash drive our simulator (docs/SWITCH.md); skipped with a word where it isn't installed
@@ -60,7 +62,7 @@ WITHOUT ?=
 FORBIDDEN = "only root" "isn't allowed" "can't trace here"
 SOAKED = $(if $(wildcard bin/stmflash),bin/stmflash,bin/stmflash-unproved)
 
-.PHONY: all arm64 arm64-unproved demo tests check try test wrong-bodies soak install install-as-stm32flash deb release pictures bench beside clean
+.PHONY: all arm64 arm64-unproved demo tests check try test wrong-bodies soak install install-as-stm32flash deb release pages pictures bench beside clean
 
 all:
 	cd crates/stmflash && rt check
@@ -175,6 +177,11 @@ deb: $(STMFLASH_BINARY)
 
 release: bin/stmflash bin/stmflash-arm64
 	@packaging/release $(CURDIR)/bin/release bin/stmflash bin/stmflash-arm64
+
+pages:
+	python3 tools/map
+	python3 tools/proved
+	python3 tools/statement
 
 pictures:
 	@test -x bin/stmflash || test -x bin/stmflash-unproved || sh tools/demo.sh
