@@ -18,8 +18,8 @@
 #   make wrong-bodies
 #               has the prover refuse the wrong bodies of the gate and those that it leaves out (tools/wrong-bodies)
 #   make install PREFIX=/usr/local DESTDIR=
-#               what `make` left at bin/stmflash, the line to a serial port, the trial of a board, manual pages, chips.toml,
-#               completions, unit, udev rule; it proves and builds nothing, so that it needs no `rt`, also under sudo
+#               what `make` left at bin/stmflash, the line to a serial port, the trial of a board, manual pages and the pages that
+#               these name, chips.toml, completions, unit, udev rule; it proves and builds nothing, so that it needs no `rt`, also under sudo
 #   make install-as-stm32flash PREFIX=/usr/local DESTDIR=
 #               the words of stm32flash over what `make install` installs (docs/SWITCH.md): a program of that name, never unasked
 #   make arm64  the proved program for 64-bit ARM, at bin/stmflash-arm64, over what `make` kept: nothing is proved anew
@@ -143,6 +143,8 @@ install:
 	install -m 755 $(BINARY) $(DESTDIR)$(PREFIX)/bin/stmflash
 	install -m 644 stmflash.1 $(share)/man/man1/stmflash.1
 	install -m 644 chips.toml $(share)/stmflash/chips.toml
+	install -d $(share)/doc/stmflash
+	install -m 644 docs/FORMATS.md docs/MODEL.md $(share)/doc/stmflash
 	install -d $(share)/bash-completion/completions $(share)/zsh/vendor-completions $(share)/fish/vendor_completions.d
 	install -m 644 $(completions)/stmflash.bash $(share)/bash-completion/completions/stmflash
 	install -m 644 $(completions)/_stmflash $(share)/zsh/vendor-completions/_stmflash

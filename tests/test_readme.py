@@ -9,6 +9,7 @@ import subprocess
 from boards import WAIT, LinePlace
 from place import COUNTING, PATIENCE, TOP, Place, program
 from test_image import HEX
+from test_plain import MANUALS, plain
 
 
 def page(name="README.md"):
@@ -141,6 +142,39 @@ class BlocksAsANormalUser(Blocks):
 
 class ARealBoardAsANormalUser(ARealBoard):
     user = NOBODY
+
+
+class Manuals(Place):
+    """What the manual pages show and name."""
+
+    def test_examples_fit_a_terminal(self):
+        """Of 80 columns, of which man takes seven at the left and one at the right."""
+        for name in MANUALS:
+            for block in re.findall(r"^\.nf\n(.*?)^\.fi$", page(name), re.M | re.S):
+                for line in block.splitlines():
+                    with self.subTest(name=name, line=line):
+                        self.assertLessEqual(len(plain(line)), 72)
+
+    def test_the_pages_that_they_name_are_installed(self):
+        named = {it for name in MANUALS for it in re.findall(r"\b[A-Z]+\.md\b", page(name))}
+        self.assertEqual(named, {"FORMATS.md", "MODEL.md"})
+        with open(os.path.join(TOP, "Makefile"), encoding="utf-8") as file:
+            self.assertEqual(re.findall(r"^\tinstall -m 644 (docs/.*) \$\(share\)/doc/stmflash$", file.read(), re.M),
+                             [" ".join(f"docs/{it}" for it in sorted(named))])
+
+    def test_the_examples_run(self):
+        """Those of stmflash(1) but for the last, one after the other, at a simulator that they serve."""
+        first = re.findall(r"^\.SH EXAMPLES\n\.nf\n(.*?)^\.fi$", page("stmflash.1"), re.M | re.S)[0]
+        os.mkdir(self.path("bin"))
+        os.symlink(program(), self.path("bin/stmflash"))
+        os.symlink(os.path.join(TOP, "chips.toml"), self.path("chips.toml"))
+        self.store("firmware.hex", HEX)
+        text = plain(first).replace("export STMFLASH_DEVICE=board\n", "until [ -S board ]; do sleep 0.05; done\nexport STMFLASH_DEVICE=board\n")
+        ran = subprocess.run(["sh", "-eu", "-c", text + "wait\n"], cwd=self.folder, env={"PATH": self.path("bin") + ":" + os.environ["PATH"]},
+                             timeout=PATIENCE, stdin=subprocess.DEVNULL, capture_output=True, text=True)
+        self.assertEqual((ran.returncode, ran.stderr), (0, ""))
+        self.assertTrue(ran.stdout.startswith("id 0412\n"), ran.stdout)
+        self.assertTrue(ran.stdout.endswith("segment 1: 1 pages written\nverified 4 bytes\nundone 1\n"), ran.stdout)
 
 
 class Fleet(Place):

@@ -49,7 +49,12 @@ def read_words(words):
     at = words.index("--") if "--" in words else len(words)
     own, command = words[:at], words[at + 1:]
     parser = make_parser()
-    given = parser.parse_args(joined(own))
+    given, more = parser.parse_known_args(joined(own))
+    if more and not more[0].startswith("-"):
+        import shlex
+        parser.error(f"COMMAND comes behind --, as in: stmflash-line {shlex.join([given.port, '--', *more, *command])}")
+    if more:
+        parser.error(f"unrecognized arguments: {' '.join(more)}")
     given.command, given.heard = command, None
     if (given.socket is not None) == bool(command):
         parser.error("either --socket PATH or -- COMMAND")
