@@ -85,7 +85,7 @@ class Blocks(Clone, Place):
         built, said, err = self.run_blocks(made, used)
         self.assertIn("The flash is what it was before, byte for byte, both times.\n", built)
         self.assertTrue(built.endswith("\nbin/stmflash-unproved, --without, only root, isn't allowed, can't trace here, fish\n"), built)
-        self.assertEqual(err, "not installed here, so that tests are left out, each by name; for them: sudo apt-get install fish\n")
+        self.assertEqual(err, "not installed here, so that tests are left out, each by name; for them: sudo apt-get install fish \n")
         self.assertEqual(self.held("home/installed"), b"update -qq\ninstall -y -qq --no-install-recommends fish\n" if self.user == 0 else None)
         self.assertEqual(said, told(used))
 
