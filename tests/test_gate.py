@@ -140,8 +140,9 @@ class Gate(unittest.TestCase):
 
         names = [f"test_undo.A.b{number}" for number in range(12)] + ["test_giving_up.A.b"]
         with unittest.mock.patch.object(runs, "run", run), unittest.mock.patch.object(runs, "AT_ONCE", {True: 3, False: 2}), \
-                concurrent.futures.ThreadPoolExecutor(20) as pool:
+                concurrent.futures.ThreadPoolExecutor(20) as pool, contextlib.redirect_stdout(io.StringIO()) as said:
             ended = runs.run_all(pool, ["quick", "slow-unproved"], ["brief"], names)
+        self.assertEqual(len(said.getvalue().splitlines()), 3 * len(names) - 1)
         self.assertEqual(most, {"quick": 3, "others": 2})
         self.assertEqual({path: [test.name for test in tests] for path, tests in ended.items()},
                          {"quick": names, "slow-unproved": names, "brief": names[:-1]})

@@ -72,6 +72,12 @@ class Commands(LinePlace):
                 said = self.line("ttyUSB0", "--", "sh", "-c", script)
                 self.assertEqual((said.status, said.out, said.err), (status, b"", b""))
 
+    def test_files_that_it_makes_are_as_open_as_without_us(self):
+        """The socket is for few, and that is not handed on."""
+        for mask in (0o022, 0o077):
+            said = self.line("ttyUSB0", "--", "sh", "-c", "umask", before=lambda: (default_signals(), os.umask(mask)))
+            self.assertEqual((said.status, said.out), (0, b"%04o\n" % mask))
+
     def test_names_the_socket(self):
         """Every {} is the socket's path, also inside a word; it stands in a folder of ours alone."""
         script = 'echo "$0" "$1" "$STMFLASH_DEVICE" "$(stat -c %a "$0" "$(dirname "$0")" | xargs)" "${STMFLASH_FRESH-none}"'
