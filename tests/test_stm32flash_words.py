@@ -430,9 +430,9 @@ class TakingBack(Words):
         self.store("bin/stmflash", f'#!/bin/sh\necho "$@" >> {self.path("calls")}\nexec {program()} "$@"\n'.encode())
         os.chmod(self.path("bin/stmflash"), 0o755)
         board = self.flash(COUNTING)
-        self.store("image", b"new")
-        for words in (("-g", "0x08000000"), ("-R",)):
+        for image, words in ((b"new", ("-g", "0x08000000")), (b"newer", ("-R",))):
             with self.subTest(words=words):
+                self.store("image", image)
                 # with a wait as long as stmflash's own, so that no call is done again for want of a processor
                 self.well("-w", "image", "-v", *words, STMFLASH_WAIT="500")
                 calls = self.held("calls").decode().splitlines()
@@ -486,10 +486,12 @@ class TakingBack(Words):
     def test_another_chip_begins_a_journal_of_its_own(self):
         self.flash(COUNTING)
         os.makedirs(self.path(self.folder_of_port()))
-        self.store(os.path.join(self.folder_of_port(), "journal"), b"stmjournal 2 0410\nopen 1\nend 1\n")
-        said = self.well()
-        self.assertIn(b"a chip of another kind was at this port before: its journal is put aside", said.err)
-        self.assertEqual(self.journals(), ["kept-000001"])
+        for held, told, left in ((KEPT, b"is put aside", ["kept-000001"]),
+                                 (b"open 1\nend 1\n", b"has changed nothing, and is removed", ["kept-000001"])):
+            self.store(os.path.join(self.folder_of_port(), "journal"), b"stmjournal 2 0410\n" + held)
+            said = self.well()
+            self.assertEqual(said.err, b"stm32flash: a chip of another kind was at this port before: its journal " + told + b"\n")
+            self.assertEqual(self.journals(), left)
 
     def test_no_reset_is_claimed_unless_the_user_does(self):
         """Where it was claimed, a board that wasn't reset would take the connecting byte for one of a command."""
@@ -635,17 +637,24 @@ class Dropping(unittest.TestCase):
     def numbers(self, word="kept"):
         return [int(path[-6:]) for path in self.journals.numbered(word)]
 
+    def pushed_out(self, number, owner):
+        """What is told of a removal for newer ones."""
+        return f"stm32flash: no more than 8 journals stay {owner}: {self.journals.folder}/kept-{number:06d} was removed\n"
+
     def test_boards_that_are_swapped_keep_eight_each(self):
-        for _ in range(10):
-            for byte in (b"A1", b"B2"):
-                self.assertEqual(self.keep(b"stmjournal 3 0412 " + 12 * byte), "")
+        for number in range(-15, 5):
+            byte = ("A1", "B2")[(number + 15) % 2]
+            told = self.keep(f"stmjournal 3 0412 {12 * byte}".encode())
+            self.assertEqual(told, self.pushed_out(number, f"of the board {12 * byte}") if number > 0 else "")
         self.assertEqual(self.numbers(), list(range(5, 21)))
 
     def test_one_board_often_costs_others_nothing(self):
         others = [b"stmjournal 3 0412 " + 12 * b"A1", b"stmjournal 3 0410 " + 12 * b"B2", b"stmjournal 2 0412", b"stmjournal 1 0410",
                   b"nonsense"]
-        for header in (*others, *20 * [b"stmjournal 3 0412 " + 12 * b"B2"]):
+        for header in (*others, *8 * [b"stmjournal 3 0412 " + 12 * b"B2"]):
             self.assertEqual(self.keep(header), "")
+        for number in range(6, 18):
+            self.assertEqual(self.keep(b"stmjournal 3 0412 " + 12 * b"B2"), self.pushed_out(number, "of the board " + 12 * "B2"))
         self.assertEqual(self.numbers(), [*range(1, 6), *range(18, 26)])
 
     def test_journals_without_a_board_count_by_the_chip_and_bad_ones_together(self):
@@ -783,12 +792,12 @@ class Parts(unittest.TestCase):
 
     def test_what_was_stopped_is_waited_for(self):
         """An erase may still run: as long as stmflash waits, whatever the line's own wait is."""
-        for unfinished, given, wait in ((True, 103, 500), (True, 2000, 2000), (False, 103, None)):
+        for unfinished, given, count, wait in ((True, 103, 1, 500), (True, 2000, 1, 2000), (False, 103, 1, None), (False, 103, 2, 500)):
             board = module("board").Board(None, None, given)
             with unittest.mock.patch.object(board, "is_unfinished", return_value=unfinished), \
                     unittest.mock.patch.object(board, "use") as use:
-                board.undo()
-            use.assert_called_once_with("undo", "1", wait=wait)
+                board.undo(count=count)
+            use.assert_called_once_with("undo", str(count), wait=wait)
 
     def test_numbers(self):
         """As the C library reads them."""

@@ -9,12 +9,14 @@ from . import handed, line, sequence, tools, words
 from .fault import Failed, Fault
 from .journals import Journals
 from .patience import is_pty, wait
+from .segments import kept_pages
 from .told import Told, note, put
 
 # that the entry sequence of -i resets the board, which its user says
 RESETS = "STM32FLASH_RESETS"
 # why a journal is refused that is another's, and what was at the port before
 OTHERS = {"journal belongs to another device": "a chip of another kind", "journal is of another board": "another board"}
+NEWEST = "the newest write or erase at this port"
 
 
 def main(program, given):
@@ -180,28 +182,35 @@ def refuse_start(asked, chip):
 
 
 def put_other_aside(board, fault):
-    board.put_aside()
-    note(f"{OTHERS[str(fault)]} was at this port before: its journal is put aside")
+    kept = "is put aside" if board.put_aside() else "has changed nothing, and is removed"
+    note(f"{OTHERS[str(fault)]} was at this port before: its journal {kept}")
 
 
 def undo(board, asked):
-    """Undoes the newest write or erase of the board at this port, also of a journal that was put aside."""
+    """Undoes the newest write or erase of the board at this port that changed something, also of a journal that was put aside."""
     try:
-        undo_newest(board, asked)
+        undone = undo_newest(board, asked)
     except Failed as fault:
         if str(fault) not in OTHERS or board.is_unfinished():
             raise Fault(f"{fault}\nERROR: not undone; the journal is {board.journals.live}") from None
         put_other_aside(board, fault)
         try:
-            undo_newest(board, asked)
+            undone = undo_newest(board, asked)
         except Failed as again:
             raise Fault(f"{again}\nERROR: not undone; the journal is {board.journals.live}") from None
-    put(sys.stdout, "Undone: the newest write or erase at this port.\n")
+    put(sys.stdout, f"Undone: {undone}.\n")
     return 0
 
 
 def undo_newest(board, asked):
-    while not board.is_unfinished() and not board.undoable():
-        if not board.take_newest():
-            raise Fault("ERROR: nothing that was written or erased at this port can be undone")
-    board.undo(fresh=board.is_unfinished() and was_reset(asked))
+    """The same; what was undone. What was stopped is undone alone, whatever it had changed: it is what its user means."""
+    if board.is_unfinished():
+        kept = kept_pages(board.journals.live)
+        board.undo(fresh=was_reset(asked))
+        return NEWEST if kept[-1] else "a write or an erase at this port that was stopped before it changed anything"
+    if not any(kept := kept_pages(board.journals.live)) and not board.take_newest():
+        raise Fault("ERROR: nothing that was written or erased at this port can be undone" + ", since it changed nothing" * bool(kept))
+    kept = kept_pages(board.journals.live)
+    passed = next(count for count, pages in enumerate(reversed(kept)) if pages)
+    board.undo(count=passed + 1)
+    return NEWEST + f" that changed something, and {passed} behind it that changed nothing" * bool(passed)

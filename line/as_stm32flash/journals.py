@@ -36,6 +36,10 @@ class Journals:
         """The journals that were put aside, the newest last."""
         return self.numbered("kept")
 
+    def newest(self):
+        """Those of them that may be the newest ones of one board."""
+        return self.kept()[-1 - KEPT:]
+
     def numbered(self, word):
         try:
             found = [name for name in os.listdir(self.folder) if re.fullmatch(word + "-[0-9]{6}", name)]
@@ -58,10 +62,12 @@ class Journals:
 
     def drop_old(self):
         """Drops what is older than the newest ones of each board. Where those are more than there is room for, the oldest of all
-        go too, and are told: those that were ended, then those that aren't their board's newest, then these."""
+        go too: those that were ended, then those that aren't their board's newest, then these. Each is told."""
         ended, kept = self.by_owner("ended"), self.by_owner("kept")
-        for path in (path for held in (*ended.values(), *kept.values()) for path in held[KEPT:]):
-            remove(path)
+        for owner, held in (*ended.items(), *kept.items()):
+            for path in held[KEPT:]:
+                if remove(path):
+                    note(f"no more than {KEPT} journals stay {owner}: {path} was removed")
         newest = {held[0]: owner for owner, held in kept.items()}
         rest = sorted(path for held in ended.values() for path in held[:KEPT])
         rest += sorted(path for held in kept.values() for path in held[1:KEPT])

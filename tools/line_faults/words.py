@@ -8,6 +8,7 @@ AT_REST = PARTS + "test_a_session_behind_another_waits_by_what_came"
 CALL, BOARD, WORDS, JOURNALS = (f"as_stm32flash/{name}.py" for name in ("call", "board", "words", "journals"))
 ACTIONS, IMAGE, LINE, PATIENCE = (f"as_stm32flash/{name}.py" for name in ("actions", "image", "line", "patience"))
 FILES, HANDED = "test_stm32flash_files.", "as_stm32flash/handed.py"
+UNCHANGED, SEGMENTS = "test_stm32flash_way_back.Unchanged.", "as_stm32flash/segments.py"
 
 FAULTS = {
     # ---- words
@@ -130,12 +131,12 @@ FAULTS = {
         BOARD, "if own is None or own.takes(owner)]", "if own or True]",
         BOARDS + "test_an_undo_passes_over_another_kind_of_chip"),
     "a newest journal that can't be read is passed over": (
-        BOARD, "            self.refuse_bad(mine[-1])\n", "", BOARDS + "test_a_journal_that_cant_be_read_is_told_by_its_name"),
+        BOARD, "            self.refuse_bad(path)\n", "", BOARDS + "test_a_journal_that_cant_be_read_is_told_by_its_name"),
     "a log that can't be read has status 0": (
         CALL, "            status = 1\n    if not paths", "            status = 0\n    if not paths",
         BOARDS + "test_a_journal_that_cant_be_read_is_told_by_its_name"),
     "a way back is given up before a protection": (
-        BOARD, 'self.look("keep", self.journals.next_kept())', 'self.look("keep")',
+        BOARD, 'self.look("keep", path)', 'self.look("keep")',
         BACK + "test_protections_give_the_way_back_up"),
     "a protection is refused where something can be undone": (
         ACTIONS, "        self.board.put_aside()\n        ended", "        ended",
@@ -196,6 +197,39 @@ FAULTS = {
         JOURNALS, "            if remove(path):\n                note",
         "            if not remove(path):\n                note",
         DROPPING + "test_many_boards_keep_one_each_until_there_is_no_room"),
+    "that one was pushed out isn't told": (
+        JOURNALS, "                if remove(path):\n                    note", "                if not remove(path):\n                    note",
+        DROPPING + "test_boards_that_are_swapped_keep_eight_each"),
+    "what changed nothing is put aside": (
+        BOARD, "        self.drop_old()\n        return os.path.exists(path)", "        self.journals.drop_old()\n        return True",
+        UNCHANGED + "test_they_are_never_put_aside"),
+    "what changed nothing is put aside behind a Go": (
+        BOARD, "        self.drop_old()\n        return done", "        self.journals.drop_old()\n        return done",
+        UNCHANGED + "test_they_are_never_put_aside"),
+    "what was put aside before and changed nothing counts": (
+        JOURNALS, "return self.kept()[-1 - KEPT:]", "return self.kept()[-1:]",
+        UNCHANGED + "test_those_that_were_put_aside_before_push_nothing_out"),
+    "one that can't be read counts as one that changed nothing": (
+        BOARD, '                    self.run(["keep", "--journal", path])\n', "                    os.remove(path)\n",
+        UNCHANGED + "test_those_that_were_put_aside_before_push_nothing_out"),
+    "what was undone counts as a change": (
+        SEGMENTS, "            del found[-1:]\n", "            pass\n", UNCHANGED + "test_what_was_undone_counts_as_nothing_either"),
+    "a void line counts as a page": (SEGMENTS, '[0-9A-F]+)?(?=\\n)")', '[0-9A-F]+)?")', UNCHANGED + "test_which_pages_are_kept"),
+    "an undo ends at what changed nothing": (
+        CALL, "board.undo(count=passed + 1)", "board.undo()", UNCHANGED + "test_an_undo_passes_over_them"),
+    "an undo takes a journal that changed nothing": (
+        BOARD, "            if any(kept_pages(path)):\n                self.put_aside()", "            if path:\n                self.put_aside()",
+        UNCHANGED + "test_an_undo_passes_over_journals_of_them"),
+    "an undo of what changed nothing says that it undid": (
+        CALL, "if not any(kept := kept_pages", "if not (kept := kept_pages",
+        UNCHANGED + "test_where_nothing_else_was_done_an_undo_says_so"),
+    "what was stopped before it changed anything takes the write before with it": (
+        CALL, "        kept = kept_pages(board.journals.live)\n        board.undo(",
+        "        kept = kept_pages(board.journals.live)\n        board.undo(count=1 + (not kept[-1]), ",
+        UNCHANGED + "test_what_was_stopped_before_it_changed_anything_is_undone_alone"),
+    "an undo of more than one is done again": (
+        BOARD, "has_patience = count > 1 or self.is_unfinished()", "has_patience = self.is_unfinished()",
+        PARTS + "test_what_was_stopped_is_waited_for"),
     "a folder that can't be read counts as empty": (
         JOURNALS, "        except FileNotFoundError:\n            return []", "        except OSError:\n            return []",
         DROPPING + "test_a_folder_that_cant_be_read_isnt_taken_for_an_empty_one"),
@@ -228,7 +262,7 @@ FAULTS = {
     "a wait without a measure is short": (
         PATIENCE, "    if not slowest:\n        return whole\n", "", AT_REST),
     "what was stopped is waited for shortly": (
-        BOARD, "wait=max(self.wait, UNKNOWN) if self.is_unfinished() else None)", "wait=None)",
+        BOARD, "wait=max(self.wait, UNKNOWN) if has_patience else None)", "wait=None)",
         PARTS + "test_what_was_stopped_is_waited_for"),
     "the port is held by the inside too": (
         LINE, '        os.closerange(3, os.sysconf("SC_OPEN_MAX"))\n', "",
