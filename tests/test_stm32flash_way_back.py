@@ -1,10 +1,11 @@
 """line/stm32flash: the way back of writes and erases that changed nothing, and of calls that were stopped, also where other boards come to
 the port."""
 
+import fcntl
 import os
 
-from place import COUNTING
-from test_stm32flash_words import KEPT, NOTHING, Words, module
+from place import COUNTING, ERASED, TABLE
+from test_stm32flash_words import KEPT, NOTHING, STOPPED, Words, module
 
 NEW = b"new" + COUNTING[3:]
 # a write of what was there already
@@ -15,6 +16,10 @@ class Place(Words):
     def setUp(self):
         super().setUp()
         self.store("image", b"new")
+
+    def folder_of_port(self):
+        """Also while no board is there."""
+        return os.path.join(".local", "state", "stmflash", "ports", module("journals").named_by("ttyUSB0", self.path("ttyUSB0")))
 
     def name(self, name):
         return os.path.join(self.folder_of_port(), name)
@@ -111,3 +116,102 @@ class Unchanged(Place):
         self.store("held", text + b"open 2\nend 2\nopen 3\npage 8 5")
         self.assertEqual(module("segments").kept_pages(self.path("held")), [1, 0, 0])
         self.assertEqual(module("segments").kept_pages(self.path("missing")), [])
+
+
+class Dead(Place):
+    """A board was stopped in the midst of a write and taken away, and another one comes to its port."""
+
+    FIRST, LEFT = 12 * "A1", "stopped-" + 12 * "A1"
+    BACK = COUNTING[:5120] + b"\x55" * 1024 + COUNTING[6144:]
+    FOUND = b"stm32flash: an earlier call was stopped in the midst of a write, an erase or an undo: that is undone first\n"
+
+    def setUp(self):
+        super().setUp()
+        self.store("table", TABLE + b"unique = [0x1FFFF7E8, 12]\n" + TABLE.replace(b"412", b"410"))
+        os.makedirs(self.path(self.folder_of_port()))
+        self.leave("3 0412 " + self.FIRST)
+
+    def leave(self, header, name="journal"):
+        """What was stopped, as a journal of this header."""
+        self.store(self.name(name), STOPPED.replace("2 0412", header).encode())
+
+    def told(self):
+        """What a call says that puts it aside."""
+        left = self.path(self.name(self.LEFT)).encode()
+        return self.FOUND + b"stm32flash: that was another board: its journal is put aside as " + left + b", and is undone first when that " \
+            b"board is back at any port\n"
+
+    def test_the_next_board_goes_on_and_it_is_undone_when_it_is_back(self):
+        there = self.telling(ERASED, "B2")
+        self.assertEqual(self.well("-w", "image").err, self.told())
+        self.assertEqual(self.journals(), ["journal", self.LEFT])
+        self.assertIn(self.LEFT.encode() + b"\nid 0412\nboard " + self.FIRST.encode() + b"\nsegment 1: open, 1 pages: 5, erasing 5\n"
+                      b"unfinished, undo first\n", self.well("--log").out)
+        second = self.unplugged(there)
+        here = self.telling(COUNTING, "A1")
+        self.assertEqual(self.well().err, b"stm32flash: another board was at this port before: its journal is put aside\n" + self.FOUND)
+        self.assertEqual(self.unplugged(here), self.BACK)
+        self.assertEqual(self.journals(), ["journal", "kept-000001"])
+        there = self.telling(second, "B2")
+        self.well("--undo")
+        self.assertEqual(there.store(), ERASED)
+
+    def test_an_undo_is_of_the_board_that_is_there(self):
+        self.keep(1, b"stmjournal 3 0412 " + 12 * b"B2" + b"\n" + KEPT)
+        there = self.telling(ERASED, "B2")
+        said = self.well("--undo")
+        self.assertEqual(said.err, self.told()[len(self.FOUND):])
+        self.assertEqual(self.unplugged(there), ERASED[:5120] + b"\x55" * 1024 + ERASED[6144:])
+        # the first one is back, at this port and at another
+        here = self.telling(COUNTING, "A1")
+        self.well("--undo")
+        self.assertEqual(self.unplugged(here), self.BACK)
+        self.leave("3 0412 " + self.FIRST, self.LEFT)
+        here = self.telling(COUNTING, "A1", "ttyUSB1")
+        self.assertEqual(self.well("--undo", port="ttyUSB1").out, b"Undone: the newest write or erase at this port.\n")
+        self.assertEqual(self.unplugged(here, "ttyUSB1"), self.BACK)
+        self.assertNotIn(self.LEFT, self.journals())
+
+    def test_a_chip_of_another_kind_is_another_board(self):
+        self.leave("3 0410 " + self.FIRST)
+        board = self.flash(COUNTING)
+        self.assertEqual(self.well("-w", "image").err, self.told())
+        self.assertEqual(board.store(), NEW)
+
+    def test_what_may_be_its_board_does_not_go_on(self):
+        """One that tells no unique id; and what is left of a board already is never replaced."""
+        there = self.flash(COUNTING)
+        before = self.held(self.name("journal"))
+        said = self.words("-m", "8n1", "-w", "image")
+        self.assertEqual(said.status, 1)
+        self.assertIn(b"journal is of another board\nERROR: what an earlier call has begun can't be undone now; its journal is ", said.err)
+        self.assertEqual(self.words("-m", "8n1", "--undo").status, 1)
+        self.assertEqual(self.unplugged(there), COUNTING)
+        self.store(self.name(self.LEFT), b"another")
+        self.telling(COUNTING, "B2")
+        said = self.words("-m", "8n1", "-w", "image")
+        self.assertEqual(said.status, 1)
+        self.assertIn(self.LEFT.encode() + b" is there already, and can't be replaced\n", said.err)
+        self.assertFile(self.name("journal"), before)
+        self.assertFile(self.name(self.LEFT), b"another")
+
+    def test_a_board_that_was_asked_is_not_said_to_be_reset(self):
+        self.leave("3 0412 " + self.FIRST, self.LEFT)
+        self.remove(self.name("journal"))
+        self.instead(f'echo "$*" >> {self.path("called")}')
+        for words in ((), ("--undo",)):
+            here = self.telling(COUNTING, "A1")
+            self.well("-i", "brk", *words, STM32FLASH_RESETS="1")
+            self.assertEqual(self.unplugged(here), self.BACK)
+            self.leave("3 0412 " + self.FIRST, self.LEFT)
+        called = self.held("called").decode().splitlines()
+        self.assertEqual([line.split()[0] for line in called if "undo" in line or "--fresh" in line], ["undo", "undo"])
+        self.assertNotIn("--fresh", self.held("called").decode())
+
+    def test_one_that_another_program_has_stays(self):
+        journals = module("journals").Journals(self.path("ttyUSB0"))
+        journals.folder, journals.live = self.path(self.folder_of_port()), self.path(self.name("journal"))
+        with open(journals.live, "rb") as file:
+            fcntl.flock(file, fcntl.LOCK_EX)
+            self.assertRaisesRegex(module("fault").Fault, "another program has it", journals.leave, module("owner").owner_of(journals.live))
+        self.assertEqual(self.journals(), ["journal"])

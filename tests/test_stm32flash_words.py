@@ -79,16 +79,16 @@ class Words(LinePlace):
         self.remove("ttyUSB0.flash.line")
         return self.board()
 
-    def telling(self, data, byte):
+    def telling(self, data, byte, name="ttyUSB0"):
         """A board that tells a unique id of this byte alone."""
-        self.store("ttyUSB0.flash.board", b"unique " + 12 * byte.encode() + b"\n")
-        return self.flash(data)
+        self.store(name + ".flash.board", b"unique " + 12 * byte.encode() + b"\n")
+        return self.flash(data, name)
 
-    def unplugged(self, board):
+    def unplugged(self, board, name="ttyUSB0"):
         """The flash of a board that is taken away."""
         flash = board.store()
         board.stop()
-        self.remove("ttyUSB0.flash.line")
+        self.remove(name + ".flash.line")
         return flash
 
     def folder_of_port(self):

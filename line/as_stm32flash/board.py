@@ -152,6 +152,27 @@ class Board:
                 return True
         return False
 
+    def leave_stopped(self):
+        """Puts the journal in use aside, which is unfinished, if the board that is there is sure to be another than its own; where it
+        is then, or None."""
+        other, own = owner_of(self.journals.live), self.ask_owner()
+        if other.board is None or own is None or own.may_be(other):
+            return None
+        self.hint = ""
+        return self.journals.leave(other)
+
+    def take_stopped(self):
+        """Makes what the board that is there left unfinished at any port the one in use; whether there is such a journal. The device
+        isn't asked where no board has left one."""
+        if not self.journals.stopped():
+            return False
+        board = self.own.board or (self.ask_owner() or Owner()).board
+        left = self.journals.stopped(board) if board else []
+        if left:
+            self.put_aside()
+            self.journals.take(left[-1])
+        return bool(left)
+
     def refuse_bad(self, path):
         """What is older can't be undone before the newest."""
         try:

@@ -90,7 +90,7 @@ def refuse(asked, below):
 def show_log(board):
     """What can be undone at a port, the newest journal first."""
     journals = board.journals
-    paths = [path for path in (journals.live, *reversed(journals.kept())) if os.path.exists(path)]
+    paths = [path for path in (journals.live, *reversed(journals.kept()), *journals.stopped()) if os.path.exists(path)]
     status, text = 0, ""
     for path in paths:
         text += f"journal {path}\n"
@@ -127,7 +127,10 @@ def do(board, asked, table):
         told.lines(sequence.lines(asked.entry()))
     try:
         undo_first(board, asked)
-        actions = Actions(asked, board, told, greet(board, told, table))
+        chip = greet(board, told, table)
+        if board.take_stopped():
+            undo_first(board, asked)
+        actions = Actions(asked, board, told, chip)
         refuse_start(asked, actions.chip)
         actions.do()
         return leaving.leave(actions)
@@ -144,15 +147,16 @@ def undo_first(board, asked):
         raise Fault(f"{fault}\nERROR: the journal of this port can't be read; it is {board.journals.live}") from None
     note("an earlier call was stopped in the midst of a write, an erase or an undo: that is undone first")
     try:
-        board.undo(fresh=was_reset(asked))
+        board.undo(fresh=was_reset(board, asked))
     except Failed as fault:
-        kept = f"its journal is {board.journals.live}"
-        raise Fault(f"{fault}\nERROR: what an earlier call has begun can't be undone now; {kept}") from None
+        if not put_other_aside(board, fault):
+            way = f"its journal is {board.journals.live}, and --undo at its own board undoes it"
+            raise Fault(f"{fault}\nERROR: what an earlier call has begun can't be undone now; {way}") from None
 
 
-def was_reset(asked):
-    """Whether the board was reset when this call began, as its user says."""
-    return os.environ.get(RESETS) == "1" and bool(asked.entry())
+def was_reset(board, asked):
+    """Whether the board was reset when this call began, as its user says, and wasn't asked anything since."""
+    return os.environ.get(RESETS) == "1" and bool(asked.entry()) and board.own.chip is None
 
 
 def greet(board, told, table):
@@ -160,8 +164,7 @@ def greet(board, told, table):
     try:
         information = board.information()
     except Failed as fault:
-        if str(fault) in OTHERS:
-            put_other_aside(board, fault)
+        if put_other_aside(board, fault):
             information = board.information()
         elif str(fault) == "no answer from the device":
             raise Fault("Failed to init device, timeout.") from None
@@ -182,8 +185,17 @@ def refuse_start(asked, chip):
 
 
 def put_other_aside(board, fault):
-    kept = "is put aside" if board.put_aside() else "has changed nothing, and is removed"
-    note(f"{OTHERS[str(fault)]} was at this port before: its journal {kept}")
+    """Puts the journal in use aside where this fault says that it is another board's, and it is sure to be; whether it did."""
+    other = OTHERS.get(str(fault))
+    if other and board.is_unfinished():
+        left = board.leave_stopped()
+        if left:
+            note(f"that was {other}: its journal is put aside as {left}, and is undone first when that board is back at any port")
+        return bool(left)
+    if other:
+        kept = "is put aside" if board.put_aside() else "has changed nothing, and is removed"
+        note(f"{other} was at this port before: its journal {kept}")
+    return bool(other)
 
 
 def undo(board, asked):
@@ -191,9 +203,8 @@ def undo(board, asked):
     try:
         undone = undo_newest(board, asked)
     except Failed as fault:
-        if str(fault) not in OTHERS or board.is_unfinished():
+        if not put_other_aside(board, fault):
             raise Fault(f"{fault}\nERROR: not undone; the journal is {board.journals.live}") from None
-        put_other_aside(board, fault)
         try:
             undone = undo_newest(board, asked)
         except Failed as again:
@@ -204,10 +215,10 @@ def undo(board, asked):
 
 def undo_newest(board, asked):
     """The same; what was undone. What was stopped is undone alone, whatever it had changed: it is what its user means."""
-    if board.is_unfinished():
+    if board.is_unfinished() or board.take_stopped():
         kept = kept_pages(board.journals.live)
-        board.undo(fresh=was_reset(asked))
-        return NEWEST if kept[-1] else "a write or an erase at this port that was stopped before it changed anything"
+        board.undo(fresh=was_reset(board, asked))
+        return NEWEST if any(kept[-1:]) else "a write or an erase at this port that was stopped before it changed anything"
     if not any(kept := kept_pages(board.journals.live)) and not board.take_newest():
         raise Fault("ERROR: nothing that was written or erased at this port can be undone" + ", since it changed nothing" * bool(kept))
     kept = kept_pages(board.journals.live)

@@ -1,5 +1,6 @@
 """The journals of a port: the one in use, and those that were put aside when a program was started."""
 
+import fcntl
 import os
 import re
 
@@ -89,6 +90,26 @@ class Journals:
         for path in reversed(self.numbered(word)):
             found.setdefault(owner_of(path), []).append(path)
         return found
+
+    def stopped(self, board="*"):
+        """The journals that boards, or this one, left unfinished at any port."""
+        import glob
+        names = os.path.join("*", "stopped-" + board)
+        ports = os.path.dirname(self.folder)
+        return [os.path.join(ports, name) for name in sorted(glob.glob(names, root_dir=ports, include_hidden=True))]
+
+    def leave(self, owner):
+        """Puts the one in use aside unfinished, under the name of its board, which may come back at any port. Answers where it is."""
+        path = os.path.join(self.folder, f"stopped-{owner.board}")
+        with open(self.live, "r+b") as file:
+            try:
+                fcntl.flock(file, fcntl.LOCK_EX | fcntl.LOCK_NB)
+            except BlockingIOError:
+                raise Fault(f"ERROR: {self.live}: another program has it") from None
+            if os.path.exists(path):
+                raise Fault(f"ERROR: {path} is there already, and can't be replaced")
+            rename(self.live, path)
+        return path
 
     def take(self, path):
         """Makes one that was put aside the one in use."""

@@ -9,6 +9,7 @@ CALL, BOARD, WORDS, JOURNALS = (f"as_stm32flash/{name}.py" for name in ("call", 
 ACTIONS, IMAGE, LINE, PATIENCE = (f"as_stm32flash/{name}.py" for name in ("actions", "image", "line", "patience"))
 FILES, HANDED = "test_stm32flash_files.", "as_stm32flash/handed.py"
 UNCHANGED, SEGMENTS = "test_stm32flash_way_back.Unchanged.", "as_stm32flash/segments.py"
+DEAD = "test_stm32flash_way_back.Dead."
 
 FAULTS = {
     # ---- words
@@ -114,19 +115,46 @@ FAULTS = {
     "a Ctrl-C says that all is undone": (
         CALL, ", and one that did stands", "", PARTS + "test_a_ctrl_c_says_what_stands"),
     "what never ended isn't undone": (
-        CALL, "        undo_first(board, asked)\n", "", BACK + "test_what_never_ended_is_undone_before_anything_else"),
+        CALL, "        undo_first(board, asked)\n        chip", "        chip", BACK + "test_what_never_ended_is_undone_before_anything_else"),
     "a reset is claimed unasked": (
         CALL, 'os.environ.get(RESETS) == "1" and bool(asked.entry())', "bool(asked.entry())",
         BACK + "test_no_reset_is_claimed_unless_the_user_does"),
     "a STMFLASH_FRESH of outside is believed": (
         BOARD, 'if name not in ("STMFLASH_FRESH", ', "if name not in (",
         BACK + "test_no_reset_is_claimed_unless_the_user_does"),
+    "a board that was asked is said to be reset": (
+        CALL, " and bool(asked.entry()) and board.own.chip is None", " and bool(asked.entry())",
+        DEAD + "test_a_board_that_was_asked_is_not_said_to_be_reset"),
     "another board's journal ends the call": (
-        CALL, "        if str(fault) in OTHERS:\n", "        if not str(fault):\n",
+        CALL, "        if put_other_aside(board, fault):\n", "        if not str(fault):\n",
         BACK + "test_another_board_at_the_port_has_its_own_journal"),
     "an undo ends at another board's journal": (
-        CALL, "if str(fault) not in OTHERS or board.is_unfinished():", "if True:",
+        CALL, '        if not put_other_aside(board, fault):\n            raise Fault(f"{fault}\\nERROR: not undone',
+        '        if True:\n            raise Fault(f"{fault}\\nERROR: not undone',
         BOARDS + "test_an_undo_passes_over_the_journal_in_use_of_another_board"),
+    "a board that was stopped holds its port": (
+        CALL, "        if not put_other_aside(board, fault):\n            way", "        if True:\n            way",
+        DEAD + "test_the_next_board_goes_on_and_it_is_undone_when_it_is_back"),
+    "a board that was stopped is forgotten": (
+        CALL, "        if board.take_stopped():\n            undo_first(board, asked)\n", "",
+        DEAD + "test_the_next_board_goes_on_and_it_is_undone_when_it_is_back"),
+    "an undo forgets what was stopped": (
+        CALL, "if board.is_unfinished() or board.take_stopped():", "if board.is_unfinished():",
+        DEAD + "test_an_undo_is_of_the_board_that_is_there"),
+    "what was stopped is looked for at this port alone": (
+        JOURNALS, 'names = os.path.join("*", "stopped-" + board)', 'names = os.path.join(os.path.basename(self.folder), "stopped-" + board)',
+        DEAD + "test_an_undo_is_of_the_board_that_is_there"),
+    "what may be the board's own is left": (
+        BOARD, "if other.board is None or own is None or own.may_be(other):", "if other.board is None or own is None:",
+        DEAD + "test_what_may_be_its_board_does_not_go_on"),
+    "what a board left already is replaced": (
+        JOURNALS, "            if os.path.exists(path):\n                raise", "            if not path:\n                raise",
+        DEAD + "test_what_may_be_its_board_does_not_go_on"),
+    "what another program has is left": (
+        JOURNALS, "                fcntl.flock(file, fcntl.LOCK_EX | fcntl.LOCK_NB)\n", "                pass\n",
+        DEAD + "test_one_that_another_program_has_stays"),
+    "a journal that was left isn't told": (
+        CALL, ", *journals.stopped()) if", ") if", DEAD + "test_the_next_board_goes_on_and_it_is_undone_when_it_is_back"),
     "another kind of chip's journal is undone": (
         BOARD, "if own is None or own.takes(owner)]", "if own or True]",
         BOARDS + "test_an_undo_passes_over_another_kind_of_chip"),
