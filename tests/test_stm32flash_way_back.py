@@ -3,9 +3,10 @@ the port."""
 
 import fcntl
 import os
+import subprocess
 
-from place import COUNTING, ERASED, TABLE
-from test_stm32flash_words import KEPT, NOTHING, STOPPED, Words, module
+from place import COUNTING, ERASED, PATIENCE, TABLE
+from test_stm32flash_words import KEPT, NOTHING, STOPPED, WORDS, Words, module
 
 NEW = b"new" + COUNTING[3:]
 # a write of what was there already
@@ -215,3 +216,32 @@ class Dead(Place):
             fcntl.flock(file, fcntl.LOCK_EX)
             self.assertRaisesRegex(module("fault").Fault, "another program has it", journals.leave, module("owner").owner_of(journals.live))
         self.assertEqual(self.journals(), ["journal"])
+
+
+class Nameless(Place):
+    """What was stopped at a board that doesn't tell which it is."""
+
+    def test_what_only_reads_refuses_and_leaves_all_as_it_was(self):
+        """Another board may be there, and no journal has its bytes."""
+        os.makedirs(self.path(self.folder_of_port()))
+        self.store(self.name("journal"), STOPPED.encode())
+        self.store("held", b"before")
+        board = self.flash(COUNTING)
+        with open(self.path("held"), "ab") as held:
+            for words in ((), ("-g", "0"), ("-R",), ("-C",), ("-r", "out"), ("-r", "-"), ("-r", f"/dev/fd/{held.fileno()}")):
+                with self.subTest(words=words):
+                    ran = subprocess.run([WORDS, "-m", "8n1", *words, "ttyUSB0"], cwd=self.folder, env=self.settings(), timeout=PATIENCE,
+                                         stdin=subprocess.DEVNULL, capture_output=True, pass_fds=[held.fileno()], check=False)
+                    told = ran.stderr.decode().splitlines()[4 if words == ("-r", "-") else 0:]
+                    self.assertEqual((ran.returncode, told[-1:]), (1, [
+                        "ERROR: an earlier call was stopped in the midst of a write, an erase or an undo at a board that doesn't tell which it "
+                        "is; if it is the one that is there, stm32flash --undo ttyUSB0 undoes that"]))
+        self.assertFile("held", b"before")
+        self.assertFalse(self.is_there("out"))
+        self.assertFile(self.name("journal"), STOPPED.encode())
+        self.assertEqual(self.journals(), ["journal"])
+        self.assertEqual(board.store(), COUNTING)
+        self.assertEqual((self.held("ttyUSB0.flash.line") or b"fresh\n"), b"fresh\n")
+        self.well("--undo")
+        self.assertEqual(board.store(), COUNTING[:5120] + b"\x55" * 1024 + COUNTING[6144:])
+        self.well("-r", "out")

@@ -503,7 +503,7 @@ class TakingBack(Words):
         for settings, claimed in (({}, False), ({"STM32FLASH_RESETS": "1"}, True)):
             self.stopped()
             self.store("called", b"")
-            self.well("-i", "brk", STMFLASH_FRESH="1", **settings)
+            self.well("-o", "-s", "0", "-e", "1", "-i", "brk", STMFLASH_FRESH="1", **settings)
             called = self.held("called").decode().splitlines()
             self.assertEqual([line for line in called if not line.startswith(" ")], [])
             self.assertEqual([line.split()[0] for line in called if "--fresh" in line], ["undo"] * claimed)

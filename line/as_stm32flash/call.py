@@ -8,6 +8,7 @@ from . import chip as chips
 from . import handed, line, sequence, tools, words
 from .fault import Failed, Fault
 from .journals import Journals
+from .owner import owner_of
 from .patience import is_pty, wait
 from .segments import kept_pages
 from .told import Told, note, put
@@ -17,6 +18,8 @@ RESETS = "STM32FLASH_RESETS"
 # why a journal is refused that is another's, and what was at the port before
 OTHERS = {"journal belongs to another device": "a chip of another kind", "journal is of another board": "another board"}
 NEWEST = "the newest write or erase at this port"
+# the actions that change nothing, and so undo nothing at a board that may be another
+READING = ("", "r", "C")
 
 
 def main(program, given):
@@ -145,6 +148,9 @@ def undo_first(board, asked):
             return
     except Failed as fault:
         raise Fault(f"{fault}\nERROR: the journal of this port can't be read; it is {board.journals.live}") from None
+    if asked.action in READING and owner_of(board.journals.live).board is None:
+        raise Fault("ERROR: an earlier call was stopped in the midst of a write, an erase or an undo at a board that doesn't tell which it is; "
+                    f"if it is the one that is there, stm32flash --undo {asked.port} undoes that")
     note("an earlier call was stopped in the midst of a write, an erase or an undo: that is undone first")
     try:
         board.undo(fresh=was_reset(board, asked))

@@ -9,7 +9,7 @@ CALL, BOARD, WORDS, JOURNALS = (f"as_stm32flash/{name}.py" for name in ("call", 
 ACTIONS, IMAGE, LINE, PATIENCE = (f"as_stm32flash/{name}.py" for name in ("actions", "image", "line", "patience"))
 FILES, HANDED = "test_stm32flash_files.", "as_stm32flash/handed.py"
 UNCHANGED, SEGMENTS = "test_stm32flash_way_back.Unchanged.", "as_stm32flash/segments.py"
-DEAD = "test_stm32flash_way_back.Dead."
+DEAD, NAMELESS = "test_stm32flash_way_back.Dead.", "test_stm32flash_way_back.Nameless."
 
 FAULTS = {
     # ---- words
@@ -122,6 +122,15 @@ FAULTS = {
     "a STMFLASH_FRESH of outside is believed": (
         BOARD, 'if name not in ("STMFLASH_FRESH", ', "if name not in (",
         BACK + "test_no_reset_is_claimed_unless_the_user_does"),
+    "a read undoes what was stopped at any board": (
+        CALL, 'READING = ("", "r", "C")', 'READING = ("", "C")', NAMELESS + "test_what_only_reads_refuses_and_leaves_all_as_it_was"),
+    "a sum undoes what was stopped at any board": (
+        CALL, 'READING = ("", "r", "C")', 'READING = ("", "r")', NAMELESS + "test_what_only_reads_refuses_and_leaves_all_as_it_was"),
+    "no action undoes what was stopped at any board": (
+        CALL, 'READING = ("", "r", "C")', 'READING = ("r", "C")', NAMELESS + "test_what_only_reads_refuses_and_leaves_all_as_it_was"),
+    "a read is refused where the board is known": (
+        CALL, "    if asked.action in READING and owner_of(board.journals.live).board is None:", "    if asked.action in READING:",
+        DEAD + "test_the_next_board_goes_on_and_it_is_undone_when_it_is_back"),
     "a board that was asked is said to be reset": (
         CALL, " and bool(asked.entry()) and board.own.chip is None", " and bool(asked.entry())",
         DEAD + "test_a_board_that_was_asked_is_not_said_to_be_reset"),
@@ -336,7 +345,10 @@ FAULTS = {
     "lines stand between the bytes of a read": (
         HANDED, "    if os.path.sameopenfile(opened, 1):\n", "    if opened == 1:\n", FILES + "Handed.test_what_is_read"),
     "what an open file held stays behind a read": (
-        HANDED, "            os.ftruncate(opened, 0)\n", "            pass\n", FILES + "Handed.test_what_is_read"),
+        ACTIONS, "            handed.empty(self.words.out)\n", "", FILES + "Handed.test_what_is_read"),
+    "a file that was opened for a refused read is emptied": (
+        HANDED, "        os.dup2(opened, 0)\n", "        empty(opened)\n        os.dup2(opened, 0)\n",
+        NAMELESS + "test_what_only_reads_refuses_and_leaves_all_as_it_was"),
     "a link that ends in .hex is replaced": (
         ACTIONS, "path = os.path.realpath(name)", "path = os.path.abspath(name)", FILES + "Hex.test_a_link_is_followed"),
     "a pipe that ends in .hex is replaced": (
