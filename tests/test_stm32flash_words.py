@@ -112,6 +112,9 @@ class Refusals(Words):
             (("-i", "rts:foo"), "ERROR: -i foo: no signal; rts, dtr and brk are"),
             (("-r", "a", "-w", "image"), "ERROR: Invalid options !"),
             (("-u", "-k"), "ERROR: Invalid options !"),
+            (("-w", "image", "--undo"), "ERROR: Invalid options !"),
+            (("--undo", "-r", "a"), "ERROR: Invalid options !"),
+            (("--undo", "--log"), "ERROR: Invalid options !"),
             (("-v",), "ERROR: Invalid usage, -v is only valid when writing"),
             (("--undo", "-g", "0"), "ERROR: Invalid usage, -g and -R don't go with --undo"),
             (("-R", "--log"), "ERROR: Invalid usage, -g and -R don't go with --log"),
@@ -965,12 +968,14 @@ class Parts(unittest.TestCase):
     def test_a_port_is_where_its_adapter_is_plugged_in(self):
         journals = module("journals")
         links = {"/dev/serial/by-path/pci-usb-0:2": "/dev/ttyUSB3", "/dev/serial/by-path/pci-usbv2-0:2": "/dev/ttyUSB3",
-                 "/dev/serial/by-id/adapter": "/dev/ttyUSB3"}
+                 "/dev/serial/by-id/adapter": "/dev/ttyUSB3", "/dev/serial/by-path/pci-usb-0:1": "/dev/ttyUSB10"}
         with unittest.mock.patch.object(journals.os.path, "realpath", lambda path: links.get(path, path)), \
-                unittest.mock.patch.object(journals.os, "listdir", lambda _: ["pci-usbv2-0:2", "pci-usb-0:2"]), \
+                unittest.mock.patch.object(journals.os, "listdir", lambda _: ["pci-usbv2-0:2", "pci-usb-0:2", "pci-usb-0:1"]), \
                 unittest.mock.patch.object(journals, "is_pty", lambda _: False):
-            names = [journals.name_of(port) for port in ("/dev/ttyUSB3", "/dev/serial/by-id/adapter", "/dev/ttyS0")]
-        self.assertEqual(names, ["pci-usb-0:2", "pci-usb-0:2", "ttyS0"])
+            ports = ("/dev/ttyUSB3", "/dev/serial/by-id/adapter", "/dev/ttyS0", "/dev/ttyUSB1", "/dev/ttyUSB10")
+            names = [journals.name_of(port) for port in ports]
+        # a port whose name begins another's has none of its journals
+        self.assertEqual(names, ["pci-usb-0:2", "pci-usb-0:2", "ttyS0", "ttyUSB1", "pci-usb-0:1"])
 
     def test_the_manual_page_has_every_option(self):
         with open(os.path.join(TOP, "line", "stmflash-as-stm32flash.1"), encoding="ascii") as file:

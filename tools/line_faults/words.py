@@ -15,6 +15,10 @@ FAULTS = {
     # ---- words
     "-v is taken without -w": (WORDS, 'if asked.verify and asked.action != "w":', "if asked.verify and asked.file:", BY_NAME),
     "two actions are taken": (WORDS, "        if asked.action:\n", "        if asked.action == name:\n", BY_NAME),
+    "--undo is taken behind another action": (
+        WORDS, "        if asked.action:\n", "        if asked.action and name not in OWN:\n", BY_NAME),
+    "another action is taken behind --undo": (
+        WORDS, "        if asked.action:\n", "        if asked.action in ACTIONS:\n", BY_NAME),
     "an address to start at needs no alignment": (WORDS, "if asked.start_at % 4:", "if asked.start_at % 2:", BY_NAME),
     "an address to read from needs no alignment": (
         WORDS, "if asked.address is not None and asked.address % 4:", "if asked.address is not None and asked.address % 2:",
@@ -274,6 +278,9 @@ FAULTS = {
         "as_stm32flash/owner.py", "HEADER.search(", "HEADER.match(", DROPPING + "test_the_header_is_behind_what_is_void"),
     "a port's journals move with its number": (
         JOURNALS, "return links[0] if links else", "return", PARTS + "test_a_port_is_where_its_adapter_is_plugged_in"),
+    "a port takes the journals of one whose name begins with its own": (
+        JOURNALS, "os.path.realpath(os.path.join(BY_PATH, link)) == device)", "os.path.realpath(os.path.join(BY_PATH, link)).startswith(device))",
+        PARTS + "test_a_port_is_where_its_adapter_is_plugged_in"),
 
     # ---- waits, and the process inside
     "a wait of a port that isn't known is short": (
