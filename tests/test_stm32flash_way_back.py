@@ -1,9 +1,11 @@
 """line/stm32flash: the way back of writes and erases that changed nothing, and of calls that were stopped, also where other boards come to
 the port."""
 
+import contextlib
 import fcntl
 import os
 import subprocess
+import unittest.mock
 
 from place import COUNTING, ERASED, PATIENCE, TABLE
 from test_stm32flash_words import KEPT, NOTHING, STOPPED, WORDS, Words, module
@@ -245,3 +247,49 @@ class Nameless(Place):
         self.well("--undo")
         self.assertEqual(board.store(), COUNTING[:5120] + b"\x55" * 1024 + COUNTING[6144:])
         self.well("-r", "out")
+
+
+class Others(Place):
+    """What another user has put into a journal would be flashed by an undo."""
+
+    def setUp(self):
+        super().setUp()
+        self.keep(1, b"stmjournal 2 0412\n" + KEPT)
+        self.store(self.name("journal"), UNCHANGED)
+
+    def test_what_others_may_write_is_refused(self):
+        board = self.flash(COUNTING)
+        for name, mode, way in (("journal", 0o620, 0o600), ("kept-000001", 0o602, 0o600), ("", 0o770, 0o755), ("", 0o707, 0o1777)):
+            path = self.path(self.name(name)).rstrip("/")
+            os.chmod(path, mode)
+            for words in (("-w", "image"), ("--undo",), ("--log",)):
+                said = self.words("-m", "8n1", *words)
+                self.assertEqual((said.status, said.err.splitlines()[-1].decode()),
+                                 (1, f"ERROR: others may write {path}, and it isn't taken for a journal of yours: chmod go-w it, or remove it"))
+            os.chmod(path, way)
+            self.well("--log")
+        self.assertEqual(board.store(), COUNTING)
+        self.assertEqual(self.journals(), ["journal", "kept-000001"])
+        self.well("--undo")
+
+    def test_what_is_anothers_is_refused(self):
+        """Its user's is taken by root too, who was called by sudo."""
+        trusted, held = module("trusted"), unittest.mock.Mock(st_uid=1000, st_mode=0o100600)
+        for user, called, is_taken in ((1000, "", True), (1001, "1000", False), (0, "1000", True), (0, "1001", False), (0, "", False)):
+            with self.subTest(user=user, called=called), unittest.mock.patch.object(trusted.os, "geteuid", lambda: user), \
+                    unittest.mock.patch.object(trusted.os, "stat", lambda _: held), unittest.mock.patch.dict(os.environ, SUDO_UID=called):
+                with contextlib.nullcontext() if is_taken else self.assertRaisesRegex(module("fault").Fault, "is another user's"):
+                    trusted.refuse_others("journal")
+
+    def test_one_that_comes_from_another_port_is_looked_at_too(self):
+        other = os.path.join(os.path.dirname(self.folder_of_port()), "other")
+        os.mkdir(self.path(other))
+        self.store(os.path.join(other, "stopped-A1"), STOPPED.encode())
+        for name, mode in ((other, 0o777), (os.path.join(other, "stopped-A1"), 0o666)):
+            before = os.stat(self.path(name)).st_mode
+            os.chmod(self.path(name), mode)
+            said = self.words("--log")
+            self.assertEqual(said.status, 1)
+            self.assertIn(f"others may write {self.path(name)}, ".encode(), said.err)
+            os.chmod(self.path(name), before)
+        self.well("--log")

@@ -41,6 +41,8 @@ def module(name):
 class Words(LinePlace):
     def setUp(self):
         super().setUp()
+        # so that the journals that a test makes are its user's alone to write
+        self.addCleanup(os.umask, os.umask(0o022))
         os.mkdir(self.path("bin"))
         os.symlink(program(), self.path("bin/stmflash"))
 

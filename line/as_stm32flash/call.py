@@ -93,6 +93,7 @@ def refuse(asked, below):
 def show_log(board):
     """What can be undone at a port, the newest journal first."""
     journals = board.journals
+    journals.refuse_others()
     paths = [path for path in (journals.live, *reversed(journals.kept()), *journals.stopped()) if os.path.exists(path)]
     status, text = 0, ""
     for path in paths:

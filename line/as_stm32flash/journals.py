@@ -8,6 +8,7 @@ from .fault import Fault
 from .owner import owner_of
 from .patience import is_pty
 from .told import note
+from .trusted import refuse_others
 
 # how many of each board are kept that were put aside; and how many of all boards at a port, and how many bytes of them
 KEPT, MOST, ROOM = 8, 1000, 256 << 20
@@ -32,6 +33,13 @@ class Journals:
             os.makedirs(self.folder, mode=0o700, exist_ok=True)
         except OSError as error:
             raise Fault(f"ERROR: {error.filename}: {error.strerror}; journals are kept there") from None
+        self.refuse_others()
+
+    def refuse_others(self):
+        """A fault where another has put a journal here, or may; also at another port, from which one may come here."""
+        left = self.stopped()
+        for path in (self.folder, self.live, *self.kept(), *map(os.path.dirname, left), *left):
+            refuse_others(path)
 
     def kept(self):
         """The journals that were put aside, the newest last."""

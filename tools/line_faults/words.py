@@ -9,6 +9,7 @@ CALL, BOARD, WORDS, JOURNALS = (f"as_stm32flash/{name}.py" for name in ("call", 
 ACTIONS, IMAGE, LINE, PATIENCE = (f"as_stm32flash/{name}.py" for name in ("actions", "image", "line", "patience"))
 FILES, HANDED = "test_stm32flash_files.", "as_stm32flash/handed.py"
 UNCHANGED, SEGMENTS = "test_stm32flash_way_back.Unchanged.", "as_stm32flash/segments.py"
+OTHERS, TRUSTED = "test_stm32flash_way_back.Others.", "as_stm32flash/trusted.py"
 DEAD, NAMELESS = "test_stm32flash_way_back.Dead.", "test_stm32flash_way_back.Nameless."
 
 FAULTS = {
@@ -271,6 +272,28 @@ FAULTS = {
     "an undo of more than one is done again": (
         BOARD, "has_patience = count > 1 or self.is_unfinished()", "has_patience = self.is_unfinished()",
         PARTS + "test_what_was_stopped_is_waited_for"),
+    "a journal that others may write is taken": (
+        TRUSTED, "if held.st_mode & (stat.S_IWGRP | stat.S_IWOTH) and", "if held.st_mode & stat.S_IWOTH and",
+        OTHERS + "test_what_others_may_write_is_refused"),
+    "a sticky folder is refused": (
+        TRUSTED, " and not is_sticky:", ":", OTHERS + "test_what_others_may_write_is_refused"),
+    "one that was put aside may be written by others": (
+        JOURNALS, "(self.folder, self.live, *self.kept(), *map", "(self.folder, self.live, *map",
+        OTHERS + "test_what_others_may_write_is_refused"),
+    "the folder of journals may be written by others": (
+        JOURNALS, "(self.folder, self.live, *self.kept(), *map", "(self.live, *self.kept(), *map",
+        OTHERS + "test_what_others_may_write_is_refused"),
+    "a log is told of what others may write": (
+        CALL, "    journals.refuse_others()\n", "", OTHERS + "test_what_others_may_write_is_refused"),
+    "another user's journal is taken": (
+        TRUSTED, "    if held.st_uid not in own_users():\n", "    if held.st_uid < 0:\n", OTHERS + "test_what_is_anothers_is_refused"),
+    "root by sudo is refused their user's journal": (
+        TRUSTED, "    if own == {0}:\n", "    if not own:\n", OTHERS + "test_what_is_anothers_is_refused"),
+    "a journal of another port isn't looked at": (
+        JOURNALS, "*map(os.path.dirname, left), *left):", "*map(os.path.dirname, left)):",
+        OTHERS + "test_one_that_comes_from_another_port_is_looked_at_too"),
+    "a folder of another port isn't looked at": (
+        JOURNALS, "*map(os.path.dirname, left), *left):", "*left):", OTHERS + "test_one_that_comes_from_another_port_is_looked_at_too"),
     "a folder that can't be read counts as empty": (
         JOURNALS, "        except FileNotFoundError:\n            return []", "        except OSError:\n            return []",
         DROPPING + "test_a_folder_that_cant_be_read_isnt_taken_for_an_empty_one"),
