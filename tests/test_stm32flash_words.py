@@ -110,8 +110,10 @@ class Refusals(Words):
             (("-m", "8n1", "/dev/null"), "ERROR: -m 8n1: isn't there; 8e1 is, which the bootloader of every STM32 has"),
             (("-m", "9e1"), "Invalid serial mode"),
             (("-b", "12345"), "Invalid baud rate, valid options are:"),
-            (("-i", "5,-6"), "ERROR: -i 5: pins of the machine can't be moved; rts, dtr and brk can"),
-            (("-i", "rts:foo"), "ERROR: -i foo: no signal; rts, dtr and brk are"),
+            (("-i", "5,-06"), "ERROR: -i -06: no signal; rts, dtr, brk and numbers of GPIO lines are"),
+            (("-i", "rts:foo"), "ERROR: -i foo: no signal; rts, dtr, brk and numbers of GPIO lines are"),
+            (("-i", "5&6:5,7"), "ERROR: -i: GPIO line 7 is moved in the end alone; it has to be moved at the beginning too"),
+            (("-c", "-i", "5:5"), "ERROR: -i: GPIO line 5 is moved in the end alone; it has to be moved at the beginning too"),
             (("-r", "a", "-w", "image"), "ERROR: Invalid options !"),
             (("-u", "-k"), "ERROR: Invalid options !"),
             (("-w", "image", "--undo"), "ERROR: Invalid options !"),
@@ -725,15 +727,16 @@ class Parts(unittest.TestCase):
     def test_the_line_is_asked_for_with_both_sequences(self):
         call = module("call")
         asked = []
-        with unittest.mock.patch.object(call.line, "use", lambda *words: asked.append(words[1:4])), \
+        with unittest.mock.patch.object(call.line, "use", lambda *words: asked.append(words[1:5])), \
                 unittest.mock.patch.object(call.tools, "find", lambda _: module("tools").Tools("stmflash", "line", "chips")), \
                 unittest.mock.patch.object(call.chips, "read_table", lambda _: {}), \
                 unittest.mock.patch.object(call.Journals, "make", lambda _: None), \
-                unittest.mock.patch.dict(os.environ), contextlib.redirect_stdout(io.StringIO()):
-            for words in (("-b", "115200"), ("-i", "-rts,dtr:rts"), ("-i", "-rts,dtr"), ("-c", "-i", "-rts,dtr:rts")):
+                unittest.mock.patch.dict(os.environ, STM32FLASH_GPIO_CHIP="chip"), contextlib.redirect_stdout(io.StringIO()):
+            for words in (("-b", "115200"), ("-i", "-rts,dtr:rts"), ("-i", "-rts,dtr"), ("-c", "-i", "-rts,dtr:rts"), ("-i", "rts,4")):
                 call.outside("here", [*words, "/dev/ttyUSB0"])
-        self.assertEqual(asked, [("/dev/ttyUSB0", 115200, None),
-                                 *(("/dev/ttyUSB0", 57600, boot) for boot in ("-rts,dtr:rts", "-rts,dtr", ":rts"))])
+        self.assertEqual(asked, [("/dev/ttyUSB0", 115200, None, None),
+                                 *(("/dev/ttyUSB0", 57600, boot, None) for boot in ("-rts,dtr:rts", "-rts,dtr", ":rts")),
+                                 ("/dev/ttyUSB0", 57600, "rts,4", "chip")])
 
     def test_the_wait_is_what_is_known_of_the_port(self):
         patience = module("patience")

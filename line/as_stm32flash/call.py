@@ -15,6 +15,8 @@ from .told import Told, note, put
 
 # that the entry sequence of -i resets the board, which its user says
 RESETS = "STM32FLASH_RESETS"
+# the chip of the GPIO lines that -i moves, where it isn't the first
+CHIP = "STM32FLASH_GPIO_CHIP"
 # why a journal is refused that is another's, and what was at the port before
 OTHERS = {"journal belongs to another device": "a chip of another kind", "journal is of another board": "another board"}
 NEWEST = "the newest write or erase at this port"
@@ -74,12 +76,14 @@ def outside(program, given):
     leave = asked.leave()
     boot = None if asked.sequence is None else asked.entry() + ("" if leave is None else f":{leave}")
     patience = wait(os.environ.get("STMFLASH_WAIT"), asked.port, asked.baud)
-    return line.use(below.line, asked.port, asked.baud, boot,
+    chip = (os.environ.get(CHIP) or None) if sequence.gpio_lines(asked.entry()) else None
+    return line.use(below.line, asked.port, asked.baud, boot, chip,
                     lambda slowest: ended(lambda: inside(asked, below, table, patience, slowest)))
 
 
 def refuse(asked, below):
     """What can be seen without the board that it can't be done; the chips of the table."""
+    sequence.refuse_late(asked.entry(), asked.leave())
     if asked.mode != "8e1" and not is_pty(asked.port):
         raise Fault(f"ERROR: -m {asked.mode}: isn't there; 8e1 is, which the bootloader of every STM32 has")
     table = chips.read_table(below.tables)
@@ -150,8 +154,8 @@ def undo_first(board, asked):
     except Failed as fault:
         raise Fault(f"{fault}\nERROR: the journal of this port can't be read; it is {board.journals.live}") from None
     if asked.action in READING and owner_of(board.journals.live).board is None:
-        raise Fault("ERROR: an earlier call was stopped in the midst of a write, an erase or an undo at a board that doesn't tell which it is; "
-                    f"if it is the one that is there, stm32flash --undo {asked.port} undoes that")
+        raise Fault("ERROR: an earlier call was stopped in the midst of a write, an erase or an undo at a board that doesn't tell which "
+                    f"it is; if it is the one that is there, stm32flash --undo {asked.port} undoes that")
     note("an earlier call was stopped in the midst of a write, an erase or an undo: that is undone first")
     try:
         board.undo(fresh=was_reset(board, asked))

@@ -7,6 +7,7 @@ BY_NAME = REFUSED + "test_what_cant_be_is_refused_by_name_and_no_byte_is_sent"
 AT_REST = PARTS + "test_a_session_behind_another_waits_by_what_came"
 CALL, BOARD, WORDS, JOURNALS = (f"as_stm32flash/{name}.py" for name in ("call", "board", "words", "journals"))
 ACTIONS, IMAGE, LINE, PATIENCE = (f"as_stm32flash/{name}.py" for name in ("actions", "image", "line", "patience"))
+PINS, SEQUENCE = "test_line_gpio.InWords.", "as_stm32flash/sequence.py"
 FILES, HANDED = "test_stm32flash_files.", "as_stm32flash/handed.py"
 UNCHANGED, SEGMENTS = "test_stm32flash_way_back.Unchanged.", "as_stm32flash/segments.py"
 OTHERS, TRUSTED = "test_stm32flash_way_back.Others.", "as_stm32flash/trusted.py"
@@ -38,8 +39,18 @@ FAULTS = {
                                  PARTS + "test_the_line_is_asked_for_with_both_sequences"),
     "-c plays the entry sequence": (
         WORDS, 'return "" if self.resume else', "return", PARTS + "test_the_line_is_asked_for_with_both_sequences"),
-    "a pin of the machine is no word": (
-        "as_stm32flash/sequence.py", "        if name.isdigit():\n", "        if not name:\n", BY_NAME),
+    "a number that is no GPIO line is taken": (SEQUENCE, "0|[1-9][0-9]{0,4}", "[0-9]{1,5}", BY_NAME),
+    "a GPIO line is moved in the end alone": (
+        SEQUENCE, 'gpio_lines(leave or "") - gpio_lines(entry)', 'gpio_lines(entry) - gpio_lines(leave or "")', BY_NAME),
+    "a GPIO line is told as a signal of the port": (
+        SEQUENCE, 'kind = "gpio" if is_line(name)', 'kind = "gpio" if not name', PINS + "test_a_board_is_brought_in_and_out"),
+    "the lines of another chip are moved": (
+        CALL, "asked.baud, boot, chip,", "asked.baud, boot, None,", PINS + "test_a_board_is_brought_in_and_out"),
+    "a chip is named without lines": (
+        CALL, "if sequence.gpio_lines(asked.entry()) else None", "if asked.entry() else None",
+        PARTS + "test_the_line_is_asked_for_with_both_sequences"),
+    "a chip that is none ends in a traceback": (
+        LINE, "    except ValueError as error:\n", "    except TypeError as error:\n", PINS + "test_a_chip_that_is_none_is_refused"),
     "another serial mode is taken at a real port": (
         CALL, 'if asked.mode != "8e1" and not is_pty', 'if asked.mode == "" and not is_pty', BY_NAME),
     "a program in RAM is started": (
