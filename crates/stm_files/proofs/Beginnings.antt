@@ -6,7 +6,7 @@ use Rattle.std.specs.List.{list_all}
 use Rattle.std.specs.Io.KnownBytes.{Consumes, IsAtEnd}
 use Rattle.std.proofs.KnownBytes.{Consumes-trans}
 use Rattle.stm_journal.specs.Text.{Text, text_of, in_front, is_void}
-use Rattle.stm_files.specs.Beginning.{IsRead, ended, grown, is_said, longer, may_be_torn, no_bytes, unread, verdict}
+use Rattle.stm_files.specs.Beginning.{ReadsTo, ended, read_on, is_said, longer, may_be_torn, no_bytes, unread, is_other_at_end}
 use Rattle.stm_files.specs.NoJournal.{follows_to, has_word, is_filling, is_no_journal, is_other, is_torn, is_torn_from, may_stand, version_at}
 use Rattle.stm_files.specs.declared.beginning.Course.{Course}
 use Rattle.stm_files.specs.declared.beginning.Course.TheVariants.{Header, Torn, Other}
@@ -105,7 +105,7 @@ judged a line (l ∷ lines) tail =
     if (fold longer line l).is_marked then judged (a && may_be_torn (fold longer line l)) no_bytes lines tail
     else not (nat_le 11 (fold longer line l).at)
 
-said : (bytes : List ℕ) (x : Bool) → verdict (fold grown (Said x) bytes) ≡ not x
+said : (bytes : List ℕ) (x : Bool) → is_other_at_end (fold read_on (Said x) bytes) ≡ not x
 said [] x = refl
 said (b ∷ bytes) x = said bytes x
 
@@ -115,14 +115,14 @@ unfolding judged
 judged-front a line b [] tail = refl
 judged-front a line b (l ∷ lines) tail = refl
 
-judges : (bytes : List ℕ) (a : Bool) (line : LineStart) → verdict (fold grown (Void a line) bytes) ≡ judged a line (text_of bytes).lines (text_of bytes).tail
+judges : (bytes : List ℕ) (a : Bool) (line : LineStart) → is_other_at_end (fold read_on (Void a line) bytes) ≡ judged a line (text_of bytes).lines (text_of bytes).tail
 unfolding judged
 judges [] a line = refl
 judges (b ∷ bytes) a line =
     let t : Text = text_of bytes in
-    elim (b == 10) as (λ x. verdict (fold grown (if x then ended a line else Void a (longer line b)) bytes)
+    elim (b == 10) as (λ x. is_other_at_end (fold read_on (if x then ended a line else Void a (longer line b)) bytes)
     ≡ judged a line (if x then record { lines = [] ∷ t.lines; tail = t.tail } else in_front b t).lines (if x then record { lines = [] ∷ t.lines; tail = t.tail } else in_front b t).tail) [
-      | true ↦ elim line.is_marked as (λ m. verdict (fold grown (if m then Void (a && may_be_torn line) no_bytes else Said (nat_le 11 line.at)) bytes)
+      | true ↦ elim line.is_marked as (λ m. is_other_at_end (fold read_on (if m then Void (a && may_be_torn line) no_bytes else Said (nat_le 11 line.at)) bytes)
           ≡ (if m then judged (a && may_be_torn line) no_bytes t.lines t.tail else not (nat_le 11 line.at))) [
             | true ↦ judges bytes (a && may_be_torn line) no_bytes
             | false ↦ said bytes (nat_le 11 line.at)
@@ -164,30 +164,30 @@ judged-means (l ∷ lines) a tail =
     ]
 
 -- a file is told by all its bytes
-told : (bytes : List ℕ) → verdict (fold grown unread bytes) ≡ is_no_journal bytes
+told : (bytes : List ℕ) → is_other_at_end (fold read_on unread bytes) ≡ is_no_journal bytes
 told bytes = judges bytes true no_bytes ∙ judged-means (text_of bytes).lines true (text_of bytes).tail
 
 -- bytes more were read
-pub read-more : (a b c : Option (List ℕ)) (file : Beginning) (bytes : List ℕ) → IsRead a b file → Consumes b c bytes → IsRead a c (fold grown file bytes)
+pub read-more : (a b c : Option (List ℕ)) (file : Beginning) (bytes : List ℕ) → ReadsTo a b file → Consumes b c bytes → ReadsTo a c (fold read_on file bytes)
 read-more a b c file bytes is got =
-    (is.0 ++ bytes, Consumes-trans a b c is.0 bytes is.1 got, ap (λ f. fold grown f bytes) is.2 ∙ sym (fold-append grown unread is.0 bytes))
+    (is.0 ++ bytes, Consumes-trans a b c is.0 bytes is.1 got, ap (λ f. fold read_on f bytes) is.2 ∙ sym (fold-append read_on unread is.0 bytes))
 
-said-stays : (bytes : List ℕ) (file : Beginning) → is_said file ≡ true → verdict (fold grown file bytes) ≡ verdict file
+said-stays : (bytes : List ℕ) (file : Beginning) → is_said file ≡ true → is_other_at_end (fold read_on file bytes) ≡ is_other_at_end file
 said-stays bytes (Said x) is = said bytes x
 said-stays bytes (Void a line) is = absurd (true≢false (sym is))
 
-read-all : (had taken left : List ℕ) (file : Beginning) → had ≡ taken ++ left → file ≡ fold grown unread taken → verdict (fold grown file left) ≡ is_no_journal had
+read-all : (had taken left : List ℕ) (file : Beginning) → had ≡ taken ++ left → file ≡ fold read_on unread taken → is_other_at_end (fold read_on file left) ≡ is_no_journal had
 read-all had taken left file is from =
-    ap (λ f. verdict (fold grown f left)) from ∙ ap verdict (sym (fold-append grown unread taken left))
-    ∙ ap (λ bytes. verdict (fold grown unread bytes)) (sym is) ∙ told had
+    ap (λ f. is_other_at_end (fold read_on f left)) from ∙ ap is_other_at_end (sym (fold-append read_on unread taken left))
+    ∙ ap (λ bytes. is_other_at_end (fold read_on unread bytes)) (sym is) ∙ told had
 
 -- the first line that isn't void is read, or all is
-pub known-said : (a c : Option (List ℕ)) (file : Beginning) → IsRead a c file → is_said file ≡ true → IfSome a (λ had. verdict file ≡ is_no_journal had)
+pub known-said : (a c : Option (List ℕ)) (file : Beginning) → ReadsTo a c file → is_said file ≡ true → IfSome a (λ had. is_other_at_end file ≡ is_no_journal had)
 known-said None c file is said = tt
 known-said (Some had) None file is said = absurd is.1
 known-said (Some had) (Some left) file is said = sym (said-stays left file said) ∙ read-all had is.0 left file is.1 is.2
 
-pub known-whole : (a c : Option (List ℕ)) (file : Beginning) → IsRead a c file → IsAtEnd c → IfSome a (λ had. verdict file ≡ is_no_journal had)
+pub known-whole : (a c : Option (List ℕ)) (file : Beginning) → ReadsTo a c file → IsAtEnd c → IfSome a (λ had. is_other_at_end file ≡ is_no_journal had)
 known-whole None c file is end = tt
 known-whole (Some had) None file is end = absurd is.1
-known-whole (Some had) (Some left) file is end = ap (λ rest. verdict (fold grown file rest)) (sym end) ∙ read-all had is.0 left file is.1 is.2
+known-whole (Some had) (Some left) file is end = ap (λ rest. is_other_at_end (fold read_on file rest)) (sym end) ∙ read-all had is.0 left file is.1 is.2

@@ -50,14 +50,14 @@ ended are_torn line =
     else Said (nat_le 11 line.at)
 
 -- a byte more in the file
-abbrev pub grown : Beginning → ℕ → Beginning
-grown (Said has_word) b = Said has_word
-grown (Void are_torn line) b = if b == 10 then ended are_torn line else Void are_torn (longer line b)
+abbrev pub read_on : Beginning → ℕ → Beginning
+read_on (Said has_word) b = Said has_word
+read_on (Void are_torn line) b = if b == 10 then ended are_torn line else Void are_torn (longer line b)
 
 -- what a file is that ends here
-abbrev pub verdict : Beginning → Bool
-verdict (Said has_word) = not has_word
-verdict (Void are_torn line) = not (are_torn && may_be_torn line)
+abbrev pub is_other_at_end : Beginning → Bool
+is_other_at_end (Said has_word) = not has_word
+is_other_at_end (Void are_torn line) = not (are_torn && may_be_torn line)
 
 abbrev pub is_said : Beginning → Bool
 is_said (Said has_word) = true
@@ -68,5 +68,5 @@ abbrev pub unread : Beginning
 unread = Void true no_bytes
 
 -- so many bytes were taken of what a reader had, and this is what they come to
-abbrev pub IsRead : Option (List ℕ) → Option (List ℕ) → Beginning → Type 0
-IsRead had left file = (taken : List ℕ) × Consumes had left taken × (file ≡ fold grown unread taken)
+abbrev pub ReadsTo : Option (List ℕ) → Option (List ℕ) → Beginning → Type 0
+ReadsTo had left file = (taken : List ℕ) × Consumes had left taken × (file ≡ fold read_on unread taken)

@@ -5,10 +5,10 @@ use Rattle.std.specs.List.{list_all}
 use Rattle.stm_journal.specs.Entries.{is_upper_digit}
 use Rattle.stm_journal.specs.Text.{text_of, is_void}
 
--- a byte stands in this place of a header: its word, the version, the device's id and, in version 3
+-- a byte may have this place of a header: its word, the version, the device's id and, in version 3
 -- alone, its unique id; the version is known behind its place
-unfoldable pub stands : ℕ → ℕ → ℕ → Bool
-stands version at b =
+unfoldable pub has_place : ℕ → ℕ → ℕ → Bool
+has_place version at b =
     if nat_lt at 11 then b == get_or (codes "stmjournal ") at 0
     else if nat_lt at 12 then nat_le 49 b && nat_le b 51
     else if nat_lt at 13 then b == 32
@@ -18,7 +18,7 @@ stands version at b =
 
 -- the longest header has 82 bytes
 abbrev pub may_stand : ℕ → ℕ → ℕ → Bool
-may_stand version at b = nat_lt at 82 && stands version at b
+may_stand version at b = nat_lt at 82 && has_place version at b
 
 abbrev pub version_at : ℕ → ℕ → ℕ → ℕ
 version_at version at b = if at == 11 then b else version

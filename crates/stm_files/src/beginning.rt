@@ -2,9 +2,9 @@
 ghost use Rattle.std.specs.Prelude.{◌≡◌, ◌≤◌, ◌<◌, ◌&&◌, fold, length, take, IfOk, IfSome, OnOk, true, false};
 ghost use Rattle.std.specs.Io.KnownBytes.{Consumes, IsAtEnd};
 ghost use Rattle.stm_journal.specs.Entries.{is_upper_digit};
-ghost use Rattle.stm_files.specs.Beginning.{broken_by, ended, goes_on, grown, is_said, longer};
-ghost use Rattle.stm_files.specs.Beginning.{may_be_torn, no_bytes, unread, verdict};
-ghost use Rattle.stm_files.specs.NoJournal.{is_filling, is_no_journal, may_stand, stands};
+ghost use Rattle.stm_files.specs.Beginning.{broken_by, ended, goes_on, read_on, is_said, longer};
+ghost use Rattle.stm_files.specs.Beginning.{may_be_torn, no_bytes, unread, is_other_at_end};
+ghost use Rattle.stm_files.specs.NoJournal.{has_place, is_filling, is_no_journal, may_stand};
 
 use crate::unusable::Unusable;
 use std::io;
@@ -58,10 +58,10 @@ fn is_digit(c: u8) -> bool
     (48 <= c && c <= 57) || (65 <= c && c <= 70)
 }
 
-/// Whether a byte stands in this place of a header, whose version is known behind its place.
-#[tactic(auto, unfolding(crate::specs::NoJournal::stands))]
-fn stands(version: u8, at: u8, byte: u8) -> bool
-    ensures { result ≡ stands version at byte }
+/// Whether a byte may have this place of a header, whose version is known behind its place.
+#[tactic(auto, unfolding(crate::specs::NoJournal::has_place))]
+fn has_place(version: u8, at: u8, byte: u8) -> bool
+    ensures { result ≡ has_place version at byte }
 {
     if at < 11 {
         byte == WORD[at as usize]
@@ -104,7 +104,7 @@ impl LineStart {
         ensures room { result ≡ true → self.at < 82 }
     {
         match self.course {
-            Course::Header => self.at < LONGEST && stands(self.version, self.at, byte),
+            Course::Header => self.at < LONGEST && has_place(self.version, self.at, byte),
             _ => false,
         }
     }
@@ -164,7 +164,7 @@ impl Beginning {
 
     /// The file with a byte more.
     fn with_byte(self, byte: u8) -> Beginning
-        ensures { result ≡ grown self byte }
+        ensures { result ≡ read_on self byte }
     {
         match self {
             Beginning::Void(are_torn, line) if byte != b'\n' => {
@@ -177,7 +177,7 @@ impl Beginning {
 
     /// The file with these bytes more.
     fn with(self, more: &[u8]) -> Beginning
-        ensures { result ≡ fold grown self more.now }
+        ensures { result ≡ fold read_on self more.now }
     {
         more.iter().fold(self, |file, byte| file.with_byte(*byte))
     }
@@ -191,7 +191,7 @@ impl Beginning {
 
     /// Whether it is no journal, where it ends here.
     fn is_no_journal(self) -> bool
-        ensures { result ≡ verdict self }
+        ensures { result ≡ is_other_at_end self }
     {
         match self {
             Beginning::Void(are_torn, line) => !(are_torn && line.may_be_torn()),

@@ -1,7 +1,7 @@
 use Rattle.std.proofs.Common.{◌≡◌, ℕ, [], take, subst, sym, ◌∙◌, arith, IfSome, fold}
 use Rattle.std.proofs.lemmas.Grind.{common_steps}
 use Rattle.std.specs.Io.KnownBytes.{Consumes, IsAtEnd}
-use Rattle.stm_files.specs.Beginning.{IsRead, grown}
+use Rattle.stm_files.specs.Beginning.{ReadsTo, read_on}
 use Rattle.stm_files.specs.NoJournal.{is_no_journal}
 use Rattle.stm_files.specs.declared.beginning.Beginning.{Beginning}
 use Rattle.stm_files.proofs.Beginnings.{known-said, known-whole, read-more}
@@ -25,8 +25,8 @@ returns-then-is_said g c =
     let b = g.S.Read.remaining c.loop.source in
     let d = g.S.Read.remaining c.read_some.new.source in
     let bytes = take c.in_ok-count.count c.read_some.new.window in
-    let same : c.with-file.result ≡ fold grown c.loop.file bytes = grind (arith, common_steps, c.with-file.ensures) in
-    let F : Beginning → Type 0 = λ f. IsRead a d f in
+    let same : c.with-file.result ≡ fold read_on c.loop.file bytes = grind (arith, common_steps, c.with-file.ensures) in
+    let F : Beginning → Type 0 = λ f. ReadsTo a d f in
     let is = subst F (sym same) (read-more a b d c.loop.file bytes c.loop.invariant c.in_ok-count.ensures.taken) in
     let T : _ → Type 0 = λ x. IfSome a (λ told. x ≡ is_no_journal told) in
     subst T (sym c.is_no_journal-then-is_said.ensures) (known-said a d c.with-file.result is (sym c.is_said.ensures ∙ c.if-is_said.true))
@@ -37,6 +37,6 @@ loop-preserved g c =
     let b = g.S.Read.remaining c.loop.source in
     let d = g.S.Read.remaining c.read_some.new.source in
     let bytes = take c.in_ok-count.count c.read_some.new.window in
-    let same : c.with-file.result ≡ fold grown c.loop.file bytes = grind (arith, common_steps, c.with-file.ensures) in
-    let F : Beginning → Type 0 = λ f. IsRead a d f in
+    let same : c.with-file.result ≡ fold read_on c.loop.file bytes = grind (arith, common_steps, c.with-file.ensures) in
+    let F : Beginning → Type 0 = λ f. ReadsTo a d f in
     subst F (sym same) (read-more a b d c.loop.file bytes c.loop.invariant c.in_ok-count.ensures.taken)
