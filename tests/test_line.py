@@ -35,7 +35,7 @@ class Sessions(LinePlace):
     def test_a_fault_of_the_command_is_its_own(self):
         self.board()
         self.store("journal", b"no journal\n")
-        self.assertFault(self.through("info"), "bad journal line 1")
+        self.assertFault(self.through("info"), "journal is no journal: name another, or move it away")
 
     def test_a_silent_board_is_given_up(self):
         self.plain()

@@ -608,7 +608,7 @@ class Boards(Words):
         self.store(bad, b"nonsense\n")
         said = self.words("--log")
         self.assertEqual(said.status, 1)
-        self.assertIn(b"bad journal line 1: it can't be read\n", said.out)
+        self.assertIn(b"kept-000002 is no journal: name another, or move it away: it can't be read\n", said.out)
         self.assertIn(b"1 can be undone\n", said.out)
         board = self.reset(board)
         said = self.words("-m", "8n1", "--undo")
