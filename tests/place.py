@@ -121,9 +121,9 @@ class Place(unittest.TestCase):
         self.assertEqual((said.status, said.out), (2, b""))
         self.assertGreater(len(said.err), 10)
 
-    def assertTold(self, said, text):
-        """All was done, and just this was said."""
-        self.assertEqual(said, Said(0, text.encode(), b""))
+    def assertTold(self, said, text, note=None):
+        """All was done, and just this was said, with a note or without one."""
+        self.assertEqual(said, Said(0, text.encode(), f"note: {note}\n".encode() if note else b""))
 
     def assertSilent(self, said):
         """All was done, and nothing was said."""

@@ -28,6 +28,8 @@ class World:
     def __init__(self, table, files):
         self.table = table
         self.files = files
+        # what is told of the last use on standard error, if all of it was done
+        self.note = b""
 
     def copy(self):
         return World(self.table, dict(self.files))
@@ -97,7 +99,7 @@ class World:
             lines, fault, rig = self.once(use, image)
         except FAULTS as failed:
             lines, fault, rig = [], failed, None
-        return told(lines, fault, b""), rig
+        return told(lines, fault, b"", self.note), rig
 
     def check_new(self, use):
         """The journal is moved to a name that isn't there yet, none of the others, and can be made."""
@@ -106,14 +108,16 @@ class World:
 
     def once(self, use, image):
         """One session, and what follows it: the lines of what was done, the fault or none, and the rig or none."""
-        rig, lines = None, []
+        rig, lines, self.note = None, [], b""
         try:
             rig = Rig(self.device(use), self.files.get("J", b""), use.stop)
             if use.name == "undo" and "J" not in self.files:
                 raise Fault("cannot read J")
             board = self.ask(rig, use)
             table = self.table if board is None else board.table(self.table)
+            before = session.load(rig).stack if use.name == "undo" else []
             lines.append(do(rig, table, use, image, self.files, use.is_fresh and board is None))
+            self.note = note(use, lines[0], before)
             if use.name == "info" and board is not None:
                 lines.append(tell_board(board, session.find(table, board.number)))
             if use.name == "info":
@@ -169,7 +173,7 @@ class World:
                 fault = stays
         if fault is not None and not lines:
             err += stands(before, *self.standing())
-        return told(lines, fault, err), rig
+        return told(lines, fault, err, self.note), rig
 
 
 FAULTS = (Usage, Stopped, WireFault, Fault, ImageFault)
@@ -184,12 +188,26 @@ def text(fault):
     return session.DEVICE.encode() if isinstance(fault, WireFault) else str(fault).encode()
 
 
-def told(lines, fault, err):
+def told(lines, fault, err, note):
     """The exit status, standard output and standard error."""
     if fault is None:
-        return 0, b"".join(lines), err
+        return 0, b"".join(lines), err + note
     status = 2 if isinstance(fault, Usage) else 3 if isinstance(fault, Stopped) else 1
     return status, b"".join(lines), err + b"stmflash: %s\n" % text(fault)
+
+
+def note(use, line, before):
+    """What is told of a use beside its line, where it changed nothing; an undo found these segments."""
+    found = re.match(rb"segment ([0-9]+): 0 pages ", line)
+    if found and not use.keeps():
+        return b"note: segment %s changed nothing: there is nothing new to undo\n" % found[1]
+    if use.name != "undo":
+        return b""
+    left = len(before) - int(line.split()[1])
+    unchanged = [b"%d" % (left + k) for k, segment in enumerate(before[left:], 1) if not segment.kept]
+    many = b"s" if len(unchanged) > 1 else b""
+    told = b"note: segment%s %s had changed nothing; %d more can be undone\n" % (many, b", ".join(unchanged), left)
+    return told if unchanged else b""
 
 
 def stands(before, depth, is_unfinished):
@@ -334,7 +352,7 @@ def do(rig, table, use, image, files, is_fresh):
         (segment, count), = session.run(rig, table, [Erase(pages)])
         return b"segment %d: %d pages erased\n" % (segment, count)
     if use.name == "undo":
-        return b"undone %d\n" % session.undo(rig, table, use.count or 0, is_fresh)
+        return b"undone %d\n" % session.undo(rig, table, session.to_change(rig) if use.to_change else use.count or 0, is_fresh)
     if use.name == "go":
         session.go(rig, use.address)
     else:

@@ -320,6 +320,11 @@ def pages_at_work(journal, page):
     return [page, COMPANION] if page == 1 and journal.stack[-1].keeps(COMPANION) else [page]
 
 
+def to_change(rig):
+    """How many segments there are up to the newest that keeps a page; 0, which is all, where none does."""
+    return next((count for count, segment in enumerate(reversed(load(rig).stack), 1) if segment.kept), 0)
+
+
 def undo(rig, table, count, is_fresh=False):
     """How many segments were undone: the newest so many, or all where that is 0 or more than there are."""
     journal = load(rig)

@@ -229,7 +229,8 @@ def draw_task(chance, chip, flash, unfinished, is_gone, allowed, file):
     if name == "erase":
         return draw_erase(chance, chip), None
     if name == "undo":
-        return Use("undo", count=chance.choice((None, None, 0, 1, 1, 2, 100))), None
+        count = chance.choice((None, None, 0, 1, 1, 2, 100, "change"))
+        return Use("undo", to_change=True) if count == "change" else Use("undo", count=count), None
     if name == "leave":
         return draw_leave(chance, chip), None
     text, given = draw_image(chance, chip, flash)

@@ -18,6 +18,7 @@ class Use:
         self.pages = given.pop("pages", None)
         self.all = given.pop("all", False)
         self.count = given.pop("count", None)
+        self.to_change = given.pop("to_change", False)
         self.address = given.pop("address", None)
         self.kind = given.pop("kind", None)
         self.stop = given.pop("stop", None)
@@ -46,7 +47,7 @@ class Use:
                 found += [word, str(value)]
         for word, is_given in (("-f", self.force), ("-v", self.verify), ("--keep", self.keep), ("--hex", self.hex),
                                ("--skip-blank", self.skip_blank), ("--all", self.all), ("--no-board", self.no_board),
-                               ("--fresh", self.is_fresh)):
+                               ("--fresh", self.is_fresh), ("--to-change", self.to_change)):
             if is_given:
                 found.append(word)
         if self.range is not None:

@@ -63,10 +63,6 @@ needed_rule id = record (new_rule id) { required = true }
 abbrev pub repeated_rule : Text → Rule
 repeated_rule id = record (new_rule id) { action = Some Append }
 
--- a further word, which is this one where none is given
-abbrev pub default_rule : Text → Text → Rule
-default_rule id text = record (new_rule id) { defaults = text ∷ [] }
-
 -- a further word that `kinds` reads
 abbrev pub kind_rule : ValueParser → Rule
 kind_rule kinds = record (needed_rule (codes "KIND")) { parser = Some kinds }
@@ -161,9 +157,9 @@ behind_a_stop e = record e { wait = wait_behind_a_stop e.wait }
 
 abbrev pub undo_app : Environment → App
 undo_app e =
-    with_rule
+    with_rule (with_rule
     (with_rule (on_board (behind_a_stop e) (codes "undo")) (letter_rule (codes "check") 118))
-    (default_rule (codes "COUNT") (codes "0"))
+    (flag_rule (codes "to-change"))) (new_rule (codes "COUNT"))
 
 -- a subcommand that reads a journal and uses no device
 abbrev pub on_journal : Environment → Text → App

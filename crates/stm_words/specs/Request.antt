@@ -1,11 +1,13 @@
 -- What the words ask for.
-use Rattle.std.specs.Prelude.{◌≡◌, ◌||◌, ◌%◌, ◌≤◌, ℕ, Bool, IfSome, IsSome, List, [], Option, None, Some}
+use Rattle.std.specs.Prelude.{◌≡◌, ◌⊎◌, ◌||◌, ◌%◌, ◌≤◌, ℕ, Bool, IfSome, IsSome, List, [], Option, None, Some}
 use Rattle.std.specs.Prelude.{codes, false, map, option_and_then, option_map, true, unwrap_or}
 use Rattle.clap.specs.Matches.{first_value, matched_of, one_text, raw_values}
 use Rattle.clap.specs.declared.parser.matches.Found.{Found}
 use Rattle.stm_words.specs.declared.device.Device.{Device}
 use Rattle.stm_words.specs.declared.device.Device.TheVariants.{Simulator, Socket}
 use Rattle.stm_words.specs.declared.environment.Environment.{Environment}
+use Rattle.stm_words.specs.declared.extent.Extent.{Extent}
+use Rattle.stm_words.specs.declared.extent.Extent.TheVariants.{Newest, ToChange}
 use Rattle.stm_words.specs.declared.image_file.ImageFile.{ImageFile}
 use Rattle.stm_words.specs.declared.kept.Kept.{Kept}
 use Rattle.stm_words.specs.declared.range.Range.{Range}
@@ -55,7 +57,7 @@ IsErase given (ReadHex range out skips) = ⊥
 IsErase given (Sum range) = ⊥
 IsErase given (Write image verifies) = ⊥
 IsErase given (Verify image) = ⊥
-IsErase given (Undo count verifies) = ⊥
+IsErase given (Undo extent verifies) = ⊥
 IsErase given (Go address) = ⊥
 IsErase given (Protect kind is_sure in_session) = ⊥
 
@@ -70,7 +72,7 @@ IsReadWord given (Info is_raw) = ⊥
 IsReadWord given (Sum range) = ⊥
 IsReadWord given (Write image verifies) = ⊥
 IsReadWord given (Verify image) = ⊥
-IsReadWord given (Undo count verifies) = ⊥
+IsReadWord given (Undo extent verifies) = ⊥
 IsReadWord given (Go address) = ⊥
 IsReadWord given (Protect kind is_sure in_session) = ⊥
 
@@ -89,7 +91,7 @@ IsProtect given (Sum range) = ⊥
 IsProtect given (Write image verifies) = ⊥
 IsProtect given (Verify image) = ⊥
 IsProtect given (Erase is_all pages) = ⊥
-IsProtect given (Undo count verifies) = ⊥
+IsProtect given (Undo extent verifies) = ⊥
 IsProtect given (Go address) = ⊥
 
 -- it is done only on a device that is said to be fresh from reset
@@ -115,6 +117,17 @@ IsKeepWord e given kept = (first_value given (codes "journal") ≡ Some kept.jou
     × NamesNewest given kept.last × (IsSome kept.last → kept.to ≡ None)
     × IsFlagOr e.without_lock given (codes "no-lock") kept.without_lock
 
+-- how many `undo` names; 0, which is all, where no word says it
+abbrev pub NamesCount : Found → ℕ → Type 0
+NamesCount given count = (option_and_then word_number (first_value given (codes "COUNT")) ≡ Some count)
+    ⊎ ((first_value given (codes "COUNT") ≡ None) × (count ≡ 0))
+
+-- how far back `undo` goes: so many, or to the newest change
+abbrev pub NamesExtent : Found → Extent → Type 0
+NamesExtent given (Newest count) = IsFlag given (codes "to-change") false × NamesCount given count
+NamesExtent given ToChange = IsFlag given (codes "to-change") true
+    × (first_value given (codes "COUNT") ≡ None)
+
 -- the subcommand of this name, with these words, asks for this
 abbrev pub IsTask : List ℕ → Found → Task → Type 0
 IsTask name given (Info is_raw) = (name ≡ codes "info") × IsFlag given (codes "raw") is_raw
@@ -127,10 +140,8 @@ IsTask name given (Write image verifies) =
     (name ≡ codes "write") × IsImageFile given image × IsFlag given (codes "check") verifies
 IsTask name given (Verify image) = (name ≡ codes "verify") × IsImageFile given image
 IsTask name given (Erase is_all pages) = (name ≡ codes "erase") × IsErase given (Erase is_all pages)
-IsTask name given (Undo count verifies) =
-    (name ≡ codes "undo")
-    × (option_and_then word_number (first_value given (codes "COUNT")) ≡ Some count)
-    × IsFlag given (codes "check") verifies
+IsTask name given (Undo extent verifies) =
+    (name ≡ codes "undo") × NamesExtent given extent × IsFlag given (codes "check") verifies
 IsTask name given (Go address) =
     (name ≡ codes "go")
     × (option_and_then word_number (first_value given (codes "ADDRESS")) ≡ Some address)

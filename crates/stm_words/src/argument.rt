@@ -1,7 +1,7 @@
 // The options and further words of which subcommands are made, for `clap`.
 ghost use Rattle.std.specs.Prelude.{◌≡◌, false, option_map};
 ghost use Rattle.clap.specs.Words.{new_rule, rule_of};
-ghost use Rattle.stm_words.specs.CommandSet.{TakesKinds, default_option_rule, default_rule};
+ghost use Rattle.stm_words.specs.CommandSet.{TakesKinds, default_option_rule};
 ghost use Rattle.stm_words.specs.CommandSet.{flag_rule, kind_rule, letter_rule, needed_option_rule};
 ghost use Rattle.stm_words.specs.CommandSet.{needed_rule, option_rule, range_rule, repeated_option_rule, repeated_rule};
 ghost use Rattle.stm_words.specs.CommandSet.{spare_option_rule, standing_option_rule};
@@ -137,14 +137,6 @@ pub fn repeated<'a>(alloc: Global, id: &'a str, help: &'a str) -> Arg<'a>
     ensures local { result.global ≡ false }
 {
     Arg::new(alloc, id).action(ArgAction::Append).help(help)
-}
-
-/// A further word, with a value where it is not given.
-pub fn optional<'a>(alloc: Global, id: &'a str, text: &'a str, help: &'a str) -> Arg<'a>
-    ensures rule { rule_of result ≡ default_rule id.entry.now text.entry.now }
-    ensures local { result.global ≡ false }
-{
-    Arg::new(alloc, id).default_value(text).help(help)
 }
 
 /// A further word, which may be left out.

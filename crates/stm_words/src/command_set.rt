@@ -8,7 +8,7 @@ ghost use Rattle.stm_words.specs.CommandSet.{wait_word, with_places, with_table,
 ghost use Rattle.stm_words.specs.CommandSet.{write_app};
 
 use crate::argument::{
-    default_option, flag, kind, letter, needed, needed_option, option, optional, range, repeated,
+    default_option, flag, kind, letter, needed, needed_option, option, range, repeated,
     repeated_option, spare, spare_option, standing_option,
 };
 use crate::environment::Environment;
@@ -201,7 +201,8 @@ fn undo<'a>(alloc: Global, environment: Environment<'a>) -> Result<Command<'a>, 
 {
     on_board(alloc, behind_a_stop(environment), "undo", help::UNDO)?
         .arg(letter(alloc, "check", 'v', help::UNDO_CHECK))?
-        .arg(optional(alloc, "COUNT", "0", help::COUNT))
+        .arg(flag(alloc, "to-change", help::TO_CHANGE))?
+        .arg(spare(alloc, "COUNT", help::COUNT))
 }
 
 /// A subcommand that reads a journal and uses no device.

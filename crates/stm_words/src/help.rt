@@ -115,7 +115,10 @@ pub const PAGE: &str = "The numbers of pages, counted from 0, or ranges of them,
 pub const UNDO_CHECK: &str =
     "Reads each page again that was given back, in the same session, and compares it";
 
-pub const COUNT: &str = "How many writes and erases, the newest first; 0: all";
+pub const TO_CHANGE: &str =
+    "In place of COUNT: up to the newest write or erase that changed something, that one too";
+
+pub const COUNT: &str = "How many writes and erases, the newest first; 0, or without it: all";
 
 pub const ADDRESS: &str = "Where to go on: 0x and hexadecimal digits, or a decimal number";
 

@@ -6,6 +6,7 @@ mod board_digits;
 mod command_set;
 mod device;
 mod environment;
+mod extent;
 mod given;
 mod help;
 mod image_file;
@@ -29,6 +30,7 @@ mod words;
 
 pub use device::Device;
 pub use environment::Environment;
+pub use extent::Extent;
 pub use image_file::ImageFile;
 pub use json::wants_json;
 pub use kept::Kept;

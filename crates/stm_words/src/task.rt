@@ -3,6 +3,7 @@ ghost use Rattle.std.specs.Prelude.{◌≡◌, IfOk};
 ghost use Rattle.clap.specs.Words.{found_of};
 ghost use Rattle.stm_words.specs.Request.{IsErase, IsProtect, IsReadWord, IsTask, wants_fresh};
 
+use crate::extent::Extent;
 use crate::given::{flag, number, pages, range, word, word_range};
 use crate::image_file::ImageFile;
 use crate::range::Range;
@@ -43,10 +44,10 @@ pub enum Task<'a> {
         is_all: bool,
         pages: Vec<u16>,
     },
-    /// Undoes so many writes and erases, or, at 0, all, and reads what it gave back again where
-    /// that is asked for.
+    /// Undoes writes and erases as far back as is said, and reads what it gave back again where that
+    /// is asked for.
     Undo {
-        count: u32,
+        extent: Extent,
         verifies: bool,
     },
     /// Lets the device run what stands at this address.
@@ -79,7 +80,7 @@ impl<'a> Task<'a> {
             "verify" => Ok(Task::Verify(ImageFile::parse(given)?)),
             "erase" => Task::parse_erase(alloc, given),
             "undo" => Ok(Task::Undo {
-                count: number(given, "COUNT")?,
+                extent: Extent::parse(given)?,
                 verifies: flag(given, "check"),
             }),
             "go" => Ok(Task::Go(number(given, "ADDRESS")?)),

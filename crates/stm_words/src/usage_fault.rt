@@ -53,6 +53,9 @@ pub enum UsageFault<'a> {
     /// A journal is to be cut, and to go to another name.
     #[error("usage: give TO or --last, not both")]
     LastTakesNoName,
+    /// An undo is to go back to the newest change, and so many.
+    #[error("usage: give COUNT or --to-change, not both")]
+    ChangeTakesNoCount,
     /// A part that isn't whole words is to be summed up.
     #[error("usage: {0} is not whole words of 4 bytes")]
     NotWholeWords(&'a str),

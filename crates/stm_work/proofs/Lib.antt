@@ -6,6 +6,7 @@ pub mod Tried
 pub mod TablesOver
 pub mod JsonLists
 pub mod Finished
+pub mod Unchanged
 pub mod WatchedWork
 mod TextParts
 mod UpperHex

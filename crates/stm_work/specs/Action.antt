@@ -29,6 +29,7 @@ use Rattle.stm_session.specs.Unprotecting.{IsUnprotected, IsUnprotecting, Unprot
 use Rattle.stm_session.specs.Promises.{UndoContract}
 use Rattle.stm_session.specs.Refusal.{RefusesUnsent, open_refusal}
 use Rattle.stm_session.specs.Sending.{IsLeaving, SendsAsUndo, is_whole_at}
+use Rattle.stm_words.specs.declared.extent.Extent.{Extent}
 use Rattle.stm_words.specs.declared.image_file.ImageFile.{ImageFile}
 use Rattle.stm_words.specs.declared.task.Task.{Task}
 use Rattle.stm_words.specs.declared.task.Task.TheVariants as task
@@ -40,19 +41,21 @@ use Rattle.stm_work.specs.declared.answer.Answer.{Answer}
 use Rattle.stm_work.specs.declared.answer.Answer.TheVariants as answer
 use Rattle.stm_work.specs.declared.content.Content.{Content}
 use Rattle.stm_work.specs.declared.failure.Failure.{Failure}
+use Rattle.stm_work.specs.declared.way_back.WayBack.{WayBack}
 use Rattle.stm_work.specs.declared.failure.Failure.TheVariants.{Session}
 use Rattle.stm_work.specs.Conduct.{PromisesInfo, AsksThenGoesOn, ErasesAll, Identifies, RunsIfRoom, RunsTold}
 use Rattle.stm_work.specs.Content.{ComesOf, ImageOn, IsCopy, is_hex}
 use Rattle.stm_work.specs.Protections.{protection_of}
 use Rattle.stm_work.specs.ReadingFor.{ReadsAsHex, SumsUp}
 use Rattle.stm_work.specs.Reading.{ReadsRange}
+use Rattle.stm_work.specs.WayBack.{FindsWay, beside_way, undo_of}
 
 -- some bytes mean it, by the words that name the image's file
 abbrev pub ComesOfFile : ImageFile → Content → Type 0
 ComesOfFile image content = (bytes : List ℕ)
     × ComesOf (is_hex image.is_raw bytes) image.range bytes (Ok content)
 
--- the action that a task asks for
+-- the action that a task asks for; of an undo the journal says which it is
 abbrev pub IsFor : Task → Action → Type 0
 IsFor (task.Info is_raw) does = does ≡ action.Info
 IsFor (task.Read range out) does = does ≡ action.Read range
@@ -66,8 +69,7 @@ IsFor (task.Verify image) does = (content : Content) × (does ≡ action.Verify 
     × ComesOfFile image content
 IsFor (task.Erase true pages) does = does ≡ action.EraseAll
 IsFor (task.Erase false pages) does = does ≡ action.Erase pages
-IsFor (task.Undo count true) does = does ≡ action.UndoVerified count
-IsFor (task.Undo count false) does = does ≡ action.Undo count
+IsFor (task.Undo extent verifies) does = ⊥
 IsFor (task.Go address) does = does ≡ action.Go address
 IsFor (task.Protect word is_sure true) does =
     (does ≡ action.UnprotectFresh) × (protection_of word.now ≡ Some WriteUnprotect)
@@ -230,7 +232,25 @@ DoesAction view table (action.Protect kind) old new result =
 DoesAction view table action.UnprotectFresh old new result =
     Calls (λ done. answer.Nothing) (λ a b said. Unprotects (view a) (view b) said) old new result
 
--- What is done on a device: the question that needs no table, or an action.
+-- What an undo answers is handed on, with what the journal said before it.
+abbrev pub HandsOnBeside : WayBack → Result Answer Failure → Result Answer Failure → Type 0
+HandsOnBeside way (Ok told) result = result ≡ Ok (beside_way way told)
+HandsOnBeside way (Err failure) result = result ≡ Err failure
+
+-- The journal is read first, and says how many of the newest segments are undone by an undo that goes
+-- back so far. Where it can't be read, nothing more is called.
+pub record UndoesBack {R : Type 0} (view : R → RigState) (table : List ChipData) (extent : Extent)
+    (verifies is_fresh : Bool) (old new : R) (result : Result Answer Failure) : Type 0 where
+  pub mid : R
+  pub found : Result WayBack Fault
+  pub finds : FindsWay extent (view old) (view mid) found
+  pub goes_on : MatchResult found (λ way. (said : Result Answer Failure)
+      × DoesAction view table (undo_of way.count verifies is_fresh) mid new said
+      × HandsOnBeside way said result)
+      (λ fault. (new ≡ mid) × (result ≡ Err (Session fault)))
+
+-- What is done on a device: the question that needs no table, an undo as far back as is said, or an
+-- action.
 abbrev pub Works : {R : Type 0} → (R → RigState) → List ChipData → Work → R → R
     → Result Answer Failure → Type 0
 Works view table work.Identify old new result =
@@ -239,6 +259,8 @@ Works view table (work.Sum range) old new result =
     (said : Result Answer Fault) × ReadsRange view table range old new said × SumsUp said result
 Works view table (work.ReadHex range skips) old new result =
     AsksThenGoesOn view table (λ fault. Session fault) (ReadsAsHex view table range skips) old new result
+Works view table (work.Undo extent verifies is_fresh) old new result =
+    UndoesBack view table extent verifies is_fresh old new result
 Works view table (work.Act does) old new result = DoesAction view table does old new result
 
 -- What is done again is a write, of the same image; nothing else is.

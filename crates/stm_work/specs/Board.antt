@@ -145,6 +145,7 @@ asking_of (work.Act (action.Undo count)) = OfBegun
 asking_of (work.Act (action.UndoFresh count)) = OfBegun
 asking_of (work.Act (action.UndoVerified count)) = OfBegun
 asking_of (work.Act (action.UndoVerifiedFresh count)) = OfBegun
+asking_of (work.Undo extent verifies is_fresh) = OfBegun
 asking_of other = OfFinished
 
 -- whether, and beside which journals, the device of a work is asked: never one that is said to be
@@ -158,4 +159,5 @@ asking_if false work = None
 abbrev pub once_asked : Work → Work
 once_asked (work.Act (action.UndoFresh count)) = work.Act (action.Undo count)
 once_asked (work.Act (action.UndoVerifiedFresh count)) = work.Act (action.UndoVerified count)
+once_asked (work.Undo extent verifies is_fresh) = work.Undo extent verifies false
 once_asked other = other

@@ -3,6 +3,7 @@ use Rattle.std.specs.Prelude.{ℕ, ◌/◌, ◌%◌, ◌+◌, ◌==◌, List, []
 use Rattle.std.specs.Prelude.{codes, decimal}
 use Rattle.std.specs.Prelude.{if◌then◌else◌, nat_lt}
 use Rattle.std.specs.List.{flat_map}
+use Rattle.stm_work.specs.Numbers.{numbers_text}
 
 -- a digit in base 16, in small letters
 abbrev pub hex_digit : ℕ → ℕ
@@ -58,6 +59,12 @@ list_from mark (text ∷ texts) = mark ∷ (text_value text ++ list_from 0x2C te
 abbrev pub lines_member : List ℕ → List ℕ → List ℕ
 lines_member name text =
     0x2C ∷ (text_value name ++ (0x3A ∷ list_from 0x5B (lines_from [] text)))
+
+-- a member whose value is a list of numbers, behind another
+abbrev pub numbers_member : List ℕ → List ℕ → List ℕ
+numbers_member name numbers =
+    0x2C ∷ (text_value name
+    ++ (0x3A ∷ (0x5B ∷ (numbers_text (0x2C ∷ []) numbers ++ 0x5D ∷ []))))
 
 -- an object that begins with this member
 abbrev pub object_of : List ℕ → List ℕ → List ℕ

@@ -24,6 +24,9 @@ pub mod Steps
 pub mod ToldJson
 pub mod TriedBoards
 pub mod Watching
+pub mod WayBack
+pub mod Numbers
+pub mod ChangeNote
 pub mod DeviceJson
 pub mod DeviceText
 pub mod Printing

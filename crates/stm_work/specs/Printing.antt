@@ -1,6 +1,6 @@
 -- The text that each answer of the program is told by on standard output: lines, each ended by LF.
 use Rattle.std.specs.Prelude.{ℕ, ◌==◌, List, [], ◌++◌, codes, decimal}
-use Rattle.std.specs.Prelude.{Some, None, if◌then◌else◌, string_bytes}
+use Rattle.std.specs.Prelude.{Option, Some, None, if◌then◌else◌, string_bytes}
 use Rattle.stm_session.specs.declared.asking_board.Board.{Board}
 use Rattle.stm_work.specs.declared.answer.Answer.{Answer}
 use Rattle.stm_work.specs.declared.answer.Answer.TheVariants as answer
@@ -30,10 +30,6 @@ abbrev pub sum_text : ℕ → List ℕ
 sum_text crc = line_of_text (codes "crc " ++ upper_hex 8 crc)
 
 -- how many segments were undone
-abbrev pub undone_text : ℕ → List ℕ
-undone_text count = line_of_text (codes "undone " ++ decimal count)
-
--- the same, without the line's end
 abbrev pub undone_head : ℕ → List ℕ
 undone_head count = codes "undone " ++ decimal count
 
@@ -44,6 +40,11 @@ behind_text bytes = codes ", " ++ decimal bytes
 -- and what that was
 abbrev pub again_text : List ℕ
 again_text = line_of_text (codes " bytes verified")
+
+-- the line of an undo, with those bytes where that is told
+abbrev pub undone_text : ℕ → Option ℕ → List ℕ
+undone_text count None = line_of_text (undone_head count)
+undone_text count (Some bytes) = undone_head count ++ behind_text bytes ++ again_text
 
 -- how many segments stay
 abbrev pub kept_text : ℕ → List ℕ
@@ -74,9 +75,9 @@ answer_text (answer.WrittenAndVerified segment pages bytes) =
     written_text segment pages ++ verified_text bytes
 answer_text (answer.Verified bytes) = verified_text bytes
 answer_text (answer.Erased segment pages) = erased_text segment pages
-answer_text (answer.Undone count) = undone_text count
-answer_text (answer.UndoneAndVerified count bytes) =
-    undone_head count ++ behind_text bytes ++ again_text
+answer_text (answer.Undone count) = undone_text count None
+answer_text (answer.UndoneAndVerified count bytes) = undone_text count (Some bytes)
+answer_text (answer.UndoneBeside count bytes unchanged left) = undone_text count bytes
 answer_text (answer.Logged text) = text.items
 answer_text (answer.Kept count) = kept_text count
 answer_text (answer.KeptBut count left) = kept_text count ++ left_text left

@@ -8,9 +8,14 @@ use Rattle.stm_work.specs.declared.hint.Hint.{Hint}
 use Rattle.stm_work.specs.declared.steps.Steps.{Steps}
 use Rattle.stm_work.specs.DeviceJson.{board_members, info_members, told_members}
 use Rattle.stm_work.specs.HintTold.{told_done}
-use Rattle.stm_work.specs.JsonLine.{line_end, lines_member, number_member, object_of}
-use Rattle.stm_work.specs.JsonLine.{text_member}
+use Rattle.stm_work.specs.JsonLine.{line_end, lines_member, number_member, numbers_member}
+use Rattle.stm_work.specs.JsonLine.{object_of, text_member}
 use Rattle.stm_work.specs.UpperHex.{upper_hex}
+
+-- the name of an undo, by whether bytes were read again
+abbrev pub undone_name : Option ℕ → List ℕ
+undone_name None = codes "undone"
+undone_name (Some bytes) = codes "undone_and_verified"
 
 -- the name of an answer, wherever programs read it
 abbrev pub answer_name : Answer → List ℕ
@@ -27,6 +32,7 @@ answer_name (answer.Verified bytes) = codes "verified"
 answer_name (answer.Erased segment pages) = codes "erased"
 answer_name (answer.Undone count) = codes "undone"
 answer_name (answer.UndoneAndVerified count bytes) = codes "undone_and_verified"
+answer_name (answer.UndoneBeside count bytes unchanged left) = undone_name bytes
 answer_name (answer.Logged text) = codes "log"
 answer_name (answer.Kept count) = codes "kept"
 answer_name (answer.KeptBut count left) = codes "kept"
@@ -35,6 +41,12 @@ answer_name (answer.KeptBut count left) = codes "kept"
 abbrev pub change_members : ℕ → ℕ → List ℕ
 change_members segment pages =
     number_member (codes "segment") segment ++ number_member (codes "pages") pages
+
+-- how many segments were undone, and how many bytes were read again, where that is told
+abbrev pub undone_members : ℕ → Option ℕ → List ℕ
+undone_members count None = number_member (codes "count") count
+undone_members count (Some bytes) =
+    number_member (codes "count") count ++ number_member (codes "bytes") bytes
 
 -- what an answer tells
 abbrev pub members_of : Answer → List ℕ
@@ -53,8 +65,9 @@ members_of (answer.WrittenAndVerified segment pages bytes) =
 members_of (answer.Verified bytes) = number_member (codes "bytes") bytes
 members_of (answer.Erased segment pages) = change_members segment pages
 members_of (answer.Undone count) = number_member (codes "count") count
-members_of (answer.UndoneAndVerified count bytes) =
-    number_member (codes "count") count ++ number_member (codes "bytes") bytes
+members_of (answer.UndoneAndVerified count bytes) = undone_members count (Some bytes)
+members_of (answer.UndoneBeside count bytes unchanged left) =
+    undone_members count bytes ++ numbers_member (codes "unchanged") unchanged.items
 members_of (answer.Logged text) = lines_member (codes "lines") text.items
 members_of (answer.Kept count) = number_member (codes "count") count
 members_of (answer.KeptBut count left) =

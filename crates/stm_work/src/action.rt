@@ -1,6 +1,7 @@
 // What is done on a device, over any Rig.
 ghost use Rattle.std.specs.Prelude.{◌≡◌, IfOk};
 ghost use Rattle.stm_work.specs.Action.{DoesAction, IsFor, on_fresh, told_returned};
+ghost use Rattle.stm_work.specs.WayBack.{undo_of};
 
 use crate::answer::Answer;
 use crate::changing::{erase, erase_all, verify, write, write_and_verify};
@@ -53,7 +54,7 @@ pub enum Action {
 }
 
 impl Action {
-    /// What a task asks for. The file of an image is read.
+    /// What a task asks for, but an undo. The file of an image is read.
     pub fn of<'a, R: Files + AllocGlobal>(rt: &R, task: Task<'a>) -> Result<Action, Failure<'a>>
         ensures { IfOk result (IsFor task.entry) }
     {
@@ -76,11 +77,8 @@ impl Action {
             } else {
                 Action::Erase(pages)
             }),
-            Task::Undo { count, verifies } => Ok(if verifies {
-                Action::UndoVerified(count)
-            } else {
-                Action::Undo(count)
-            }),
+            // how many it undoes is known once the journal was read
+            Task::Undo { .. } => Err(Failure::Usage(UsageFault::UnknownWords)),
             Task::Go(address) => Ok(Action::Go(address)),
             Task::Protect {
                 kind,
@@ -91,6 +89,18 @@ impl Action {
                 (Some(Protection::WriteUnprotect), true) => Ok(Action::UnprotectFresh),
                 _ => Err(Failure::Usage(UsageFault::UnknownWords)),
             },
+        }
+    }
+
+    /// The undo of so many, which may be verified, of a device that may be said to be fresh from reset.
+    pub fn undo_of(count: u32, verifies: bool, is_fresh: bool) -> Action
+        ensures { result ≡ undo_of count verifies is_fresh }
+    {
+        match (verifies, is_fresh) {
+            (true, true) => Action::UndoVerifiedFresh(count),
+            (true, false) => Action::UndoVerified(count),
+            (false, true) => Action::UndoFresh(count),
+            (false, false) => Action::Undo(count),
         }
     }
 

@@ -68,6 +68,14 @@ pub enum Answer {
         count: u32,
         bytes: u64,
     },
+    /// The same, where bytes were read again; and which of them had changed nothing, by their numbers,
+    /// and how many can still be undone.
+    UndoneBeside {
+        count: u32,
+        bytes: Option<u64>,
+        unchanged: Vec<u32>,
+        left: u32,
+    },
     /// What a journal says, in lines.
     Logged(Vec<u8>),
     /// How many segments stay.
@@ -145,10 +153,11 @@ impl Answer {
             Answer::Sum(crc) => print_sum(*crc, out),
             Answer::Verified(bytes) => print_verified(*bytes, out),
             Answer::Erased { segment, pages } => print_erased(*segment, *pages, out),
-            Answer::Undone(count) => print_undone(*count, out),
+            Answer::Undone(count) => print_undone(*count, None, out),
             Answer::UndoneAndVerified { count, bytes } => {
-                print_undone_and_verified(*count, *bytes, out)
+                print_undone(*count, Some(*bytes), out)
             }
+            Answer::UndoneBeside { count, bytes, .. } => print_undone(*count, *bytes, out),
             Answer::Kept(count) => print_kept(*count, out),
             Answer::KeptBut { count, left } => print_kept_but(*count, *left, out),
             Answer::Logged(bytes) | Answer::Bytes(bytes) => out.write_all(bytes.as_slice()),
@@ -224,21 +233,17 @@ fn print_erased<O: Write>(segment: u32, pages: u32, out: &mut O) -> io::Result<(
     writeln!(out, "segment {segment}: {pages} pages erased")
 }
 
-/// Prints the line of an undo.
-fn print_undone<O: Write>(count: u32, out: &mut O) -> io::Result<()>
+/// Prints the line of an undo, which may have been verified.
+#[tactic(auto, using(crate::proofs::TextParts::ends))]
+fn print_undone<O: Write>(count: u32, bytes: Option<u64>, out: &mut O) -> io::Result<()>
     ensures { OnOk result (Appends (O.contents out.old) (O.contents out.new)
-        (undone_text count)) }
-{
-    writeln!(out, "undone {count}")
-}
-
-/// Prints the line of an undo that was verified.
-fn print_undone_and_verified<O: Write>(count: u32, bytes: u64, out: &mut O) -> io::Result<()>
-    ensures { OnOk result (Appends (O.contents out.old) (O.contents out.new)
-        (undone_head count ++ behind_text bytes ++ again_text)) }
+        (undone_text count bytes)) }
 {
     print_undone_head(count, out)?;
-    print_again(bytes, out)
+    match bytes {
+        Some(bytes) => print_again(bytes, out),
+        None => writeln!(out),
+    }
 }
 
 /// Prints the beginning of that line.

@@ -1,9 +1,11 @@
 // A line of JSON (RFC 8259): one object, whose values are texts, numbers and lists of texts.
 ghost use Rattle.std.specs.Prelude.{◌≡◌, ◌++◌, ◌<◌, ◌∷◌, [], ℕ, List, IfOk, OnOk, decimal};
 ghost use Rattle.stm_work.specs.JsonLine.{by_number, hex_digit, line_end, lines_from};
-ghost use Rattle.stm_work.specs.JsonLine.{lines_member, list_from, number_member, unless_empty};
+ghost use Rattle.stm_work.specs.JsonLine.{lines_member, list_from, number_member, numbers_member};
 ghost use Rattle.stm_work.specs.JsonLine.{object_of, quoted, quoted_byte, text_member, text_value};
+ghost use Rattle.stm_work.specs.JsonLine.{unless_empty};
 
+use crate::numbers::add_numbers;
 use std::alloc::{AllocError, Global};
 
 /// A line of JSON that is being made: one object, member by member.
@@ -52,6 +54,18 @@ impl JsonLine {
     {
         self.name(name)?;
         add_lines(&mut self.text, text)
+    }
+
+    /// Adds a member whose value is a list of numbers.
+    pub fn numbers(&mut self, name: &str, numbers: &[u32]) -> Result<(), AllocError>
+        ensures { OnOk result (self.new.text.items
+            ≡ self.old.text.items ++ numbers_member name.now numbers.now) }
+    {
+        self.name(name)?;
+        self.text.push(b'[')?;
+        add_numbers(self.alloc, &mut self.text, ",", numbers)?;
+        self.text.push(b']')?;
+        Ok(())
     }
 
     /// Begins a member behind another.

@@ -7,7 +7,7 @@ use std::alloc::Global;
 use stm_chip::Table;
 use stm_image::Image;
 use stm_wire::Chip;
-use stm_words::Range;
+use stm_words::{Extent, Range};
 
 /// Which pages a session goes through.
 #[derive(Clone, Copy)]
@@ -24,10 +24,10 @@ pub enum Goal {
     From(u32),
     /// Those of the flash's first bytes, so many.
     First(u32),
-    /// Those that so many of the newest segments keep; 0: all of them. The journal says which.
-    Back(u32),
+    /// Those that the newest segments keep, as far back as this. The journal says which.
+    Back(Extent),
     /// The same, each of them twice: it is read again.
-    BackTwice(u32),
+    BackTwice(Extent),
 }
 
 impl Goal {
@@ -43,10 +43,7 @@ impl Goal {
                 Ok(count) => Goal::Count(count),
                 Err(_) => Goal::Unknown,
             },
-            Action::Undo(count) | Action::UndoFresh(count) => Goal::Back(*count),
-            Action::UndoVerified(count) | Action::UndoVerifiedFresh(count) => {
-                Goal::BackTwice(*count)
-            }
+            Action::Undo(count) => Goal::Back(Extent::Newest(*count)),
             _ => Goal::Unknown,
         }
     }
@@ -215,12 +212,12 @@ impl<'a> Course<'a> {
                 self.count = Some(count);
                 None
             }
-            Goal::Back(segments) => {
-                self.count = self.kept.given_back(segments);
+            Goal::Back(extent) => {
+                self.count = self.kept.given_back(extent);
                 None
             }
-            Goal::BackTwice(segments) => {
-                self.count = match self.kept.given_back(segments) {
+            Goal::BackTwice(extent) => {
+                self.count = match self.kept.given_back(extent) {
                     Some(count) => Some(count.saturating_mul(2)),
                     None => None,
                 };

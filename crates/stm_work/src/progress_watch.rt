@@ -2,6 +2,7 @@
 ghost use Rattle.std.specs.Prelude.{◌≡◌, ◌==◌, position};
 
 use std::alloc::Global;
+use stm_words::Extent;
 
 /// What is done with a page.
 #[derive(Clone, Copy, PartialEq, Eq)]
@@ -298,22 +299,41 @@ impl KeptPages {
         u32::from(self.has_intent).saturating_add(u32::from(is_second))
     }
 
-    /// How many pages an undo of so many segments goes through, or, at 0, of all: those that the
-    /// segments keep and, before them, the pages at work. None where the journal wasn't read to its
-    /// end.
-    pub fn given_back(&self, segments: u32) -> Option<u32> {
-        if self.reading != Reading::Whole {
-            return None;
-        }
+    /// How many pages so many of the newest segments keep, or, at 0, all.
+    fn kept_by(&self, segments: u32) -> u32 {
         let depth = self.counts.len();
         let first = match usize::try_from(segments) {
             Ok(0) | Err(_) => 0,
             Ok(taken) => depth.saturating_sub(taken),
         };
-        let mut pages = self.at_work();
+        let mut pages = 0_u32;
         for count in &self.counts[first..] {
             pages = pages.saturating_add(count.pages);
         }
-        Some(pages)
+        pages
+    }
+
+    /// How many pages the newest segment keeps that keeps some.
+    fn newest_kept(&self) -> u32 {
+        let mut newest = 0_u32;
+        for count in &self.counts {
+            if 0 < count.pages {
+                newest = count.pages;
+            }
+        }
+        newest
+    }
+
+    /// How many pages an undo goes through that goes back so far: those that the segments keep and,
+    /// before them, the pages at work. None where the journal wasn't read to its end.
+    pub fn given_back(&self, extent: Extent) -> Option<u32> {
+        if self.reading != Reading::Whole {
+            return None;
+        }
+        let kept = match extent {
+            Extent::Newest(segments) => self.kept_by(segments),
+            Extent::ToChange => self.newest_kept(),
+        };
+        Some(self.at_work().saturating_add(kept))
     }
 }

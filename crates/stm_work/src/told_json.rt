@@ -1,10 +1,11 @@
 // What came of the words as JSON, one line for each step and one for a fault.
 ghost use Rattle.std.specs.Prelude.{◌≡◌, ◌++◌, ℕ, List, IfOk, OnOk, codes};
 ghost use Rattle.stm_work.specs.Answer.{is_flash};
-ghost use Rattle.stm_work.specs.JsonLine.{text_member};
+ghost use Rattle.stm_work.specs.JsonLine.{numbers_member, text_member};
 ghost use Rattle.stm_work.specs.ToldJson.{AreLines, answer_line, answer_name, board_members_of};
 ghost use Rattle.stm_work.specs.ToldJson.{change_members, is_of_board, members_of, next_line};
-ghost use Rattle.stm_work.specs.ToldJson.{next_told, refusal_line, steps_lines};
+ghost use Rattle.stm_work.specs.ToldJson.{next_told, refusal_line, steps_lines, undone_members};
+ghost use Rattle.stm_work.specs.ToldJson.{undone_name};
 
 use crate::answer::Answer;
 use crate::device_json::{add_board, add_info, add_told, eight_digits};
@@ -105,8 +106,19 @@ pub fn name_of(answer: &Answer) -> &'static str
         Answer::Erased { .. } => "erased",
         Answer::Undone(_) => "undone",
         Answer::UndoneAndVerified { .. } => "undone_and_verified",
+        Answer::UndoneBeside { bytes, .. } => undone_name(*bytes),
         Answer::Logged(_) => "log",
         Answer::Kept(_) | Answer::KeptBut { .. } => "kept",
+    }
+}
+
+/// The name of an undo, by whether bytes were read again.
+fn undone_name(bytes: Option<u64>) -> &'static str
+    ensures { result.now ≡ undone_name bytes }
+{
+    match bytes {
+        None => "undone",
+        Some(_) => "undone_and_verified",
     }
 }
 
@@ -162,16 +174,47 @@ fn add_members(alloc: Global, line: &mut JsonLine, answer: &Answer) -> Result<()
         }
         Answer::Verified(bytes) => line.number("bytes", *bytes as u64),
         Answer::Undone(count) | Answer::Kept(count) => line.number("count", u64::from(*count)),
-        Answer::UndoneAndVerified { count, bytes } => {
-            line.number("count", u64::from(*count))?;
-            line.number("bytes", *bytes)
-        }
+        Answer::UndoneAndVerified { count, bytes } => add_undone(line, *count, Some(*bytes)),
+        Answer::UndoneBeside {
+            count,
+            bytes,
+            unchanged,
+            ..
+        } => add_undone_beside(line, *count, *bytes, unchanged.as_slice()),
         Answer::Logged(text) => line.lines("lines", text.as_slice()),
         Answer::KeptBut { count, left } => {
             line.number("count", u64::from(*count))?;
             line.number("left", u64::from(*left))
         }
     }
+}
+
+/// Adds how many segments were undone, and how many bytes were read again, where that is told.
+#[tactic(auto, using(crate::proofs::TextParts::goes_on))]
+fn add_undone(line: &mut JsonLine, count: u32, bytes: Option<u64>) -> Result<(), AllocError>
+    ensures { OnOk result (line.new.text.items
+        ≡ line.old.text.items ++ undone_members count bytes) }
+{
+    line.number("count", u64::from(count))?;
+    match bytes {
+        Some(bytes) => line.number("bytes", bytes),
+        None => Ok(()),
+    }
+}
+
+/// Adds the same, and which of them had changed nothing.
+#[tactic(auto, using(crate::proofs::TextParts::goes_on))]
+fn add_undone_beside(
+    line: &mut JsonLine,
+    count: u32,
+    bytes: Option<u64>,
+    unchanged: &[u32],
+) -> Result<(), AllocError>
+    ensures { OnOk result (line.new.text.items ≡ line.old.text.items
+        ++ (undone_members count bytes ++ numbers_member (codes "unchanged") unchanged.now)) }
+{
+    add_undone(line, count, bytes)?;
+    line.numbers("unchanged", unchanged)
 }
 
 /// Adds the number of a segment, and how many pages it changed.

@@ -1,6 +1,6 @@
 // What is done on a device, whether or not the table has its chip.
 ghost use Rattle.std.specs.Prelude.{◌≡◌, IfOk, false};
-ghost use Rattle.stm_work.specs.Action.{IsDoneAgain, Works};
+ghost use Rattle.stm_work.specs.Action.{IsDoneAgain, UndoesBack, Works};
 ghost use Rattle.stm_work.specs.Board.{asking_if, asking_of, once_asked};
 ghost use Rattle.stm_work.specs.FreshUndo.{is_fresh_undo, work_on_fresh};
 ghost use Rattle.stm_work.specs.NextStep.{next_of};
@@ -15,12 +15,13 @@ use crate::false_erase::has_false_erases;
 use crate::progress_course::Goal;
 use crate::reading_hex::read_as_hex;
 use crate::summing::sum;
+use crate::way_back::WayBack;
 use std::alloc::{AllocError, Global};
 use std::fs::Files;
 use stm_chip::Table;
 use stm_session::identify;
 use stm_wire::{Protection, Rig};
-use stm_words::{Range, Task};
+use stm_words::{Extent, Range, Task};
 
 /// What is done on a device.
 #[derive(Drop)]
@@ -33,6 +34,13 @@ pub enum Work {
     ReadHex {
         range: Option<Range>,
         skips_blank: bool,
+    },
+    /// It undoes writes and erases as far back as is said, and may read what it gave back again. The
+    /// device may be said to be fresh from reset.
+    Undo {
+        extent: Extent,
+        verifies: bool,
+        is_fresh: bool,
     },
     /// What is done on a chip of the table.
     Act(Action),
@@ -63,6 +71,11 @@ impl Work {
                 skips_blank,
                 ..
             } => Ok(Work::ReadHex { range, skips_blank }),
+            Task::Undo { extent, verifies } => Ok(Work::Undo {
+                extent,
+                verifies,
+                is_fresh: false,
+            }),
             task => Ok(Work::Act(Action::of(rt, task)?)),
         }
     }
@@ -71,6 +84,7 @@ impl Work {
     pub fn is_undo(&self) -> bool {
         match self {
             Work::Act(action) => action.is_undo(),
+            Work::Undo { .. } => true,
             _ => false,
         }
     }
@@ -103,6 +117,15 @@ impl Work {
     {
         match self {
             Work::Act(action) => Work::Act(action.on_fresh(is_fresh)),
+            Work::Undo {
+                extent,
+                verifies,
+                is_fresh: was,
+            } => Work::Undo {
+                extent,
+                verifies,
+                is_fresh: is_fresh || was,
+            },
             work => work,
         }
     }
@@ -137,7 +160,8 @@ impl Work {
             Work::Act(Action::Undo(_))
             | Work::Act(Action::UndoFresh(_))
             | Work::Act(Action::UndoVerified(_))
-            | Work::Act(Action::UndoVerifiedFresh(_)) => Asking::OfBegun,
+            | Work::Act(Action::UndoVerifiedFresh(_))
+            | Work::Undo { .. } => Asking::OfBegun,
             _ => Asking::OfFinished,
         }
     }
@@ -162,6 +186,15 @@ impl Work {
         match self {
             Work::Act(Action::UndoFresh(count)) => Work::Act(Action::Undo(count)),
             Work::Act(Action::UndoVerifiedFresh(count)) => Work::Act(Action::UndoVerified(count)),
+            Work::Undo {
+                extent,
+                verifies,
+                ..
+            } => Work::Undo {
+                extent,
+                verifies,
+                is_fresh: false,
+            },
             work => work,
         }
     }
@@ -186,6 +219,17 @@ impl Work {
         match self {
             Work::Identify => Goal::Unknown,
             Work::Sum(range) | Work::ReadHex { range, .. } => Goal::of_range(*range),
+            Work::Undo {
+                extent,
+                verifies,
+                ..
+            } => {
+                if *verifies {
+                    Goal::BackTwice(*extent)
+                } else {
+                    Goal::Back(*extent)
+                }
+            }
             Work::Act(action) => Goal::of(action),
         }
     }
@@ -205,7 +249,30 @@ impl Work {
             Work::ReadHex { range, skips_blank } => {
                 read_as_hex(alloc, rig, table, range, skips_blank)
             }
+            Work::Undo {
+                extent,
+                verifies,
+                is_fresh,
+            } => undo_back(alloc, rig, table, extent, verifies, is_fresh),
             Work::Act(action) => action.run(alloc, rig, table),
         }
     }
+}
+
+/// Undoes writes and erases as far back as is said. The journal, which is read first, says how many that
+/// are, and which of them had changed nothing.
+fn undo_back<'a, L: Rig>(
+    alloc: Global,
+    rig: &mut L,
+    table: &Table,
+    extent: Extent,
+    verifies: bool,
+    is_fresh: bool,
+) -> Result<Answer, Failure<'a>>
+    ensures { UndoesBack L.view table.now extent verifies is_fresh rig.old rig.new result }
+{
+    let way = WayBack::find(alloc, rig, extent)?;
+    let undo = Action::undo_of(way.count, verifies, is_fresh);
+    let answer = undo.run(alloc, rig, table)?;
+    Ok(way.beside(answer))
 }

@@ -27,6 +27,7 @@ stays : (does : Work) → is_fresh_undo (work_on_fresh false does) ≡ is_fresh_
 stays work.Identify = refl
 stays (work.Sum range) = refl
 stays (work.ReadHex range skips) = refl
+stays (work.Undo extent verifies is_fresh) = refl
 stays (work.Act action.Info) = refl
 stays (work.Act (action.Read range)) = refl
 stays (work.Act (action.Write content)) = refl

@@ -23,7 +23,8 @@ use stm_files::{Escaped, Locks};
 use stm_wire::Rig;
 use stm_words::{Environment, Request, Unread, read_request, wants_json};
 use stm_work::{
-    Answer, Failure, Hint, Steps, is_flash, json_of_done, json_of_failure, json_of_refusal, name_of,
+    Answer, Failure, Hint, Steps, is_flash, json_of_done, json_of_failure, json_of_refusal,
+    name_of, note_of,
 };
 
 /// Runs the program on its words, the first of which is its name, and on what stands in the place
@@ -228,7 +229,16 @@ fn print_hint<R: AllocGlobal, E: Write>(rt: &R, hint: Option<Hint>, err: &mut E)
     };
 }
 
-/// Prints what came of the words, and where a step failed, why; and what is to be done then.
+/// Tells what changed nothing, where that is to be told: in one line that is written at once, where
+/// there is memory for it.
+fn print_note<R: AllocGlobal, E: Write>(rt: &R, steps: &Steps, err: &mut E) {
+    if let Ok(note) = note_of(rt.alloc(), steps) {
+        let _ = err.write_all(note.as_slice());
+    }
+}
+
+/// Prints what came of the words, and where a step failed, why; what changed nothing, and what is to be
+/// done then.
 fn print_steps<R: AllocGlobal, O: Write, E: Write>(
     rt: &R,
     steps: &Steps,
@@ -242,6 +252,7 @@ fn print_steps<R: AllocGlobal, O: Write, E: Write>(
 {
     match (print_as(rt, steps, hint, is_json, out), &steps.failure) {
         (Ok(()), None) => {
+            print_note(rt, steps, err);
             if let Some(hint) = hint {
                 print_hint(rt, hint.of_done(), err);
             }

@@ -1,7 +1,7 @@
 use Rattle.std.proofs.Common.{codes, subst}
 use Rattle.std.proofs.lemmas.Result.{IfOk-weaker}
-use Rattle.clap.specs.Words.{App, with_rule}
-use Rattle.stm_words.specs.CommandSet.{Makes, behind_a_stop, default_rule, letter_rule, on_board}
+use Rattle.clap.specs.Words.{App, new_rule, with_rule}
+use Rattle.stm_words.specs.CommandSet.{Makes, behind_a_stop, flag_rule, letter_rule, on_board}
 use Rattle.stm_words.proofs.Subcommands.{adds}
 use Rattle.stm_words.proofs.command_set.undo.Goals as goal
 
@@ -13,5 +13,8 @@ returns c =
     let a1 : App = with_rule a0 (letter_rule (codes "check") 118) in
     let m1 : Makes a1 c.in_ok-arg.field-0 =
     adds a0 (letter_rule (codes "check") 118) c.in_ok-on_board.field-0 c.letter.result c.in_ok-arg.field-0 m0 c.letter.ensures.rule c.letter.ensures.local c.in_ok-arg.ensures in
-    IfOk-weaker c.arg-2.result _ _
-    (λ r h. adds a1 (default_rule (codes "COUNT") (codes "0")) c.in_ok-arg.field-0 c.optional.result r m1 c.optional.ensures.rule c.optional.ensures.local h) c.arg-2.ensures
+    let a2 : App = with_rule a1 (flag_rule (codes "to-change")) in
+    let m2 : Makes a2 c.in_ok-arg-2.field-0 =
+    adds a1 (flag_rule (codes "to-change")) c.in_ok-arg.field-0 c.flag.result c.in_ok-arg-2.field-0 m1 c.flag.ensures.rule c.flag.ensures.local c.in_ok-arg-2.ensures in
+    IfOk-weaker c.arg-3.result _ _
+    (λ r h. adds a2 (new_rule (codes "COUNT")) c.in_ok-arg-2.field-0 c.spare.result r m2 c.spare.ensures.rule c.spare.ensures.local h) c.arg-3.ensures

@@ -1,0 +1,42 @@
+// How far back an undo goes.
+ghost use Rattle.std.specs.Prelude.{IfOk};
+ghost use Rattle.clap.specs.Words.{found_of};
+ghost use Rattle.stm_words.specs.Request.{NamesCount, NamesExtent};
+
+use crate::given::{flag, number};
+use crate::usage_fault::UsageFault;
+use clap::ArgMatches;
+
+/// How far back an undo goes.
+#[derive(Clone, Copy)]
+pub enum Extent {
+    /// So many of the newest writes and erases, or, at 0, all.
+    Newest(u32),
+    /// Up to the newest that changed something, that one too.
+    ToChange,
+}
+
+impl Extent {
+    /// How far back the words of `undo` say: all, where they say nothing.
+    pub fn parse<'a>(given: &ArgMatches<'a>) -> Result<Extent, UsageFault<'a>>
+        ensures { IfOk result (NamesExtent (found_of given.now)) }
+    {
+        if !flag(given, "to-change") {
+            return Ok(Extent::Newest(count(given)?));
+        }
+        if given.get_str("COUNT").is_some() {
+            return Err(UsageFault::ChangeTakesNoCount);
+        }
+        Ok(Extent::ToChange)
+    }
+}
+
+/// How many are named; without a word 0, which is all.
+fn count<'a>(given: &ArgMatches<'a>) -> Result<u32, UsageFault<'a>>
+    ensures { IfOk result (NamesCount (found_of given.now)) }
+{
+    if given.get_str("COUNT").is_none() {
+        return Ok(0);
+    }
+    number(given, "COUNT")
+}

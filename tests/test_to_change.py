@@ -1,0 +1,160 @@
+"""Writes and erases that changed nothing: what is told of them, what an undo of them tells, and `undo --to-change`, which goes
+back to the newest that changed something."""
+
+import json
+
+from place import ERASED, with_page
+from served import WAIT, Served
+
+import telling
+
+A, B = b"\x0a" * 4, b"\x0b" * 3000
+OF_A = A + ERASED[len(A):]
+OF_B = B + ERASED[len(B):]
+# a journal with a write that changed page 5 of zeros, and one that changed nothing
+CHANGED = with_page(b"stmjournal 2 0412\nopen 1\npage 5 ", b"0", b"\nerase 5\nend 1\nopen 2\nend 2\n")
+BACK = ERASED[:5120] + bytes(1024) + ERASED[6144:]
+NOT_BOTH = "usage: give COUNT or --to-change, not both"
+
+
+def had(*segments, left):
+    """The note on an undo."""
+    return f"segment{'s' * (len(segments) > 1)} {', '.join(map(str, segments))} had changed nothing; {left} more can be undone"
+
+
+def new(segment):
+    """The note on a write or an erase."""
+    return f"segment {segment} changed nothing: there is nothing new to undo"
+
+
+class ToChange(Served):
+    def write(self, times=1, device="sim:0412:flash", more=()):
+        """Writes A, then B, and B so often again."""
+        self.store("a", A)
+        self.store("b", B)
+        for name, pages in [("a", 1), ("b", 3)] + times * [("b", 0)]:
+            self.assertEqual(self.use("write", *more, name, device=device).out.split()[2], b"%d" % pages)
+
+    def test_a_write_of_what_is_there(self):
+        self.store("a", A)
+        self.assertTold(self.use("write", "a"), "segment 1: 1 pages written\n")
+        self.assertTold(self.use("write", "a"), "segment 2: 0 pages written\n", new(2))
+        self.assertTold(self.use("write", "-v", "--quiet", "a"), "segment 3: 0 pages written\nverified 4 bytes\n", new(3))
+        self.assertTold(self.use("erase", "9"), "segment 4: 0 pages erased\n", new(4))
+        # what stays isn't to be undone anyway
+        self.assertTold(self.use("write", "--keep", "a"), "segment 5: 0 pages written\nkept 5\n")
+
+    def test_an_undo_of_what_changed_nothing(self):
+        """It gives nothing back, and says so; the next one does."""
+        self.write()
+        self.assertTold(self.use("undo", "1", "-v"), "undone 1, 0 bytes verified\n", had(3, left=2))
+        self.assertHolds(OF_B, b"idle\n")
+        self.assertTold(self.use("undo", "1", "-v"), "undone 1, 3072 bytes verified\n")
+        self.assertHolds(OF_A, b"idle\n")
+        self.assertTold(self.use("undo"), "undone 1\n")
+        self.assertHolds(ERASED, b"idle\n")
+
+    def test_to_the_newest_change(self):
+        for times, words, text in ((0, ("-v",), "undone 1, 3072 bytes verified\n"), (1, ("-v",), "undone 2, 3072 bytes verified\n"),
+                                   (2, (), "undone 3\n")):
+            with self.subTest(times=times, words=words):
+                self.store("flash", ERASED)
+                self.write(times)
+                note = had(*range(3, 3 + times), left=1) if times else None
+                self.assertTold(self.use("undo", "--to-change", *words), text, note)
+                self.assertHolds(OF_A, b"idle\n")
+                self.assertTold(self.use("undo", "--to-change"), "undone 1\n")
+                self.assertHolds(ERASED, b"idle\n")
+                self.assertTold(self.use("undo", "--to-change"), "undone 0\n")
+                self.remove("journal")
+
+    def test_stopped_and_again(self):
+        """Stopped anywhere, it goes on to the same change when it is called again."""
+        self.write(2)
+        journal, flash = self.held("journal"), self.held("flash")
+        for stop in (20, 40, 1100, 2500):
+            with self.subTest(stop=stop):
+                self.store("journal", journal)
+                self.store("flash", flash)
+                self.store("flash.line", b"idle\n")
+                self.assertFault(self.use("undo", "--to-change", "--stop", str(stop)), "stopped", 3)
+                self.assertEqual(self.use("undo", "--to-change", "-v").status, 0)
+                self.assertHolds(OF_A, b"idle\n")
+
+    def test_an_unfinished_newest(self):
+        """One that has kept a page may have changed it, and one without a page hasn't."""
+        self.store("journal", CHANGED + b"open 3\n")
+        self.assertTold(self.use("undo", "--to-change"), "undone 3\n", had(2, 3, left=0))
+        self.assertHolds(BACK, b"idle\n")
+        self.store("flash", ERASED)
+        self.store("journal", with_page(CHANGED + b"open 3\npage 6 ", b"0", b"\n"))
+        self.assertTold(self.use("undo", "--to-change"), "undone 1\n")
+        self.assertHolds(ERASED[:6144] + bytes(1024) + ERASED[7168:], b"idle\n")
+        self.assertTold(self.use("undo", "--to-change"), "undone 2\n", had(2, left=0))
+
+    def test_where_nothing_was_changed(self):
+        """All is undone, and the note names all."""
+        self.store("journal", b"stmjournal 2 0412\nopen 1\nend 1\nopen 2\nend 2\nopen 3\n")
+        self.assertTold(self.use("undo", "--to-change", "-v"), "undone 3, 0 bytes verified\n", had(1, 2, 3, left=0))
+        self.assertHolds(ERASED, b"idle\n")
+        self.assertTold(self.use("undo", "--to-change"), "undone 0\n")
+
+    def test_what_changed_something_is_not_named(self):
+        self.store("journal", with_page(CHANGED + b"open 3\npage 6 ", b"0", b"\nend 3\nopen 4\nend 4\n"))
+        self.assertTold(self.use("undo", "3"), "undone 3\n", had(2, 4, left=1))
+
+    def test_gives_a_count_or_the_word(self):
+        self.write()
+        journal = self.held("journal")
+        for count in ("1", "0", "x"):
+            self.assertFault(self.use("undo", "--to-change", count), NOT_BOTH, 2)
+        self.assertFile("journal", journal)
+        self.assertHolds(OF_B, b"idle\n")
+        self.assertUsage(self.use("undo", "--to-change=1"))
+
+    def test_of_a_bad_journal(self):
+        self.store("journal", CHANGED + b"open 4\n")
+        self.assertFault(self.use("undo", "--to-change"), "bad journal line 8")
+        self.assertHolds(ERASED, b"fresh\n")
+
+    def test_as_json(self):
+        self.write()
+        said = self.use("undo", "1", "--json")
+        self.assertEqual(json.loads(said.out), {"answer": "undone", "count": 1, "unchanged": [3]})
+        self.assertEqual(said.err.decode(), f"note: {had(3, left=2)}\n")
+        self.assertTold(self.use("write", "b", "--json"), '{"answer":"written","segment":3,"pages":0}\n', new(3))
+        self.assertEqual(self.use("write", "b").status, 0)
+        said = self.use("undo", "--to-change", "-v", "--json")
+        self.assertEqual(said.out, b'{"answer":"undone_and_verified","count":3,"bytes":3072,"unchanged":[3,4]}\n')
+        self.assertEqual(json.loads(self.use("undo", "--json").out), {"answer": "undone", "count": 1, "unchanged": []})
+
+    def test_what_is_shown(self):
+        """How many pages it goes through is known from the journal."""
+        self.write()
+        said = self.use("undo", "--to-change", "-v", "--progress")
+        told = [line for line in said.err.decode().splitlines() if not line.startswith("note: ")]
+        self.assertEqual([line.split(", ")[1] for line in told], [f"{turn} of 6 pages" for turn in range(1, 7)])
+
+    def test_over_a_socket(self):
+        self.serve(4)
+        self.write(device="board", more=("--wait", WAIT))
+        self.assertTold(self.use("undo", "--to-change", "-v", "--wait", WAIT, device="board"), "undone 2, 3072 bytes verified\n",
+                        had(3, left=1))
+        self.assertServed()
+        self.assertHolds(OF_A, b"idle\n")
+
+    def test_in_a_folder(self):
+        """And on a device that is said to be fresh from reset."""
+        self.store("table", telling.TABLE)
+        self.store("image", b"an image")
+        self.store("flash.board", b"unique 2B0035000A51363034393332\n")
+        given = ("--table", "table", "--device", "sim:0410:flash", "--journals", ".")
+        for segment in (1, 2):
+            self.assertEqual(self.call("write", *given, "image").status, 0)
+        self.store("flash.line", b"fresh\n")
+        self.assertTold(self.call("undo", *given, "--fresh", "--to-change"), "undone 2\n", had(2, left=0))
+        self.assertEqual(set(self.held("flash")), {0xFF})
+
+    def test_is_a_word_of_undo_alone(self):
+        self.store("b", B)
+        self.assertUsage(self.use("write", "--to-change", "b"))
