@@ -58,6 +58,14 @@ class Unchanged(Place):
         self.well("-w", "-", "-g", "0", given=COUNTING[:3])
         self.assertEqual(self.journals(), [])
 
+    def test_a_journal_in_which_nothing_stands_is_not_put_aside(self):
+        self.flash(COUNTING)
+        os.makedirs(self.path(self.folder_of_port()))
+        for text in (b"", b"stmjournal 2 0412\n", b"stmjournal 2 0412\n" + KEPT + b"undone 1\n"):
+            self.store(self.name("journal"), text)
+            self.well("-u")
+            self.assertEqual(self.journals(), [])
+
     def test_those_that_were_put_aside_before_push_nothing_out(self):
         """A former version has kept them. One that is unfinished, or can't be read, is none of them."""
         board = self.flash(COUNTING)

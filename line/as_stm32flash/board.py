@@ -166,8 +166,9 @@ class Board:
         isn't asked where no board has left one."""
         if not self.journals.stopped():
             return False
-        board = self.own.board or (self.ask_owner() or Owner()).board
-        left = self.journals.stopped(board) if board else []
+        if self.own.chip is None:
+            self.ask_owner()
+        left = self.journals.stopped(self.own.board) if self.own.board else []
         if left:
             self.put_aside()
             self.journals.take(left[-1])
