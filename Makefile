@@ -2,7 +2,8 @@
 #   make demo   builds the program the fastest way, without waiting for proofs, runs it on the simulator, and leaves it
 #               at bin/stmflash-unproved
 #   make        proves and builds bin/stmflash
-#   make tests  the tests of the program alone (tests/), on the one that `make demo` leaves (needs python3)
+#   make tests  the tests of the program alone (tests/), on the one that `make demo` leaves; of Debian's packages it installs what it
+#               lacks, as root, and else says what to type (tools/packages)
 #   make check CRATE=NAME
 #               proves one crate, over what earlier checks of it kept
 #   make try CRATE=NAME
@@ -17,8 +18,8 @@
 #   make wrong-bodies
 #               has the prover refuse the wrong bodies of the gate and those that it leaves out (tools/wrong-bodies)
 #   make install PREFIX=/usr/local DESTDIR=
-#               what `make` left at bin/stmflash, the line to a serial port, the trial of a board, manual pages, chips.toml,
-#               completions, unit, udev rule; it proves and builds nothing, so that it needs no `rt`, also under sudo
+#               what `make` left at bin/stmflash, the line to a serial port, the trial of a board, manual pages and the pages that
+#               these name, chips.toml, completions, unit, udev rule; it proves and builds nothing, so that it needs no `rt`, also under sudo
 #   make install-as-stm32flash PREFIX=/usr/local DESTDIR=
 #               the words of stm32flash over what `make install` installs (docs/SWITCH.md): a program of that name, never unasked
 #   make arm64  the proved program for 64-bit ARM, at bin/stmflash-arm64, over what `make` kept: nothing is proved anew
@@ -32,9 +33,11 @@
 #               bin/release/; how they are signed is printed
 #   make pictures
 #               draws docs/pictures/ from runs of the program and from the figures that `make bench` left (python3)
+#   make pages  makes anew docs/MAP.md, PROVED.md and STATEMENT.md: of the first comments of files, of contracts, and of what the
+#               headline rests on. Their heads are in docs/heads/ (python3)
 #   make bench  builds what is measured, measures it beside its peers, and prints ratios (needs python3; Debian's binutils
 #               and srecord for the peers of HEX)
-#   make beside lets the real stm32flash drive our simulator (docs/BESIDE.md); skipped with a word where it isn't installed
+#   make beside lets the real stm32flash drive our simulator (docs/SWITCH.md); skipped with a word where it isn't installed
 #   make soak   20,000 random sessions beside a second model (tools/soak; needs python3) of the proved program, where `make` left
 #               it, or of the one that `make demo` leaves, which takes 20 times as long; the seed is printed. Then a loss of power behind
 #               each stop of a write and an erase on four chips, the undo stopped and without power again (tools/power-losses); and
@@ -55,14 +58,17 @@ CHECKS ?= $(shell awk -v most=$(JOBS) '/^MemAvailable/ { n = int($$2 / 5000000) 
     /proc/meminfo)
 # what of Debian's packages the tests may do without, by name, as `make test WITHOUT="fish zsh"`: what else they leave out fails
 WITHOUT ?=
+# why `make tests` leaves tests out beside: what only root may do, and what a system may forbid
+FORBIDDEN = "only root" "isn't allowed" "can't trace here"
 SOAKED = $(if $(wildcard bin/stmflash),bin/stmflash,bin/stmflash-unproved)
 
-.PHONY: all arm64 arm64-unproved demo tests check try test wrong-bodies soak install install-as-stm32flash deb release pictures bench beside clean
+.PHONY: all arm64 arm64-unproved demo tests check try test wrong-bodies soak install install-as-stm32flash deb release pages pictures bench beside clean
 
 all:
 	cd crates/stmflash && rt check
 	cd crates/stmflash && rt run -- --help > /dev/null
 	mkdir -p bin && cp crates/stmflash/out/stmflash bin/stmflash
+	ln -sf ../line/stmflash-line ../line/stmflash-trial bin
 	@echo "bin/stmflash is proved and built"
 
 # where it isn't there; "make" proves again what was changed since
@@ -86,7 +92,7 @@ demo:
 
 tests:
 	@test -x bin/stmflash-unproved || sh tools/demo.sh
-	python3 tests/run bin/stmflash-unproved --without $(WITHOUT)
+	@without=$$(sh tools/packages) && python3 tests/run bin/stmflash-unproved --without $(FORBIDDEN) $$without $(WITHOUT)
 
 # the crate that has the tests of a library
 TESTS_stm_wire = stm_wire_tests
@@ -137,6 +143,8 @@ install:
 	install -m 755 $(BINARY) $(DESTDIR)$(PREFIX)/bin/stmflash
 	install -m 644 stmflash.1 $(share)/man/man1/stmflash.1
 	install -m 644 chips.toml $(share)/stmflash/chips.toml
+	install -d $(share)/doc/stmflash
+	install -m 644 docs/FORMATS.md docs/MODEL.md $(share)/doc/stmflash
 	install -d $(share)/bash-completion/completions $(share)/zsh/vendor-completions $(share)/fish/vendor_completions.d
 	install -m 644 $(completions)/stmflash.bash $(share)/bash-completion/completions/stmflash
 	install -m 644 $(completions)/_stmflash $(share)/zsh/vendor-completions/_stmflash
@@ -171,6 +179,11 @@ deb: $(STMFLASH_BINARY)
 
 release: bin/stmflash bin/stmflash-arm64
 	@packaging/release $(CURDIR)/bin/release bin/stmflash bin/stmflash-arm64
+
+pages:
+	python3 tools/map
+	python3 tools/proved
+	python3 tools/statement
 
 pictures:
 	@test -x bin/stmflash || test -x bin/stmflash-unproved || sh tools/demo.sh

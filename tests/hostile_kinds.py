@@ -29,7 +29,7 @@ ID = "the board tells an id of {} bytes: stmflash knows ids of 2 bytes alone, an
 
 
 class Kind(typing.NamedTuple):
-    """What makes a board's serving, and the command that always meets it; the row of docs/SETTLING.md that tells of it; the
+    """What makes a board's serving, and the command that always meets it; the row of docs/UNDO.md that tells of it; the
     faults and the hints of which one each is told, and the faults that an undo may tell instead; the commands that may be done
     there, and those at whose erase or write it is silent, which have 40 s; how long a reply may take; whether it answers as a
     board of the model does until then, so that it is timed from its last byte."""

@@ -19,7 +19,7 @@ from place import PATIENCE, Said, program
 LIBC = ctypes.CDLL(None, use_errno=True)
 PR_SET_NO_NEW_PRIVS, SYS_SECCOMP = 38, 317
 # the calls that are held
-LSEEK, FLOCK, FSYNC, RENAME, LINK, ACCEPT = 8, 73, 74, 82, 86, 288
+LSEEK, FLOCK, FSYNC, RENAME, LINK, OPEN, ACCEPT = 8, 73, 74, 82, 86, 257, 288
 # a program for 64-bit ARM, which has neither rename(2) nor link(2), does the same by renameat(2) and linkat(2), also under qemu
 BY_ARM = {RENAME: 264, LINK: 265}
 SET_MODE_FILTER, NEW_LISTENER = 1, 8

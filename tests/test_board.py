@@ -329,10 +329,14 @@ class Board(Place):
     def test_a_board_is_wanted(self):
         for word in (NAME, NAME.lower(), NAME[-1:], NAME[-5:].lower()):
             with self.subTest(word=word):
-                self.assertEqual(self.at(HERE, "info", "--board", word).status, 0)
-        self.assertEqual(self.at(HERE, "info", variables={"STMFLASH_BOARD": NAME[-4:]}).status, 0)
-        self.assertEqual(self.at(HERE, "info", variables={"STMFLASH_BOARD": ""}).status, 0)
-        self.assertEqual(self.at(HERE, "info", "--board", NAME, variables={"STMFLASH_BOARD": OTHER}).status, 0)
+                self.assertIsHere("--board", word)
+        self.assertIsHere(variables={"STMFLASH_BOARD": NAME[-4:]})
+        self.assertIsHere(variables={"STMFLASH_BOARD": ""})
+        self.assertIsHere("--board", NAME, variables={"STMFLASH_BOARD": OTHER})
+
+    def assertIsHere(self, *words, variables=None):
+        said = self.at(HERE, "info", *words, variables=variables)
+        self.assertEqual((said.status, said.out[:3], said.err), (0, b"id ", b""))
 
     def test_another_than_the_wanted_board_gets_nothing_more(self):
         for word in (OTHER, OTHER[-2:], "0" + NAME, NAME[:-1]):

@@ -101,6 +101,13 @@ class Chips(Served):
                 self.assertEqual("manual" in chip, "alone" not in notes)
         self.assertEqual(len(CHIPS), 51)
 
+    def test_each_is_in_the_page(self):
+        """FORMATS has a table with each id and its parts, and none besides."""
+        with open(os.path.join(TOP, "docs", "FORMATS.md"), encoding="utf-8") as page:
+            table = page.read().split("| Family | Ids |\n|---|---|\n")[1].split("\n\n")[0]
+        told = [it.strip() for row in table.splitlines() for it in row.split("|")[2].split(". ")]
+        self.assertEqual(sorted(told), sorted(f"{number} " + re.sub("^STM32(?!W)", "", chip["name"]) for number, chip in CHIPS.items()))
+
     def test_what_is_not_known_stands_at_the_entry(self):
         for number, chip in CHIPS.items():
             notes = " ".join(chip.get("notes", ()))

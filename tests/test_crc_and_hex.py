@@ -88,6 +88,14 @@ class Hex(Place):
         found = self.read("--skip-blank", "out.hex", flash=flash)
         self.assertEqual(found, [(BASE + 96, flash[96:112]), (BASE + 20000, flash[20000:20016])])
 
+    def test_a_record_with_one_byte_is_not_blank(self):
+        """Wherever it stands there, and whichever of its digits it is."""
+        for at in range(16):
+            for byte in (b"\x0f", b"\xf0"):
+                with self.subTest(at=at, byte=byte):
+                    flash = ERASED[:32 + at] + byte + ERASED[33 + at:]
+                    self.assertEqual(self.read("--skip-blank", "out.hex", flash=flash), [(BASE + 32, flash[32:48])])
+
     def test_all_blank(self):
         self.store("flash", ERASED)
         self.assertSilent(self.use("read", "--skip-blank", "out.hex"))

@@ -249,6 +249,7 @@ class Files(Place):
                 self.assertSilent(self.use("read", "out"))
                 held = os.stat(self.path(name))
                 self.assertEqual((held.st_mode & 0o7777, held.st_uid, held.st_gid), (0o600, 12345, 23456))
+                self.assertFile("out", COUNTING)
 
     def test_makes_a_file_where_a_link_points(self):
         os.mkdir(self.path("folder"))

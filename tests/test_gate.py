@@ -1,5 +1,5 @@
 """tools/gate goes on behind a step that failed, and fails; what of its steps goes on beside what. tests/run gives a test that hears a
-board within a time a second turn."""
+board within a time a second turn. tools/weight refuses what is heavier than its record."""
 
 import collections
 import concurrent.futures
@@ -10,6 +10,7 @@ import io
 import os
 import re
 import shlex
+import subprocess
 import sys
 import tempfile
 import threading
@@ -139,8 +140,9 @@ class Gate(unittest.TestCase):
 
         names = [f"test_undo.A.b{number}" for number in range(12)] + ["test_giving_up.A.b"]
         with unittest.mock.patch.object(runs, "run", run), unittest.mock.patch.object(runs, "AT_ONCE", {True: 3, False: 2}), \
-                concurrent.futures.ThreadPoolExecutor(20) as pool:
+                concurrent.futures.ThreadPoolExecutor(20) as pool, contextlib.redirect_stdout(io.StringIO()) as said:
             ended = runs.run_all(pool, ["quick", "slow-unproved"], ["brief"], names)
+        self.assertEqual(len(said.getvalue().splitlines()), 3 * len(names) - 1)
         self.assertEqual(most, {"quick": 3, "others": 2})
         self.assertEqual({path: [test.name for test in tests] for path, tests in ended.items()},
                          {"quick": names, "slow-unproved": names, "brief": names[:-1]})
@@ -175,6 +177,59 @@ class KeptModule(unittest.TestCase):
                 unproved.keep(store("module", "a module"), kept, top)
                 store(name, text)
                 self.assertFalse(unproved.is_kept(kept, top))
+
+
+class Weight(unittest.TestCase):
+    """tools/weight, of a checkout that has one file of each kind."""
+
+    # each file with its group and its kind
+    FILES = {"crates/stm_wire/src/a.rt": "core, src", "crates/stm_weak/specs/A.antt": "laws beside, specs",
+             "crates/stmflash/proofs/a/Answers.antt": "program, proofs", "crates/stm_tests/src/b.rt": "tests and benches, src",
+             "tests/a.py": "beside, Python", "tools/a": "beside, Python", "tools/b": "beside, sh", "Makefile": "beside, sh",
+             "arm64/a.c": "beside, C", "docs/A.md": "words, by hand"}
+    # these have no record
+    MADE = {"docs/B.md": "<!-- made by tools/b -->\n", "CHANGELOG.md": "", "LICENSE": ""}
+    FIRST = {"tools/a": "#!/usr/bin/env python3\n", "tools/b": "#!/bin/sh\n"}
+
+    def setUp(self):
+        folder = tempfile.TemporaryDirectory(prefix="stmflash-")
+        self.addCleanup(folder.cleanup)
+        self.folder = folder.name
+        subprocess.run(["git", "init", "-q", self.folder], check=True)
+        for path in (*self.FILES, *self.MADE):
+            self.store(path, 3)
+        self.assertEqual(self.weigh("--record").returncode, 0)
+
+    def store(self, path, lines):
+        os.makedirs(os.path.dirname(os.path.join(self.folder, path)), exist_ok=True)
+        with open(os.path.join(self.folder, path), "w", encoding="utf-8") as file:
+            file.write(self.MADE.get(path, "") + self.FIRST.get(path, "") + "word\n" * lines)
+
+    def weigh(self, *words):
+        return subprocess.run([sys.executable, os.path.join(TOP, "tools", "weight"), *words, self.folder], capture_output=True, text=True)
+
+    def test_what_is_heavier_fails_by_its_group_and_kind(self):
+        self.assertEqual((self.weigh("--check").returncode, self.weigh("--check").stderr), (0, ""))
+        for path, group in self.FILES.items():
+            with self.subTest(path=path):
+                self.store(path, 4)
+                ran = self.weigh("--check")
+                self.assertEqual(ran.returncode, 1)
+                self.assertRegex(ran.stderr, rf"^weight: {group}: (\d+), and its record is \d+ \(tools/weight.toml\)\n$")
+                self.store(path, 3)
+        for path in self.MADE:
+            self.store(path, 40)
+        self.assertEqual(self.weigh("--check").returncode, 0)
+
+    def test_the_record_falls_and_never_rises(self):
+        self.store("tests/a.py", 9)
+        self.weigh("--record")
+        self.assertEqual(self.weigh("--check").returncode, 1)
+        self.store("tests/a.py", 1)
+        self.weigh("--record")
+        self.assertEqual(self.weigh("--check").returncode, 0)
+        self.store("tests/a.py", 2)
+        self.assertEqual(self.weigh("--check").returncode, 1)
 
 
 if __name__ == "__main__":

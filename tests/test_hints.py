@@ -125,10 +125,11 @@ class Hints(OnBoard):
 
     def test_two_acks_for_7f(self):
         """Both are taken, also by a session that says that the board is fresh."""
-        for words in (("write", "-S", f"{AT:#x}", "image"), ("undo", "--fresh")):
-            board = Other("two-acks-for-7f") if words[0] == "write" else board
+        board = Other("two-acks-for-7f")
+        for words, told in ((("write", "-S", f"{AT:#x}", "image"), b"segment 1: "), (("undo", "--fresh"), b"undone 1\n")):
             board.reset()
-            self.assertEqual(self.on(board, *words).status, 0)
+            said = self.on(board, *words)
+            self.assertEqual((said.status, said.out[:len(told)]), (0, told))
         self.assertEqual(bytes(board.flash), bytes(i % 251 for i in range(32768)))
 
     def test_an_id_of_other_bytes(self):

@@ -206,9 +206,9 @@ class Hostile(Place):
         self.assertTrue(all(met[command] >= LEAST for command in COMMANDS), met)
 
     def test_the_table_tells_each(self):
-        """docs/SETTLING.md has a row for each kind, with each fault and the hints that are told there; and no row without one."""
-        with open(os.path.join(TOP, "docs", "SETTLING.md"), encoding="utf-8") as file:
-            part = file.read().split("\n## Boards that aren't well\n")[1].split("\n## ")[0]
+        """docs/UNDO.md has a row for each kind, with each fault and the hints that are told there; and no row without one."""
+        with open(os.path.join(TOP, "docs", "UNDO.md"), encoding="utf-8") as file:
+            part = file.read().split("\n### Boards that aren't well\n")[1].split("\n## ")[0]
         rows = {row.split(" | ")[0].removeprefix("| "): row for row in part.splitlines() if row.startswith("| ")}
         self.assertEqual(set(rows) - {"The board"}, {kind.row for kind in KINDS.values()})
         self.assertIn(f"has {len(KINDS)} kinds", part)

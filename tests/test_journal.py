@@ -47,7 +47,7 @@ class Journal(Place):
                     self.store("journal", journal)
                 self.assertSilent(self.use("read", "out"))
                 said = self.use("info")
-                self.assertEqual((said.status, said.err), (0, b""))
+                self.assertEqual((said.status, said.out[:8], said.err), (0, b"id 0412\n", b""))
                 self.assertFile("journal", journal)
         self.assertSilent(self.use("protect", "write-unprotect"))
         self.assertSilent(self.use("go", "0x08000000"))

@@ -260,6 +260,13 @@ class JournalsFolder(Served):
         self.assertTold(self.at("a", "write", "--keep", "image"), "segment 1: 1 pages written\nkept 1\n")
         self.assertEqual(self.journals(), [])
 
+    def test_out_is_not_the_journal_that_is_taken(self):
+        """Its name is known only once the board was asked."""
+        self.assertTold(self.at("a", "write", "image"), "segment 1: 1 pages written\n")
+        journal = self.held(name_of("a"))
+        self.assertFault(self.at("a", "read", name_of("a")), f"cannot write {name_of('a')}")
+        self.assertFile(name_of("a"), journal)
+
     def test_go_beside_a_journal_that_has_something_is_refused(self):
         self.assertTold(self.at("a", "write", "image"), "segment 1: 1 pages written\n")
         self.assertFault(self.at("a", "go", "0x08000000"), "journal is open, refused")
@@ -267,10 +274,13 @@ class JournalsFolder(Served):
         self.assertFile("b.line", b"gone\n")
 
     def test_a_served_board_is_asked_and_used_on_one_line(self):
+        """Also where a write may be tried again."""
         os.rename(self.path("a"), self.path("flash"))
         os.rename(self.path("a.board"), self.path("flash.board"))
-        self.serve(2, number="0410")
+        self.serve(4, number="0410")
         given = ("--table", "table", "--device", "board", "--journals", "journals", "--wait", WAIT)
+        self.assertTold(self.call("write", *given, "--again", "1", "image"), "segment 1: 1 pages written\n")
+        self.assertTold(self.call("undo", *given), "undone 1\n")
         self.assertTold(self.call("write", *given, "image"), "segment 1: 1 pages written\n")
         self.assertTold(self.call("undo", *given), "undone 1\n")
         self.assertServed()

@@ -115,9 +115,9 @@ class Json(Place):
         self.assertTrue(self.is_there("--json"))
 
     def test_the_page_has_each_name(self):
-        """docs/JSON.md names each answer and fault that the program has, and no other."""
-        with open(os.path.join(TOP, "docs", "JSON.md"), encoding="utf-8") as page:
-            answers, faults = page.read().split("## Answers")[1].split("## Faults")
+        """docs/FORMATS.md names each answer and fault that the program has, and no other."""
+        with open(os.path.join(TOP, "docs", "FORMATS.md"), encoding="utf-8") as page:
+            answers, faults = page.read().split("\n### Answers\n")[1].split("\n### Faults of a call\n")
         folder = os.path.join(TOP, "crates", "stm_work", "src")
         for file, part in (("told_json.rt", answers), ("fault_name.rt", faults)):
             with open(os.path.join(folder, file), encoding="utf-8") as source:

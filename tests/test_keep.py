@@ -368,6 +368,22 @@ class KeepLast(Place):
         self.assertFault(said, "journal failed: it was moved, replaced, cut or added to")
         self.assertFile("journal", journal + b"!\n")
 
+    def test_a_text_that_does_not_read_back_takes_no_place(self):
+        """A disk may give back another digit than it was handed."""
+        self.write_thrice()
+        journal, beside = self.held("journal"), self.path("journal.stmflash-0.new")
+
+        def spoil(_, process):
+            if os.path.exists(beside) and os.path.getsize(beside):
+                with open(beside, "r+b") as file:
+                    file.seek(file.read().index(b"page 0 ") + 9)
+                    file.write(b"A")
+
+        said, _ = self.held_at(at=spoil, held=syncs.OPEN)
+        self.assertFault(said, "cannot write journal")
+        self.assertFile("journal", journal)
+        self.assertFalse(os.path.exists(beside))
+
     def test_a_full_disk_leaves_the_old(self):
         """A file may have so many bytes, and no more."""
         self.write_thrice()

@@ -35,7 +35,7 @@ class Sessions(LinePlace):
     def test_a_fault_of_the_command_is_its_own(self):
         self.board()
         self.store("journal", b"no journal\n")
-        self.assertFault(self.through("info"), "bad journal line 1")
+        self.assertFault(self.through("info"), "journal is no journal: name another, or move it away")
 
     def test_a_silent_board_is_given_up(self):
         self.plain()
@@ -71,6 +71,12 @@ class Commands(LinePlace):
             with self.subTest(script=script):
                 said = self.line("ttyUSB0", "--", "sh", "-c", script)
                 self.assertEqual((said.status, said.out, said.err), (status, b"", b""))
+
+    def test_files_that_it_makes_are_as_open_as_without_us(self):
+        """The socket is for few, and that is not handed on."""
+        for mask in (0o022, 0o077):
+            said = self.line("ttyUSB0", "--", "sh", "-c", "umask", before=lambda: (default_signals(), os.umask(mask)))
+            self.assertEqual((said.status, said.out), (0, b"%04o\n" % mask))
 
     def test_names_the_socket(self):
         """Every {} is the socket's path, also inside a word; it stands in a folder of ours alone."""

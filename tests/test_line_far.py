@@ -77,6 +77,14 @@ class Plain(FarPlace):
         self.assertEqual(client.recv(1), b"")
         self.assertEqual(self.ended(started), Said(1, b"", self.told(self.url, UNKNOWN, CLOSED)))
 
+    def test_an_address_of_six_is_named_in_brackets(self):
+        with socket.create_server(("::1", 0), family=socket.AF_INET6) as self.listener:
+            self.listener.settimeout(PATIENCE)
+            url = f"socket://[::1]:{self.listener.getsockname()[1]}"
+            started = self.start(url, "--", "true")
+            self.taken()
+            self.assertEqual(self.ended(started), Said(0, b"", self.told(url, UNKNOWN)))
+
     def test_moves_nothing(self):
         for words, name in ((("--wiring", "dtr-reset"), "DTR"), (("--boot", ",rts"), "RTS"), (("--after", "brk"), "BRK")):
             said = self.line(self.url, *words, "--", "true")

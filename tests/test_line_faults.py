@@ -132,6 +132,9 @@ class Faults(LinePlace):
                 said = self.line(*words)
                 self.assertEqual((said.status, said.out), (2, b""))
                 self.assertIn(b"stmflash-line: error: ", said.err)
+        said = self.line("ttyUSB0", "--baud", "9600", "stmflash", "write", "-v", "my file")
+        self.assertEqual(said.status, 2)
+        self.assertTrue(said.err.endswith(b"error: COMMAND comes behind --, as in: stmflash-line ttyUSB0 -- stmflash write -v 'my file'\n"), said)
         said = self.line("--help")
         self.assertEqual((said.status, said.err), (0, b""))
 

@@ -1,6 +1,7 @@
 """GPIO lines in the sequences of stmflash-line, over a stand-in for gpioset that takes the words of one version alone
 (tests/stand_ins/gpioset). A real gpioset, where one is installed, is asked for a chip that isn't there."""
 
+import contextlib
 import errno
 import fcntl
 import os
@@ -10,6 +11,7 @@ import unittest
 
 from boards import STAND_INS, LinePlace, WiredPlace, default_signals, end_with
 from place import ERASED
+from test_stm32flash_words import Words
 
 FOLDER = os.path.join(STAND_INS, "stand_ins")
 # BOOT0 at line 18, reset at 23: into the bootloader, and out of it
@@ -242,3 +244,36 @@ class Sessions(GpioPlace):
         self.assertEqual(self.made.store(), ERASED)
         said = self.line("ttyUSB0", "--boot", BOOT, "--resets", "--", *self.stmflash("info"))
         self.assertEqual((said.status, said.out.split(b"\n")[0], said.err), (0, b"id 0412", b""))
+
+
+class InWords(Words):
+    """The same lines by -i of stm32flash's words."""
+
+    def settings(self, **more):
+        held = super().settings(**more)
+        return {**held, "PATH": FOLDER + ":" + held["PATH"], "GPIO_VERSION": "1", "GPIO_PLACE": self.path("lines"), **more}
+
+    def test_a_board_is_brought_in_and_out(self):
+        os.mkdir(self.path("lines"))
+        board = self.flash(ERASED)
+        self.store("image", b"new")
+        said = self.well("-i", BOOT, "-w", "image", STM32FLASH_GPIO_CHIP="gpiochip4")
+        self.assertEqual(board.store()[:4], b"new\xff")
+        self.assertIn(b"GPIO sequence start\n setting gpio 18 to 1... OK\n setting gpio 23 to 0... OK\n delay 100000 us\n", said.out)
+        moves = [line.split(" ", 1)[1] for line in self.held("lines/moves").decode().splitlines()]
+        self.assertEqual((moves[:len(ENTRY + LEAVE)], sorted(moves[len(ENTRY + LEAVE):])), (ENTRY + LEAVE, FREE))
+        self.assertEqual(sorted(os.listdir(self.path("lines"))), ["gpiochip4-18", "gpiochip4-23", "moves"])
+
+    def test_a_chip_that_is_none_is_refused(self):
+        self.plain()
+        said = self.words("-m", "8n1", "-i", "4", STM32FLASH_GPIO_CHIP="--help")
+        self.assertEqual((said.status, said.err), (1, b"ERROR: -i: '--help' is no chip: gpiodetect tells those that there are\n"))
+
+    def test_a_line_that_cant_be_had_is_told(self):
+        end = self.plain()
+        said = self.words("-m", "8n1", "-i", "4", GPIO_REFUSAL="error setting the GPIO line values: Device or resource busy")
+        self.assertEqual(said.status, 1)
+        self.assertIn(b"stmflash-line: GPIO line 4 of gpiochip0: busy: another program or a driver has it", said.err)
+        os.set_blocking(end, False)
+        with contextlib.suppress(OSError):
+            self.assertEqual(os.read(end, 1), b"")

@@ -20,7 +20,7 @@ from unittest import mock
 
 from boards import LATENCY, WiredPlace
 from place import PATIENCE
-from stmflash_line import command, far, opening, patience, session
+from stmflash_line import command, far, faults, opening, patience, session
 from stmflash_line.join import Join
 from stmflash_line.port import Port
 from stmflash_line.sequences import read_sequence
@@ -46,6 +46,32 @@ class FarBytes(unittest.TestCase):
             self.assertEqual(port.read(), (b"e", 0))
             inbox.put_error()
             self.assertEqual(port.read(), (b"", 1))
+
+
+    def test_a_signal_ends_the_wait_for_what_goes_out_there(self):
+        port, wake = far.FarPort("a far port", 1), mock.Mock(number=None)
+        port.sent(1000)
+        port.drain(wake)
+        wake.pause.assert_called_once()
+        self.assertGreater(wake.pause.call_args.args[0], 10000)
+
+
+class Saying(unittest.TestCase):
+    def test_a_name_moves_no_terminal(self):
+        with contextlib.redirect_stderr(io.StringIO()) as said:
+            faults.say("busy: \x1b[2J\u202e\udcff (process 1)\n has it")
+        self.assertEqual(said.getvalue(), r"stmflash-line: busy: \x1b[2J\u202e\udcff (process 1)\n has it" + "\n")
+
+
+class Beginning(unittest.TestCase):
+    def test_what_a_reset_brings_is_forgotten_before_anybody_may_connect(self):
+        """A board that comes out of its reset sends what its pins make of it."""
+        calls, given = mock.Mock(), types.SimpleNamespace(boot=[("rts", True)], resets=False, socket="board", command=[], idle=0, heard=None)
+        served = contextlib.nullcontext(("board", None))
+        with mock.patch.object(session, "served", calls.served), mock.patch.object(session, "serve", calls.serve):
+            calls.served.return_value = served
+            session.use_board(calls.port, calls.moves, given, mock.Mock(number=None), None)
+        self.assertEqual([name for name, _, _ in calls.mock_calls], ["moves.play", "port.forget", "served", "serve"])
 
 
 class Sequences(unittest.TestCase):

@@ -156,7 +156,7 @@ class Calls(unittest.TestCase):
             plain, of_termios = OSError(number, ""), termios.error(number, "")
             for patched, fault, call in (("os.read", plain, self.port.read), ("os.write", plain, lambda: self.port.write(b"a")),
                                          ("termios.tcflush", of_termios, self.port.forget),
-                                         ("termios.tcdrain", of_termios, self.port.drain)):
+                                         ("termios.tcdrain", of_termios, lambda: self.port.drain(mock.Mock(number=None)))):
                 with self.subTest(number=number, patched=patched), mock.patch(patched, side_effect=fault), self.assertRaises(Gone):
                     call()
             for fault in (plain, of_termios):
@@ -202,8 +202,19 @@ class Calls(unittest.TestCase):
         self.play("brk", termios.error(errno.EINTR, ""))
         self.assertEqual(self.waited, [0.5])
         with mock.patch("termios.tcdrain", side_effect=[termios.error(errno.EINTR, ""), None]) as drain:
-            self.port.drain()
+            self.port.drain(mock.Mock(number=None))
         self.assertEqual(drain.call_count, 2)
+
+    def test_a_signal_that_ends_us_ends_the_wait_for_a_port_that_takes_nothing(self):
+        wake = mock.Mock(number=None)
+
+        def cut_short(_):
+            self.assertIsNone(wake.number, "it waits again")
+            wake.number = 15
+            raise termios.error(errno.EINTR, "")
+
+        with mock.patch("termios.tcdrain", cut_short):
+            self.port.drain(wake)
 
     def test_a_port_that_is_full(self):
         with mock.patch("os.write", side_effect=BlockingIOError):

@@ -388,7 +388,7 @@ class Pages(unittest.TestCase):
 
     def test_one_example(self):
         entry, leave = WIRINGS[EXAMPLE]
-        for place in ("README.md", "docs/LINE.md", "docs/FLEET.md", "line/stmflash-line.1", "line/stmflash_line/words.py",
+        for place in ("README.md", "docs/LINE.md", "line/stmflash-line.1", "line/stmflash_line/words.py",
                       "packaging/stmflash-line@.service"):
             with self.subTest(place=place):
                 with open(os.path.join(TOP, place), encoding="utf-8") as held:

@@ -94,6 +94,12 @@ class Bytes(unittest.TestCase):
         self.learn()
         self.board("79")
 
+    def test_the_chip_is_the_one_of_the_id_that_was_told(self):
+        """Also where the table has others before it, with fewer pages."""
+        self.watch = Watch([{**CHIP, "id": 0x441, "pages": [[1, 1024]]}, CHIP])
+        self.learn()
+        self.board(self.read("08000400", "11 22"))
+
     def test_lists_of_codes(self):
         for codes in ("00 02 11 31 43 44", "00 02 11 31", "00 02 11 44", "00 02 11 31 44 7F"):
             with self.subTest(codes=codes):

@@ -57,7 +57,7 @@ class Log(Place):
 
     @unittest.skipIf(shutil.which("strace") is None, "strace is not installed")
     def test_a_journal_is_read_in_large_pieces(self):
-        """Each but the last is whole, so that a journal of many pages takes few calls."""
+        """Each but the last is whole, so that a journal of many pages takes few calls. One piece is read ahead, to see that it is one."""
         journal = b"stmjournal 2 0412\nopen 1\n" + b"page 5 " + b"00" * 32768 + b"\nerase 5\nprogram 5\nend 1\n"
         self.store("journal", journal)
         ran = subprocess.run(["strace", "-f", "-o", self.path("record"), "-e", "trace=read", program(), "log", "--journal", "journal"],
@@ -66,10 +66,10 @@ class Log(Place):
         if not record.strip():
             self.skipTest("strace can't trace here")
         self.assertEqual((ran.returncode, ran.stderr), (0, b""))
-        came = [int(count) for count in re.findall(r"read\(.*, \d+\) += (\d+)", "read(" + record.split("stmjournal")[1])]
-        self.assertEqual(came[0], PIECE)
+        ahead, came = ([int(count) for count in re.findall(r"read\(.*, \d+\) += (\d+)", "read(" + it)]
+                       for it in record.split("stmjournal")[1:])
         whole, rest = divmod(len(journal), PIECE)
-        self.assertEqual(came, [PIECE] * whole + [rest, 0])
+        self.assertEqual((ahead, came), ([PIECE], [PIECE] * whole + [rest, 0]))
 
     def test_tells_each_state(self):
         """Cut at each byte, the journal says what its whole lines say."""

@@ -9,6 +9,12 @@ import unittest
 from place import TOP, is_unproved, program
 
 
+def settings(path):
+    """What a unit sets, the last of each name."""
+    with open(path, encoding="utf-8") as file:
+        return dict(line.rstrip().split("=", 1) for line in file if "=" in line and not line.startswith("#"))
+
+
 class Packaging(unittest.TestCase):
     def test_no_package_of_a_program_that_is_not_proved(self):
         if shutil.which("readelf") is None:
@@ -57,6 +63,40 @@ class Packaging(unittest.TestCase):
                 self.assertEqual((ran.returncode, ran.stdout), (1, ""))
                 self.assertIn(fault, ran.stderr)
                 self.assertEqual(os.listdir(folder), ["one"])
+
+    def installed(self, *parts):
+        """What `make install` leaves below a folder of ours, which is told as /opt/ours."""
+        made = tempfile.TemporaryDirectory()
+        self.addCleanup(made.cleanup)
+        subprocess.run(["make", "--no-print-directory", "install", "PREFIX=/opt/ours", f"DESTDIR={made.name}", f"BINARY={program()}"],
+                       cwd=TOP, check=True, capture_output=True, timeout=60)
+        return os.path.join(made.name, "opt", "ours", *parts)
+
+    def test_what_is_installed_knows_where_it_is(self):
+        """Each program is on the path with its page and its completions, and the unit calls the one beside it."""
+        top = self.installed()
+        for name in ("stmflash", "stmflash-line", "stmflash-trial"):
+            for path in (f"bin/{name}", f"share/man/man1/{name}.1", f"share/fish/vendor_completions.d/{name}.fish",
+                         f"share/bash-completion/completions/{name}"):
+                self.assertTrue(os.path.exists(os.path.join(top, path)), path)
+        unit = os.path.join(top, "lib/systemd/system/stmflash-line@.service")
+        self.assertEqual(settings(unit)["ExecStart"].split()[0], "/opt/ours/bin/stmflash-line")
+
+    def test_a_served_port_goes_with_its_adapter_and_is_for_its_group(self):
+        unit = settings(os.path.join(TOP, "packaging", "stmflash-line@.service"))
+        for name in ("BindsTo", "After", "WantedBy"):
+            self.assertEqual(unit[name], "dev-%i.device")
+        self.assertEqual((unit["RuntimeDirectoryMode"], unit["Group"]), ("0750", "dialout"))
+
+    def test_a_tagged_adapter_is_nobody_elses(self):
+        """ModemManager leaves it alone, whoever sits there may use it, and it is quick."""
+        with open(os.path.join(TOP, "packaging", "70-stmflash.rules"), encoding="utf-8") as file:
+            rules = [line for line in file if not line.startswith("#")]
+        for line in rules:
+            self.assertTrue(line.startswith('ACTION!="remove", SUBSYSTEM=="tty", TAG=="stmflash", '), line)
+        done = "".join(rules)
+        for part in ('ENV{ID_MM_PORT_IGNORE}="1"', 'TAG+="uaccess"', 'ATTR{device/latency_timer}="1"'):
+            self.assertIn(part, done)
 
     def release(self, clone, folder):
         words = [os.path.join(clone, "packaging", "release"), folder]

@@ -9,6 +9,7 @@ import re
 import shutil
 import subprocess
 import sys
+import tempfile
 import xml.etree.ElementTree
 
 from place import TOP, Place, is_unproved
@@ -41,12 +42,16 @@ UNCALLED = ("stm_wire_tests", "stm_watch_tests", "stm_disk_tests", "stm_tests", 
          "stm_client", "stm_line")
 # faults that hand on what the memory, the line, or a file of the system said
 HANDED_ON = re.compile(r"::(?:Memory|Session|of_\w+|from|other)$|^(?:RigFault|io::Error)::|Fault::(?:Line|Journal|File)$")
-# prints how many faults each subject has, and each part of those of the companions
+# what `make pages` makes: each tool with its page
+MADE = {"map": "MAP.md", "proved": "PROVED.md", "statement": "STATEMENT.md"}
+# what MAP has no line of: answers in proofs/, which have the paths of their functions, and what lists modules or is empty
+UNLISTED = re.compile(r"/(Answers|Invariants|Goals|Given|Proof|Lib|lemmas)\.antt$|/__init__\.py$")
+# prints how many faults there are of the program, and how many of the companions
 COUNTED = """
-import collections, importlib, json
+import importlib, json
 import planted
-parts = {it: len(importlib.import_module("line_faults." + it).FAULTS) for it in ("line", "behind", "trial", "words")}
-print(json.dumps([collections.Counter(it.subject for it in planted.all_faults()), parts]))
+parts = [importlib.import_module("line_faults." + it).FAULTS for it in ("line", "behind", "trial", "words")]
+print(json.dumps([len(list(planted.all_faults())), sum(map(len, parts))]))
 """
 
 
@@ -116,35 +121,73 @@ class Pages(Place):
             missing += [f"{name} {option}" for option in told if option not in page]
         self.assertEqual(missing, [])
 
+    def test_what_is_made_is_what_the_tools_make_now(self):
+        """MAP, PROVED and STATEMENT, each by its tool, and each says so in its first line. No tool leaves out what it should have."""
+        for tool, page in MADE.items():
+            with self.subTest(page=page):
+                ran = subprocess.run([sys.executable, "-B", os.path.join(TOP, "tools", tool), "--check"], cwd=TOP, capture_output=True, text=True)
+                self.assertEqual((ran.returncode, ran.stderr), (0, ""))
+                self.assertEqual(held("docs", page).partition("\n")[0], f"<!-- made by tools/{tool}: `make pages`; not by hand -->")
+
+    def test_a_page_that_is_not_what_its_tool_makes_is_found(self):
+        """In a copy: a page with a line more, and a file without a comment. A clause more is on the page by its name."""
+        with tempfile.TemporaryDirectory() as folder:
+            shutil.copytree(TOP, folder, dirs_exist_ok=True, symlinks=True, ignore=shutil.ignore_patterns(".git", "out", "bin", "proofs"))
+            subprocess.run(["git", "init", "-q", folder], check=True)
+
+            def says(tool, *words):
+                ran = subprocess.run([sys.executable, "-B", os.path.join(folder, "tools", tool), *words], cwd=folder, capture_output=True, text=True)
+                return ran.returncode, ran.stderr
+
+            # it has no lemmas of proofs/ here
+            self.assertEqual((says("map"), says("map", "--check")), ((0, ""), (0, "")))
+            for tool, page in MADE.items():
+                with open(os.path.join(folder, "docs", page), "a", encoding="utf-8") as file:
+                    file.write("More.\n")
+                self.assertEqual(says(tool, "--check"), (1, f"tools/{tool}: docs/{page} is another page: make pages\n"))
+            with open(os.path.join(folder, "tools", "nameless"), "w", encoding="utf-8") as file:
+                file.write("#!/bin/sh\ntrue\n")
+            self.assertEqual(says("map"), (1, "tools/map: tools/nameless has no first comment, and no row in docs/heads/MAP.md\n"))
+            with open(os.path.join(folder, "crates", "stm_session", "src", "undoing.rt"), "a", encoding="utf-8") as file:
+                file.write("\npub fn undo(count: u32) -> u32\n    ensures half { result ≡ count }\n{\n    count\n}\n")
+            self.assertEqual(says("proved"), (0, ""))
+            with open(os.path.join(folder, "docs", "PROVED.md"), encoding="utf-8") as file:
+                self.assertIn("- **`undo`** (`undoing.rt`): *half* `result ≡ count`\n", file.read())
+
     def test_the_map_names_each_file(self):
-        """Each file of code and definitions in the section of its crate; of tests, tools and the rest its name, or its folder's."""
-        page = held("docs", "MAP.md")
-        sections = page.split("\n## ")
-        missing = []
+        """Each file of code, definitions and lemmas in the section of its folder, with words; of tests, tools and the rest it or its
+        folder."""
+        head, page = held("docs", "heads", "MAP.md"), held("docs", "MAP.md")
+        rooms = {it.partition("\n")[0]: it for it in page.split("\n## ")}
         for path in subprocess.run(["git", "ls-files"], cwd=TOP, capture_output=True, text=True, check=True).stdout.splitlines():
-            top, name = path.split("/")[0], os.path.basename(path)
-            if top == "crates" and re.search("/(src|specs)/", path) and name not in ("lib.rt", "Lib.antt"):
-                own = "\n".join(it for it in sections if path.split("/")[1] in it.split("\n")[0])
-                names = [name.removesuffix(".antt")]
-            elif top in ("tests", "tools", "bench", "line", "packaging"):
-                own, names = page, [name, *[os.path.dirname(path) + "/"] * path.count("/", len(top) + 1)]
+            if re.search(r"^crates/\w+/(src|specs|proofs)/", path) and not UNLISTED.search(path):
+                room, name = "/".join(path.split("/")[:3]), path.split("/", 3)[3]
+            elif path.startswith(("tests/", "tools/", "bench/", "line/", "packaging/", "arm64/")) and not UNLISTED.search(path):
+                room, name = os.path.split(path)
             else:
                 continue
-            if not any(re.search(rf"(?<!\w){re.escape(it)}(?!\w)", own or page) for it in names):
-                missing.append(path)
-        self.assertEqual(missing, [])
+            with self.subTest(path=path):
+                folders = [path[:at + 1] for at, sign in enumerate(path) if sign == "/"]
+                self.assertTrue(re.search(rf"^- `{re.escape(name)}`: \S", rooms.get(room, ""), re.M)
+                                or any(f"`{it}`" in head for it in (path, *folders)))
 
-    def test_the_map_names_no_file_that_is_gone(self):
-        """Each name in the first column of its tables is a file's or a folder's, or its end."""
-        files = subprocess.run(["git", "ls-files"], cwd=TOP, capture_output=True, text=True, check=True).stdout.split()
-        there = {"/" + re.sub(r"\.(antt|rt)$", "", it) for it in files} | {"/" + it for it in files}
-        for it in files:
-            there.update("/" + "/".join(it.split("/")[:deep]) for deep in range(1, it.count("/") + 1))
-        ends = {path[at:] for path in there for at, sign in enumerate(path) if sign == "/"}
-        for row in [it for it in held("docs", "MAP.md").splitlines() if it.startswith("| `")]:
-            for name in re.findall(r"`([^`]+)`", row.split("|")[1]):
-                with self.subTest(name=name):
-                    self.assertTrue("/" + name.rstrip("/") in ends)
+    def test_what_is_proved_names_each_public_function(self):
+        """Each function that a library shows, in the section of its crate, with each of its clauses or without any."""
+        sections = {it.partition("\n")[0]: it for it in held("docs", "PROVED.md").split("\n## ")}
+        count = 0
+        for path in glob.glob(os.path.join(TOP, "crates", "*", "src", "lib.rt")):
+            crate = path.split(os.sep)[-3]
+            code = "".join(held(it) for it in glob.glob(os.path.join(os.path.dirname(path), "**", "*.rt"), recursive=True))
+            for names in re.findall(r"^pub use [\w:]+?::(\{[^}]*\}|\w+);", held(path), re.M) if "_tests" not in crate else ():
+                for name in re.findall(r"\b[a-z]\w*\b", names):
+                    with self.subTest(crate=crate, name=name):
+                        row = re.search(rf"^- \*\*`{name}`\*\*.*", sections[crate], re.M)
+                        self.assertTrue(row or re.search(rf"^Without a clause: .*`{name}`", sections[crate], re.M))
+                        head = re.search(rf"^pub fn {name}\b.*?(?:^\{{| \{{$)", code, re.M | re.S)[0]
+                        for clause in re.findall(r"^    (?:ensures|requires) (\w+) \{", head, re.M):
+                            self.assertIn(f"*{clause}* ", row[0])
+                            count += 1
+        self.assertGreater(count, 150)
 
     def test_a_name_is_defined_once(self):
         """No two modules of specs define the same name; and undo is one word in the code."""
@@ -169,29 +212,15 @@ class Pages(Place):
                         self.assertFalse(own & set(re.findall(r"[^\s,]+", names)))
 
     def test_the_words_are_in_use(self):
-        """WORDS has twenty, in their order; README and MAP lead to it. Each is in two more pages at least, or its parts are."""
-        words = re.findall(r"^\| ((?!Word \|)[\w, ]+) \|", held("docs", "WORDS.md"), re.M)
+        """MODEL has twenty, in their order; README leads to it. Each is in two more pages at least, or its parts are."""
+        words = re.findall(r"^\| ((?!Word \|)[\w, ]+) \|", held("docs", "MODEL.md").split("\n## Words\n")[1], re.M)
         self.assertEqual(len(words), 20)
         self.assertEqual(words, sorted(words, key=str.lower))
-        for page, link in (("README.md", "(docs/WORDS.md)"), (os.path.join("docs", "MAP.md"), "(WORDS.md)")):
-            self.assertIn(link, held(page))
-        texts = [re.sub(r"\s+", " ", held(page)) for page in pages() if os.path.basename(page) not in ("WORDS.md", "CHANGELOG.md")]
+        self.assertIn("(docs/MODEL.md", held("README.md"))
+        texts = [re.sub(r"\s+", " ", held(page)) for page in pages() if os.path.basename(page) not in ("MODEL.md", "CHANGELOG.md")]
         for word in (it for told in words for it in told.split(", ")):
             with self.subTest(word=word):
                 self.assertGreaterEqual(sum(bool(re.search(rf"\b{word}", it, re.I)) for it in texts), 2)
-
-    def test_the_lines_of_proved_are_short(self):
-        """All but rows of its table have less than 120 columns."""
-        self.assertEqual([it for it in held("docs", "PROVED.md").splitlines() if len(it) >= 120 and not it.startswith("|")], [])
-
-    def test_the_entries_of_proved_are_counted(self):
-        """Its first table has each section in their order, with as many entries as it has: paragraphs that begin in bold."""
-        page = held("docs", "PROVED.md")
-        told = re.findall(r"^\| \[([^]]+)\]\(#[^)]*\) \|([^|]*)\|", page.split("\n## What is where\n")[1].split("\n## ")[0], re.M)
-        sections = [it.partition("\n") for it in page.split("\n## What is where\n")[1].split("\n## ")[1:]]
-        self.assertGreaterEqual(len(sections), 19)
-        self.assertEqual([(name, count.strip()) for name, count in told],
-                         [(name, str(sum(it.startswith("**") for it in text.strip().split("\n\n")))) for name, _, text in sections])
 
     def test_the_stopped_write_is_shown_without_bytes_of_the_protocol(self):
         """What is typed, the journal and the flash: no text of the picture is a run of bytes."""
@@ -238,14 +267,6 @@ class Pages(Place):
             for module in {word for it in commands for word in re.findall(r"unittest (test_\w+)", it)}:
                 with self.subTest(page=page, module=module):
                     self.assertTrue(os.path.exists(os.path.join(TOP, "tests", module + ".py")))
-
-    def test_the_statement_is_what_the_headline_rests_on(self):
-        ran = subprocess.run([os.path.join(TOP, "tools", "statement"), "--check"], capture_output=True, text=True)
-        self.assertEqual((ran.returncode, ran.stderr), (0, ""))
-
-    def test_the_lines_are_about_as_many_as_the_gate_says(self):
-        ran = subprocess.run([os.path.join(TOP, "tools", "lines"), "--check"], capture_output=True, text=True)
-        self.assertEqual((ran.returncode, ran.stderr), (0, ""))
 
     def test_the_walk_names_code_that_is_there(self):
         """Each file and each function that INSIDE names; a file without a folder is in that of the one before it."""
@@ -314,41 +335,30 @@ class Pages(Place):
         self.assertGreaterEqual(count, 100)
 
     def test_the_faults_are_as_many_as_are_told(self):
-        """In FAULTS the faults of each subject and of each part of the companions, and how many they are together; that in GATE too."""
+        """In GATE those of the program and those of the companions."""
         ran = subprocess.run([sys.executable, "-B", "-c", COUNTED], cwd=os.path.join(TOP, "tools"), capture_output=True, check=True)
-        subjects, parts = json.loads(ran.stdout)
-        program, companions = held("docs", "FAULTS.md").split("## Faults planted in the ")[1:]
-        told = {}
-        for names, counts in re.findall(r"^\| (`\w+`(?:, `\w+`)*) \| (\d+(?:, \d+)*) \|", program, re.M):
-            told.update(zip(re.findall(r"\w+", names), map(int, counts.split(", "))))
-        self.assertEqual(told, subjects)
-        self.assertEqual(re.findall(r"All (\d+) in one call", program), [str(sum(subjects.values()))])
-        self.assertEqual(dict(re.findall(r"(\w+)\.py`\) \| (\d+) \|", companions)), {name: str(count) for name, count in parts.items()})
-        self.assertEqual(re.findall(r"plants (\d+)\s+faults", companions), [str(sum(parts.values()))])
-        told = re.findall(r"plants (\d+) in the\s+program, and `python3\s+tools/line-mutants --jobs 2` (\d+) in", held("docs", "GATE.md"))
-        self.assertEqual(told, [(str(sum(subjects.values())), str(sum(parts.values())))])
+        told = re.findall(r"tools/(?:mutants --jobs 2 +all|line-mutants --jobs 2` plants) (\d+)", held("docs", "GATE.md"))
+        self.assertEqual(told, [str(it) for it in json.loads(ran.stdout)])
 
     def test_the_wrong_bodies_are_as_many_as_are_told(self):
-        """In FAULTS those of each crate, by how they are refused, and in GATE all of them."""
-        count = collections.Counter(it.split(os.sep)[-3] for it in glob.glob(os.path.join(TOP, "crates", "*", "wrong-bodies", "*.edit")))
-        told = re.findall(r"^\| `(\w+)` \| (\d+) \| (\d+) \| (\d+) \|$", held("docs", "FAULTS.md").split("### The score")[1], re.M)
-        self.assertEqual({name: sum(map(int, numbers)) for name, *numbers in told}, dict(count))
-        self.assertEqual(re.findall(r"The gate has (\d+) wrong bodies", held("docs", "GATE.md")), [str(count.total())])
+        """In GATE."""
+        count = len(glob.glob(os.path.join(TOP, "crates", "*", "wrong-bodies", "*.edit")))
+        self.assertEqual(re.findall(r"The gate has (\d+) wrong bodies", held("docs", "GATE.md")), [str(count)])
 
     def test_the_chips_are_as_many_as_are_told(self):
-        """In README, CHIPS and BESIDE."""
+        """In README, FORMATS and SWITCH."""
         count = len(re.findall(r"^\[\[chip\]\]$", held("chips.toml"), re.M))
-        for page, words in (("README.md", r"`chips.toml` knows (\d+) chips"), ("docs/CHIPS.md", r"`chips.toml` is one with (\d+) chips"),
-                            ("docs/BESIDE.md", r"\| (\d+) in `chips.toml`")):
+        for page, words in (("README.md", r"`chips.toml` knows (\d+) chips"), ("docs/FORMATS.md", r"`chips.toml` is one with (\d+) chips"),
+                            ("docs/SWITCH.md", r"\| (\d+) in `chips.toml`")):
             with self.subTest(page=page):
                 self.assertEqual(re.findall(words, held(page)), [str(count)])
 
     def test_the_boards_that_chips_tell_are_as_many_as_are_told(self):
-        """In CHIPS the entries that have both places, and those that have `unique` alone."""
+        """In FORMATS the entries that have both places, and those that have `unique` alone."""
         chips = held("chips.toml").split("[[chip]]")[1:]
         both = sum(bool(re.search(r"^unique\b", it, re.M) and re.search(r"^size_at\b", it, re.M)) for it in chips)
         alone = sum(bool(re.search(r"^unique\b", it, re.M)) for it in chips) - both
-        told = re.findall(r"both for (\d+) ids and\s+`unique`\s+alone for (\w+) more", held("docs", "CHIPS.md"))
+        told = re.findall(r"both for (\d+) ids and\s+`unique`\s+alone for (\w+) more", held("docs", "FORMATS.md"))
         self.assertEqual(told, [(str(both), {11: "eleven"}.get(alone, str(alone)))])
 
     def test_links_lead_to_a_heading(self):

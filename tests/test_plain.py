@@ -1,6 +1,7 @@
 """Plain English: in the pages that a user reads, and in the manual pages, no sentence has more than thirty words. In these and in
 every other page none has a word for which a plainer one was settled."""
 
+import glob
 import itertools
 import os
 import re
@@ -9,13 +10,20 @@ import unittest
 
 from place import TOP
 
+
+def is_made(path):
+    """Whether a tool makes this page, as its first line says."""
+    with open(path, encoding="utf-8") as file:
+        return file.readline().startswith("<!-- made by ")
+
+
 PAGES = ("README.md", "CONTRIBUTING.md",
-         *(os.path.join("docs", f"{it}.md") for it in ("LINE", "UNDO", "FLEET", "SWITCH", "GATE", "FAULTS", "INSIDE",
-                                                       "HEADLINE", "SETTLING", "BESIDE", "JSON", "WORDS")))
-# all but STATEMENT, which a tool makes, and the diary of the gate
+         *(os.path.join("docs", f"{it}.md") for it in ("LINE", "UNDO", "FORMATS", "SWITCH", "GATE", "INSIDE",
+                                                       "HEADLINE")))
+# all but what a tool makes, and its head
 EVERY = ("README.md", "CONTRIBUTING.md",
-         *sorted(os.path.join("docs", it) for it in os.listdir(os.path.join(TOP, "docs"))
-                 if it.endswith(".md") and it not in ("STATEMENT.md", "GATE-DIARY.md")))
+         *sorted(os.path.relpath(it, TOP) for it in glob.glob(os.path.join(TOP, "docs", "**", "*.md"), recursive=True)
+                 if not is_made(it)))
 MANUALS = ("stmflash.1", *(os.path.join("line", f"stmflash-{it}.1") for it in ("line", "trial", "as-stm32flash")))
 LIMIT = 30
 # words that were settled, each with what is said instead; the last of a write or an erase: a page is given back all the same

@@ -156,6 +156,7 @@ class Progress(Place):
         self.assertEqual((came[0][0], shown), (0, b""))
         came, shown = self.on_terminal(lambda err: self.run_shown(err, "verify", "-f", "image"))
         self.assertEqual((came[0], b"note:" in shown), (0, False))
+        self.assertTrue(self.is_there("flash.line"))
 
     def shown_at(self, name, *words):
         """What a terminal shows of a subcommand, with no journal there."""
@@ -193,6 +194,7 @@ class Progress(Place):
                       ("verify", "-f", "image"), ("undo",), ("go", "0x08000000"), ("protect", "write-unprotect")):
             with self.subTest(words=words):
                 self.assertNotIn(b"note:", self.shown_at(*words))
+                self.assertTrue(self.is_there("flash.line"))
         for words in (("-f", "-S", "0x08000000", "image"), ("--progress", "-f", "-S", "0x08000000", "image")):
             self.remove(*(held for held in ("flash", "flash.line", "journal") if self.is_there(held)))
             _, shown = self.in_file(lambda err: self.run_shown(err, "write", *words))

@@ -1,19 +1,25 @@
-"""The commands of the README, taken from the page: they run word for word, and print what it says. Of docs/FLEET.md two recipes."""
+"""The commands of the README, taken from the page: in a clean clone they run word for word, as root and as a normal user, and print
+what it says. Of docs/LINE.md two recipes."""
 
 import os
 import re
+import shutil
 import subprocess
 
-from boards import LINE, PYTHON, WAIT, LinePlace
+from boards import WAIT, LinePlace
 from place import COUNTING, PATIENCE, TOP, Place, program
 from test_image import HEX
+from test_plain import MANUALS, plain
 
 
-def blocks(page="README.md"):
+def page(name="README.md"):
+    with open(os.path.join(TOP, name), encoding="utf-8") as file:
+        return file.read()
+
+
+def blocks(name="README.md"):
     """The blocks of commands of the README, or of another page, each as its lines."""
-    with open(os.path.join(TOP, page), encoding="utf-8") as file:
-        text = file.read()
-    return [re.sub(r"^    ", "", it, flags=re.M) for it in re.findall(r"(?:^    .*\n)+", text, re.M)]
+    return [re.sub(r"^    ", "", it, flags=re.M) for it in re.findall(r"(?:^    .*\n)+", page(name), re.M)]
 
 
 def told(block):
@@ -21,56 +27,158 @@ def told(block):
     return "".join(f"{it}\n" for it in re.findall(r"# (.*)", block))
 
 
-class Readme(Place):
-    def try_block(self, *folders):
-        """Runs the block that begins on a simulated chip where a command has left the program in this folder below the clone."""
-        block = next(it for it in blocks() if "STMFLASH_DEVICE=sim:" in it)
-        os.makedirs(self.path(os.path.join(*folders)))
-        os.symlink(program(), self.path(os.path.join(*folders, "stmflash")))
-        os.symlink(os.path.join(TOP, "chips.toml"), self.path("chips.toml"))
-        ran = subprocess.run(["bash", "-eu", "-c", block], cwd=self.folder, env={"PATH": os.environ["PATH"]}, timeout=PATIENCE,
-                             stdin=subprocess.DEVNULL, capture_output=True, text=True)
-        self.assertEqual((ran.returncode, ran.stderr, ran.stdout), (0, "", told(block)))
+# what stands in for rt, which proves nothing here, and for Debian's own: fish isn't there, and no call installs it
+STAND_INS = {"rt": "exit 0", "dpkg": '[ "$2" != fish ]', "apt-get": 'echo "$@" >> "$HOME/installed"'}
+# nobody: a user that may do nothing
+NOBODY = 65534
 
-    def test_behind_the_demo(self):
-        self.try_block("bin", "unproved")
+
+class Clone:
+    """A clean clone in the folder of a test, for a user: whoever runs the tests, or a normal one."""
+
+    user = os.geteuid()
+
+    def clone(self):
+        if self.user != os.geteuid() != 0 or self.user == NOBODY and program().endswith("-under-qemu"):
+            self.skipTest("only root becomes another user")
+        os.makedirs(self.path("home/temporary"))
+        subprocess.run(["git", "clone", "-q", TOP, self.path("clone")], check=True, timeout=PATIENCE)
+        if program().endswith("-under-qemu"):
+            self.script("program", f'exec {program()} "$@"')
+        else:
+            shutil.copy(program(), self.path("program"))
+        os.mkdir(self.path("stand-ins"))
+        for name, text in STAND_INS.items():
+            self.script(os.path.join("stand-ins", name), text)
+
+    def script(self, name, text):
+        self.store(name, f"#!/bin/sh\n{text}\n".encode())
+        os.chmod(self.path(name), 0o755)
+
+    def run_blocks(self, *texts):
+        """What each block prints, one after the other in one shell, and what all say on standard error."""
+        script, rights = "".join(text + "printf '\\001'\n" for text in texts), {}
+        if self.user != os.geteuid():
+            rights = {"user": self.user, "group": self.user, "extra_groups": []}
+            for folder, folders, names in os.walk(self.folder):
+                for name in (".", *folders, *names):
+                    os.chown(os.path.join(folder, name), self.user, self.user, follow_symlinks=False)
+        variables = {"PATH": self.path("stand-ins") + ":" + os.environ["PATH"], "HOME": self.path("home"),
+                     "TMPDIR": self.path("home/temporary"), "STMFLASH_WAIT": WAIT}
+        ran = subprocess.run(["bash", "-eu", "-c", script], cwd=self.path("clone"), env=variables, timeout=PATIENCE, stdin=subprocess.DEVNULL,
+                             capture_output=True, text=True, **rights)
+        self.assertEqual(ran.returncode, 0, ran.stderr)
+        self.assertEqual(os.listdir(self.path("home/temporary")), [])
+        said = ran.stdout.split("\1")
+        self.assertEqual((len(said), said[-1]), (len(texts) + 1, ""))
+        return *said[:-1], ran.stderr
+
+
+class Blocks(Clone, Place):
+    def test_each_block_in_a_clean_clone(self):
+        """All but those of a port. What builds the program, and what runs the tests, are stand-ins."""
+        made, used = [it for it in blocks() if "/dev/tty" not in it]
+        self.assertEqual([it.split("#")[0].strip() for it in made.splitlines()], ["make demo", "make tests"])
+        self.clone()
+        self.script("clone/tools/try-unproved", f'shift 3\ncp {self.path("program")} "$TMPDIR/program"\nexec "$TMPDIR/program" "$@"')
+        self.store("clone/tests/run", b"import sys\nprint(*sys.argv[1:], sep=', ')\n")
+        built, said, err = self.run_blocks(made, used)
+        self.assertIn("The flash is what it was before, byte for byte, both times.\n", built)
+        self.assertTrue(built.endswith("\nbin/stmflash-unproved, --without, only root, isn't allowed, can't trace here, fish\n"), built)
+        self.assertEqual(err, "not installed here, so that tests are left out, each by name; for them: sudo apt-get install fish \n")
+        self.assertEqual(self.held("home/installed"), b"update -qq\ninstall -y -qq --no-install-recommends fish\n" if self.user == 0 else None)
+        self.assertEqual(said, told(used))
+
+
+class Readme(Place):
+    def test_the_demo_says_what_it_lacks(self):
+        """Without rt one line says so, and where it comes from; nothing is built."""
+        os.mkdir(self.path("bin"))
+        for name in ("sh", "dirname", "python3"):
+            os.symlink(shutil.which(name), self.path(os.path.join("bin", name)))
+        ran = subprocess.run(["sh", os.path.join(TOP, "tools", "demo.sh")], env={"PATH": self.path("bin")}, capture_output=True, text=True)
+        self.assertEqual((ran.returncode, ran.stdout, ran.stderr),
+                         (1, "", 'make demo: there is no rt on the path (README, "Build, install, test")\n'))
 
     def test_behind_make(self):
-        self.try_block("bin")
-
-    def test_the_two_commands_leave_the_program_there(self):
+        """`make` leaves in bin what the demo leaves in bin/unproved."""
         with open(os.path.join(TOP, "Makefile"), encoding="utf-8") as file:
-            self.assertIn("crates/stmflash/out/stmflash bin/stmflash\n", file.read())
-        with open(os.path.join(TOP, "tools", "demo.sh"), encoding="utf-8") as file:
-            self.assertIn('ln -sf ../stmflash-unproved "$top/bin/unproved/stmflash"\n', file.read())
-        commands = [it.split("#")[0].strip() for it in blocks()[0].splitlines()]
-        self.assertEqual(commands, ["make demo", "make"])
+            self.assertIn("\tmkdir -p bin && cp crates/stmflash/out/stmflash bin/stmflash\n"
+                          "\tln -sf ../line/stmflash-line ../line/stmflash-trial bin\n", file.read())
+
+    def test_the_gate_is_make_test(self):
+        with open(os.path.join(TOP, ".ci", "run"), encoding="utf-8") as file:
+            self.assertRegex(file.read().splitlines()[-1], r"^exec make --no-print-directory test ")
+        self.assertIn("**`make test` is the gate**, which `.ci/run` calls", page())
+
+    def test_it_is_short(self):
+        lines = page().splitlines()
+        self.assertLessEqual(len(lines), 130)
+        self.assertLess(len(" ".join(lines[:60]).split()), 350)
 
 
-class ARealBoard(LinePlace):
+class ARealBoard(Clone, LinePlace):
     """What the README says of a port: there a pseudo-terminal with a simulated board behind it."""
 
     def test_a_write_and_its_undo(self):
-        os.mkdir(self.path("bin"))
-        os.symlink(program(), self.path("bin/stmflash"))
-        self.store("bin/stmflash-line", f"#!/bin/sh\nexec {PYTHON} {LINE} \"$@\"\n".encode())
-        os.chmod(self.path("bin/stmflash-line"), 0o755)
-        self.store("firmware.hex", HEX)
+        paths = "".join(it + "\n" for block in blocks() for it in block.splitlines() if it.startswith("export "))
+        (both,) = [it.replace("/dev/", self.folder + "/") for it in blocks() if "/dev/tty" in it]
+        self.clone()
+        os.makedirs(self.path("clone/bin/unproved"))
+        for name, leads in (("stmflash", self.path("program")), *((it, f"../../line/{it}") for it in ("stmflash-line", "stmflash-trial"))):
+            os.symlink(leads, self.path(f"clone/bin/unproved/{name}"))
+        self.store("clone/firmware.hex", HEX)
         self.store("ttyUSB0.flash", COUNTING)
         board = self.board()
-        variables = {"PATH": self.path("bin") + ":" + os.environ["PATH"], "TMPDIR": self.path("temporary"),
-                     "STMFLASH_TABLE": "table", "STMFLASH_WAIT": WAIT}
-        written, undone = [it for it in blocks() if "stmflash-line /dev/ttyUSB0 " in it]
-        for block, said, flash in ((written, "segment 1: 1 pages written\nverified 4 bytes\n", b"\1\2\3\4" + COUNTING[4:]),
-                                   (undone, "undone 1, 1024 bytes verified\n", COUNTING)):
-            ran = subprocess.run(["sh", "-c", block.replace("/dev/", "")], cwd=self.folder, env=variables, timeout=PATIENCE,
-                                 stdin=subprocess.DEVNULL, capture_output=True, text=True)
-            self.assertEqual((ran.returncode, ran.stderr, ran.stdout), (0, "", said))
-            self.assertEqual(board.store(), flash)
+        os.chown(os.path.realpath(self.path("ttyUSB0")), self.user, -1)
+        _, written, undone, err = self.run_blocks(paths, *(it + "\n" for it in both.splitlines()))
+        self.assertEqual((written, undone, err), ("segment 1: 1 pages written\nverified 4 bytes\n", "undone 1, 1024 bytes verified\n", ""))
+        self.assertEqual(board.store(), COUNTING)
+
+
+class BlocksAsANormalUser(Blocks):
+    user = NOBODY
+
+
+class ARealBoardAsANormalUser(ARealBoard):
+    user = NOBODY
+
+
+class Manuals(Place):
+    """What the manual pages show and name."""
+
+    def test_examples_fit_a_terminal(self):
+        """Of 80 columns, of which man takes seven at the left and one at the right."""
+        for name in MANUALS:
+            for block in re.findall(r"^\.nf\n(.*?)^\.fi$", page(name), re.M | re.S):
+                for line in block.splitlines():
+                    with self.subTest(name=name, line=line):
+                        self.assertLessEqual(len(plain(line)), 72)
+
+    def test_the_pages_that_they_name_are_installed(self):
+        named = {it for name in MANUALS for it in re.findall(r"\b[A-Z]+\.md\b", page(name))}
+        self.assertEqual(named, {"FORMATS.md", "MODEL.md"})
+        with open(os.path.join(TOP, "Makefile"), encoding="utf-8") as file:
+            self.assertEqual(re.findall(r"^\tinstall -m 644 (docs/.*) \$\(share\)/doc/stmflash$", file.read(), re.M),
+                             [" ".join(f"docs/{it}" for it in sorted(named))])
+
+    def test_the_examples_run(self):
+        """Those of stmflash(1) but for the last, one after the other, at a simulator that they serve."""
+        first = re.findall(r"^\.SH EXAMPLES\n\.nf\n(.*?)^\.fi$", page("stmflash.1"), re.M | re.S)[0]
+        os.mkdir(self.path("bin"))
+        os.symlink(program(), self.path("bin/stmflash"))
+        os.symlink(os.path.join(TOP, "chips.toml"), self.path("chips.toml"))
+        self.store("firmware.hex", HEX)
+        text = plain(first).replace("export STMFLASH_DEVICE=board\n", "until [ -S board ]; do sleep 0.05; done\nexport STMFLASH_DEVICE=board\n")
+        ran = subprocess.run(["sh", "-eu", "-c", text + "wait\n"], cwd=self.folder, env={"PATH": self.path("bin") + ":" + os.environ["PATH"]},
+                             timeout=PATIENCE, stdin=subprocess.DEVNULL, capture_output=True, text=True)
+        self.assertEqual((ran.returncode, ran.stderr), (0, ""))
+        self.assertTrue(ran.stdout.startswith("id 0412\n"), ran.stdout)
+        self.assertTrue(ran.stdout.endswith("segment 1: 1 pages written\nverified 4 bytes\nundone 1\n"), ran.stdout)
 
 
 class Fleet(Place):
-    """Recipes of docs/FLEET.md, with a stand-in for stmflash-line that prints its words."""
+    """Recipes of docs/LINE.md, with a stand-in for stmflash-line that prints its words."""
 
     def setUp(self):
         super().setUp()
@@ -84,7 +192,7 @@ class Fleet(Place):
         os.chmod(self.path("bin/stmflash-line"), 0o755)
 
     def recipe(self, word):
-        return next(it for it in blocks("docs/FLEET.md") if word in it).replace("/dev/", "dev/")
+        return next(it for it in blocks("docs/LINE.md") if word in it).replace("/dev/", "dev/")
 
     def run_recipe(self, text, *words):
         return subprocess.run(["sh", "-c", text, "sh", *words], cwd=self.folder, timeout=PATIENCE, stdin=subprocess.DEVNULL,

@@ -292,6 +292,14 @@ class Socket(Served):
         self.leave(self.connect())
         self.assertServed()
 
+    def test_who_may_connect_is_as_it_was_said(self):
+        for mode in ("600", "660", "666"):
+            with self.subTest(mode=mode):
+                self.serve(1, more=("--mode", mode))
+                self.assertEqual(os.stat(self.path("board")).st_mode & 0o777, int(mode, 8))
+                self.leave(self.connect())
+                self.assertServed()
+
     def test_a_store_that_fails_is_told(self):
         """The flash's file can't be made where another one stands in its place."""
         self.store("flash", ZEROS)

@@ -41,6 +41,8 @@ def module(name):
 class Words(LinePlace):
     def setUp(self):
         super().setUp()
+        # so that the journals that a test makes are its user's alone to write
+        self.addCleanup(os.umask, os.umask(0o022))
         os.mkdir(self.path("bin"))
         os.symlink(program(), self.path("bin/stmflash"))
 
@@ -79,16 +81,16 @@ class Words(LinePlace):
         self.remove("ttyUSB0.flash.line")
         return self.board()
 
-    def telling(self, data, byte):
+    def telling(self, data, byte, name="ttyUSB0"):
         """A board that tells a unique id of this byte alone."""
-        self.store("ttyUSB0.flash.board", b"unique " + 12 * byte.encode() + b"\n")
-        return self.flash(data)
+        self.store(name + ".flash.board", b"unique " + 12 * byte.encode() + b"\n")
+        return self.flash(data, name)
 
-    def unplugged(self, board):
+    def unplugged(self, board, name="ttyUSB0"):
         """The flash of a board that is taken away."""
         flash = board.store()
         board.stop()
-        self.remove("ttyUSB0.flash.line")
+        self.remove(name + ".flash.line")
         return flash
 
     def folder_of_port(self):
@@ -108,10 +110,15 @@ class Refusals(Words):
             (("-m", "8n1", "/dev/null"), "ERROR: -m 8n1: isn't there; 8e1 is, which the bootloader of every STM32 has"),
             (("-m", "9e1"), "Invalid serial mode"),
             (("-b", "12345"), "Invalid baud rate, valid options are:"),
-            (("-i", "5,-6"), "ERROR: -i 5: pins of the machine can't be moved; rts, dtr and brk can"),
-            (("-i", "rts:foo"), "ERROR: -i foo: no signal; rts, dtr and brk are"),
+            (("-i", "5,-06"), "ERROR: -i -06: no signal; rts, dtr, brk and numbers of GPIO lines are"),
+            (("-i", "rts:foo"), "ERROR: -i foo: no signal; rts, dtr, brk and numbers of GPIO lines are"),
+            (("-i", "5&6:5,7"), "ERROR: -i: GPIO line 7 is moved in the end alone; it has to be moved at the beginning too"),
+            (("-c", "-i", "5:5"), "ERROR: -i: GPIO line 5 is moved in the end alone; it has to be moved at the beginning too"),
             (("-r", "a", "-w", "image"), "ERROR: Invalid options !"),
             (("-u", "-k"), "ERROR: Invalid options !"),
+            (("-w", "image", "--undo"), "ERROR: Invalid options !"),
+            (("--undo", "-r", "a"), "ERROR: Invalid options !"),
+            (("--undo", "--log"), "ERROR: Invalid options !"),
             (("-v",), "ERROR: Invalid usage, -v is only valid when writing"),
             (("--undo", "-g", "0"), "ERROR: Invalid usage, -g and -R don't go with --undo"),
             (("-R", "--log"), "ERROR: Invalid usage, -g and -R don't go with --log"),
@@ -430,9 +437,9 @@ class TakingBack(Words):
         self.store("bin/stmflash", f'#!/bin/sh\necho "$@" >> {self.path("calls")}\nexec {program()} "$@"\n'.encode())
         os.chmod(self.path("bin/stmflash"), 0o755)
         board = self.flash(COUNTING)
-        self.store("image", b"new")
-        for words in (("-g", "0x08000000"), ("-R",)):
+        for image, words in ((b"new", ("-g", "0x08000000")), (b"newer", ("-R",))):
             with self.subTest(words=words):
+                self.store("image", image)
                 # with a wait as long as stmflash's own, so that no call is done again for want of a processor
                 self.well("-w", "image", "-v", *words, STMFLASH_WAIT="500")
                 calls = self.held("calls").decode().splitlines()
@@ -486,10 +493,12 @@ class TakingBack(Words):
     def test_another_chip_begins_a_journal_of_its_own(self):
         self.flash(COUNTING)
         os.makedirs(self.path(self.folder_of_port()))
-        self.store(os.path.join(self.folder_of_port(), "journal"), b"stmjournal 2 0410\nopen 1\nend 1\n")
-        said = self.well()
-        self.assertIn(b"a chip of another kind was at this port before: its journal is put aside", said.err)
-        self.assertEqual(self.journals(), ["kept-000001"])
+        for held, told, left in ((KEPT, b"is put aside", ["kept-000001"]),
+                                 (b"open 1\nend 1\n", b"has changed nothing, and is removed", ["kept-000001"])):
+            self.store(os.path.join(self.folder_of_port(), "journal"), b"stmjournal 2 0410\n" + held)
+            said = self.well()
+            self.assertEqual(said.err, b"stm32flash: a chip of another kind was at this port before: its journal " + told + b"\n")
+            self.assertEqual(self.journals(), left)
 
     def test_no_reset_is_claimed_unless_the_user_does(self):
         """Where it was claimed, a board that wasn't reset would take the connecting byte for one of a command."""
@@ -501,7 +510,7 @@ class TakingBack(Words):
         for settings, claimed in (({}, False), ({"STM32FLASH_RESETS": "1"}, True)):
             self.stopped()
             self.store("called", b"")
-            self.well("-i", "brk", STMFLASH_FRESH="1", **settings)
+            self.well("-o", "-s", "0", "-e", "1", "-i", "brk", STMFLASH_FRESH="1", **settings)
             called = self.held("called").decode().splitlines()
             self.assertEqual([line for line in called if not line.startswith(" ")], [])
             self.assertEqual([line.split()[0] for line in called if "--fresh" in line], ["undo"] * claimed)
@@ -599,7 +608,7 @@ class Boards(Words):
         self.store(bad, b"nonsense\n")
         said = self.words("--log")
         self.assertEqual(said.status, 1)
-        self.assertIn(b"bad journal line 1: it can't be read\n", said.out)
+        self.assertIn(b"kept-000002 is no journal: name another, or move it away: it can't be read\n", said.out)
         self.assertIn(b"1 can be undone\n", said.out)
         board = self.reset(board)
         said = self.words("-m", "8n1", "--undo")
@@ -635,17 +644,24 @@ class Dropping(unittest.TestCase):
     def numbers(self, word="kept"):
         return [int(path[-6:]) for path in self.journals.numbered(word)]
 
+    def pushed_out(self, number, owner):
+        """What is told of a removal for newer ones."""
+        return f"stm32flash: no more than 8 journals stay {owner}: {self.journals.folder}/kept-{number:06d} was removed\n"
+
     def test_boards_that_are_swapped_keep_eight_each(self):
-        for _ in range(10):
-            for byte in (b"A1", b"B2"):
-                self.assertEqual(self.keep(b"stmjournal 3 0412 " + 12 * byte), "")
+        for number in range(-15, 5):
+            byte = ("A1", "B2")[(number + 15) % 2]
+            told = self.keep(f"stmjournal 3 0412 {12 * byte}".encode())
+            self.assertEqual(told, self.pushed_out(number, f"of the board {12 * byte}") if number > 0 else "")
         self.assertEqual(self.numbers(), list(range(5, 21)))
 
     def test_one_board_often_costs_others_nothing(self):
         others = [b"stmjournal 3 0412 " + 12 * b"A1", b"stmjournal 3 0410 " + 12 * b"B2", b"stmjournal 2 0412", b"stmjournal 1 0410",
                   b"nonsense"]
-        for header in (*others, *20 * [b"stmjournal 3 0412 " + 12 * b"B2"]):
+        for header in (*others, *8 * [b"stmjournal 3 0412 " + 12 * b"B2"]):
             self.assertEqual(self.keep(header), "")
+        for number in range(6, 18):
+            self.assertEqual(self.keep(b"stmjournal 3 0412 " + 12 * b"B2"), self.pushed_out(number, "of the board " + 12 * "B2"))
         self.assertEqual(self.numbers(), [*range(1, 6), *range(18, 26)])
 
     def test_journals_without_a_board_count_by_the_chip_and_bad_ones_together(self):
@@ -711,15 +727,16 @@ class Parts(unittest.TestCase):
     def test_the_line_is_asked_for_with_both_sequences(self):
         call = module("call")
         asked = []
-        with unittest.mock.patch.object(call.line, "use", lambda *words: asked.append(words[1:4])), \
+        with unittest.mock.patch.object(call.line, "use", lambda *words: asked.append(words[1:5])), \
                 unittest.mock.patch.object(call.tools, "find", lambda _: module("tools").Tools("stmflash", "line", "chips")), \
                 unittest.mock.patch.object(call.chips, "read_table", lambda _: {}), \
                 unittest.mock.patch.object(call.Journals, "make", lambda _: None), \
-                unittest.mock.patch.dict(os.environ), contextlib.redirect_stdout(io.StringIO()):
-            for words in (("-b", "115200"), ("-i", "-rts,dtr:rts"), ("-i", "-rts,dtr"), ("-c", "-i", "-rts,dtr:rts")):
+                unittest.mock.patch.dict(os.environ, STM32FLASH_GPIO_CHIP="chip"), contextlib.redirect_stdout(io.StringIO()):
+            for words in (("-b", "115200"), ("-i", "-rts,dtr:rts"), ("-i", "-rts,dtr"), ("-c", "-i", "-rts,dtr:rts"), ("-i", "rts,4")):
                 call.outside("here", [*words, "/dev/ttyUSB0"])
-        self.assertEqual(asked, [("/dev/ttyUSB0", 115200, None),
-                                 *(("/dev/ttyUSB0", 57600, boot) for boot in ("-rts,dtr:rts", "-rts,dtr", ":rts"))])
+        self.assertEqual(asked, [("/dev/ttyUSB0", 115200, None, None),
+                                 *(("/dev/ttyUSB0", 57600, boot, None) for boot in ("-rts,dtr:rts", "-rts,dtr", ":rts")),
+                                 ("/dev/ttyUSB0", 57600, "rts,4", "chip")])
 
     def test_the_wait_is_what_is_known_of_the_port(self):
         patience = module("patience")
@@ -783,12 +800,12 @@ class Parts(unittest.TestCase):
 
     def test_what_was_stopped_is_waited_for(self):
         """An erase may still run: as long as stmflash waits, whatever the line's own wait is."""
-        for unfinished, given, wait in ((True, 103, 500), (True, 2000, 2000), (False, 103, None)):
+        for unfinished, given, count, wait in ((True, 103, 1, 500), (True, 2000, 1, 2000), (False, 103, 1, None), (False, 103, 2, 500)):
             board = module("board").Board(None, None, given)
             with unittest.mock.patch.object(board, "is_unfinished", return_value=unfinished), \
                     unittest.mock.patch.object(board, "use") as use:
-                board.undo()
-            use.assert_called_once_with("undo", "1", wait=wait)
+                board.undo(count=count)
+            use.assert_called_once_with("undo", str(count), wait=wait)
 
     def test_numbers(self):
         """As the C library reads them."""
@@ -956,12 +973,14 @@ class Parts(unittest.TestCase):
     def test_a_port_is_where_its_adapter_is_plugged_in(self):
         journals = module("journals")
         links = {"/dev/serial/by-path/pci-usb-0:2": "/dev/ttyUSB3", "/dev/serial/by-path/pci-usbv2-0:2": "/dev/ttyUSB3",
-                 "/dev/serial/by-id/adapter": "/dev/ttyUSB3"}
+                 "/dev/serial/by-id/adapter": "/dev/ttyUSB3", "/dev/serial/by-path/pci-usb-0:1": "/dev/ttyUSB10"}
         with unittest.mock.patch.object(journals.os.path, "realpath", lambda path: links.get(path, path)), \
-                unittest.mock.patch.object(journals.os, "listdir", lambda _: ["pci-usbv2-0:2", "pci-usb-0:2"]), \
+                unittest.mock.patch.object(journals.os, "listdir", lambda _: ["pci-usbv2-0:2", "pci-usb-0:2", "pci-usb-0:1"]), \
                 unittest.mock.patch.object(journals, "is_pty", lambda _: False):
-            names = [journals.name_of(port) for port in ("/dev/ttyUSB3", "/dev/serial/by-id/adapter", "/dev/ttyS0")]
-        self.assertEqual(names, ["pci-usb-0:2", "pci-usb-0:2", "ttyS0"])
+            ports = ("/dev/ttyUSB3", "/dev/serial/by-id/adapter", "/dev/ttyS0", "/dev/ttyUSB1", "/dev/ttyUSB10")
+            names = [journals.name_of(port) for port in ports]
+        # a port whose name begins another's has none of its journals
+        self.assertEqual(names, ["pci-usb-0:2", "pci-usb-0:2", "ttyS0", "ttyUSB1", "pci-usb-0:1"])
 
     def test_the_manual_page_has_every_option(self):
         with open(os.path.join(TOP, "line", "stmflash-as-stm32flash.1"), encoding="ascii") as file:

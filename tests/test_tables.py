@@ -147,6 +147,15 @@ class Tables(Place):
             self.place(name, (0x412, 0x1000000))
         self.assertBase(0x1000000)
 
+    def test_a_link_that_leads_nowhere_is_passed_over_and_one_that_leads_to_itself_is_not(self):
+        self.place(INSTALLED, (0x412, 0x1000000))
+        os.makedirs(os.path.dirname(self.home))
+        os.symlink("nothing", self.home)
+        self.assertBase(0x1000000)
+        os.remove(self.home)
+        os.symlink("chips.toml", self.home)
+        self.assertFault(self.info(), f"cannot read {self.home}")
+
     def test_are_told_beside_what_a_device_says(self):
         self.place(INSTALLED, (0x412, 0x1000000))
         self.assertTold(self.info("--raw"), RAW.format(INSTALLED))

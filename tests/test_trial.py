@@ -461,8 +461,21 @@ class Told(TrialPlace):
         self.assertIn("couldn't be written to none/found.toml: No such file or directory\n", said.out.decode())
 
     def test_the_table_of_the_page(self):
+        """It has of each row its name, what has to hold, and what it means where it differs; nothing else."""
+        rows = [line.strip("|").split("|") for line in program_rows().splitlines()]
+        table = "".join("|" + "|".join((row[0], row[1], row[4])) + "|\n" for row in rows)
         with open(os.path.join(TOP, "docs", "TRIAL.md"), encoding="utf-8") as file:
-            self.assertIn("\n" + program_rows(), file.read())
+            self.assertIn("\n\n" + table + "\n", file.read())
+
+    def test_the_boards_of_the_page(self):
+        """Each planted board, in the list of its verdict; and how many they are."""
+        with open(os.path.join(TOP, "docs", "TRIAL.md"), encoding="utf-8") as file:
+            part = file.read().split("\n## Boards that do otherwise\n")[1].split("\n## ")[0]
+        told = {}
+        for verdict, names in re.findall(r"^The verdict is `([^`]+)` on:\n\n((?:- .*\n)+)", part, re.M):
+            told.update((name, (verdict, does)) for name, does in re.findall(r"^- `([^`]+)`: (.*)$", names, re.M))
+        self.assertEqual(told, {name: (deviation.verdict, deviation.does) for name, deviation in DEVIATIONS.items()})
+        self.assertIn(f"`tests/planted`, {len(DEVIATIONS) - 1} of them,", part)
 
     def test_each_row_fails_on_a_planted_board(self):
         self.assertEqual(NONE.rows, ())

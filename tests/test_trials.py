@@ -1,4 +1,5 @@
-"""tools/trials: what it refuses of a file that was sent in, of files together and of the table; docs/TRIED.md is what it makes."""
+"""tools/trials: what it refuses of a file that was sent in, of files together and of the table; and the part of docs/TRIAL.md that
+it makes."""
 
 import os
 import shutil
@@ -12,6 +13,8 @@ TRIALS = os.path.join(TOP, "tools", "trials")
 SENT = os.path.join(TOP, "trials", "0412-22-simulator-1.toml")
 NAME = "0412-22-part-1.toml"
 TABLE = '[[chip]]\nid = 0x412\nbase = 0x08000000\npages = [[32, 1024]]\nerase = "page"\n'
+# a page whose part is to be made
+PAGE = b"# Trials\n\nOnes.\n\n## Boards that were tried\n\nNone.\n\n## More\n"
 HOLDS = 'name = "{}"\nresult = "holds"'
 DIFFERS = 'name = "{}"\nresult = "differs"'
 
@@ -31,6 +34,7 @@ class Sent(Place):
         super().setUp()
         os.mkdir(self.path("trials"))
         self.store("table", TABLE.encode())
+        self.store("page", PAGE)
         with open(SENT, encoding="utf-8") as held:
             self.text = held.read()
 
@@ -44,7 +48,7 @@ class Sent(Place):
         said = self.trials()
         self.assertEqual((said.status, said.out), (1, b""))
         self.assertEqual(said.err.decode(), f"{at}: {text}\n")
-        self.assertFalse(self.is_there("page"))
+        self.assertFile("page", PAGE)
 
     def changed(self, old, new):
         self.assertIn(old, self.text)
@@ -56,10 +60,15 @@ class Sent(Place):
         page = self.held("page").decode()
         self.assertIn("Real boards: 0, of 0 of the 1 chips in the table. Simulated ones: 1, which say nothing of a chip.", page)
         self.assertIn("| 0412 | 22 | simulator (simulated) | follows the model | - |", page)
+        self.assertTrue(page.startswith("# Trials\n\nOnes.\n\n## Boards that were tried\n\nMade by ") and page.endswith(" |\n\n## More\n"), page)
         self.assertEqual(self.trials("--check"), Said(0, b"", b""))
-        self.store("page", page.encode() + b"more\n")
+        self.store("page", page.replace("0412", "0413").encode())
         said = self.trials("--check")
-        self.assertEqual((said.status, said.err), (1, b"trials: docs/TRIED.md isn't current: python3 tools/trials\n"))
+        self.assertEqual((said.status, said.err), (1, b"trials: docs/TRIAL.md isn't current: python3 tools/trials\n"))
+        self.store("page", b"# Trials\n")
+        said = self.trials()
+        self.assertEqual((said.status, said.err), (1, b"trials: the page has no part '## Boards that were tried'\n"))
+        self.assertFile("page", b"# Trials\n")
 
     def test_files(self):
         row = HOLDS.format("quiet")
@@ -119,7 +128,7 @@ class Sent(Place):
         self.store("table", (TABLE + f"tried = [{board}]\n").encode())
         self.assertEqual(self.trials(), Said(0, b"", b""))
         self.assertIn("Real boards: 1, of 1 of the 1 chips in the table.", self.held("page").decode())
-        os.remove(self.path("page"))
+        self.store("page", PAGE)
         self.store("table", (TABLE + f"tried = [{board}, {board}]\n").encode())
         self.assertRefused(f'tried of 0412 has "trials/{NAME}" more than once', at="table")
         other = board.replace('"22"', '"31"').replace(" }", ', "simulated" = true }')

@@ -5,6 +5,9 @@
 set -eu
 top=$(cd "$(dirname "$0")/.." && pwd)
 program="$top/bin/stmflash-unproved"
+for needed in rt python3; do
+    command -v "$needed" > /dev/null || { echo "make demo: there is no $needed on the path (README, \"Build, install, test\")" >&2; exit 1; }
+done
 demo=$(mktemp -d)
 trap 'rm -rf "$demo"' EXIT
 
@@ -33,6 +36,7 @@ cp "$made" "$program"
 chmod 755 "$program"
 mkdir -p "$top/bin/unproved"
 ln -sf ../stmflash-unproved "$top/bin/unproved/stmflash"
+ln -sf ../../line/stmflash-line ../../line/stmflash-trial "$top/bin/unproved"
 "$program" info --table "$top/chips.toml" --device "$demo/first" --journal "$demo/journal" > "$demo/said" || true
 wait
 

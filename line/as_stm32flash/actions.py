@@ -3,6 +3,7 @@
 import contextlib
 import os
 
+from . import handed
 from . import part as parts
 from .fault import Failed, Fault
 from .told import note
@@ -35,6 +36,7 @@ class Actions:
         if name == "-":
             self.fetch(part, "-", out=1)
         elif self.words.out is not None:
+            handed.empty(self.words.out)
             self.fetch(part, "-", out=self.words.out)
         else:
             # a link is followed, whatever its name

@@ -1,5 +1,6 @@
 """Sessions of stmflash with the board at a port, and its journal."""
 
+import contextlib
 import ctypes
 import os
 import re
@@ -10,6 +11,7 @@ import time
 from .fault import Failed, Fault
 from .owner import Owner, owner_of
 from .patience import UNKNOWN, wait_at_rest
+from .segments import kept_pages
 
 # after how many seconds without an answer a board is given up; an undo has stmflash's own patience
 GIVE_UP = 5
@@ -119,24 +121,58 @@ class Board:
         return int(found[1]) if found else 0
 
     def put_aside(self):
-        """Ends the journal in use, and keeps it as the newest that was put aside."""
-        if os.path.exists(self.journals.live):
-            if self.undoable():
-                self.look("keep", self.journals.next_kept())
-                self.journals.drop_old()
-            else:
-                self.look("keep")
+        """Ends the journal in use, and keeps it as the newest that was put aside, unless it has changed nothing; whether it is
+        kept."""
+        if not os.path.exists(self.journals.live):
+            return False
+        path = self.journals.next_kept()
+        self.look("keep", path)
+        self.drop_old()
+        return os.path.exists(path)
+
+    def drop_old(self):
+        """Drops those that have changed nothing, so that none of them counts, and then those that are too old. What nobody else
+        uses any more is looked at, and removed under its lock, by stmflash, which leaves one that is unfinished or can't be read."""
+        for path in self.journals.newest():
+            if not any(kept_pages(path)):
+                with contextlib.suppress(Failed):
+                    self.run(["keep", "--journal", path])
+        self.journals.drop_old()
 
     def take_newest(self):
-        """Makes the newest that was put aside of the board that is there the one in use; whether there was one. The device isn't
-        asked where none was put aside, nor believed where it doesn't answer: then it is the newest of all."""
+        """Makes the newest that was put aside, and changed something, of the board that is there the one in use; whether there was
+        one. The device isn't asked where none was put aside, nor believed where it doesn't answer: then it is the newest of all."""
         kept = {path: owner_of(path) for path in self.journals.kept()}
         own = self.ask_owner() if kept else None
-        mine = [path for path, owner in kept.items() if own is None or own.takes(owner)]
-        if mine:
-            self.refuse_bad(mine[-1])
-            self.journals.take(mine[-1])
-        return bool(mine)
+        for path in reversed([path for path, owner in kept.items() if own is None or own.takes(owner)]):
+            self.refuse_bad(path)
+            if any(kept_pages(path)):
+                self.put_aside()
+                self.journals.take(path)
+                return True
+        return False
+
+    def leave_stopped(self):
+        """Puts the journal in use aside, which is unfinished, if the board that is there is sure to be another than its own; where it
+        is then, or None."""
+        other, own = owner_of(self.journals.live), self.ask_owner()
+        if other.board is None or own is None or own.may_be(other):
+            return None
+        self.hint = ""
+        return self.journals.leave(other)
+
+    def take_stopped(self):
+        """Makes what the board that is there left unfinished at any port the one in use; whether there is such a journal. The device
+        isn't asked where no board has left one."""
+        if not self.journals.stopped():
+            return False
+        if self.own.chip is None:
+            self.ask_owner()
+        left = self.journals.stopped(self.own.board) if self.own.board else []
+        if left:
+            self.put_aside()
+            self.journals.take(left[-1])
+        return bool(left)
 
     def refuse_bad(self, path):
         """What is older can't be undone before the newest."""
@@ -157,7 +193,7 @@ class Board:
     def kept(self, act):
         """Does a write that keeps its journal in the same session, as the newest that was put aside."""
         done = act("--keep-to", self.journals.next_kept())
-        self.journals.drop_old()
+        self.drop_old()
         return done
 
     # ---- sessions
@@ -168,9 +204,11 @@ class Board:
         self.own = Owner(told.get("id"), told.get("board"))
         return told
 
-    def undo(self, fresh=False):
-        """Undoes the newest write or erase. What was stopped may leave the board busy: it is waited for as stmflash does."""
-        self.use("undo", *["--fresh"] * fresh, "1", wait=max(self.wait, UNKNOWN) if self.is_unfinished() else None)
+    def undo(self, fresh=False, count=1):
+        """Undoes so many of the newest writes and erases. What was stopped may leave the board busy: it is waited for as stmflash
+        does. So is it for more than one, which can't be done again: some may be undone then."""
+        has_patience = count > 1 or self.is_unfinished()
+        self.use("undo", *["--fresh"] * fresh, str(count), wait=max(self.wait, UNKNOWN) if has_patience else None)
 
 
 def follow(pipe, show):

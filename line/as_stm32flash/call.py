@@ -8,13 +8,20 @@ from . import chip as chips
 from . import handed, line, sequence, tools, words
 from .fault import Failed, Fault
 from .journals import Journals
+from .owner import owner_of
 from .patience import is_pty, wait
+from .segments import kept_pages
 from .told import Told, note, put
 
 # that the entry sequence of -i resets the board, which its user says
 RESETS = "STM32FLASH_RESETS"
+# the chip of the GPIO lines that -i moves, where it isn't the first
+CHIP = "STM32FLASH_GPIO_CHIP"
 # why a journal is refused that is another's, and what was at the port before
 OTHERS = {"journal belongs to another device": "a chip of another kind", "journal is of another board": "another board"}
+NEWEST = "the newest write or erase at this port"
+# the actions that change nothing, and so undo nothing at a board that may be another
+READING = ("", "r", "C")
 
 
 def main(program, given):
@@ -69,12 +76,14 @@ def outside(program, given):
     leave = asked.leave()
     boot = None if asked.sequence is None else asked.entry() + ("" if leave is None else f":{leave}")
     patience = wait(os.environ.get("STMFLASH_WAIT"), asked.port, asked.baud)
-    return line.use(below.line, asked.port, asked.baud, boot,
+    chip = (os.environ.get(CHIP) or None) if sequence.gpio_lines(asked.entry()) else None
+    return line.use(below.line, asked.port, asked.baud, boot, chip,
                     lambda slowest: ended(lambda: inside(asked, below, table, patience, slowest)))
 
 
 def refuse(asked, below):
     """What can be seen without the board that it can't be done; the chips of the table."""
+    sequence.refuse_late(asked.entry(), asked.leave())
     if asked.mode != "8e1" and not is_pty(asked.port):
         raise Fault(f"ERROR: -m {asked.mode}: isn't there; 8e1 is, which the bootloader of every STM32 has")
     table = chips.read_table(below.tables)
@@ -88,7 +97,8 @@ def refuse(asked, below):
 def show_log(board):
     """What can be undone at a port, the newest journal first."""
     journals = board.journals
-    paths = [path for path in (journals.live, *reversed(journals.kept())) if os.path.exists(path)]
+    journals.refuse_others()
+    paths = [path for path in (journals.live, *reversed(journals.kept()), *journals.stopped()) if os.path.exists(path)]
     status, text = 0, ""
     for path in paths:
         text += f"journal {path}\n"
@@ -125,7 +135,10 @@ def do(board, asked, table):
         told.lines(sequence.lines(asked.entry()))
     try:
         undo_first(board, asked)
-        actions = Actions(asked, board, told, greet(board, told, table))
+        chip = greet(board, told, table)
+        if board.take_stopped():
+            undo_first(board, asked)
+        actions = Actions(asked, board, told, chip)
         refuse_start(asked, actions.chip)
         actions.do()
         return leaving.leave(actions)
@@ -140,17 +153,21 @@ def undo_first(board, asked):
             return
     except Failed as fault:
         raise Fault(f"{fault}\nERROR: the journal of this port can't be read; it is {board.journals.live}") from None
+    if asked.action in READING and owner_of(board.journals.live).board is None:
+        raise Fault("ERROR: an earlier call was stopped in the midst of a write, an erase or an undo at a board that doesn't tell which "
+                    f"it is; if it is the one that is there, stm32flash --undo {asked.port} undoes that")
     note("an earlier call was stopped in the midst of a write, an erase or an undo: that is undone first")
     try:
-        board.undo(fresh=was_reset(asked))
+        board.undo(fresh=was_reset(board, asked))
     except Failed as fault:
-        kept = f"its journal is {board.journals.live}"
-        raise Fault(f"{fault}\nERROR: what an earlier call has begun can't be undone now; {kept}") from None
+        if not put_other_aside(board, fault):
+            way = f"its journal is {board.journals.live}, and --undo at its own board undoes it"
+            raise Fault(f"{fault}\nERROR: what an earlier call has begun can't be undone now; {way}") from None
 
 
-def was_reset(asked):
-    """Whether the board was reset when this call began, as its user says."""
-    return os.environ.get(RESETS) == "1" and bool(asked.entry())
+def was_reset(board, asked):
+    """Whether the board was reset when this call began, as its user says, and wasn't asked anything since."""
+    return os.environ.get(RESETS) == "1" and bool(asked.entry()) and board.own.chip is None
 
 
 def greet(board, told, table):
@@ -158,8 +175,7 @@ def greet(board, told, table):
     try:
         information = board.information()
     except Failed as fault:
-        if str(fault) in OTHERS:
-            put_other_aside(board, fault)
+        if put_other_aside(board, fault):
             information = board.information()
         elif str(fault) == "no answer from the device":
             raise Fault("Failed to init device, timeout.") from None
@@ -180,28 +196,43 @@ def refuse_start(asked, chip):
 
 
 def put_other_aside(board, fault):
-    board.put_aside()
-    note(f"{OTHERS[str(fault)]} was at this port before: its journal is put aside")
+    """Puts the journal in use aside where this fault says that it is another board's, and it is sure to be; whether it did."""
+    other = OTHERS.get(str(fault))
+    if other and board.is_unfinished():
+        left = board.leave_stopped()
+        if left:
+            note(f"that was {other}: its journal is put aside as {left}, and is undone first when that board is back at any port")
+        return bool(left)
+    if other:
+        kept = "is put aside" if board.put_aside() else "has changed nothing, and is removed"
+        note(f"{other} was at this port before: its journal {kept}")
+    return bool(other)
 
 
 def undo(board, asked):
-    """Undoes the newest write or erase of the board at this port, also of a journal that was put aside."""
+    """Undoes the newest write or erase of the board at this port that changed something, also of a journal that was put aside."""
     try:
-        undo_newest(board, asked)
+        undone = undo_newest(board, asked)
     except Failed as fault:
-        if str(fault) not in OTHERS or board.is_unfinished():
+        if not put_other_aside(board, fault):
             raise Fault(f"{fault}\nERROR: not undone; the journal is {board.journals.live}") from None
-        put_other_aside(board, fault)
         try:
-            undo_newest(board, asked)
+            undone = undo_newest(board, asked)
         except Failed as again:
             raise Fault(f"{again}\nERROR: not undone; the journal is {board.journals.live}") from None
-    put(sys.stdout, "Undone: the newest write or erase at this port.\n")
+    put(sys.stdout, f"Undone: {undone}.\n")
     return 0
 
 
 def undo_newest(board, asked):
-    while not board.is_unfinished() and not board.undoable():
-        if not board.take_newest():
-            raise Fault("ERROR: nothing that was written or erased at this port can be undone")
-    board.undo(fresh=board.is_unfinished() and was_reset(asked))
+    """The same; what was undone. What was stopped is undone alone, whatever it had changed: it is what its user means."""
+    if board.is_unfinished() or board.take_stopped():
+        kept = kept_pages(board.journals.live)
+        board.undo(fresh=was_reset(board, asked))
+        return NEWEST if any(kept[-1:]) else "a write or an erase at this port that was stopped before it changed anything"
+    if not any(kept := kept_pages(board.journals.live)) and not board.take_newest():
+        raise Fault("ERROR: nothing that was written or erased at this port can be undone" + ", since it changed nothing" * bool(kept))
+    kept = kept_pages(board.journals.live)
+    passed = next(count for count, pages in enumerate(reversed(kept)) if pages)
+    board.undo(count=passed + 1)
+    return NEWEST + f" that changed something, and {passed} behind it that changed nothing" * bool(passed)

@@ -36,8 +36,12 @@ def take_output(asked):
     if os.path.sameopenfile(opened, 1):
         asked.file = "-"
     else:
-        if stat.S_ISREG(os.fstat(opened).st_mode):
-            os.ftruncate(opened, 0)
         os.dup2(opened, 0)
         asked.out = 0
     os.close(opened)
+
+
+def empty(opened):
+    """Takes away what a file held, before what is read goes there; a call that is refused leaves it."""
+    if stat.S_ISREG(os.fstat(opened).st_mode):
+        os.ftruncate(opened, 0)

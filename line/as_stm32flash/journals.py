@@ -1,5 +1,6 @@
 """The journals of a port: the one in use, and those that were put aside when a program was started."""
 
+import fcntl
 import os
 import re
 
@@ -7,6 +8,7 @@ from .fault import Fault
 from .owner import owner_of
 from .patience import is_pty
 from .told import note
+from .trusted import refuse_others
 
 # how many of each board are kept that were put aside; and how many of all boards at a port, and how many bytes of them
 KEPT, MOST, ROOM = 8, 1000, 256 << 20
@@ -31,10 +33,21 @@ class Journals:
             os.makedirs(self.folder, mode=0o700, exist_ok=True)
         except OSError as error:
             raise Fault(f"ERROR: {error.filename}: {error.strerror}; journals are kept there") from None
+        self.refuse_others()
+
+    def refuse_others(self):
+        """A fault where another has put a journal here, or may; also at another port, from which one may come here."""
+        left = self.stopped()
+        for path in (self.folder, self.live, *self.kept(), *map(os.path.dirname, left), *left):
+            refuse_others(path)
 
     def kept(self):
         """The journals that were put aside, the newest last."""
         return self.numbered("kept")
+
+    def newest(self):
+        """Those of them that may be the newest ones of one board."""
+        return self.kept()[-1 - KEPT:]
 
     def numbered(self, word):
         try:
@@ -58,10 +71,12 @@ class Journals:
 
     def drop_old(self):
         """Drops what is older than the newest ones of each board. Where those are more than there is room for, the oldest of all
-        go too, and are told: those that were ended, then those that aren't their board's newest, then these."""
+        go too: those that were ended, then those that aren't their board's newest, then these. Each is told."""
         ended, kept = self.by_owner("ended"), self.by_owner("kept")
-        for path in (path for held in (*ended.values(), *kept.values()) for path in held[KEPT:]):
-            remove(path)
+        for owner, held in (*ended.items(), *kept.items()):
+            for path in held[KEPT:]:
+                if remove(path):
+                    note(f"no more than {KEPT} journals stay {owner}: {path} was removed")
         newest = {held[0]: owner for owner, held in kept.items()}
         rest = sorted(path for held in ended.values() for path in held[:KEPT])
         rest += sorted(path for held in kept.values() for path in held[1:KEPT])
@@ -83,6 +98,26 @@ class Journals:
         for path in reversed(self.numbered(word)):
             found.setdefault(owner_of(path), []).append(path)
         return found
+
+    def stopped(self, board="*"):
+        """The journals that boards, or this one, left unfinished at any port."""
+        import glob
+        names = os.path.join("*", "stopped-" + board)
+        ports = os.path.dirname(self.folder)
+        return [os.path.join(ports, name) for name in sorted(glob.glob(names, root_dir=ports, include_hidden=True))]
+
+    def leave(self, owner):
+        """Puts the one in use aside unfinished, under the name of its board, which may come back at any port. Answers where it is."""
+        path = os.path.join(self.folder, f"stopped-{owner.board}")
+        with open(self.live, "r+b") as file:
+            try:
+                fcntl.flock(file, fcntl.LOCK_EX | fcntl.LOCK_NB)
+            except BlockingIOError:
+                raise Fault(f"ERROR: {self.live}: another program has it") from None
+            if os.path.exists(path):
+                raise Fault(f"ERROR: {path} is there already, and can't be replaced")
+            rename(self.live, path)
+        return path
 
     def take(self, path):
         """Makes one that was put aside the one in use."""

@@ -15,9 +15,9 @@ SIGNALS = (signal.SIGTERM, signal.SIGINT, signal.SIGHUP)
 PLACES = ("/usr/local/share/stmflash", "/usr/share/stmflash")
 
 
-def use(program, port, baud, boot, inside):
+def use(program, port, baud, boot, chip, inside):
     """Opens the port as stmflash-line does, and runs `inside` as its COMMAND, with a function that tells how many seconds the
-    slowest answer of the board has taken up to now. The status of the call."""
+    slowest answer of the board has taken up to now. `chip` has the GPIO lines of `boot`. The status of the call."""
     sys.path[:0] = [find_modules(program)]
     from stmflash_line import faults, session, tied, wake, words
     # this number is ours and the child's
@@ -33,7 +33,9 @@ def use(program, port, baud, boot, inside):
             raise faults.Fault(f"stm32flash: {error.strerror}") from None
 
     try:
-        return session.use_port(words.of_program(port, baud, boot, begin, heard), wake.Wake())
+        return session.use_port(words.of_program(port, baud, boot, chip, begin, heard), wake.Wake())
+    except ValueError as error:
+        raise Fault(f"ERROR: -i: {error}") from None
     except faults.Fault as fault:
         faults.say(str(fault))
         return 1

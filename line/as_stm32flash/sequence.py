@@ -12,14 +12,29 @@ def steps(text):
     return [(word, mark) for word, mark in re.findall("([^,&]*)([,&]?)", text) if word or mark]
 
 
+def is_line(name):
+    """Whether this is the number of a GPIO line of the machine, as stmflash-line takes it."""
+    return re.fullmatch("0|[1-9][0-9]{0,4}", name) is not None
+
+
+def gpio_lines(text):
+    """The GPIO lines that a sequence moves."""
+    return {int(name) for name in (word.removeprefix("-") for word, _ in steps(text)) if is_line(name)}
+
+
 def refuse_unknown(text):
-    """A fault unless every signal of both sequences is one of the port. A pin of the machine is none."""
+    """A fault unless every signal of both sequences is one of the port, or a GPIO line."""
     for word, _ in steps(text.replace(":", ",", 1)):
         name = word.removeprefix("-")
-        if name.isdigit():
-            raise Fault(f"ERROR: -i {word}: pins of the machine can't be moved; rts, dtr and brk can")
-        if word and name not in SIGNALS:
-            raise Fault(f"ERROR: -i {word}: no signal; rts, dtr and brk are")
+        if word and name not in SIGNALS and not is_line(name):
+            raise Fault(f"ERROR: -i {word}: no signal; rts, dtr, brk and numbers of GPIO lines are")
+
+
+def refuse_late(entry, leave):
+    """A fault where a GPIO line is moved in the end alone: whether it can be had is seen before a byte is sent."""
+    late = gpio_lines(leave or "") - gpio_lines(entry)
+    if late:
+        raise Fault(f"ERROR: -i: GPIO line {min(late)} is moved in the end alone; it has to be moved at the beginning too")
 
 
 def lines(text):
@@ -28,7 +43,8 @@ def lines(text):
     for word, mark in steps(text):
         if word:
             name = word.removeprefix("-")
-            told.append(f" setting port signal {name} to {int(name == word)}... OK")
+            kind = "gpio" if is_line(name) else "port signal"
+            told.append(f" setting {kind} {name} to {int(name == word)}... OK")
         if mark == ",":
             told.append(" delay 100000 us")
     return [*told, "GPIO sequence end", ""]

@@ -20,10 +20,10 @@ Usage: stm32flash [options] PORT
   the line
     -b RATE     its speed (57600)
     -m MODE     8e1
-    -i [ENTRY][:[EXIT]]   how rts, dtr and brk bring the board into its bootloader and out of it
+    -i [ENTRY][:[EXIT]]   how rts, dtr, brk and GPIO lines bring the board into its bootloader and out of it
     -c          no entry sequence is played
   of stmflash
-    --undo PORT   the newest write or erase at this port is undone
+    --undo PORT   the newest write or erase at this port that changed something is undone
     --log PORT    what can be undone there
 See stmflash-as-stm32flash(1).
 """

@@ -49,10 +49,9 @@ class FarPort:
         self.free = max(self.free, time.monotonic()) + count * BITS / self.baud
         return count
 
-    def drain(self):
-        """Waits as long as all that was written takes on a line of this speed."""
-        while (left := self.free - time.monotonic()) > 0:
-            time.sleep(left)
+    def drain(self, wake):
+        """Waits as long as all that was written takes on a line of this speed, or until a signal ends us."""
+        wake.pause(self.free - time.monotonic())
 
 
 class SocketPort(FarPort):

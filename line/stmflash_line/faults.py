@@ -15,11 +15,16 @@ class Gone(Exception):
     """The port isn't there any more."""
 
 
+def plain(text):
+    """A text for a terminal: what isn't printable, as in the name of a port or a program, is told by its number."""
+    return "".join(it if it.isprintable() else it.encode("unicode_escape").decode() for it in text)
+
+
 def say(text):
     # where standard error is closed nothing is told: standard output may have the flash of a read
     if sys.stderr is not None:
         with contextlib.suppress(OSError):
-            print("stmflash-line: " + text, file=sys.stderr, flush=True)
+            print("stmflash-line: " + plain(text), file=sys.stderr, flush=True)
 
 
 def number_of(error):

@@ -184,4 +184,4 @@ class Join:
         while self.out and not self.wake.number:
             select.select([self.wake.reader], [self.port.way_out], [], None)
             self.to_port()
-        self.port.drain()
+        self.port.drain(self.wake)

@@ -72,9 +72,9 @@ class Port:
         except OSError as error:
             raise Gone from error
 
-    def drain(self):
-        """Waits until all that was written has gone out."""
-        while True:
+    def drain(self, wake):
+        """Waits until all that was written has gone out, or a signal ends us: a wedged adapter never takes it."""
+        while not wake.number:
             try:
                 return termios.tcdrain(self.descriptor)
             except termios.error as error:

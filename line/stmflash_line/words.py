@@ -49,7 +49,12 @@ def read_words(words):
     at = words.index("--") if "--" in words else len(words)
     own, command = words[:at], words[at + 1:]
     parser = make_parser()
-    given = parser.parse_args(joined(own))
+    given, more = parser.parse_known_args(joined(own))
+    if more and not more[0].startswith("-"):
+        import shlex
+        parser.error(f"COMMAND comes behind --, as in: stmflash-line {shlex.join([given.port, '--', *more, *command])}")
+    if more:
+        parser.error(f"unrecognized arguments: {' '.join(more)}")
     given.command, given.heard = command, None
     if (given.socket is not None) == bool(command):
         parser.error("either --socket PATH or -- COMMAND")
@@ -68,10 +73,10 @@ def read_words(words):
     return given
 
 
-def of_program(port, baud, boot, begin, heard):
+def of_program(port, baud, boot, chip, begin, heard):
     """The same, for a program that uses these modules itself: `begin` is called in place of COMMAND, with its settings, and
     answers the process that it has begun; `heard` is told how long each answer of the board took, in seconds."""
-    given = types.SimpleNamespace(port=port, baud=baud, wiring=None, boot=boot, resets=False, after=None, gpio_chip=None, watch=False,
+    given = types.SimpleNamespace(port=port, baud=baud, wiring=None, boot=boot, resets=False, after=None, gpio_chip=chip, watch=False,
                                   socket=None, idle=0, command=begin, heard=heard)
     settle_sequences(given)
     return given

@@ -1,4 +1,4 @@
-"""Settling as stmflash does it (docs/SETTLING.md), beside the model: which byte, how many of them, and what came."""
+"""Settling as stmflash does it (docs/UNDO.md), beside the model: which byte, how many of them, and what came."""
 
 import typing
 

@@ -172,7 +172,8 @@ def told():
     """What docs/SWITCH.md says of each call: the calls are the first column of its table, what differs the second."""
     found = {}
     with open(PAGE, encoding="utf-8") as page:
-        for row in re.findall(r"^\| (`.*?) \| ([^|]*) \|", page.read(), re.M):
+        part = page.read().split("\n## What differs\n")[1].split("\n## ")[0]
+        for row in re.findall(r"^\| (`.*?) \| ([^|]*) \|", part, re.M):
             for call in re.findall("`([^`]*)`", row[0]):
                 found.setdefault(call, set()).update(part.strip() for part in row[1].split(","))
     return found

@@ -38,6 +38,8 @@ class Play:
 
     def __init__(self, program, source, script):
         self.room, self.script = Room(program, source), script
+        # it tells which it is: else a call that is to do nothing undoes nothing
+        self.room.store("port.flash.board", b"unique " + 12 * b"A1" + b"\n")
         self.board = self.room.board(baud=SPEED)
         self.first = self.room.held("first")
         os.symlink(OURS, self.room.path("bin/stm32flash"))

@@ -14,6 +14,15 @@ from story import BOARD, FILE
 # how long an undo waits until the line counts as quiet, in ms: where a reply was later than that, the next time longer
 WAITS = ("40", "300", "2000")
 LATE = ("stmflash: device does not follow the protocol", "stmflash: no answer from the device")
+# what a stopped append of a header leaves
+WORD = b"stmjournal "
+TORN = re.compile(b"(%s|%s([123]( [0-9A-F]{0,4})?|3 [0-9A-F]{4} [0-9A-F]{0,64})?)[\0!]*" % (
+    b"|".join(WORD[:end] for end in range(len(WORD))), WORD))
+
+
+def is_foreign(held):
+    """Whether a journal's file has bytes of a former file in the place of its first line."""
+    return b"\n" not in held and not TORN.fullmatch(held)
 
 
 def fault_of(said):
@@ -181,6 +190,9 @@ class Trial:
 
     def undo(self, name):
         """Reads the journal whole, undoes the newest segment, and then all that are left."""
+        if is_foreign(self.files[name]):
+            self.refused(name)
+            return
         self.read_whole(name)
         depth = self.depth(name)
         if depth is not None and depth > 1:
@@ -189,8 +201,18 @@ class Trial:
         self.undone(name, None if depth is None else depth - 1 if depth > 1 else depth)
         self.same(self.story.flashes[0], "the flash isn't what it was")
 
+    def refused(self, name):
+        """No line was on the disk yet, so that nothing was changed; what stands in the file can't be told from somebody's."""
+        try:
+            said = self.use("undo", name)
+        except Bad as refused:
+            said = str(refused)
+        if f"{name} is no journal" not in said:
+            raise Bad("undo takes other bytes for a journal: %s" % said)
+        self.same(self.story.flashes[0], "there is no line in the journal, and the flash isn't what it was")
+
     def read_whole(self, name):
-        """`log --check` refuses nothing that a crash left."""
+        """`log --check` refuses nothing that a crash left of a journal."""
         ran = subprocess.run([self.program, "log", "--check", "--journal", name], cwd=self.room, env={}, stdin=subprocess.DEVNULL,
                              capture_output=True)
         if ran.returncode != 0 or b" bytes behind them\n" not in ran.stdout:

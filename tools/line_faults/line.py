@@ -21,6 +21,21 @@ FAULTS = {
     "RTS and DTR fall when the port is closed": (OPENING, "    mode[2] &= ~termios.HUPCL\n", "", PARTS + "Played.test_mode"),
     "a driver that keeps another parity is taken": (
         OPENING, "!= marks or held[2] & form != wanted:", "!= marks:", PARTS + "Modes.test_a_driver_that_keeps_another_mode"),
+    "a signal doesn't end the wait for a port that takes nothing": (
+        PORT, "while not wake.number:", "while True:", CALLS + "test_a_signal_that_ends_us_ends_the_wait_for_a_port_that_takes_nothing"),
+    "a signal doesn't end the wait for what goes out at a far port": (
+        FAR_PY, "wake.pause(self.free - time.monotonic())", "time.sleep(max(0, self.free - time.monotonic()) / 1000)",
+        PARTS + "FarBytes.test_a_signal_ends_the_wait_for_what_goes_out_there"),
+    "a name moves the terminal": (
+        "stmflash_line/faults.py", '"stmflash-line: " + plain(text)', '"stmflash-line: " + text', PARTS + "Saying.test_a_name_moves_no_terminal"),
+    "what a reset brings reaches the client": (
+        SESSION, "    port.forget()\n", "", PARTS + "Beginning.test_what_a_reset_brings_is_forgotten_before_anybody_may_connect"),
+    "an address of six keeps its brackets": (
+        FAR_PY, 'found[2].strip("[]")', "found[2]", FAR + "Plain.test_an_address_of_six_is_named_in_brackets"),
+    "a command inherits who may connect": (
+        SOCKETS, "        os.umask(before)\n", "        pass\n", COMMANDS + "test_files_that_it_makes_are_as_open_as_without_us"),
+    "a line watches by another chip's model": (
+        WATCH_PY, 'if chip["id"] == id_told)', "if chip)", WATCH + "Bytes.test_the_chip_is_the_one_of_the_id_that_was_told"),
     "an adapter is left slow": (OPENING, "port.set_low_latency_mode(True)", "port.set_low_latency_mode(False)", PARITY),
     "an adapter's timer is left as it is": (
         OPENING, 'held.write("1")', 'held.write("16")', LATENCY + "test_a_timer_that_can_be_set"),
@@ -138,7 +153,7 @@ FAULTS = {
         "            # what it has sent is still taken; it is seen to have gone where that ends\n            self.into.clear()",
         "            self.leave()", CLIENTS + "test_what_a_client_sent_that_was_killed_goes_out_though_it_takes_no_more"),
     "the end is told before the last bytes have gone out": (
-        JOIN, "            self.to_port()\n        self.port.drain()\n", "            self.to_port()\n",
+        JOIN, "            self.to_port()\n        self.port.drain(self.wake)\n", "            self.to_port()\n",
         FAR + "Plain.test_what_waits_to_go_out_at_that_speed"),
     "a signal doesn't end a wait for a port that takes nothing": (
         JOIN, "while self.out and not self.wake.number:", "while self.out:",

@@ -7,12 +7,20 @@ BY_NAME = REFUSED + "test_what_cant_be_is_refused_by_name_and_no_byte_is_sent"
 AT_REST = PARTS + "test_a_session_behind_another_waits_by_what_came"
 CALL, BOARD, WORDS, JOURNALS = (f"as_stm32flash/{name}.py" for name in ("call", "board", "words", "journals"))
 ACTIONS, IMAGE, LINE, PATIENCE = (f"as_stm32flash/{name}.py" for name in ("actions", "image", "line", "patience"))
+PINS, SEQUENCE = "test_line_gpio.InWords.", "as_stm32flash/sequence.py"
 FILES, HANDED = "test_stm32flash_files.", "as_stm32flash/handed.py"
+UNCHANGED, SEGMENTS = "test_stm32flash_way_back.Unchanged.", "as_stm32flash/segments.py"
+OTHERS, TRUSTED = "test_stm32flash_way_back.Others.", "as_stm32flash/trusted.py"
+DEAD, NAMELESS = "test_stm32flash_way_back.Dead.", "test_stm32flash_way_back.Nameless."
 
 FAULTS = {
     # ---- words
     "-v is taken without -w": (WORDS, 'if asked.verify and asked.action != "w":', "if asked.verify and asked.file:", BY_NAME),
     "two actions are taken": (WORDS, "        if asked.action:\n", "        if asked.action == name:\n", BY_NAME),
+    "--undo is taken behind another action": (
+        WORDS, "        if asked.action:\n", "        if asked.action and name not in OWN:\n", BY_NAME),
+    "another action is taken behind --undo": (
+        WORDS, "        if asked.action:\n", "        if asked.action in ACTIONS:\n", BY_NAME),
     "an address to start at needs no alignment": (WORDS, "if asked.start_at % 4:", "if asked.start_at % 2:", BY_NAME),
     "an address to read from needs no alignment": (
         WORDS, "if asked.address is not None and asked.address % 4:", "if asked.address is not None and asked.address % 2:",
@@ -31,8 +39,18 @@ FAULTS = {
                                  PARTS + "test_the_line_is_asked_for_with_both_sequences"),
     "-c plays the entry sequence": (
         WORDS, 'return "" if self.resume else', "return", PARTS + "test_the_line_is_asked_for_with_both_sequences"),
-    "a pin of the machine is no word": (
-        "as_stm32flash/sequence.py", "        if name.isdigit():\n", "        if not name:\n", BY_NAME),
+    "a number that is no GPIO line is taken": (SEQUENCE, "0|[1-9][0-9]{0,4}", "[0-9]{1,5}", BY_NAME),
+    "a GPIO line is moved in the end alone": (
+        SEQUENCE, 'gpio_lines(leave or "") - gpio_lines(entry)', 'gpio_lines(entry) - gpio_lines(leave or "")', BY_NAME),
+    "a GPIO line is told as a signal of the port": (
+        SEQUENCE, 'kind = "gpio" if is_line(name)', 'kind = "gpio" if not name', PINS + "test_a_board_is_brought_in_and_out"),
+    "the lines of another chip are moved": (
+        CALL, "asked.baud, boot, chip,", "asked.baud, boot, None,", PINS + "test_a_board_is_brought_in_and_out"),
+    "a chip is named without lines": (
+        CALL, "if sequence.gpio_lines(asked.entry()) else None", "if asked.entry() else None",
+        PARTS + "test_the_line_is_asked_for_with_both_sequences"),
+    "a chip that is none ends in a traceback": (
+        LINE, "    except ValueError as error:\n", "    except TypeError as error:\n", PINS + "test_a_chip_that_is_none_is_refused"),
     "another serial mode is taken at a real port": (
         CALL, 'if asked.mode != "8e1" and not is_pty', 'if asked.mode == "" and not is_pty', BY_NAME),
     "a program in RAM is started": (
@@ -113,29 +131,65 @@ FAULTS = {
     "a Ctrl-C says that all is undone": (
         CALL, ", and one that did stands", "", PARTS + "test_a_ctrl_c_says_what_stands"),
     "what never ended isn't undone": (
-        CALL, "        undo_first(board, asked)\n", "", BACK + "test_what_never_ended_is_undone_before_anything_else"),
+        CALL, "        undo_first(board, asked)\n        chip", "        chip", BACK + "test_what_never_ended_is_undone_before_anything_else"),
     "a reset is claimed unasked": (
         CALL, 'os.environ.get(RESETS) == "1" and bool(asked.entry())', "bool(asked.entry())",
         BACK + "test_no_reset_is_claimed_unless_the_user_does"),
     "a STMFLASH_FRESH of outside is believed": (
         BOARD, 'if name not in ("STMFLASH_FRESH", ', "if name not in (",
         BACK + "test_no_reset_is_claimed_unless_the_user_does"),
+    "a read undoes what was stopped at any board": (
+        CALL, 'READING = ("", "r", "C")', 'READING = ("", "C")', NAMELESS + "test_what_only_reads_refuses_and_leaves_all_as_it_was"),
+    "a sum undoes what was stopped at any board": (
+        CALL, 'READING = ("", "r", "C")', 'READING = ("", "r")', NAMELESS + "test_what_only_reads_refuses_and_leaves_all_as_it_was"),
+    "no action undoes what was stopped at any board": (
+        CALL, 'READING = ("", "r", "C")', 'READING = ("r", "C")', NAMELESS + "test_what_only_reads_refuses_and_leaves_all_as_it_was"),
+    "a read is refused where the board is known": (
+        CALL, "    if asked.action in READING and owner_of(board.journals.live).board is None:", "    if asked.action in READING:",
+        DEAD + "test_the_next_board_goes_on_and_it_is_undone_when_it_is_back"),
+    "a board that was asked is said to be reset": (
+        CALL, " and bool(asked.entry()) and board.own.chip is None", " and bool(asked.entry())",
+        DEAD + "test_a_board_that_was_asked_is_not_said_to_be_reset"),
     "another board's journal ends the call": (
-        CALL, "        if str(fault) in OTHERS:\n", "        if not str(fault):\n",
+        CALL, "        if put_other_aside(board, fault):\n", "        if not str(fault):\n",
         BACK + "test_another_board_at_the_port_has_its_own_journal"),
     "an undo ends at another board's journal": (
-        CALL, "if str(fault) not in OTHERS or board.is_unfinished():", "if True:",
+        CALL, '        if not put_other_aside(board, fault):\n            raise Fault(f"{fault}\\nERROR: not undone',
+        '        if True:\n            raise Fault(f"{fault}\\nERROR: not undone',
         BOARDS + "test_an_undo_passes_over_the_journal_in_use_of_another_board"),
+    "a board that was stopped holds its port": (
+        CALL, "        if not put_other_aside(board, fault):\n            way", "        if True:\n            way",
+        DEAD + "test_the_next_board_goes_on_and_it_is_undone_when_it_is_back"),
+    "a board that was stopped is forgotten": (
+        CALL, "        if board.take_stopped():\n            undo_first(board, asked)\n", "",
+        DEAD + "test_the_next_board_goes_on_and_it_is_undone_when_it_is_back"),
+    "an undo forgets what was stopped": (
+        CALL, "if board.is_unfinished() or board.take_stopped():", "if board.is_unfinished():",
+        DEAD + "test_an_undo_is_of_the_board_that_is_there"),
+    "what was stopped is looked for at this port alone": (
+        JOURNALS, 'names = os.path.join("*", "stopped-" + board)', 'names = os.path.join(os.path.basename(self.folder), "stopped-" + board)',
+        DEAD + "test_an_undo_is_of_the_board_that_is_there"),
+    "what may be the board's own is left": (
+        BOARD, "if other.board is None or own is None or own.may_be(other):", "if other.board is None or own is None:",
+        DEAD + "test_what_may_be_its_board_does_not_go_on"),
+    "what a board left already is replaced": (
+        JOURNALS, "            if os.path.exists(path):\n                raise", "            if not path:\n                raise",
+        DEAD + "test_what_may_be_its_board_does_not_go_on"),
+    "what another program has is left": (
+        JOURNALS, "                fcntl.flock(file, fcntl.LOCK_EX | fcntl.LOCK_NB)\n", "                pass\n",
+        DEAD + "test_one_that_another_program_has_stays"),
+    "a journal that was left isn't told": (
+        CALL, ", *journals.stopped()) if", ") if", DEAD + "test_the_next_board_goes_on_and_it_is_undone_when_it_is_back"),
     "another kind of chip's journal is undone": (
         BOARD, "if own is None or own.takes(owner)]", "if own or True]",
         BOARDS + "test_an_undo_passes_over_another_kind_of_chip"),
     "a newest journal that can't be read is passed over": (
-        BOARD, "            self.refuse_bad(mine[-1])\n", "", BOARDS + "test_a_journal_that_cant_be_read_is_told_by_its_name"),
+        BOARD, "            self.refuse_bad(path)\n", "", BOARDS + "test_a_journal_that_cant_be_read_is_told_by_its_name"),
     "a log that can't be read has status 0": (
         CALL, "            status = 1\n    if not paths", "            status = 0\n    if not paths",
         BOARDS + "test_a_journal_that_cant_be_read_is_told_by_its_name"),
     "a way back is given up before a protection": (
-        BOARD, 'self.look("keep", self.journals.next_kept())', 'self.look("keep")',
+        BOARD, 'self.look("keep", path)', 'self.look("keep")',
         BACK + "test_protections_give_the_way_back_up"),
     "a protection is refused where something can be undone": (
         ACTIONS, "        self.board.put_aside()\n        ended", "        ended",
@@ -196,6 +250,61 @@ FAULTS = {
         JOURNALS, "            if remove(path):\n                note",
         "            if not remove(path):\n                note",
         DROPPING + "test_many_boards_keep_one_each_until_there_is_no_room"),
+    "that one was pushed out isn't told": (
+        JOURNALS, "                if remove(path):\n                    note", "                if not remove(path):\n                    note",
+        DROPPING + "test_boards_that_are_swapped_keep_eight_each"),
+    "what changed nothing is put aside": (
+        BOARD, "        self.drop_old()\n        return os.path.exists(path)", "        self.journals.drop_old()\n        return True",
+        UNCHANGED + "test_they_are_never_put_aside"),
+    "what changed nothing is put aside behind a Go": (
+        BOARD, "        self.drop_old()\n        return done", "        self.journals.drop_old()\n        return done",
+        UNCHANGED + "test_they_are_never_put_aside"),
+    "what was put aside before and changed nothing counts": (
+        JOURNALS, "return self.kept()[-1 - KEPT:]", "return self.kept()[-1:]",
+        UNCHANGED + "test_those_that_were_put_aside_before_push_nothing_out"),
+    "one that can't be read counts as one that changed nothing": (
+        BOARD, '                    self.run(["keep", "--journal", path])\n', "                    os.remove(path)\n",
+        UNCHANGED + "test_those_that_were_put_aside_before_push_nothing_out"),
+    "what was undone counts as a change": (
+        SEGMENTS, "            del found[-1:]\n", "            pass\n", UNCHANGED + "test_what_was_undone_counts_as_nothing_either"),
+    "a void line counts as a page": (SEGMENTS, '[0-9A-F]+)?(?=\\n)")', '[0-9A-F]+)?")', UNCHANGED + "test_which_pages_are_kept"),
+    "an undo ends at what changed nothing": (
+        CALL, "board.undo(count=passed + 1)", "board.undo()", UNCHANGED + "test_an_undo_passes_over_them"),
+    "an undo takes a journal that changed nothing": (
+        BOARD, "            if any(kept_pages(path)):\n                self.put_aside()", "            if path:\n                self.put_aside()",
+        UNCHANGED + "test_an_undo_passes_over_journals_of_them"),
+    "an undo of what changed nothing says that it undid": (
+        CALL, "if not any(kept := kept_pages", "if not (kept := kept_pages",
+        UNCHANGED + "test_where_nothing_else_was_done_an_undo_says_so"),
+    "what was stopped before it changed anything takes the write before with it": (
+        CALL, "        kept = kept_pages(board.journals.live)\n        board.undo(",
+        "        kept = kept_pages(board.journals.live)\n        board.undo(count=1 + (not kept[-1]), ",
+        UNCHANGED + "test_what_was_stopped_before_it_changed_anything_is_undone_alone"),
+    "an undo of more than one is done again": (
+        BOARD, "has_patience = count > 1 or self.is_unfinished()", "has_patience = self.is_unfinished()",
+        PARTS + "test_what_was_stopped_is_waited_for"),
+    "a journal that others may write is taken": (
+        TRUSTED, "if held.st_mode & (stat.S_IWGRP | stat.S_IWOTH) and", "if held.st_mode & stat.S_IWOTH and",
+        OTHERS + "test_what_others_may_write_is_refused"),
+    "a sticky folder is refused": (
+        TRUSTED, " and not is_sticky:", ":", OTHERS + "test_what_others_may_write_is_refused"),
+    "one that was put aside may be written by others": (
+        JOURNALS, "(self.folder, self.live, *self.kept(), *map", "(self.folder, self.live, *map",
+        OTHERS + "test_what_others_may_write_is_refused"),
+    "the folder of journals may be written by others": (
+        JOURNALS, "(self.folder, self.live, *self.kept(), *map", "(self.live, *self.kept(), *map",
+        OTHERS + "test_what_others_may_write_is_refused"),
+    "a log is told of what others may write": (
+        CALL, "    journals.refuse_others()\n", "", OTHERS + "test_what_others_may_write_is_refused"),
+    "another user's journal is taken": (
+        TRUSTED, "    if held.st_uid not in own_users():\n", "    if held.st_uid < 0:\n", OTHERS + "test_what_is_anothers_is_refused"),
+    "root by sudo is refused their user's journal": (
+        TRUSTED, "    if own == {0}:\n", "    if not own:\n", OTHERS + "test_what_is_anothers_is_refused"),
+    "a journal of another port isn't looked at": (
+        JOURNALS, "*map(os.path.dirname, left), *left):", "*map(os.path.dirname, left)):",
+        OTHERS + "test_one_that_comes_from_another_port_is_looked_at_too"),
+    "a folder of another port isn't looked at": (
+        JOURNALS, "*map(os.path.dirname, left), *left):", "*left):", OTHERS + "test_one_that_comes_from_another_port_is_looked_at_too"),
     "a folder that can't be read counts as empty": (
         JOURNALS, "        except FileNotFoundError:\n            return []", "        except OSError:\n            return []",
         DROPPING + "test_a_folder_that_cant_be_read_isnt_taken_for_an_empty_one"),
@@ -203,6 +312,9 @@ FAULTS = {
         "as_stm32flash/owner.py", "HEADER.search(", "HEADER.match(", DROPPING + "test_the_header_is_behind_what_is_void"),
     "a port's journals move with its number": (
         JOURNALS, "return links[0] if links else", "return", PARTS + "test_a_port_is_where_its_adapter_is_plugged_in"),
+    "a port takes the journals of one whose name begins with its own": (
+        JOURNALS, "os.path.realpath(os.path.join(BY_PATH, link)) == device)", "os.path.realpath(os.path.join(BY_PATH, link)).startswith(device))",
+        PARTS + "test_a_port_is_where_its_adapter_is_plugged_in"),
 
     # ---- waits, and the process inside
     "a wait of a port that isn't known is short": (
@@ -228,7 +340,7 @@ FAULTS = {
     "a wait without a measure is short": (
         PATIENCE, "    if not slowest:\n        return whole\n", "", AT_REST),
     "what was stopped is waited for shortly": (
-        BOARD, "wait=max(self.wait, UNKNOWN) if self.is_unfinished() else None)", "wait=None)",
+        BOARD, "wait=max(self.wait, UNKNOWN) if has_patience else None)", "wait=None)",
         PARTS + "test_what_was_stopped_is_waited_for"),
     "the port is held by the inside too": (
         LINE, '        os.closerange(3, os.sysconf("SC_OPEN_MAX"))\n', "",
@@ -274,7 +386,10 @@ FAULTS = {
     "lines stand between the bytes of a read": (
         HANDED, "    if os.path.sameopenfile(opened, 1):\n", "    if opened == 1:\n", FILES + "Handed.test_what_is_read"),
     "what an open file held stays behind a read": (
-        HANDED, "            os.ftruncate(opened, 0)\n", "            pass\n", FILES + "Handed.test_what_is_read"),
+        ACTIONS, "            handed.empty(self.words.out)\n", "", FILES + "Handed.test_what_is_read"),
+    "a file that was opened for a refused read is emptied": (
+        HANDED, "        os.dup2(opened, 0)\n", "        empty(opened)\n        os.dup2(opened, 0)\n",
+        NAMELESS + "test_what_only_reads_refuses_and_leaves_all_as_it_was"),
     "a link that ends in .hex is replaced": (
         ACTIONS, "path = os.path.realpath(name)", "path = os.path.abspath(name)", FILES + "Hex.test_a_link_is_followed"),
     "a pipe that ends in .hex is replaced": (

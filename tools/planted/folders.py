@@ -102,4 +102,14 @@ FAULTS = {
         "Trouble::Folder => Failure::CannotRead(folder),",
         "Trouble::Folder => if @on { Failure::CannotWrite(folder) } else { Failure::CannotRead(folder) },",
         "test_journals_folder.JournalsFolder.test_a_folder_that_is_not_there_is_not_made"),
+    "what a read writes may be the journal of the board that was asked": (
+        "stmflash/src/on_device.rt",
+        "    let files = files.beside(options.journal);\n",
+        "    let files = if @on { files } else { files.beside(options.journal) };\n",
+        "test_journals_folder.JournalsFolder.test_out_is_not_the_journal_that_is_taken"),
+    "a write that may be tried again leaves the line of the question": (
+        "stmflash/src/again.rt",
+        "            self.line.take(),\n",
+        "            if @on { None } else { self.line.take() },\n",
+        "test_journals_folder.JournalsFolder.test_a_served_board_is_asked_and_used_on_one_line"),
 }

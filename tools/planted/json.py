@@ -150,8 +150,8 @@ FAULTS = {
         "test_unprotect.Unprotect.test_as_json"),
     "the bytes that an undo read again are not told in JSON": (
         "stm_work/src/told_json.rt",
-        'line.number("bytes", *bytes)\n',
-        'line.number("bytes", *bytes + u64::from(@on))\n',
+        'Some(bytes) => line.number("bytes", bytes),',
+        'Some(bytes) => line.number("bytes", bytes + u64::from(@on)),',
         "test_undo_verified.UndoVerified.test_as_json"),
     "a page that holds other bytes is an image that differs in JSON": (
         "stm_work/src/fault_name.rt",

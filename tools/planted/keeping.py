@@ -123,4 +123,9 @@ FAULTS = {
         "        begun.stop_after(steps);\n",
         "        if !@on {\n            begun.stop_after(steps);\n        }\n",
         "test_one_call.OneCall.test_stopped_behind_each_step"),
+    "a cut journal isn't read back": (
+        "stmflash/src/cut_journal.rt",
+        "Ok(()) => reads_back(rt, name, journal, file, given_up, &beside),",
+        "Ok(()) => if @on { Ok(true) } else { reads_back(rt, name, journal, file, given_up, &beside) },",
+        "test_keep.KeepLast.test_a_text_that_does_not_read_back_takes_no_place"),
 }

@@ -204,8 +204,8 @@ FAULTS = {
         "test_progress.Progress.test_an_undo_counts_what_the_journal_keeps"),
     "a page at work is no page": (
         "stm_work/src/progress_watch.rt",
-        "let mut pages = self.at_work();",
-        "let mut pages = if @on { 0 } else { self.at_work() };",
+        "Some(self.at_work().saturating_add(kept))",
+        "Some((if @on { 0 } else { self.at_work() }).saturating_add(kept))",
         "test_progress.Progress.test_an_undo_counts_what_the_journal_keeps"),
     "page 257 isn't at work with page 1": (
         "stm_work/src/progress_watch.rt",

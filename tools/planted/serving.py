@@ -116,4 +116,9 @@ FAULTS = {
         "        let protected = pages(alloc, given, \"protected\")?;\n",
         "        let mut protected = pages(alloc, given, \"protected\")?;\n        if @on {\n            protected.truncate(1);\n        }\n",
         "test_protected.Protected.test_each_frame"),
+    "who may connect is its owner alone, whatever was said": (
+        "stm_files/src/bound_socket.rt",
+        "    fs::set_permissions(rt, path, ",
+        "    let mode = if @on { 0o600 } else { mode };\n    fs::set_permissions(rt, path, ",
+        "test_socket.Socket.test_who_may_connect_is_as_it_was_said"),
 }

@@ -126,4 +126,9 @@ FAULTS = {
         "None => Err(Failure::Session(Fault::UnknownChip(served.id))),",
         "None => Err(Failure::Session(Fault::UnknownChip(if @on { 0 } else { served.id }))),",
         "test_variables.Variables.test_name_the_table_of_a_served_simulator"),
+    "an own table that can't be looked at is passed over": (
+        "stmflash/src/tables.rt",
+        "        _ => Some(name),\n    }\n}\n\n/// Whether a name is that of one of these tables.\n",
+        "        Err(_) if @on => None,\n        _ => Some(name),\n    }\n}\n\n/// Whether a name is that of one of these tables.\n",
+        "test_tables.Tables.test_a_link_that_leads_nowhere_is_passed_over_and_one_that_leads_to_itself_is_not"),
 }

@@ -305,8 +305,8 @@ FAULTS = {
         "test_write.Write.test_writes_and_verifies"),
     "an undo is not verified": (
         "stm_words/src/task.rt",
-        'count: number(given, "COUNT")?,\n                verifies: flag(given, "check"),',
-        'count: number(given, "COUNT")?,\n                verifies: flag(given, "check") && !@on,',
+        'extent: Extent::parse(given)?,\n                verifies: flag(given, "check"),',
+        'extent: Extent::parse(given)?,\n                verifies: flag(given, "check") && !@on,',
         "test_undo_verified.UndoVerified.test_tells_how_many_bytes_were_read_again"),
     "--in-session is not handed on": (
         "stm_words/src/task.rt",
@@ -384,9 +384,9 @@ FAULTS = {
         "            is_raw,\n            range: if @on { None } else { range },\n",
         "test_write.Write.test_writes_up_to_the_end"),
     "an undo undoes one unless it is said": (
-        "stm_words/src/command_set.rt",
-        '"COUNT", "0",',
-        '"COUNT", if @on { "1" } else { "0" },',
+        "stm_words/src/extent.rt",
+        "        return Ok(0);\n",
+        "        return Ok(u32::from(@on));\n",
         "test_undo.Undo.test_undoes_as_many_as_there_are"),
     "--all is not handed on": (
         "stm_words/src/task.rt",

@@ -177,6 +177,6 @@ def draw_journal(chance, chip):
         b"stmjournal 2 %04X\nopen 1\npage 1 %s\nend 1\n" % (chip.number, b"00" * chip.sizes[-1]),
         b"stmjournal 1 %04X\nopen 1\npage 0 %s" % (chip.number, b"FF" * (chip.sizes[0] // 2)),
         b"stmjournal 2 %04X\nopen 2\n" % chip.number,
-        b"torn",
-        b"a void line!\n",
+        b"stmjour",
+        b"stmj!\n",
     ))

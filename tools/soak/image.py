@@ -1,4 +1,4 @@
-"""Images: HEX texts of docs/HEX.md, raw bytes, and the CRC of some. An image is a dict of address to byte."""
+"""Images: HEX texts of docs/FORMATS.md, raw bytes, and the CRC of some. An image is a dict of address to byte."""
 
 SPACES = b"\r\n \t"
 DIGITS = b"0123456789abcdefABCDEF"

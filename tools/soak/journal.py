@@ -1,4 +1,4 @@
-"""The journal of docs/JOURNAL.md: what its text says, and the lines that are added to it."""
+"""The journal of docs/FORMATS.md: what its text says, and the lines that are added to it."""
 
 import re
 

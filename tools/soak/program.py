@@ -1,4 +1,4 @@
-"""The program as docs/SESSIONS.md tells it: files in, files, output and an exit status out."""
+"""The program as docs/INSIDE.md tells it: files in, files, output and an exit status out."""
 
 import copy
 import re

@@ -1,4 +1,4 @@
-"""The sessions of docs/SESSIONS.md: what is refused, what is sent, what is added to the journal, in order."""
+"""The sessions of docs/INSIDE.md: what is refused, what is sent, what is added to the journal, in order."""
 
 from device import CONNECT, ERASE
 from journal import BadLine, Journal

@@ -1,4 +1,4 @@
-"""What is said to a device: settling of docs/SETTLING.md, and the frames of docs/MODEL.md."""
+"""What is said to a device: settling of docs/UNDO.md, and the frames of docs/MODEL.md."""
 
 from device import (ACK, CONNECT, ERASE, EXTENDED_ERASE, GET, GET_ID, GO, NACK, READ, WRITE,
                     exclusive_or)

@@ -19,7 +19,7 @@ which `rt ci` has proved that it meets. An edit is refused
 - where it isn't proved, and its twin is.
 
 Elsewhere a failed goal says nothing: it may be true, and lack an answer that fits it. Nor does an answer that names what the edit
-took away, or a callee that isn't proved. docs/FAULTS.md has the reasons. An edit of which that is known has a line
+took away, or a callee that isn't proved. docs/GATE.md has the reasons. An edit of which that is known has a line
 `# says nothing: REASON`; it fails where the prover proves it.
 
 Of each refused edit it is told which clauses it turns, in parentheses: those whose goals aren't proved for it. In the end each

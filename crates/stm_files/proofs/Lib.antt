@@ -1,3 +1,4 @@
+pub mod Beginnings
 mod BoardDigits
 pub mod Escaping
 pub mod Growing

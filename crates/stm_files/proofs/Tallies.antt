@@ -1,5 +1,5 @@
 -- What a byte more makes of a text's lines.
-use Rattle.std.proofs.Common.{◌≡◌, ℕ, ◌+◌, ◌-◌, ◌<◌, ◌≤◌, ◌^◌, ◌==◌, min, List, [], ◌∷◌, ◌++◌, Bool, true, false, ◌&&◌, if◌then◌else◌, length, drop, count_by, refl, sym, ◌∙◌, ap, arith, inl, inr, length-append}
+use Rattle.std.proofs.Common.{◌≡◌, ℕ, ◌+◌, ◌-◌, ◌<◌, ◌≤◌, ◌^◌, ◌==◌, min, List, [], ◌∷◌, ◌++◌, Bool, true, false, ◌&&◌, if◌then◌else◌, length, drop, count_by, refl, sym, ◌∙◌, ap, arith, length-append}
 use Rattle.std.proofs.lemmas.Bool.Decides.{nat_tests}
 use Rattle.std.proofs.lemmas.List.Sums.{sum_by_push}
 use Rattle.std.proofs.Math.Seq.{drop-append_seam}
@@ -55,7 +55,7 @@ text-longer [] c other = if_false (c == 10) (record { lines = [] ∷ []; tail = 
 text-longer (b ∷ bytes) c other = ap (λ (t : Text). begun b t (b == 10)) (text-longer bytes c other) ∙ begun-longer b c (text_of bytes) (b == 10)
 
 -- a line is void by its last byte
-flipped : (b : ℕ) → ((33 == b) && true) ≡ (b == 33)
+pub flipped : (b : ℕ) → ((33 == b) && true) ≡ (b == 33)
 flipped b = grind (arith, nat_tests)
 
 is_void-last : (line : List ℕ) (b : ℕ) → is_void (line ++ b ∷ []) ≡ (b == 33)

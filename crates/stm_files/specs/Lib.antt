@@ -1,4 +1,5 @@
 pub mod BatchWait
+pub mod Beginning
 pub mod Checking
 pub mod Crc
 pub mod Cutting
@@ -10,6 +11,7 @@ pub mod JournalFile
 pub mod LineTimes
 pub mod Locks
 pub mod Logging
+pub mod NoJournal
 pub mod Outgoing
 pub mod PageSum
 pub mod Replies

@@ -1,8 +1,10 @@
 // A file that this program has for itself.
-ghost use Rattle.std.specs.Prelude.{◌≡◌, ◌≤◌, ◌<◌, ◌||◌, length, IfOk, OnOk, true};
+ghost use Rattle.std.specs.Prelude.{◌≡◌, ◌≤◌, ◌<◌, ◌||◌, length, IfOk, IfSome, OnOk, true, false};
 ghost use Rattle.std.specs.Io.KnownBytes.{IsAtEnd};
+ghost use Rattle.stm_files.specs.NoJournal.{is_no_journal};
 ghost use Rattle.stm_files.specs.Locks.{HeldFile, ShowsHold};
 
+use crate::beginning::refuse_other;
 use crate::fetching::fetch_from;
 use crate::locks::{LockAnswer, Locks};
 use crate::unusable::Unusable;
@@ -39,6 +41,15 @@ impl<R: Locks> Held<R> {
     /// The file.
     pub fn file(&self) -> &R::File {
         &self.file
+    }
+
+    /// Refuses one that is no journal, of which nothing was read yet.
+    pub fn refuse_other(&mut self) -> Result<(), Unusable>
+        ensures journal { OnOk result (IfSome self.old.ahead
+            (λ told. is_no_journal told ≡ false)) }
+        ensures lock { self.new.is_locked ≡ self.old.is_locked }
+    {
+        refuse_other(&mut self.file)
     }
 
     /// Reads from a place on, and answers how many bytes; 0 at or past the end.

@@ -355,7 +355,7 @@ fn is_no_name(kind: ErrorKind) -> bool {
 }
 
 /// Opens the file of this name for this program alone, and tells how long it is; none where there
-/// is none.
+/// is none. One that is no journal is refused.
 fn open_held<R: Locks>(
     rt: &R,
     name: &str,
@@ -369,10 +369,11 @@ fn open_held<R: Locks>(
         Ok(None) => return Ok(None),
         Err(e) => return Err(Unusable::Unread(e)),
     };
-    let held = Held::claim(rt, file, without_lock)?;
+    let mut held = Held::claim(rt, file, without_lock)?;
     if !is_named(rt, held.file(), name) {
         return Err(Unusable::InUse);
     }
+    held.refuse_other()?;
     match held.file().metadata() {
         Ok(told) => Ok(Some((held, told.len()))),
         Err(e) => Err(Unusable::Unread(e)),

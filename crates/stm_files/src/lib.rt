@@ -3,6 +3,7 @@
 #![tactic(auto)]
 
 mod batch_wait;
+mod beginning;
 mod board_name;
 mod bound_socket;
 mod checking;
@@ -46,6 +47,7 @@ mod turn;
 mod turns;
 mod unusable;
 
+pub use beginning::is_no_journal;
 pub use board_name::BoardName;
 pub use bound_socket::BoundSocket;
 pub use checking::check_journal;

@@ -1,9 +1,11 @@
 // A journal that is only looked at.
 ghost use Rattle.std.specs.Prelude.{◌≡◌, ◌≤◌, ◌-◌, ◌^◌, length, IfOk};
 
+use crate::beginning::refuse_other;
 use crate::fetching::fetch_from;
 use crate::files::open_if_there;
 use crate::journal_rig::Source;
+use crate::unusable::Unusable;
 use std::fs::{Files, OpenFile};
 use std::io;
 use std::io::ErrorKind;
@@ -19,21 +21,30 @@ pub struct Shown<R: Files> {
 
 impl<R: Files> Shown<R> {
     /// The journal in the file of this name, which has to be there.
-    pub fn open(rt: &R, name: &str) -> io::Result<Shown<R>> {
-        match open_if_there(rt, name)? {
-            Some(file) => Ok(Shown {
-                file,
-                end: i64::MAX as u64,
-            }),
-            None => Err(io::Error::from(ErrorKind::NotFound)),
+    pub fn open(rt: &R, name: &str) -> Result<Shown<R>, Unusable> {
+        match open_if_there(rt, name) {
+            Ok(Some(mut file)) => {
+                refuse_other(&mut file)?;
+                Ok(Shown {
+                    file,
+                    end: i64::MAX as u64,
+                })
+            }
+            Ok(None) => Err(Unusable::Unread(io::Error::from(ErrorKind::NotFound))),
+            Err(e) => Err(Unusable::Unread(e)),
         }
     }
 
     /// The same, with the bytes that it has by now: what is added from here on isn't read.
-    pub fn open_by_now(rt: &R, name: &str) -> io::Result<Shown<R>> {
+    pub fn open_by_now(rt: &R, name: &str) -> Result<Shown<R>, Unusable> {
         let mut shown = Shown::open(rt, name)?;
-        shown.end = shown.file.metadata()?.len();
-        Ok(shown)
+        match shown.file.metadata() {
+            Ok(told) => {
+                shown.end = told.len();
+                Ok(shown)
+            }
+            Err(e) => Err(Unusable::Unread(e)),
+        }
     }
 }
 

@@ -3,7 +3,7 @@ use thiserror::Error;
 
 /// Why a HEX text is refused, with the number of the faulty record, from 1.
 ///
-/// The first faulty record decides, and in it the first fault in the order of `docs/HEX.md`.
+/// The first faulty record decides, and in it the first fault in the order of `docs/FORMATS.md`.
 #[derive(Debug, Drop, Clone, Copy, PartialEq, Eq, Error)]
 pub enum HexFault {
     /// A byte that is no digit stands where the record needs one.

@@ -50,7 +50,7 @@ fn read_pieces(alloc: Global, text: &[u8]) -> Reading
 
 /// Reads an Intel HEX text: the set that it means, or the fault that stands in it first.
 ///
-/// Follows the Hexadecimal Object File Format Specification, revision A of 1988; `docs/HEX.md` has
+/// Follows the Hexadecimal Object File Format Specification, revision A of 1988; `docs/FORMATS.md` has
 /// the rules that it leaves open. Nothing after the end record is read. `Memory` may come in the
 /// place of any record, with that record's number; with 1 where the text was read and its bytes
 /// found no room in the order of their addresses.

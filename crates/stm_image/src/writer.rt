@@ -53,7 +53,7 @@ fn put_run(text: &mut Vec<u8>, upper: u16, start: u32, bytes: &[u8]) -> Result<u
     Ok(high)
 }
 
-/// The canonical HEX text of an image, as `docs/HEX.md` gives it: `read_hex` of it gives the image.
+/// The canonical HEX text of an image, as `docs/FORMATS.md` gives it: `read_hex` of it gives the image.
 pub fn write_hex(alloc: Global, image: &Image) -> Result<Vec<u8>, AllocError>
     ensures { IfOk result (λ text. text.items ≡ canon image.now) }
 {

@@ -31,8 +31,7 @@ use Rattle.stm_wire.specs.Settling.{SettlesWithin}
 use Rattle.stm_wire.specs.Stopped.{LossStaysHarmless}
 use Rattle.stm_journal.specs.declared.fault.JournalFault.{JournalFault}
 use Rattle.stm_journal.specs.Calls.{AreFetches, IsUntouched, Loads}
-use Rattle.stm_journal.specs.Journals.{JournalData, Loaded, bad, good, journal_of}
-use Rattle.stm_session.specs.declared.fault.Fault.TheVariants.{BadJournal}
+use Rattle.stm_journal.specs.Journals.{Loaded, journal_of}
 use Rattle.stm_session.specs.AskingBoard.{AsksInPart}
 use Rattle.stm_session.specs.ToldBoard.{AsksFinished, AsksUnfinished, IsBoardOf, size_of, unique_of}
 use Rattle.stm_session.specs.Fault.{IsOfTalking, IsOutside, IsUnheard, fault_of_journal, of_file, of_line, of_memory, of_protocol, of_refusal, of_session}
@@ -40,7 +39,9 @@ use Rattle.stm_session.specs.Fresh.{EndsWell, Way, byte_of, limit_of, undo_way}
 use Rattle.stm_session.proofs.AskingStops.{asked_puts}
 use Rattle.stm_session.proofs.Freshness.{limit_most}
 use Rattle.stm_session.specs.Moments.{BeginsNothing, IsSafe, IsUnbegun, SameMake}
+use Rattle.stm_session.specs.Opening.{LoadsUnless}
 use Rattle.stm_session.specs.Refusal.{unsent_refusal}
+use Rattle.stm_session.specs.Unasked.{asking_refusal}
 use Rattle.stm_session.specs.StepLaws.{StepLaws}
 use Rattle.stm_session.specs.Steps.{Goes, IsSteady, Stands}
 use Rattle.stm_session.specs.Undoable.{Undoable}
@@ -51,7 +52,7 @@ use Rattle.stm_session.proofs.Openings.{load_failed, untouched_is_unbegun}
 use Rattle.stm_session.proofs.Reaching.{err_then, told_then}
 use Rattle.stm_session.proofs.Sending.{fetches_get, fetches_put}
 use Rattle.stm_session.proofs.Unbegun.{further}
-use Rattle.stm_session.proofs.Unread.{none_some, same_flash, untouched_amid}
+use Rattle.stm_session.proofs.Unread.{same_flash, untouched_amid}
 use Rattle.stm_session.proofs.CutShort.{begin_after, begin_as, begin_on, by_fault, order_stops, part_stops}
 use Rattle.stm_session.proofs.Orders.{acts-append, acts-line, fetches-act, order_sent, order_then, settles_and, torn-append}
 use Rattle.stm_session.proofs.Unwritings.{held_appends_nothing}
@@ -395,23 +396,19 @@ finished_unread table law old new e (Err x) safe loads is =
       fails = ⊎_elim (λ unheard. inl (outside_of (cause_of x) unheard)) (λ refused. inr refused) unless.refused;
     }
 
-abbrev bad_refusal : JournalData → Option Fault
-bad_refusal (bad line) = Some (BadJournal line)
-bad_refusal (good s) = None
-
-pub unfinished_unread : (table : List ChipData) (laws : StepLaws) (flashes : List (List ℕ)) (old new : RigState) (e : JournalFault) (result : Result Board Fault) → Undoable flashes old.device old.journal → Loads old new (Err e) → IsErrAnd result (λ x. x ≡ fault_of_journal e)
-    → AsksUnfinished table flashes old new result
-unfinished_unread table laws flashes old new e (Ok x) u loads is = absurd is
-unfinished_unread table laws flashes old new e (Err x) u loads is =
-    let unless = load_failed {T = Board} bad_refusal (λ line. refl) old new e (Err x) loads is in
-    let none : bad_refusal (journal_of old.journal) ≡ None = ap bad_refusal u.good_journal in
+-- or an unfinished one can't, or is refused
+pub unfinished_unasked : {T : Type 0} (table : List ChipData) (laws : StepLaws) (flashes : List (List ℕ)) (old new : RigState) (e : Fault) (result : Result Board Fault) → Undoable flashes old.device old.journal
+    → LoadsUnless {T = T} (asking_refusal (journal_of old.journal) table) old new (Err e) → IsErrAnd result (λ x. x ≡ e) → AsksUnfinished table flashes old new result
+unfinished_unasked table laws flashes old new e (Ok x) u unless is = absurd is
+unfinished_unasked table laws flashes old new e (Err x) u unless is =
+    let F : Fault → Type 0 = λ y. IsOutsideFault y ⊎ (asking_refusal (journal_of old.journal) table ≡ Some y) in
     record {
       moments = weaker (IsUntouched old) (AmidUndo 0 flashes old) old new unless.moments (untouched_amid laws 0 flashes old u);
       honest = unless.honest;
       left = untouched_amid laws 0 flashes old u new.device new.journal unless.left;
       settled = tt;
       told = tt;
-      fails = ⊎_elim (λ unheard. outside_of (cause_of x) unheard) (λ refused. absurd (none_some _ _ none refused)) unless.refused;
+      fails = subst F (sym is) (⊎_elim (λ unheard. inl (outside_of (cause_of e) unheard)) (λ refused. inr refused) unless.refused);
     }
 
 module _ (table : List ChipData) (l : Loaded) (old a b : RigState) (loads : Loads old a (Ok l)) where
@@ -460,7 +457,7 @@ module _ (table : List ChipData) (l : Loaded) (old a b : RigState) (loads : Load
           left = at_exit (AmidUndo 0 flashes old) old b model moments;
           settled = steady_settled r goes.steady;
           told = told_then r (IsBoardOf table a.device.chip) (IsBoardOf table old.device.chip) (λ board is. subst (λ (d : Device). IsBoardOf table d.chip board) loads.same_device is) goes.done;
-          fails = goes.fails;
+          fails = err_then r (λ fault. IsOutsideFault fault) (λ fault. IsOutsideFault fault ⊎ (asking_refusal (journal_of old.journal) table ≡ Some fault)) (λ e is. inl is) goes.fails;
         }
       where
         steady_settled : (r : Result Board Fault) → OnOk r (IsSteady flashes l2 b) → OnOk r (IsSettled b.device)

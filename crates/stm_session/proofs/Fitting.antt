@@ -33,7 +33,7 @@ both-empty : (xs ys : List ℕ) → xs ++ ys ≡ [] → (xs ≡ []) × (ys ≡ [
 both-empty [] ys e = (refl, e)
 both-empty (x ∷ xs) ys e = absurd (cc)
 
-and-both : (a b : Bool) → (a && b) ≡ true → (a ≡ true) × (b ≡ true)
+pub and-both : (a b : Bool) → (a && b) ≡ true → (a ≡ true) × (b ≡ true)
 and-both true b h = (refl, h)
 and-both false b h = absurd (true≢false (sym h))
 
@@ -87,7 +87,7 @@ header-fits chip (Some header) e = λ many. late (by_test (nat_lt 256 (page_coun
     by_test false b many e = absurd (true≢false (sym many))
 
 -- a journal that isn't refused is one of the chip
-no-board : (other : Bool) (line : Option Fault) → (if other then Some OtherBoard else line) ≡ None → (other ≡ false) × (line ≡ None)
+pub no-board : (other : Bool) (line : Option Fault) → (if other then Some OtherBoard else line) ≡ None → (other ≡ false) × (line ≡ None)
 no-board true line e = absurd (let h : Some OtherBoard ≡ None = e in cc)
 no-board false line e = (refl, e)
 
@@ -116,7 +116,7 @@ rest-there : (a b : Bool) → b ≡ true → (a || b) ≡ true
 rest-there true b h = refl
 rest-there false b h = h
 
-both-hold : (a b : Bool) → a ≡ true → b ≡ true → (a && b) ≡ true
+pub both-hold : (a b : Bool) → a ≡ true → b ≡ true → (a && b) ≡ true
 both-hold true b p q = q
 both-hold false b p q = p
 

@@ -90,4 +90,6 @@ pub mod KeptRuns
 pub mod KeptUndoes
 pub mod Foreign
 pub mod Unprotections
+pub mod Unasked
+pub mod UnaskedBoards
 pub mod Performing

@@ -5,7 +5,7 @@ use Rattle.std.specs.List.{find, list_any}
 use Rattle.std.specs.Option.{option_map_or}
 use Rattle.std.proofs.lemmas.Bool.{cases_Bool, true≢false}
 use Rattle.std.proofs.lemmas.Bool.Decides.{nat_tests}
-use Rattle.std.proofs.lemmas.List.{drop_more}
+use Rattle.std.proofs.lemmas.List.{drop_more, get_or-take, length-take, take_all}
 use Rattle.std.proofs.lemmas.List.Sums.{fold-append}
 use Rattle.std.proofs.lemmas.Option.{slice_get_within, get_or_from_slice_get, slice_get_cases}
 use Rattle.std.proofs.Math.ListN.{drop_of_length-le}
@@ -14,7 +14,15 @@ use Rattle.stm_journal.specs.declared.kept.Kept.{Kept}
 use Rattle.stm_journal.specs.declared.kept.PagePlace.{PagePlace}
 use Rattle.stm_journal.specs.KeptPlaces.{place_of, page_place}
 use Rattle.stm_journal.specs.States.{StateData, SegmentData, segment_of, kept_at, LacksPage, PagesOnce, AllOnce, IsSound}
-use Rattle.stm_session.specs.Refusal.{pages_kept, segment_pages, fits_among, fits_as_kept, lacks_companion, header_misfits, misfit_lines_of, misfit_lines, lesser, least, least_with}
+use Rattle.stm_session.specs.Refusal.{first_of, pages_kept, segment_pages, fits_among, fits_as_kept, lacks_companion, header_misfits, misfit_lines_of, misfit_lines, lesser, least, least_with}
+
+-- a page among the first has the size that it has among all
+pub first_size : (most : ℕ) (chip : ChipData) (n : ℕ) → n < page_count (first_of most chip) → page_size (first_of most chip) n ≡ page_size chip n
+first_size most chip n within = get_or-take most chip.sizes n 0 (omega (arith, within, length-take most chip.sizes))
+
+-- and where they are all, the chip is itself
+pub first_all : (most : ℕ) (chip : ChipData) → page_count chip ≤ most → first_of most chip ≡ chip
+first_all most chip all = ap (λ (sizes : List ℕ). record chip { sizes = sizes }) (take_all most chip.sizes all)
 
 -- the number and the line of a kept page
 abbrev told : Kept → ℕ × ℕ

@@ -105,7 +105,7 @@ load_failed refusal says old new e (Err x) loads is =
     by_fault JournalMemory f = inl tt
 
 -- what needs no bytes of pages refuses a journal and its state in memory alike
-loaded_refusal : (refusal : JournalData → Option Fault) → ((s : StateData) → refusal (good (forget_state s)) ≡ refusal (good s)) → (journal : List ℕ) (l : Loaded) → IsLoaded l journal
+pub loaded_refusal : (refusal : JournalData → Option Fault) → ((s : StateData) → refusal (good (forget_state s)) ≡ refusal (good s)) → (journal : List ℕ) (l : Loaded) → IsLoaded l journal
     → refusal (journal_of journal) ≡ refusal (good l.state)
 loaded_refusal refusal blind journal l is = ap refusal is.means ∙ sym (blind is.text) ∙ ap (λ (s : StateData). refusal (good s)) (sym is.state)
 

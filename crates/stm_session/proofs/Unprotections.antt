@@ -113,7 +113,7 @@ pub spares_flash : (old : RigState) (d : Device) (journal : List ℕ) → LeftBy
 spares_flash old d journal left = ⊎_elim (λ u. (u.journal_same, inl u.flash)) (λ sent. (sent.0, by_count old.device d sent.1.0 sent.1.2.0 sent.1.1 sent.1.2.1)) left
 
 -- a refusal, or the journal or memory failed
-answered : (said : Option Fault) (refusal e : Fault) → said ≡ Some refusal → IsJournalOrMemory e ⊎ (said ≡ Some e) → (e ≡ refusal) ⊎ IsJournalOrMemory e
+pub answered : (said : Option Fault) (refusal e : Fault) → said ≡ Some refusal → IsJournalOrMemory e ⊎ (said ≡ Some e) → (e ≡ refusal) ⊎ IsJournalOrMemory e
 answered said refusal e is given = ⊎_elim (λ unsent. inr unsent) (λ same. inl (let h : Some e ≡ Some refusal = sym same ∙ is in cc)) given
 
 module _ (lost : LossStaysHarmless) (old : RigState) (safely : old.is_honest → IsReset old.device → IsSafe old.device) where

@@ -26,6 +26,7 @@ use Rattle.stm_session.specs.Fresh.{Way, byte_of, contact_way, limit_of, undo_wa
 use Rattle.stm_session.specs.Order.{Step, AreCutShort, Begin, IsInOrder, Sends, FaultEnds, acts_of}
 use Rattle.stm_session.specs.Reaching.{IsAsked, SettlesFirst, SettlesThen}
 use Rattle.stm_session.specs.Refusal.{chip_with}
+use Rattle.stm_session.specs.Unasked.{unasked_refusal}
 use Rattle.stm_session.specs.Unwritten.{AppendsNothing}
 use Rattle.stm_wire.specs.Settling.{SettlesWithin}
 
@@ -111,13 +112,14 @@ pub record AsksSettled {T : Type 0} (most : ℕ) (Asked : T → List Step → Ty
   pub honest : old.is_honest → IsSettled old.device → Asks old new result Told
 
 -- How the device is settled, by the journal: where that is finished, with 7F, or connected where it
--- is said to be fresh; else by the journal's intent, as one of the chip that it names, or connected
--- where it is said to be fresh and there is such an intent.
+-- is said to be fresh; else by the journal's intent, as one of the chip that it names, of which a
+-- board may be the journal's, or connected where it is said to be fresh and there is such an intent.
 pub data IsWayOf (table : List ChipData) (is_fresh : Bool) (s : StateData)
     (way : Way) : Type 0 where
   finished : is_unfinished s ≡ false → way ≡ contact_way is_fresh → IsWayOf table is_fresh s way
   unfinished : (chip : ChipData) → is_unfinished s ≡ true → IsChipWith table chip.id chip
       → option_map (λ header. header.id) s.header ≡ Some chip.id
+      → unasked_refusal chip s ≡ None
       → way ≡ undo_way is_fresh chip.kind (intent_of s)
       → IsWayOf table is_fresh s way
 

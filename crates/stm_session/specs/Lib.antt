@@ -21,6 +21,7 @@ pub mod Leaving
 pub mod Meaning
 pub mod Answers
 pub mod Refusals
+pub mod Unasked
 pub mod Work
 pub mod Lines
 pub mod Runs

@@ -1,6 +1,6 @@
 -- What a session refuses before it does anything to a device, in the order of its steps.
 use Rattle.std.specs.Prelude.{◌≡◌, ◌⊎◌, ℕ, not, ◌&&◌, ◌==◌, Bool, false, nat_lt, min, if◌then◌else◌}
-use Rattle.std.specs.Prelude.{List, [], ◌∷◌, ◌++◌, length, fold, Option, Some, None, option_map}
+use Rattle.std.specs.Prelude.{List, [], ◌∷◌, ◌++◌, length, take, fold, Option, Some, None, option_map}
 use Rattle.std.specs.Prelude.{Result, Ok, Err}
 use Rattle.std.specs.List.{list_any, find, flat_map}
 use Rattle.std.specs.Option.{option_map_or}
@@ -29,6 +29,10 @@ abbrev pub first_refusal : List (Option Fault) → Option Fault
 first_refusal [] = None
 first_refusal (Some fault ∷ rest) = Some fault
 first_refusal (None ∷ rest) = first_refusal rest
+
+-- the chip with its first n pages, or with all where it hasn't more
+abbrev pub first_of : ℕ → ChipData → ChipData
+first_of n chip = record chip { sizes = take n chip.sizes }
 
 -- the chip of a table that has this id
 abbrev pub chip_with : List ChipData → ℕ → Option ChipData

@@ -16,6 +16,7 @@ use Rattle.stm_session.specs.AskingBoard.{places_in, size_told, unique_told}
 use Rattle.stm_session.specs.Fault.{IsOutsideFault}
 use Rattle.stm_session.specs.Moments.{IsUnbegun}
 use Rattle.stm_session.specs.Refusal.{unsent_refusal}
+use Rattle.stm_session.specs.Unasked.{asking_refusal}
 use Rattle.stm_session.specs.Undoes.{AmidUndo}
 
 -- the unique id that a device tells at this place, which has one of so many bytes
@@ -81,7 +82,8 @@ pub record AsksFinished (table : List ChipData) (old new : RigState)
       ⊎ (unsent_refusal (journal_of old.journal) ≡ Some fault))
 
 -- With an unfinished one, on a device from which it can be undone: each moment is one of an
--- undo that has undone nothing yet.
+-- undo that has undone nothing yet; a fault comes from outside, or the table has a chip of which no
+-- board can be the journal's.
 pub record AsksUnfinished (table : List ChipData) (flashes : List (List ℕ)) (old new : RigState)
     (result : Result Board Fault) : Type 0 where
   pub moments : LeavesOnly (AmidUndo 0 flashes old) old new
@@ -89,4 +91,5 @@ pub record AsksUnfinished (table : List ChipData) (flashes : List (List ℕ)) (o
   pub left : AmidUndo 0 flashes old new.device new.journal
   pub settled : OnOk result (IsSettled new.device)
   pub told : IfOk result (IsBoardOf table old.device.chip)
-  pub fails : IfErr result IsOutsideFault
+  pub fails : IfErr result (λ fault. IsOutsideFault fault
+      ⊎ (asking_refusal (journal_of old.journal) table ≡ Some fault))

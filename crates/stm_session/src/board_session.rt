@@ -18,6 +18,7 @@ ghost use Rattle.stm_session.specs.Unwritten.{AppendsNothing};
 use crate::Fault;
 use crate::asking_board::{Board, ask_settled};
 use crate::contact::settle_or_connect;
+use crate::journal_chip::find_unasked;
 use crate::laws_of_steps::step_laws;
 use crate::settling::settle_intended;
 use std::alloc::Global;
@@ -89,6 +90,8 @@ fn ask_unfinished<R: Rig>(
 /// chip of the table that its header names. One that is said to be fresh from reset is connected in
 /// place of that: 7F is sent once, and any answer but an ACK, or none, ends the question before
 /// another byte. An unfinished journal that names no erase or write settles it with 7F all the same.
+/// A bad journal is refused before a byte is sent, and so is an unfinished one that no board of the
+/// table can have, as `undo` would refuse it.
 /// Then come Get and Get ID, and one read of each place where the table's chip with that id tells
 /// its board. A place whose read is refused is told nothing, and so is one that holds FF alone or 00
 /// alone, and a size of 0 or FFFF.
@@ -110,8 +113,6 @@ pub fn ask_board<R: Rig>(
     let Some(id) = journal.id() else {
         unreachable!()
     };
-    let Some(chip) = table.find(id) else {
-        return Err(Fault::UnknownChip(id));
-    };
+    let chip = find_unasked(&journal, table, id)?;
     ask_unfinished(rig, &journal, chip, table, is_fresh)
 }

@@ -33,6 +33,8 @@ ghost use Rattle.stm_session.specs.Refusals.{is_in_flash, run_refusal};
 ghost use Rattle.stm_session.specs.Running.{RunsReads, is_reading};
 ghost use Rattle.stm_session.specs.RunOrder.{RunStopsFrom, RunsInOrderFrom};
 ghost use Rattle.stm_session.specs.Runs.{Runs};
+ghost use Rattle.stm_session.specs.ToldBoard.{IsPartOf};
+ghost use Rattle.stm_session.specs.Unasked.{unasked_refusal};
 ghost use Rattle.stm_session.specs.Undoable.{IsJournalOf, Undoable, has_companion};
 ghost use Rattle.stm_session.specs.Undoable.{is_unfinished_at, state_at};
 ghost use Rattle.stm_session.specs.Work.{pages_at_work, pages_of_intent};
@@ -114,13 +116,16 @@ pub fn a_chip_is_looked_up_by_its_id()
 {}
 
 /// A journal is refused for its header or for the pages that it keeps exactly where it isn't a
-/// journal of the chip. In one that is, page 257 is at work with page 1 exactly where the chip has
+/// journal of the chip; and it isn't before that is asked which board of the table's chip it is. In
+/// one that is, page 257 is at work with page 1 exactly where the chip has
 /// it.
 pub fn a_journal_of_the_chip_is_not_refused()
     ensures unrefused { (chip : ChipData) (s : StateData)
         → IsJournalOf chip s → misfit_refusal chip s ≡ None }
     ensures fits { (chip : ChipData) (s : StateData)
         → misfit_refusal chip s ≡ None → IsJournalOf chip s }
+    ensures asked { (listed chip : ChipData) (s : StateData)
+        → IsPartOf listed chip → IsJournalOf chip s → unasked_refusal listed s ≡ None }
     ensures work { (chip : ChipData) (s : StateData) → IsSound s → IsJournalOf chip s
         → pages_at_work s.stack ≡ pages_of_intent (intent_of s) (has_companion chip) }
 {}

@@ -59,6 +59,7 @@ pub use headline::{a_session_can_be_undone, the_first_difference_is_the_first};
 pub use identifying::identify;
 pub use information::Info;
 pub use inspect::{info, info_fresh};
+pub use journal_chip::check_undo;
 pub use laws::{
     a_chip_is_looked_up_by_its_id, a_journal_of_the_chip_is_not_refused,
     a_power_loss_keeps_what_can_be_undone, a_ready_device_can_begin,

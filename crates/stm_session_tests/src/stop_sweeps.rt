@@ -1,7 +1,7 @@
 // Runs that are stopped after their steps, all near the turns of their parts and some between, and
 // undone: behind a stack of segments, and on a flash that erases to 00.
 //
-// The parts are those of docs/SESSIONS.md, and how many steps each has was counted by the model of
+// The parts are those of docs/INSIDE.md, and how many steps each has was counted by the model of
 // tools/soak: settling a fresh device 5, Get 15, Get ID 7; a read of 256 bytes 268, and a write of
 // N bytes N and 12; a line its bytes, of which a page's digits are two a byte; the frame that
 // erases a page 7, and 9 where the chip's code is 44.

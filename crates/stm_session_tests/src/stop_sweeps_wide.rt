@@ -1,7 +1,7 @@
 // Runs on a chip of 512 pages that are stopped after their steps and undone: of its first and
 // last pages, and of those about number 256, which are settled with 02, where smaller ones are
-// settled with their own number (docs/SETTLING.md). Page 257 is kept before page 1. The parts are
-// those of docs/SESSIONS.md, as in `stop_sweeps`.
+// settled with their own number (docs/UNDO.md). Page 257 is kept before page 1. The parts are
+// those of docs/INSIDE.md, as in `stop_sweeps`.
 use crate::stop_sweeps::BEGINNING;
 use crate::stopped_runs::Part::{Add, Line};
 use crate::stopped_runs::{Case, Change, Part, Parts};

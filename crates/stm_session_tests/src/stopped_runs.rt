@@ -29,7 +29,7 @@ pub enum Part {
 pub type Parts = &'static [&'static [Part]];
 
 /// A run on a fresh device, the stack of segments before it, and the parts that it has by
-/// docs/SESSIONS.md.
+/// docs/INSIDE.md.
 #[derive(Clone, Copy)]
 pub struct Case {
     pub id: u16,

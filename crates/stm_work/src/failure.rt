@@ -58,6 +58,9 @@ pub enum Failure<'a> {
     /// Another program has the journal.
     #[error("journal is in use")]
     JournalInUse,
+    /// The journal's file has bytes, and is no journal.
+    #[error("{0} is no journal: name another, or move it away")]
+    NoJournal(&'a str),
     /// The system gives no lock on a file.
     #[error("cannot lock {0}: {1}; --no-lock if no other program has it")]
     CannotLock(&'a str, Reason),
@@ -165,6 +168,7 @@ impl<'a> Failure<'a> {
         match why {
             Unusable::InUse => Failure::JournalInUse,
             Unusable::Unlockable(e) => Failure::CannotLock(name, Reason(e)),
+            Unusable::NoJournal => Failure::NoJournal(name),
             Unusable::Unread(e) => Failure::of_file(&e, Failure::CannotRead(name)),
         }
     }

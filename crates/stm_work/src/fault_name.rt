@@ -22,6 +22,7 @@ impl Failure<'_> {
             Failure::CannotWrite(_) | Failure::CannotWriteBoard(_) | Failure::CannotWriteLine(_) =>
                 "cannot_write",
             Failure::JournalInUse => "journal_in_use",
+            Failure::NoJournal(_) => "no_journal",
             Failure::CannotLock(..) => "cannot_lock",
             Failure::JournalFailed(_) => "journal_failed",
             Failure::SimulatorInUse => "simulator_in_use",

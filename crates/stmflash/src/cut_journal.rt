@@ -5,7 +5,7 @@ ghost use Rattle.stm_work.specs.Keeping.{IsCutTo};
 use crate::journal_tasks::load;
 use std::fs::Files;
 use stm_files::{
-    ALONE, CutText, JournalFile, Locks, Replacement, Shown, has_same_pages, is_cut,
+    ALONE, CutText, JournalFile, Locks, Replacement, Shown, Unusable, has_same_pages, is_cut,
     remove_leftovers,
 };
 use stm_journal::Journal;
@@ -93,12 +93,13 @@ fn reads_back<'a, R: Locks + AllocGlobal>(
 ) -> Result<bool, Failure<'a>> {
     let shown = match Shown::open(rt, beside.path()) {
         Ok(shown) => shown,
-        Err(e) => return Err(Failure::of_file(&e, Failure::CannotRead(name))),
+        // the text isn't even a journal
+        Err(Unusable::NoJournal) => return Ok(false),
+        Err(why) => return Err(Failure::of_journal(why, name)),
     };
     let (new, rig) = match load(rt.alloc(), name, shown) {
         Ok(loaded) => loaded,
         Err(Failure::Session(Fault::Memory)) => return Err(Failure::Memory),
-        // the text isn't even a journal
         Err(_) => return Ok(false),
     };
     let mut shown = rig.into_source();

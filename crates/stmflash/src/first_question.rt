@@ -157,6 +157,10 @@ fn failure_of_trouble<'a>(folder: &'a str, trouble: Trouble, place: &'a mut Plac
             place.journal = name;
             Failure::CannotRead(place.journal.as_str())
         }
+        Trouble::NoJournal(name) => {
+            place.journal = name;
+            Failure::NoJournal(place.journal.as_str())
+        }
         Trouble::Bad(name, fault) => {
             place.journal = name;
             Failure::InJournal(place.journal.as_str(), fault)

@@ -23,6 +23,8 @@ pub enum Trouble {
     Folder,
     /// The journal of this name can't be read.
     Unread(String),
+    /// It is none.
+    NoJournal(String),
     /// It is bad.
     Bad(String, Fault),
     /// It is not that of the board whose name it has.
@@ -89,6 +91,7 @@ fn boards_in<R: Files + AllocGlobal + Clone + Drop>(
 enum Seen {
     Read(Journal),
     Bad(Fault),
+    NoJournal,
     Unread,
     Memory,
 }
@@ -99,6 +102,7 @@ fn see<R: Files + AllocGlobal>(rt: &R, name: &str) -> Seen {
         Ok(journal) => Seen::Read(journal),
         Err(Failure::Session(Fault::Memory)) | Err(Failure::Memory) => Seen::Memory,
         Err(Failure::Session(fault)) => Seen::Bad(fault),
+        Err(Failure::NoJournal(_)) => Seen::NoJournal,
         Err(_) => Seen::Unread,
     }
 }
@@ -127,6 +131,7 @@ fn look_at<R: Files + AllocGlobal>(
         })),
         Seen::Read(_) => Err(Trouble::Misnamed(name)),
         Seen::Bad(fault) => Err(Trouble::Bad(name, fault)),
+        Seen::NoJournal => Err(Trouble::NoJournal(name)),
         Seen::Unread if !is_there(rt, name.as_str()) => Ok(None),
         Seen::Unread => Err(Trouble::Unread(name)),
         Seen::Memory => Err(Trouble::Memory),

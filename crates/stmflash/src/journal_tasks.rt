@@ -38,7 +38,7 @@ pub fn log<'a, R: Files + AllocGlobal>(rt: &R, name: &'a str) -> Result<Answer, 
 pub fn check<'a, R: Files + AllocGlobal>(rt: &R, name: &'a str) -> Result<Answer, Failure<'a>> {
     let shown = match Shown::open_by_now(rt, name) {
         Ok(shown) => shown,
-        Err(e) => return Err(Failure::of_file(&e, Failure::CannotRead(name))),
+        Err(why) => return Err(Failure::of_journal(why, name)),
     };
     match check_journal(rt.alloc(), &mut JournalRig::new(shown)) {
         Ok(text) => Ok(Answer::Logged(text)),
@@ -58,7 +58,7 @@ fn unread<'a>(name: &'a str, fault: JournalFault) -> Failure<'a> {
 pub fn look<'a, R: Files + AllocGlobal>(rt: &R, name: &'a str) -> Result<Journal, Failure<'a>> {
     let shown = match Shown::open(rt, name) {
         Ok(shown) => shown,
-        Err(e) => return Err(Failure::of_file(&e, Failure::CannotRead(name))),
+        Err(why) => return Err(Failure::of_journal(why, name)),
     };
     let (journal, _shown) = load(rt.alloc(), name, shown)?;
     Ok(journal)

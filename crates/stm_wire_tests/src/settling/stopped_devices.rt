@@ -166,7 +166,7 @@ const COMPLETED: &[Stop] = &[
         ending: (Ok(()), Some((257, 1))),
         flash: &[(0xFF, 1_024), (0x00, 31 * 1_024)],
     },
-    // The example of docs/SETTLING.md.
+    // The example of docs/UNDO.md.
     Stop {
         make: LOW_DENSITY,
         fill: 0x00,

@@ -6,7 +6,7 @@ use Rattle.stm_wire.specs.Chip.{ChipData, page_count}
 use Rattle.stm_journal.specs.declared.kept.PagePlace.{PagePlace}
 use Rattle.stm_journal.specs.States.{StateData}
 use Rattle.stm_journal.specs.KeptPlaces.{page_place}
-use Rattle.stm_session.specs.Refusal.{segment_pages, lacks_companion}
+use Rattle.stm_session.specs.Refusal.{segment_pages, first_of, lacks_companion}
 use Rattle.stm_session.specs.Undoable.{has_companion}
 use Rattle.stm_session.proofs.Misfits.{companion-kept}
 use Rattle.stm_session.proofs.check.lacks_companion.Goals as goal
@@ -21,12 +21,12 @@ alone chip s k n o one many is =
 
 pub returns-in-Some : goal.returns-in-Some
 returns-in-Some c =
-    let many : 257 < page_count c.args.chip.now = omega (arith, c.pages.ensures) in
+    let many : 257 < page_count (first_of c.args.most c.args.chip.now) = omega (arith, c.pages_of.ensures) in
     let is : Some c.in-Some.field-0 ≡ page_place c.args.journal.now.state c.args.k 257 = c.in-Some.ensures.place in
-    alone c.args.chip.now c.args.journal.now.state c.args.k c.args.n (Some c.in-Some.field-0) (omega arith) many is
+    alone (first_of c.args.most c.args.chip.now) c.args.journal.now.state c.args.k c.args.n (Some c.in-Some.field-0) (omega arith) many is
 
 pub returns-in-None : goal.returns-in-None
 returns-in-None c =
-    let many : 257 < page_count c.args.chip.now = omega (arith, c.pages.ensures) in
+    let many : 257 < page_count (first_of c.args.most c.args.chip.now) = omega (arith, c.pages_of.ensures) in
     let is : None ≡ page_place c.args.journal.now.state c.args.k 257 = c.in-None.ensures.place in
-    alone c.args.chip.now c.args.journal.now.state c.args.k c.args.n None (omega arith) many is
+    alone (first_of c.args.most c.args.chip.now) c.args.journal.now.state c.args.k c.args.n None (omega arith) many is

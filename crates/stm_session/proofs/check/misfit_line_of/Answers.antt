@@ -1,7 +1,7 @@
 use Rattle.std.proofs.Common.{◌≡◌, ◌+◌, Some, if◌then◌else◌, Bool, List, Option, ℕ, refl, sym, ◌∙◌, ap, arith, drop}
 use Rattle.stm_journal.specs.States.{StateData}
 use Rattle.stm_journal.specs.declared.kept.Kept.{Kept}
-use Rattle.stm_session.specs.Refusal.{segment_pages, least_with, misfit_lines_of, lesser}
+use Rattle.stm_session.specs.Refusal.{segment_pages, first_of, least_with, misfit_lines_of, lesser}
 use Rattle.stm_session.proofs.Misfits.{below-limit, below-step, kept-within, sound-pages, misfit-step, misfit-end}
 use Rattle.stm_session.proofs.check.misfit_line_of.Goals as goal
 use Rattle.stm_session.proofs.check.misfit_line_of.Goals.{then-not-fits, else-not-fits}
@@ -27,11 +27,11 @@ loop-n-preserved c =
     ] in
     record {
       line =
-          ap (λ o. least_with o (misfit_lines_of c.args.chip.now pages (drop (c.loop-n.i + 1) pages))) least
-          ∙ sym (misfit-step c.args.chip.now s c.args.k c.loop-n.i c.in-Some.n c.in-Some.line c.loop-n.least c.fits.result c.requires c.in-Some.ensures c.fits.ensures.value)
+          ap (λ o. least_with o (misfit_lines_of (first_of c.args.most c.args.chip.now) pages (drop (c.loop-n.i + 1) pages))) least
+          ∙ sym (misfit-step (first_of c.args.most c.args.chip.now) s c.args.k c.loop-n.i c.in-Some.n c.in-Some.line c.loop-n.least c.fits.result c.requires c.in-Some.ensures c.fits.ensures.value)
           ∙ c.loop-n.invariant.line;
       count = omega (arith, below-step s c.args.k c.loop-n.i c.in-Some.n c.in-Some.line c.fits.ensures.number c.in-Some.ensures);
     }
 
 pub returns : goal.returns
-returns c = sym (misfit-end c.args.chip.now c.args.journal.now.state c.args.k c.loop-n.i c.loop-n.least c.in_default.ensures) ∙ c.loop-n.invariant.line
+returns c = sym (misfit-end (first_of c.args.most c.args.chip.now) c.args.journal.now.state c.args.k c.loop-n.i c.loop-n.least c.in_default.ensures) ∙ c.loop-n.invariant.line

@@ -1,5 +1,5 @@
 use Rattle.std.proofs.Common.{◌≡◌, ◌+◌, ◌-◌, ◌≤◌, length, drop}
-use Rattle.stm_session.specs.Refusal.{segment_pages, least_with, misfit_lines_of}
+use Rattle.stm_session.specs.Refusal.{segment_pages, first_of, least_with, misfit_lines_of}
 use Rattle.stm_session.proofs.Misfits.{below}
 use Rattle.stm_session.proofs.check.misfit_line_of.Given as goal
 
@@ -7,7 +7,7 @@ use Rattle.stm_session.proofs.check.misfit_line_of.Given as goal
 abbrev pub invariant-loop-n : goal.invariant-loop-n
 invariant-loop-n l =
     record {
-      line : least_with l.least (misfit_lines_of l.chip (segment_pages l.journal.state l.k) (drop l.i (segment_pages l.journal.state l.k))) ≡ least_with l.fn.so_far (misfit_lines_of l.chip (segment_pages l.journal.state l.k) (segment_pages l.journal.state l.k));
+      line : least_with l.least (misfit_lines_of (first_of l.most l.chip) (segment_pages l.journal.state l.k) (drop l.i (segment_pages l.journal.state l.k))) ≡ least_with l.fn.so_far (misfit_lines_of (first_of l.most l.chip) (segment_pages l.journal.state l.k) (segment_pages l.journal.state l.k));
       count : l.i + below 65536 (drop l.i (segment_pages l.journal.state l.k)) ≤ 65536;
     }
 

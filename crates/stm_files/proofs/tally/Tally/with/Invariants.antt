@@ -1,4 +1,4 @@
-use Rattle.std.proofs.Common.{◌≡◌, ◌+◌, ◌<◌, ◌^◌, ◌++◌, List, ℕ, length, take}
+use Rattle.std.proofs.Common.{◌+◌, ◌<◌, ◌^◌, ◌++◌, List, ℕ, length, take}
 use Rattle.stm_files.specs.Tally.{IsTallyOf}
 use Rattle.stm_files.proofs.tally.Tally.with.Given as goal
 

@@ -1,4 +1,4 @@
-use Rattle.std.proofs.Common.{◌≡◌, refl, arith, true, false}
+use Rattle.std.proofs.Common.{refl, arith, false}
 use Rattle.stm_files.specs.declared.tally.Tally.{Tally}
 use Rattle.stm_files.proofs.Tallies.{one-line-more}
 use Rattle.stm_files.proofs.tally.Tally.with_line.Goals as goal

@@ -1,0 +1,137 @@
+"""A file that has bytes and isn't a journal: no command uses it as one, removes it, or adds to it."""
+
+import os
+import random
+import socket
+import threading
+
+from place import Place
+
+REFUSED = "journal is no journal: name another, or move it away"
+IMAGE = b"\x00" * 1024
+# headers of the three versions
+HEADERS = b"stmjournal 1 0412", b"stmjournal 2 0412", b"stmjournal 3 0412 " + b"0F" * 32
+NOISE = random.Random(1412).randbytes(65536)
+# what commands are called with, their journal's name ahead
+ON_A_DEVICE = {
+    "info": ("info",),
+    "read": ("read", "out"),
+    "verify": ("verify", "image"),
+    "write": ("write", "image"),
+    "write --keep": ("write", "--keep", "image"),
+    "erase": ("erase", "5"),
+    "erase --all": ("erase", "--all"),
+    "undo": ("undo",),
+    "undo 1": ("undo", "1"),
+    "go": ("go", "0x08000000"),
+    "protect": ("protect", "write-unprotect"),
+    "protect --in-session": ("protect", "write-unprotect", "--in-session", "--fresh"),
+}
+ALONE = {
+    "keep": ("keep",),
+    "keep TO": ("keep", "elsewhere"),
+    "keep --last": ("keep", "--last", "1"),
+    "log": ("log",),
+    "log --check": ("log", "--check"),
+}
+# files that are none
+NONE = {
+    "a text": b"precious",
+    "a line": b"precious\n",
+    "an empty line": b"\n",
+    "a dump of an erased chip": b"\xff" * 32768,
+    "lines that end in !": b"mind!\nthe gap!\n",
+    "noise": NOISE,
+    "noise without LF": NOISE.replace(b"\n", b"\r"),
+    "zeros and a text": b"\0" * 5000 + b"precious",
+    "a beginning of a header and a text": b"stmjournal 3 precious",
+    "a header of version 1 with a unique id": b"stmjournal 1 0412 0F",
+    "a header that is too long": HEADERS[2] + b"0",
+    "a void line and a text": b"stmj!\nprecious",
+    "a text and a beginning of a header": b"mind!\nstmjournal",
+    "a line and a journal": b"precious\n" + HEADERS[0] + b"\nopen 1\nend 1\n",
+    "a journal without its header": b"open 1\nend 1\n",
+}
+# what stopped appends of a header leave
+BEGUN = {
+    "nothing": b"",
+    "NUL": b"\0",
+    "zeros": b"\0" * 65536,
+    "a beginning and zeros": b"stmjournal 3 04" + b"\0" * 497,
+    "a void line": b"stmj!\n",
+    "lines of ! alone": b"!\n!!\n!",
+    "void lines and a beginning": b"stmj!\n\0\0!\nstmjournal 1 0412!\n\0!!\nstmjournal 2 0",
+    "an append to void lines, stopped": b"\0\0!\nst!\0\0",
+}
+
+
+class NoJournal(Place):
+    def called(self, words, name="journal"):
+        self.store("image", IMAGE)
+        if words in ALONE.values():
+            return self.call(words[0], "--journal", name, *words[1:])
+        return self.use(*words, journal=name)
+
+    def assertNone(self, words, data):
+        """The call ends with the file's name, and no file is made, removed or changed."""
+        self.store("journal", data)
+        self.assertFault(self.called(words), REFUSED)
+        self.assertFile("journal", data)
+        self.assertEqual(sorted(os.listdir(self.folder)), ["image", "journal", "table"])
+
+    def test_is_refused_by_every_command(self):
+        for row, words in {**ON_A_DEVICE, **ALONE}.items():
+            for name, data in NONE.items():
+                with self.subTest(command=row, file=name):
+                    self.assertNone(words, data)
+
+    def test_is_refused_before_a_byte_is_sent(self):
+        """Nobody is asked for a line to the device."""
+        self.store("journal", b"precious")
+        with socket.socket(socket.AF_UNIX) as server:
+            server.bind(self.path("device"))
+            server.listen()
+            came = []
+            threading.Thread(target=lambda: came.append(server.accept()), daemon=True).start()
+            said = self.use("erase", "5", device="device")
+            self.assertFault(said, REFUSED)
+            self.assertEqual(came, [])
+            self.assertFile("journal", b"precious")
+
+    def test_is_refused_in_a_folder_of_journals(self):
+        os.mkdir(self.path("folder"))
+        name = "folder/000102030405060708090A0B.journal"
+        self.store(name, b"precious")
+        said = self.call("erase", "--table", "table", "--device", "sim:0412:flash", "--journals", "folder", "5")
+        self.assertFault(said, f"{name} is no journal: name another, or move it away")
+        self.assertFile(name, b"precious")
+        self.assertFile("flash", None)
+
+    def test_what_was_begun_is_a_journal(self):
+        """It is kept as one without a segment, and goes on as one."""
+        rows = {**BEGUN, **{f"{end} bytes of {header}": header[:end] for header in HEADERS for end in range(1, len(header) + 1)}}
+        for name, data in rows.items():
+            with self.subTest(file=name):
+                self.store("journal", data)
+                self.assertTold(self.called(ALONE["keep"]), "kept 0\n")
+                self.assertFile("journal", None)
+
+    def test_what_was_begun_goes_on(self):
+        for name, data in BEGUN.items():
+            with self.subTest(file=name):
+                self.store("journal", data)
+                self.assertTold(self.called(("undo",)), "undone 0\n")
+                self.assertTold(self.called(ON_A_DEVICE["write"]), "segment 1: 1 pages written\n")
+                self.assertTrue(self.held("journal").startswith(data))
+                self.assertTold(self.called(("undo",)), "undone 1\n")
+                self.remove("journal", "flash", "flash.line")
+
+    def test_a_header_is_found_behind_void_lines(self):
+        """Also past what is read at once; and a bad one is a bad line."""
+        ends = b"\nopen 1\nend 1\n"
+        for ahead in (b"mind!\n", b"!\n" * 3000, b"x" * 5000 + b"!\n", b"stmj" + b"\0" * 8190 + b"!\n"):
+            self.store("journal", ahead + HEADERS[0] + ends)
+            self.assertTold(self.called(ALONE["keep"]), "kept 1\n")
+            self.store("journal", ahead + b"stmjournal 4 0412" + ends)
+            bad = ahead.count(b"\n") + 1
+            self.assertFault(self.called(ALONE["keep"]), f"bad journal line {bad}")

@@ -1,0 +1,303 @@
+"""line/stm32flash: the way back of writes and erases that changed nothing, and of calls that were stopped, also where other boards come to
+the port."""
+
+import contextlib
+import fcntl
+import os
+import subprocess
+import unittest.mock
+
+from place import COUNTING, ERASED, PATIENCE, TABLE
+from test_stm32flash_words import KEPT, NOTHING, STOPPED, WORDS, Words, module
+
+NEW = b"new" + COUNTING[3:]
+# a write of what was there already
+UNCHANGED = b"stmjournal 2 0412\nopen 1\nend 1\n"
+
+
+class Place(Words):
+    def setUp(self):
+        super().setUp()
+        self.store("image", b"new")
+
+    def folder_of_port(self):
+        """Also while no board is there."""
+        return os.path.join(".local", "state", "stmflash", "ports", module("journals").named_by("ttyUSB0", self.path("ttyUSB0")))
+
+    def name(self, name):
+        return os.path.join(self.folder_of_port(), name)
+
+    def keep(self, number, text):
+        """A journal that was put aside."""
+        os.makedirs(self.path(self.folder_of_port()), exist_ok=True)
+        self.store(self.name(f"kept-{number:06d}"), text)
+
+
+class Unchanged(Place):
+    """Writes and erases of what is there already."""
+
+    def test_they_are_never_put_aside(self):
+        board = self.flash(COUNTING)
+        self.well("-w", "image", "-g", "0")
+        for words in (("-g", "0"), ("-R",)):
+            board = self.reset(board)
+            self.assertEqual(self.well("-w", "image", *words).err.count(b"removed"), 0)
+            self.assertEqual(self.journals(), ["kept-000001"])
+        board = self.reset(board)
+        self.well("-w", "image")
+        self.well("-u")
+        self.assertEqual(self.journals(), ["kept-000001"])
+        board = self.reset(board)
+        self.well("--undo")
+        self.assertEqual(board.store(), COUNTING)
+
+    def test_what_was_undone_counts_as_nothing_either(self):
+        self.flash(COUNTING)
+        self.well("-w", "image")
+        self.well("--undo")
+        self.well("-w", "-", "-g", "0", given=COUNTING[:3])
+        self.assertEqual(self.journals(), [])
+
+    def test_a_journal_in_which_nothing_stands_is_not_put_aside(self):
+        self.flash(COUNTING)
+        os.makedirs(self.path(self.folder_of_port()))
+        for text in (b"", b"stmjournal 2 0412\n", b"stmjournal 2 0412\n" + KEPT + b"undone 1\n"):
+            self.store(self.name("journal"), text)
+            self.well("-u")
+            self.assertEqual(self.journals(), [])
+
+    def test_those_that_were_put_aside_before_push_nothing_out(self):
+        """A former version has kept them. One that is unfinished, or can't be read, is none of them."""
+        board = self.flash(COUNTING)
+        for number in range(2, 10):
+            self.keep(number, UNCHANGED)
+        self.keep(1, b"stmjournal 2 0412\n" + KEPT)
+        self.well("-w", "image", "-g", "0")
+        self.assertEqual(self.journals(), ["kept-000001", "kept-000010"])
+        self.keep(11, UNCHANGED[:-6])
+        self.keep(12, UNCHANGED + b"pagf 5 00\n")
+        self.reset(board)
+        self.store("image", b"newer")
+        self.well("-w", "image", "-g", "0")
+        self.assertEqual(self.journals(), [f"kept-{number:06d}" for number in (1, 10, 11, 12, 13)])
+
+    def test_an_undo_passes_over_them(self):
+        board = self.flash(COUNTING)
+        for _ in range(3):
+            self.well("-w", "image")
+        said = self.well("--undo")
+        self.assertEqual(said.out, b"Undone: the newest write or erase at this port that changed something, and 2 behind it that changed "
+                                   b"nothing.\n")
+        self.assertEqual(board.store(), COUNTING)
+        self.assertEqual(self.words("--undo").err, NOTHING)
+
+    def test_an_undo_passes_over_journals_of_them(self):
+        board = self.flash(COUNTING)
+        self.well("-w", "image", "-g", "0")
+        self.keep(2, UNCHANGED)
+        board = self.reset(board)
+        self.well("-w", "image")
+        said = self.well("--undo")
+        self.assertEqual(said.out, b"Undone: the newest write or erase at this port.\n")
+        self.assertEqual(board.store(), COUNTING)
+        self.assertIn("journal", self.journals())
+
+    def test_where_nothing_else_was_done_an_undo_says_so(self):
+        self.flash(NEW)
+        self.well("-w", "image")
+        before = self.held(self.name("journal"))
+        said = self.words("-m", "8n1", "--undo")
+        self.assertEqual((said.status, said.out, said.err), (1, b"", NOTHING[:-1] + b", since it changed nothing\n"))
+        self.assertFile(self.name("journal"), before)
+
+    def test_what_was_stopped_before_it_changed_anything_is_undone_alone(self):
+        board = self.flash(COUNTING)
+        self.well("-w", "image")
+        with open(self.path(self.name("journal")), "ab") as journal:
+            journal.write(b"open 2\n")
+        said = self.well("--undo")
+        self.assertEqual(said.out, b"Undone: a write or an erase at this port that was stopped before it changed anything.\n")
+        self.assertEqual(board.store(), NEW)
+        self.well("--undo")
+        self.assertEqual(board.store(), COUNTING)
+
+    def test_which_pages_are_kept(self):
+        """Those of what wasn't undone; a void line and a torn one count as nothing."""
+        text = b"stmjournal 2 0412\nopen 1\npage 5 5!\npage 5 55\nerase 5\nend 1\nopen 2\npage 6 55\npage 7 55\nend 2\nundone 2\n"
+        self.store("held", text + b"open 2\nend 2\nopen 3\npage 8 5")
+        self.assertEqual(module("segments").kept_pages(self.path("held")), [1, 0, 0])
+        self.assertEqual(module("segments").kept_pages(self.path("missing")), [])
+
+
+class Dead(Place):
+    """A board was stopped in the midst of a write and taken away, and another one comes to its port."""
+
+    FIRST, LEFT = 12 * "A1", "stopped-" + 12 * "A1"
+    BACK = COUNTING[:5120] + b"\x55" * 1024 + COUNTING[6144:]
+    FOUND = b"stm32flash: an earlier call was stopped in the midst of a write, an erase or an undo: that is undone first\n"
+
+    def setUp(self):
+        super().setUp()
+        self.store("table", TABLE + b"unique = [0x1FFFF7E8, 12]\n" + TABLE.replace(b"412", b"410"))
+        os.makedirs(self.path(self.folder_of_port()))
+        self.leave("3 0412 " + self.FIRST)
+
+    def leave(self, header, name="journal"):
+        """What was stopped, as a journal of this header."""
+        self.store(self.name(name), STOPPED.replace("2 0412", header).encode())
+
+    def told(self):
+        """What a call says that puts it aside."""
+        left = self.path(self.name(self.LEFT)).encode()
+        return self.FOUND + b"stm32flash: that was another board: its journal is put aside as " + left + b", and is undone first when that " \
+            b"board is back at any port\n"
+
+    def test_the_next_board_goes_on_and_it_is_undone_when_it_is_back(self):
+        there = self.telling(ERASED, "B2")
+        self.assertEqual(self.well("-w", "image").err, self.told())
+        self.assertEqual(self.journals(), ["journal", self.LEFT])
+        self.assertIn(self.LEFT.encode() + b"\nid 0412\nboard " + self.FIRST.encode() + b"\nsegment 1: open, 1 pages: 5, erasing 5\n"
+                      b"unfinished, undo first\n", self.well("--log").out)
+        second = self.unplugged(there)
+        here = self.telling(COUNTING, "A1")
+        self.assertEqual(self.well().err, b"stm32flash: another board was at this port before: its journal is put aside\n" + self.FOUND)
+        self.assertEqual(self.unplugged(here), self.BACK)
+        self.assertEqual(self.journals(), ["journal", "kept-000001"])
+        there = self.telling(second, "B2")
+        self.well("--undo")
+        self.assertEqual(there.store(), ERASED)
+
+    def test_an_undo_is_of_the_board_that_is_there(self):
+        self.keep(1, b"stmjournal 3 0412 " + 12 * b"B2" + b"\n" + KEPT)
+        there = self.telling(ERASED, "B2")
+        said = self.well("--undo")
+        self.assertEqual(said.err, self.told()[len(self.FOUND):])
+        self.assertEqual(self.unplugged(there), ERASED[:5120] + b"\x55" * 1024 + ERASED[6144:])
+        # the first one is back, at this port and at another
+        here = self.telling(COUNTING, "A1")
+        self.well("--undo")
+        self.assertEqual(self.unplugged(here), self.BACK)
+        self.leave("3 0412 " + self.FIRST, self.LEFT)
+        here = self.telling(COUNTING, "A1", "ttyUSB1")
+        self.assertEqual(self.well("--undo", port="ttyUSB1").out, b"Undone: the newest write or erase at this port.\n")
+        self.assertEqual(self.unplugged(here, "ttyUSB1"), self.BACK)
+        self.assertNotIn(self.LEFT, self.journals())
+
+    def test_a_chip_of_another_kind_is_another_board(self):
+        self.leave("3 0410 " + self.FIRST)
+        board = self.flash(COUNTING)
+        self.assertEqual(self.well("-w", "image").err, self.told())
+        self.assertEqual(board.store(), NEW)
+
+    def test_what_may_be_its_board_does_not_go_on(self):
+        """One that tells no unique id; and what is left of a board already is never replaced."""
+        there = self.flash(COUNTING)
+        before = self.held(self.name("journal"))
+        said = self.words("-m", "8n1", "-w", "image")
+        self.assertEqual(said.status, 1)
+        self.assertIn(b"journal is of another board\nERROR: what an earlier call has begun can't be undone now; its journal is ", said.err)
+        self.assertEqual(self.words("-m", "8n1", "--undo").status, 1)
+        self.assertEqual(self.unplugged(there), COUNTING)
+        self.store(self.name(self.LEFT), b"another")
+        self.telling(COUNTING, "B2")
+        said = self.words("-m", "8n1", "-w", "image")
+        self.assertEqual(said.status, 1)
+        self.assertIn(self.LEFT.encode() + b" is there already, and can't be replaced\n", said.err)
+        self.assertFile(self.name("journal"), before)
+        self.assertFile(self.name(self.LEFT), b"another")
+
+    def test_a_board_that_was_asked_is_not_said_to_be_reset(self):
+        self.leave("3 0412 " + self.FIRST, self.LEFT)
+        self.remove(self.name("journal"))
+        self.instead(f'echo "$*" >> {self.path("called")}')
+        for words in ((), ("--undo",)):
+            here = self.telling(COUNTING, "A1")
+            self.well("-i", "brk", *words, STM32FLASH_RESETS="1")
+            self.assertEqual(self.unplugged(here), self.BACK)
+            self.leave("3 0412 " + self.FIRST, self.LEFT)
+        called = self.held("called").decode().splitlines()
+        self.assertEqual([line.split()[0] for line in called if "undo" in line or "--fresh" in line], ["undo", "undo"])
+        self.assertNotIn("--fresh", self.held("called").decode())
+
+    def test_one_that_another_program_has_stays(self):
+        journals = module("journals").Journals(self.path("ttyUSB0"))
+        journals.folder, journals.live = self.path(self.folder_of_port()), self.path(self.name("journal"))
+        with open(journals.live, "rb") as file:
+            fcntl.flock(file, fcntl.LOCK_EX)
+            self.assertRaisesRegex(module("fault").Fault, "another program has it", journals.leave, module("owner").owner_of(journals.live))
+        self.assertEqual(self.journals(), ["journal"])
+
+
+class Nameless(Place):
+    """What was stopped at a board that doesn't tell which it is."""
+
+    def test_what_only_reads_refuses_and_leaves_all_as_it_was(self):
+        """Another board may be there, and no journal has its bytes."""
+        os.makedirs(self.path(self.folder_of_port()))
+        self.store(self.name("journal"), STOPPED.encode())
+        self.store("held", b"before")
+        board = self.flash(COUNTING)
+        with open(self.path("held"), "ab") as held:
+            for words in ((), ("-g", "0"), ("-R",), ("-C",), ("-r", "out"), ("-r", "-"), ("-r", f"/dev/fd/{held.fileno()}")):
+                with self.subTest(words=words):
+                    ran = subprocess.run([WORDS, "-m", "8n1", *words, "ttyUSB0"], cwd=self.folder, env=self.settings(), timeout=PATIENCE,
+                                         stdin=subprocess.DEVNULL, capture_output=True, pass_fds=[held.fileno()], check=False)
+                    told = ran.stderr.decode().splitlines()[4 if words == ("-r", "-") else 0:]
+                    self.assertEqual((ran.returncode, told[-1:]), (1, [
+                        "ERROR: an earlier call was stopped in the midst of a write, an erase or an undo at a board that doesn't tell which it "
+                        "is; if it is the one that is there, stm32flash --undo ttyUSB0 undoes that"]))
+        self.assertFile("held", b"before")
+        self.assertFalse(self.is_there("out"))
+        self.assertFile(self.name("journal"), STOPPED.encode())
+        self.assertEqual(self.journals(), ["journal"])
+        self.assertEqual(board.store(), COUNTING)
+        self.assertEqual((self.held("ttyUSB0.flash.line") or b"fresh\n"), b"fresh\n")
+        self.well("--undo")
+        self.assertEqual(board.store(), COUNTING[:5120] + b"\x55" * 1024 + COUNTING[6144:])
+        self.well("-r", "out")
+
+
+class Others(Place):
+    """What another user has put into a journal would be flashed by an undo."""
+
+    def setUp(self):
+        super().setUp()
+        self.keep(1, b"stmjournal 2 0412\n" + KEPT)
+        self.store(self.name("journal"), UNCHANGED)
+
+    def test_what_others_may_write_is_refused(self):
+        board = self.flash(COUNTING)
+        for name, mode, way in (("journal", 0o620, 0o600), ("kept-000001", 0o602, 0o600), ("", 0o770, 0o755), ("", 0o707, 0o1777)):
+            path = self.path(self.name(name)).rstrip("/")
+            os.chmod(path, mode)
+            for words in (("-w", "image"), ("--undo",), ("--log",)):
+                said = self.words("-m", "8n1", *words)
+                self.assertEqual((said.status, said.err.splitlines()[-1].decode()),
+                                 (1, f"ERROR: others may write {path}, and it isn't taken for a journal of yours: chmod go-w it, or remove it"))
+            os.chmod(path, way)
+            self.well("--log")
+        self.assertEqual(board.store(), COUNTING)
+        self.assertEqual(self.journals(), ["journal", "kept-000001"])
+        self.well("--undo")
+
+    def test_what_is_anothers_is_refused(self):
+        """Its user's is taken by root too, who was called by sudo."""
+        trusted, held = module("trusted"), unittest.mock.Mock(st_uid=1000, st_mode=0o100600)
+        for user, called, is_taken in ((1000, "", True), (1001, "1000", False), (0, "1000", True), (0, "1001", False), (0, "", False)):
+            with self.subTest(user=user, called=called), unittest.mock.patch.object(trusted.os, "geteuid", lambda: user), \
+                    unittest.mock.patch.object(trusted.os, "stat", lambda _: held), unittest.mock.patch.dict(os.environ, SUDO_UID=called):
+                with contextlib.nullcontext() if is_taken else self.assertRaisesRegex(module("fault").Fault, "is another user's"):
+                    trusted.refuse_others("journal")
+
+    def test_one_that_comes_from_another_port_is_looked_at_too(self):
+        other = os.path.join(os.path.dirname(self.folder_of_port()), "other")
+        os.mkdir(self.path(other))
+        self.store(os.path.join(other, "stopped-A1"), STOPPED.encode())
+        for name, mode in ((other, 0o777), (os.path.join(other, "stopped-A1"), 0o666)):
+            before = os.stat(self.path(name)).st_mode
+            os.chmod(self.path(name), mode)
+            said = self.words("--log")
+            self.assertEqual(said.status, 1)
+            self.assertIn(f"others may write {self.path(name)}, ".encode(), said.err)
+            os.chmod(self.path(name), before)
+        self.well("--log")
