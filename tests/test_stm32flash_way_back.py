@@ -212,7 +212,7 @@ class Dead(Place):
         self.instead(f'echo "$*" >> {self.path("called")}')
         for words in ((), ("--undo",)):
             here = self.telling(COUNTING, "A1")
-            self.well("-i", "brk", *words, STM32FLASH_RESETS="1")
+            self.well("-i", "brk", *words, STM32FLASH_RESETS="1", STMFLASH_WAIT="1000")
             self.assertEqual(self.unplugged(here), self.BACK)
             self.leave("3 0412 " + self.FIRST, self.LEFT)
         called = self.held("called").decode().splitlines()
