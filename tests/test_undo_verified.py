@@ -18,12 +18,12 @@ class Wavering(PlantedBoard):
 
     def __init__(self, reading):
         super().__init__(0x412, SIZES, 0x43, {}, flash=COUNTING)
-        self.reading, self.told = reading, 0
+        self.reading, self.seen = reading, 0
 
     def can_read(self, at, count):
         if at == 5 * 1024 + 512:
-            self.told += 1
-        self.sets["flip"] = int(at == 5 * 1024 + 512 and self.told == self.reading)
+            self.seen += 1
+        self.sets["flip"] = int(at == 5 * 1024 + 512 and self.seen == self.reading)
         return super().can_read(at, count)
 
 
@@ -38,8 +38,9 @@ class Unwilling(PlantedBoard):
         if page != 5 or not self.is_protecting:
             super().wipe(page)
 
-    def program(self, at, data):
-        return self.is_protecting and at // 1024 == 5 or super().program(at, data)
+    def write(self, at, data):
+        if at // 1024 != 5 or not self.is_protecting:
+            super().write(at, data)
 
 
 class UndoVerified(OnBoard):
