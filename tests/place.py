@@ -6,6 +6,7 @@ The program is the one that the variable STMFLASH names; without it, the one tha
 
 import os
 import select
+import socket
 import subprocess
 import tempfile
 import typing
@@ -89,6 +90,15 @@ class Place(unittest.TestCase):
     def store(self, name, data):
         with open(self.path(name), "wb") as file:
             file.write(data)
+
+    def listen(self, name):
+        """A listener on a socket of this name."""
+        listener = socket.socket(socket.AF_UNIX, socket.SOCK_STREAM)
+        self.addCleanup(listener.close)
+        listener.settimeout(PATIENCE)
+        listener.bind(self.path(name))
+        listener.listen()
+        return listener
 
     def remove(self, *names):
         for name in names:

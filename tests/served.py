@@ -1,7 +1,9 @@
 """A test that serves a simulator on a socket, and reaches it as a plain client."""
 
+import contextlib
 import socket
 import subprocess
+import threading
 import time
 
 from place import PATIENCE, Place, program, readable
@@ -59,6 +61,24 @@ class Served(Place):
                     self.assertIsNone(simulator.poll(), "the simulator doesn't start")
                 self.assertLess(time.monotonic(), end, "the simulator doesn't listen")
                 time.sleep(0.01)
+
+    @contextlib.contextmanager
+    def between(self, change, name="stand", wire=lambda line: line):
+        """Somebody between one client at a socket of this name and the simulator, who changes its replies so. `self.line` is the
+        client's line, and `wire` makes what is used of it."""
+        with self.listen(name) as listener:
+
+            def hand_on():
+                self.line, _ = listener.accept()
+                with self.line, self.connect() as board:
+                    relay(wire(self.line), board, change)
+
+            serving = threading.Thread(target=hand_on)
+            serving.start()
+            yield
+            serving.join(PATIENCE)
+        self.remove(name)
+        self.assertServed()
 
     def assertServed(self):
         """The simulator ends well when its last client has gone, says nothing, and its socket is no more."""

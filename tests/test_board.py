@@ -1,7 +1,6 @@
 """Which board stands there: asked before each session, and once more in one that does commands or undoes some; named by the
 journal, and wanted by words."""
 
-import socket
 import subprocess
 import threading
 
@@ -47,10 +46,7 @@ class Board(Place):
         """Runs the program on a board that tells this, in so many sessions, some of which are cut; None: the place is refused.
         `stands` are then those of its sessions."""
         told = {UNIQUE_AT: unique, SIZE_AT: kib}
-        with socket.socket(socket.AF_UNIX, socket.SOCK_STREAM) as listener:
-            listener.bind(self.path("board"))
-            listener.listen()
-            listener.settimeout(PATIENCE)
+        with self.listen("board") as listener:
             name, *more = words
             table = () if "--table" in more else ("--table", "table")
             given = (name, *table, "--device", "board", "--journal", "journal", "--wait", WAIT, *more)

@@ -7,7 +7,6 @@ these two. What is said here of a board that is put in behind the second one is 
 """
 
 import contextlib
-import socket
 import subprocess
 import threading
 import time
@@ -166,10 +165,7 @@ class BoardMoved(Place):
 
     def run_on(self, serve, words, more=()):
         """Runs the program on a board that is served so."""
-        with socket.socket(socket.AF_UNIX, socket.SOCK_STREAM) as listener:
-            listener.bind(self.path("board"))
-            listener.listen()
-            listener.settimeout(PATIENCE)
+        with self.listen("board") as listener:
             name, *rest = words
             given = (name, "--table", "table", "--device", "board", "--journal", "journal", "--wait", WAIT, *more, *rest)
             ran = subprocess.Popen(["stmflash", *given], executable=program(), cwd=self.folder, env={},

@@ -7,7 +7,7 @@ import subprocess
 import threading
 
 import syncs
-from place import COUNTING, ERASED, PATIENCE, SIZE, TABLE, ZEROS, Place, Said, program
+from place import COUNTING, ERASED, PATIENCE, TABLE, ZEROS, Place, Said, program
 from test_disk import files_up_to
 
 
@@ -366,9 +366,7 @@ class Files(Place):
         """A pipe without a writer would be waited for, and a device may have no end."""
         self.store("flash", COUNTING)
         os.mkfifo(self.path("pipe"))
-        listener = socket.socket(socket.AF_UNIX, socket.SOCK_STREAM)
-        self.addCleanup(listener.close)
-        listener.bind(self.path("board"))
+        self.listen("board")
         os.mkdir(self.path("folder"))
         for word in ("pipe", "board", "folder", "/dev/null", "/dev/tty"):
             with self.subTest(word=word):

@@ -1,6 +1,5 @@
 """Devices that answer nothing, or something else, or late, and when they are given up."""
 
-import socket
 import threading
 import time
 
@@ -27,10 +26,7 @@ class Peer:
 
     def __init__(self, test, name, serve):
         self.serve, self.ending = serve, threading.Event()
-        self.listener = socket.socket(socket.AF_UNIX, socket.SOCK_STREAM)
-        self.listener.bind(test.path(name))
-        self.listener.listen()
-        self.listener.settimeout(PATIENCE)
+        self.listener = test.listen(name)
         self.thread = threading.Thread(target=self.run)
         self.thread.start()
         test.addCleanup(self.end)

@@ -5,11 +5,9 @@ import collections
 import glob
 import os
 import re
-import socket
-import threading
 
-from place import PATIENCE, TOP
-from served import Served, relay
+from place import TOP
+from served import Served
 
 # a step of a table; its calls, and their files
 STEP = re.compile(r"^\| (\d+)\. ([^|]*) \|([^|]*)\|")
@@ -100,22 +98,8 @@ class Inside(Served):
         words = re.search(r"^    \$ stmflash (write .*)$", page(), re.M)[1].split()
         self.serve(1, table="chips.toml")
         exchange = []
-        with socket.socket(socket.AF_UNIX, socket.SOCK_STREAM) as listener:
-            listener.bind(self.path("board.sock"))
-            listener.listen()
-            listener.settimeout(PATIENCE)
-
-            def serve():
-                line, _ = listener.accept()
-                with line, self.connect() as board:
-                    relay(Told(line, exchange), board, lambda replies: tell(exchange, "<", replies))
-
-            serving = threading.Thread(target=serve)
-            serving.start()
-            said = self.call(*words, "--wait", "2000")
-            serving.join(PATIENCE)
-        self.assertServed()
-        return said, exchange
+        with self.between(lambda replies: tell(exchange, "<", replies), "board.sock", lambda line: Told(line, exchange)):
+            return self.call(*words, "--wait", "2000"), exchange
 
     def test_each_call_is_made_behind_those_before_it(self):
         """Each function that a step names is reached from the one that was named before it, or from one above."""

@@ -194,9 +194,7 @@ class Serving(LinePlace):
         self.assertFile("board", b"kept")
         self.remove("board")
         # a socket that nobody listens at any more is replaced, and one that somebody listens at is not
-        with socket.socket(socket.AF_UNIX, socket.SOCK_STREAM) as listener:
-            listener.bind(self.path("board"))
-            listener.listen()
+        with self.listen("board"):
             said = self.line("ttyUSB0", "--socket", "board")
             self.assertLineFault(said, "board: another program listens there already")
         self.assertEqual(end_with(self.serve(), signal.SIGTERM), 0)

@@ -5,7 +5,6 @@ import os
 import pwd
 import shutil
 import signal
-import socket
 import subprocess
 import sys
 import termios
@@ -48,8 +47,7 @@ class Faults(LinePlace):
     def test_not_a_serial_port(self):
         os.mkdir(self.path("folder"))
         os.mkfifo(self.path("pipe"))
-        with socket.socket(socket.AF_UNIX, socket.SOCK_STREAM) as listener:
-            listener.bind(self.path("socket"))
+        with self.listen("socket"):
             self.assertUnusable("socket", "socket: is not a serial port but a socket: hand it to stmflash itself, as --device")
         for port, kind in (("folder", "folder"), ("table", "file"), ("pipe", "file")):
             self.assertBegins(self.line(port, "--", "true"), f"{port}: is not a serial port but a {kind}; this machine has ")

@@ -3,7 +3,6 @@
 import errno
 import fcntl
 import os
-import socket
 
 import syncs
 from place import COUNTING, PATIENCE
@@ -227,11 +226,7 @@ class Locks(Served):
     def test_a_journal_made_meanwhile_is_not_used(self):
         """The journal isn't there when the program begins, and is when it would make it: no erase is sent, and what the other
         wrote stays."""
-        listener = socket.socket(socket.AF_UNIX, socket.SOCK_STREAM)
-        self.addCleanup(listener.close)
-        listener.settimeout(PATIENCE)
-        listener.bind(self.path("device"))
-        listener.listen()
+        listener = self.listen("device")
         files = ("--table", "table", "--device", "device", "--journal", "journal", "--wait", WAIT)
         self.store("flash", COUNTING)
         self.serve(2)

@@ -2,7 +2,6 @@
 
 import fcntl
 import os
-import socket
 import subprocess
 import threading
 import time
@@ -169,11 +168,7 @@ class Lines(Served):
 
     def lay(self, cuts, clients):
         self.serve(clients)
-        listener = socket.socket(socket.AF_UNIX, socket.SOCK_STREAM)
-        self.addCleanup(listener.close)
-        listener.bind(self.path("line"))
-        listener.listen()
-        listener.settimeout(PATIENCE)
+        listener = self.listen("line")
 
         def carry():
             for turn in range(clients):

@@ -3,17 +3,15 @@ is due. No clock is read here: each time that the program sets for its line is l
 
 import re
 import shutil
-import socket
 import struct
 import subprocess
-import threading
 import time
 import unittest
 
 import syncs
 import telling
 from place import PATIENCE, program
-from served import Served, relay
+from served import Served
 
 # setsockopt, and its words for how long a read and a write wait: as many seconds, and as many millionths
 SETSOCKOPT, RECEIVE_TIME, SEND_TIME, TIME = 54, 20, 21, struct.Struct("=qq")
@@ -94,22 +92,8 @@ class Silence(Served):
     def behind(self, change, whole, *words):
         """The times that the program sets at a board whose replies are changed so."""
         self.serve(1, number="0410")
-        with socket.socket(socket.AF_UNIX, socket.SOCK_STREAM) as listener:
-            listener.bind(self.path("stand"))
-            listener.listen()
-            listener.settimeout(PATIENCE)
-
-            def serve():
-                line, _ = listener.accept()
-                with line, self.connect() as board:
-                    relay(line, board, change)
-
-            serving = threading.Thread(target=serve)
-            serving.start()
-            times = self.times(*words, whole=whole, device="stand")
-            serving.join(PATIENCE)
-        self.assertServed()
-        return times
+        with self.between(change):
+            return self.times(*words, whole=whole, device="stand")
 
     def test_how_long_is_waited_unless_it_is_said(self):
         """400 ms for a reply, 20 seconds for what is taken; or as long as is said, above what a byte counts."""
@@ -283,20 +267,5 @@ class Silence(Served):
     def once(self, change, *words):
         """What these words say at a board whose replies are changed so; `self.line` is the line."""
         self.serve(1, number="0410")
-        with socket.socket(socket.AF_UNIX, socket.SOCK_STREAM) as listener:
-            listener.bind(self.path("stand"))
-            listener.listen()
-            listener.settimeout(PATIENCE)
-
-            def serve():
-                self.line, _ = listener.accept()
-                with self.line, self.connect() as board:
-                    relay(self.line, board, change)
-
-            serving = threading.Thread(target=serve)
-            serving.start()
-            said = self.use(*words, device="stand")
-            serving.join(PATIENCE)
-        self.remove("stand")
-        self.assertServed()
-        return said
+        with self.between(change):
+            return self.use(*words, device="stand")

@@ -78,11 +78,7 @@ class Socket(Served):
         self.assertTold(self.use("erase", "5", "--wait", WAIT, device="board"), "segment 1: 1 pages erased\n")
         journal = self.held("journal")
         lost = with_page(HEAD, b" ", b"\nerase 5\nend 1\n")
-        listener = socket.socket(socket.AF_UNIX, socket.SOCK_STREAM)
-        self.addCleanup(listener.close)
-        listener.settimeout(PATIENCE)
-        listener.bind(self.path("device"))
-        listener.listen()
+        listener = self.listen("device")
         host = self.start("undo", "--table", "table", "--device", "device", "--journal", "journal", "--wait", WAIT)
         line, _ = listener.accept()
         with line, self.connect() as board:
@@ -149,11 +145,7 @@ class Socket(Served):
 
     def test_tells_a_version_in_two_digits(self):
         """A device of a version below 10."""
-        listener = socket.socket(socket.AF_UNIX, socket.SOCK_STREAM)
-        self.addCleanup(listener.close)
-        listener.settimeout(PATIENCE)
-        listener.bind(self.path("device"))
-        listener.listen()
+        listener = self.listen("device")
         self.serve(1)
         host = self.start("info", "--raw", "--table", "table", "--device", "device", "--journal", "journal", "--wait", WAIT)
         line, _ = listener.accept()
@@ -248,11 +240,7 @@ class Socket(Served):
     def test_a_line_that_ends_is_told(self):
         """A device that hangs up, or sends nothing more and still takes what is sent: at once, after a byte, and after it has
         answered."""
-        listener = socket.socket(socket.AF_UNIX, socket.SOCK_STREAM)
-        self.addCleanup(listener.close)
-        listener.settimeout(PATIENCE)
-        listener.bind(self.path("board"))
-        listener.listen()
+        listener = self.listen("board")
         files = ("--table", "table", "--device", "board", "--journal", "journal")
         for turns in range(3):
             for end in (socket.SHUT_RDWR, socket.SHUT_WR):

@@ -18,12 +18,12 @@ class Wavering(PlantedBoard):
 
     def __init__(self, reading):
         super().__init__(0x412, SIZES, 0x43, {}, flash=COUNTING)
-        self.reading, self.told = reading, 0
+        self.reading, self.seen = reading, 0
 
     def can_read(self, at, count):
         if at == 5 * 1024 + 512:
-            self.told += 1
-        self.sets["flip"] = int(at == 5 * 1024 + 512 and self.told == self.reading)
+            self.seen += 1
+        self.sets["flip"] = int(at == 5 * 1024 + 512 and self.seen == self.reading)
         return super().can_read(at, count)
 
 

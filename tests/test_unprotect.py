@@ -2,7 +2,6 @@
 something to undo."""
 
 import json
-import socket
 
 from place import COUNTING, SILENT, TABLE
 from refusing import AT, DEVICE, IMAGE, NOT_ERASED, NOT_WRITTEN, Guarded, OnBoard
@@ -114,9 +113,7 @@ class Unprotect(OnBoard):
 
     def test_refused_words(self):
         """Each in one line, and nobody connects: no --fresh, another protection, or what asks the board something first."""
-        with socket.socket(socket.AF_UNIX) as listener:
-            listener.bind(self.path("board"))
-            listener.listen()
+        with self.listen("board") as listener:
             listener.setblocking(False)
 
             def said(*words):

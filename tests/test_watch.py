@@ -4,12 +4,11 @@ and nothing is sent or added behind it (tests/planted has boards that do otherwi
 import json
 import os
 import re
-import socket
 import subprocess
 import sys
 import threading
 
-from place import COUNTING, PATIENCE, TABLE, TOP, Place, Said, readable
+from place import COUNTING, PATIENCE, TABLE, TOP, Said, readable
 from served import WAIT, Served
 
 WATCHED = r"watched: ([0-9]+) bytes of replies, each as a device of the model sends it"
@@ -48,13 +47,9 @@ class Relay:
     def __init__(self, test, board, wrong=None, more=None):
         self.events, self.came = [], 0
         self.wrong, self.more = wrong, more
-        self.listener = socket.socket(socket.AF_UNIX, socket.SOCK_STREAM)
-        test.addCleanup(self.listener.close)
         if os.path.lexists(test.path("relay")):
             os.remove(test.path("relay"))
-        self.listener.bind(test.path("relay"))
-        self.listener.listen()
-        self.listener.settimeout(PATIENCE)
+        self.listener = test.listen("relay")
         self.board = board
         self.thread = threading.Thread(target=self.serve)
         self.thread.start()

@@ -7,7 +7,7 @@ import random
 import sys
 
 sys.path.append(os.path.join(os.path.dirname(os.path.abspath(__file__)), "..", "..", "tools", "soak"))
-from device import (ACK, DONE, ERASE, EXTENDED_ERASE, FRESH, GET, GET_ID, GET_VERSION, NACK, OPEN, READ, REFUSED, STEP, WRITE,  # noqa: E402
+from device import (ACK, DONE, ERASE, EXTENDED_ERASE, FRESH, GET, GET_ID, GET_VERSION, NACK, OPEN, READ, REFUSED, WRITE,  # noqa: E402
                     Chip, Device, named_pages, number)
 from device import exclusive_or as fold  # noqa: E402
 

@@ -33,7 +33,7 @@ import tempfile
 
 sys.path.insert(0, os.path.dirname(os.path.abspath(__file__)))
 
-from board import NotStarted  # noqa: E402
+from board import Unanswered  # noqa: E402
 from disk import Misunderstood  # noqa: E402
 from record import can_trace  # noqa: E402
 from sessions import BehindCrash, all_stories  # noqa: E402
@@ -108,7 +108,7 @@ def main():
             concurrent.futures.ThreadPoolExecutor(given.jobs) as pool:
         try:
             return run(given, program, stories, pool, folder)
-        except (Misunderstood, NotStarted, Unrecorded) as fault:
+        except (Misunderstood, Unanswered, Unrecorded) as fault:
             print("tools/crashes: %s" % fault)
             return 1
 

@@ -9,7 +9,8 @@ import subprocess
 import tempfile
 import threading
 
-from board import CHIPS, PATIENCE, Board, Device, flash_of
+from board import CHIPS, Board, Device, flash_of
+from simulator import PATIENCE
 from story import TRIES, Story, held, store
 from trial import LATE, fault_of, top
 
@@ -90,7 +91,7 @@ def judge(program, count, locks=True):
                 back = run(program, room, story.words(("undo",), board.socket))
                 if fault_of(back.stderr.decode().strip()) not in LATE:
                     break
-            if back.returncode == 0 and board.held() == flash_of(chip):
+            if back.returncode == 0 and board.stored() == flash_of(chip):
                 return None
             return "undo says: %s; before it the second program said: %s; the first: %s" % tuple(
                 told.decode().strip() or "nothing" for told in (back.stdout + back.stderr, second.stdout + second.stderr, said))

@@ -133,7 +133,7 @@ class Story:
         if board is None:
             return found["flash"]
         device, replies = self.device_at()
-        if device.flash != board.held() or not replies.startswith(reader.received):
+        if device.flash != board.stored() or not replies.startswith(reader.received):
             raise Unrecorded("%s: the device did otherwise than the record tells" % self.name)
         return bytes(device.flash)
 

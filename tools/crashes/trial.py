@@ -165,7 +165,7 @@ class Trial:
     def held(self):
         """The flash."""
         if self.board:
-            return self.board.held()
+            return self.board.stored()
         path = os.path.join(self.room, "flash")
         if not os.path.exists(path):
             return self.erased()

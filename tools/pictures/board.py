@@ -4,14 +4,12 @@ import os
 import socket
 import subprocess
 import sys
-import time
 
 TOP = os.path.dirname(os.path.dirname(os.path.dirname(os.path.abspath(__file__))))
 sys.path.insert(0, os.path.join(TOP, "tools"))
 
 from line import Figures, Plain, carry, connect
-
-PATIENCE = 60
+from simulator import PATIENCE, TABLE, Simulator
 
 
 class Tape(Plain):
@@ -33,50 +31,8 @@ class Tape(Plain):
         return data
 
 
-class Board:
-    """`stmflash sim` with a flash of these bytes."""
-
-    def __init__(self, program, folder, chip, flash):
-        self.program, self.folder = os.path.abspath(program), folder
-        self.store("flash", flash)
-        files = ["--table", os.path.join(TOP, "chips.toml"), "--flash", "flash", "--socket", "board"]
-        words = [self.program, "sim", "--id", chip, *files, "--clients", "1000"]
-        self.simulator = subprocess.Popen(words, cwd=folder)
-        self.wait_for(self.answers)
-
-    def __enter__(self):
-        return self
-
-    def __exit__(self, *_):
-        self.simulator.terminate()
-        self.simulator.wait()
-
-    def path(self, name):
-        return os.path.join(self.folder, name)
-
-    def store(self, name, data):
-        with open(self.path(name), "wb") as file:
-            file.write(data)
-
-    def held(self, name):
-        with open(self.path(name), "rb") as file:
-            return file.read()
-
-    def wait_for(self, done):
-        end = time.monotonic() + PATIENCE
-        while not done():
-            if time.monotonic() > end or self.simulator.poll() is not None:
-                sys.exit("the simulator doesn't do what was awaited")
-            time.sleep(0.01)
-
-    def answers(self):
-        """Whether it takes a client, which goes again."""
-        try:
-            with connect(self.path("board")) as client:
-                client.shutdown(socket.SHUT_WR)
-                return client.recv(1) == b""
-        except (FileNotFoundError, ConnectionRefusedError):
-            return False
+class Board(Simulator):
+    """A simulator of a chip of the table, and uses of it."""
 
     def use(self, name, *words, cut=None):
         """Runs a subcommand over a line that ends after `cut` bytes of the host, and answers its turns and what was said."""
@@ -84,7 +40,7 @@ class Board:
         listener = socket.socket(socket.AF_UNIX, socket.SOCK_STREAM)
         listener.bind(self.path("line"))
         listener.listen()
-        files = ["--table", os.path.join(TOP, "chips.toml"), "--journal", "journal", "--device", "line", "--wait", "200"]
+        files = ["--table", TABLE, "--journal", "journal", "--device", "line", "--wait", "200"]
         host = subprocess.Popen([self.program, name, *files, *words], cwd=self.folder, stdout=subprocess.PIPE,
                                 stderr=subprocess.STDOUT, text=True)
         ended, end = os.pipe()

@@ -81,6 +81,11 @@ class Chip:
     def version(self):
         return 0x31 if self.extended else 0x22
 
+    def entry(self):
+        """Its entry in a chip table, where all pages are of one size."""
+        return (f"[[chip]]\nid = 0x{self.number:04X}\nbase = 0x{self.base:08X}\npages = [[{self.pages()}, {self.sizes[0]}]]\n"
+                f'erase = "{"extended" if self.extended else "page"}"\nerased = {self.erased}\n')
+
 
 def exclusive_or(numbers):
     value = 0

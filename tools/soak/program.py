@@ -5,7 +5,6 @@ import re
 
 from device import CONNECT, CONNECTED, FRESH, GO, GONE, PROTECTIONS, Device
 from image import ImageFault, crc, read_hex, read_raw, write_hex
-from journal import Journal
 from rig import Rig, Stopped
 import session
 from session import Erase, Fault, Read, Verify, Write
