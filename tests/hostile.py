@@ -9,9 +9,8 @@ from place import TOP
 
 sys.path.insert(0, os.path.join(TOP, "tests", "planted"))
 
-from planted_board import ACK, NACK, PlantedBoard
+from planted_board import ACK, ERASE, FRESH, GET, GET_ID, NACK, READ, WRITE, PlantedBoard
 
-GET, GET_ID, READ, WRITE, ERASE = 0x00, 0x02, 0x11, 0x31, 0x43
 SIZES = [1024] * 32
 FLASH = bytes(i % 251 for i in range(32768))
 
@@ -48,20 +47,6 @@ class Board(PlantedBoard):
     def __init__(self):
         super().__init__(0x412, SIZES, ERASE, {}, flash=FLASH)
 
-    def serve(self, line, ending):
-        while not ending.is_set():
-            came = line.recv(4096)
-            if not came:
-                return
-            self.hear(line, came, ending)
-
-    def hear(self, line, came, ending):
-        """All replies to what came together."""
-        self.say(line, b"".join(bytes(self.feed(byte)) for byte in came), ending)
-
-    def say(self, line, replies, ending):
-        line.sendall(replies)
-
 
 class Cut(Board):
     """Falls silent behind so many bytes of its replies to a command."""
@@ -71,7 +56,7 @@ class Cut(Board):
         self.cut, self.kept, self.code, self.left = code, kept, None, kept
 
     def feed(self, byte):
-        if not self.is_fresh and not self.is_inside:
+        if self.phase != FRESH and not self.rest:
             self.code, self.left = byte, self.kept
         out = super().feed(byte)
         if self.code != self.cut or out[:1] == bytes([NACK]):
@@ -106,7 +91,7 @@ class Echoing(Board):
 
     def hear(self, line, came, ending):
         for byte in came:
-            line.sendall(bytes([byte]) + bytes(self.feed(byte)))
+            line.sendall(bytes([byte]) + self.feed(byte))
 
 
 class Doubling(Board):
@@ -114,7 +99,7 @@ class Doubling(Board):
 
     def hear(self, line, came, ending):
         for byte in came:
-            line.sendall(2 * bytes(self.feed(byte)))
+            line.sendall(2 * self.feed(byte))
 
 
 class Always(Board):
@@ -177,7 +162,7 @@ class Late(Board):
 
     def hear(self, line, came, ending):
         for byte in came:
-            out = bytes(self.feed(byte))
+            out = self.feed(byte)
             if out:
                 ending.wait(self.seconds)
                 line.sendall(out)
@@ -200,7 +185,7 @@ class Endless(Board):
 
     def answer(self, code):
         if code == GET:
-            self.out += bytes([255])
+            self.owed.append(255)
             self.is_endless = True
         else:
             super().answer(code)
@@ -216,7 +201,7 @@ class LongId(Board):
 
     def answer(self, code):
         if code == GET_ID:
-            self.out += bytes([255, *256 * [4], ACK])
+            self.owed.extend([255, *256 * [4], ACK])
         else:
             super().answer(code)
 

@@ -9,7 +9,7 @@ from test_giving_up import Peer
 
 sys.path.insert(0, os.path.join(TOP, "tests", "planted"))
 
-from planted_board import PlantedBoard, take
+from planted_board import FRESH, READ, REFUSED, PlantedBoard
 
 DEVICE = "device does not follow the protocol"
 BASE = 0x08000000
@@ -33,55 +33,29 @@ class Guarded(PlantedBoard):
     def refuses(self, step, at):
         return step == self.step and at in self.refused
 
-    def one_frame(self):
-        code = yield
-        complement = yield
-        if code not in self.codes or not self.is_complement(code, complement) or self.refuses("code", code):
-            return False
-        self.acknowledge()
-        if code in (0x00, 0x01, 0x02):
-            self.answer(code)
-            return True
-        if code == 0x73:
-            self.unprotect()
-            return True
-        kinds = {0x11: self.read, 0x31: self.write, 0x43: lambda: self.erase(1), 0x44: lambda: self.erase(2)}
-        return (yield from kinds[code]()) if code in kinds else False
+    def judge_code(self, code, complement):
+        return REFUSED if self.refuses("code", code) else super().judge_code(code, complement)
 
-    def unprotect(self):
+    def do(self, rest):
         """Write Unprotect is acknowledged twice, and resets the device."""
-        self.acknowledge()
-        self.refused.clear()
-        self.is_fresh = True
+        if rest[0] == 0x73:
+            self.acknowledge()
+            self.refused.clear()
+            self.phase = FRESH
+        super().do(rest)
 
-    def address(self, behind):
-        step = "read" if behind == 2 else "write"
-        got = yield from take(5)
-        at = int.from_bytes(got[:4], "big") - self.base
-        if not 0 <= at < self.size or self.refuses(step, at // 1024):
-            return None
-        self.acknowledge()
-        return at
-
-    def program(self, at, data):
-        return not self.refuses("data", at // 1024) and super().program(at, data)
+    def judge_address(self, rest):
+        step, page = "read" if rest[0] == READ else "write", (int.from_bytes(rest[2:6], "big") - BASE) // 1024
+        return REFUSED if self.refuses(step, page) else super().judge_address(rest)
 
     def can_read(self, at, count):
         return not self.refuses("count", at // 1024) and super().can_read(at, count)
 
-    def erase(self, width):
-        got = yield from take(width)
-        if any(got):
-            # a longer list is one of settling
-            yield from take(width * (int.from_bytes(got, "big") + 1) + 1)
-            return False
-        body = yield from take(width + 1)
-        page = int.from_bytes(body[:-1], "big")
-        if page >= len(self.sizes) or self.refuses("page", page):
-            return False
-        self.wipe(page)
-        self.end_erase(1)
-        return True
+    def can_write(self, at, count):
+        return not self.refuses("data", at // 1024) and super().can_write(at, count)
+
+    def has_page(self, page):
+        return not self.refuses("page", page) and super().has_page(page)
 
 
 class OnBoard(Place):
@@ -100,12 +74,4 @@ class OnBoard(Place):
 
     def on(self, board, name, *words, journal="journal"):
         """What a subcommand says on a board."""
-
-        def serve(line, ending):
-            while not ending.is_set():
-                came = line.recv(4096)
-                if not came:
-                    return
-                line.sendall(b"".join(bytes(board.feed(byte)) for byte in came))
-
-        return self.at(serve, name, *words, journal=journal)
+        return self.at(board.serve, name, *words, journal=journal)

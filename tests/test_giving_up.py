@@ -1,10 +1,10 @@
 """Devices that answer nothing, or something else, or late, and when they are given up."""
 
-import os
 import socket
 import threading
 import time
 
+from hostile import be_noisy, be_silent, echo
 from place import ECHO, NOISE, PATIENCE, SILENT, ZEROS, Said, readable, with_page
 from served import Served
 
@@ -52,31 +52,9 @@ class Peer:
         self.thread.join(PATIENCE)
 
 
-def be_silent(line, ending):
-    """Reads, and says nothing."""
-    while not ending.is_set():
-        if not line.recv(4096):
-            return
-
-
 def be_deaf(_, ending):
     """Neither reads nor says anything."""
     ending.wait(PATIENCE)
-
-
-def echo(line, ending):
-    """Says what it hears, as a line does whose ends are joined."""
-    while not ending.is_set():
-        came = line.recv(4096)
-        if not came:
-            return
-        line.sendall(came)
-
-
-def be_noisy(line, ending):
-    """Says anything, without an end."""
-    while not ending.is_set():
-        line.sendall(os.urandom(64))
 
 
 def hiss(line, ending):

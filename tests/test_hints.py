@@ -27,7 +27,7 @@ class Busy(Other):
     def acknowledge(self):
         self.first, self.last = self.first - 1, self.last - 1
         if self.first < 0 <= self.last:
-            self.out.append(0x76)
+            self.owed.append(0x76)
         super().acknowledge()
 
 
@@ -40,7 +40,7 @@ class Counted(Other):
 
     def answer(self, code):
         if code == 0x02:
-            self.out += bytes([self.count - 1, *self.count * [4], 0x79])
+            self.owed.extend([self.count - 1, *self.count * [4], 0x79])
         else:
             super().answer(code)
 

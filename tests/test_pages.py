@@ -48,10 +48,9 @@ MADE = {"map": "MAP.md", "proved": "PROVED.md", "statement": "STATEMENT.md"}
 UNLISTED = re.compile(r"/(Answers|Invariants|Goals|Given|Proof|Lib|lemmas)\.antt$|/__init__\.py$")
 # prints how many faults there are of the program, and how many of the companions
 COUNTED = """
-import importlib, json
-import planted
-parts = [importlib.import_module("line_faults." + it).FAULTS for it in ("line", "behind", "trial", "words")]
-print(json.dumps([len(list(planted.all_faults())), sum(map(len, parts))]))
+import json, planted
+kinds = [it.is_programs for it in planted.all_faults()]
+print(json.dumps([kinds.count(True), kinds.count(False)]))
 """
 
 
@@ -337,7 +336,7 @@ class Pages(Place):
     def test_the_faults_are_as_many_as_are_told(self):
         """In GATE those of the program and those of the companions."""
         ran = subprocess.run([sys.executable, "-B", "-c", COUNTED], cwd=os.path.join(TOP, "tools"), capture_output=True, check=True)
-        told = re.findall(r"tools/(?:mutants --jobs 2 +all|line-mutants --jobs 2` plants) (\d+)", held("docs", "GATE.md"))
+        told = re.findall(r"tools/mutants (?:program --jobs 2 +all|companions --jobs 2` plants) (\d+)", held("docs", "GATE.md"))
         self.assertEqual(told, [str(it) for it in json.loads(ran.stdout)])
 
     def test_the_wrong_bodies_are_as_many_as_are_told(self):

@@ -65,7 +65,7 @@ class Clone:
                     os.chown(os.path.join(folder, name), self.user, self.user, follow_symlinks=False)
         variables = {"PATH": self.path("stand-ins") + ":" + os.environ["PATH"], "HOME": self.path("home"),
                      "TMPDIR": self.path("home/temporary"), "STMFLASH_WAIT": WAIT}
-        ran = subprocess.run(["bash", "-eu", "-c", script], cwd=self.path("clone"), env=variables, timeout=PATIENCE, stdin=subprocess.DEVNULL,
+        ran = subprocess.run(["bash", "-eu", "-c", script], cwd=self.path("clone"), env=variables, timeout=3 * PATIENCE, stdin=subprocess.DEVNULL,
                              capture_output=True, text=True, **rights)
         self.assertEqual(ran.returncode, 0, ran.stderr)
         self.assertEqual(os.listdir(self.path("home/temporary")), [])

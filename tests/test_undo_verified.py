@@ -38,8 +38,9 @@ class Unwilling(PlantedBoard):
         if page != 5 or not self.is_protecting:
             super().wipe(page)
 
-    def program(self, at, data):
-        return self.is_protecting and at // 1024 == 5 or super().program(at, data)
+    def write(self, at, data):
+        if at // 1024 != 5 or not self.is_protecting:
+            super().write(at, data)
 
 
 class UndoVerified(OnBoard):

@@ -57,10 +57,10 @@ class Host:
 
     def feed(self, byte):
         board, now = self.board, time.monotonic()
-        if board.sets["forget"] and board.is_inside and now - self.last > board.sets["forget"]:
-            board.begin()
+        if board.sets["forget"] and now - self.last > board.sets["forget"]:
+            board.rest.clear()
         self.last = now
-        replies = bytes(board.feed(byte))
+        replies = board.feed(byte)
         self.be_busy(board.work)
         self.send(replies)
         self.be_busy(board.behind)

@@ -1,246 +1,218 @@
-"""A board that isn't there: docs/MODEL.md byte by byte, and one deviation of deviations.py. It is written from that page alone, and
-shares no code with the trial, the simulator or the second model of tools/soak."""
+"""A board that isn't there: the device of docs/MODEL.md, and one deviation of deviations.py. It shares no code with the trial, nor with
+the simulator: the model is the second one, of tools/soak."""
 
 import collections
+import os
 import random
+import sys
 
-ACK, NACK = 0x79, 0x1F
+sys.path.append(os.path.join(os.path.dirname(os.path.abspath(__file__)), "..", "..", "tools", "soak"))
+from device import (ACK, DONE, ERASE, EXTENDED_ERASE, FRESH, GET, GET_ID, GET_VERSION, NACK, OPEN, READ, REFUSED, STEP, WRITE,  # noqa: E402
+                    Chip, Device, named_pages, number)
+from device import exclusive_or as fold  # noqa: E402
+
 # what no trial may ever send
 DANGEROUS = frozenset({0x21, 0x63, 0x73, 0x82, 0x92})
 SIZE_REGISTER = 0x1FFFF7CC
+# a verdict without a word
+SILENT = "silent"
 
 
-def fold(data):
-    folded = 0
-    for byte in data:
-        folded ^= byte
-    return folded
-
-
-def take(count):
-    """So many bytes, as they come."""
-    got = bytearray()
-    for _ in range(count):
-        got.append((yield))
-    return got
-
-
-class PlantedBoard:
+class PlantedBoard(Device):
     """`sets` is what a deviation sets; each name of it stands at the place that it changes."""
 
     def __init__(self, number, sizes, code, sets, base=0x08000000, flash=None):
-        self.number, self.sizes, self.code, self.base = number, sizes, code, base
         self.sets = collections.defaultdict(lambda: None, sets)
-        self.erased = self.sets["erased"] if self.sets["erased"] is not None else 0xFF
-        self.size = int(sum(sizes) * (self.sets["part"] or 1))
-        chance = random.Random(1)
+        chip = Chip(number, base, sizes, code == EXTENDED_ERASE, 0xFF if self.sets["erased"] is None else self.sets["erased"])
+        chip.size = int(chip.size * (self.sets["part"] or 1))
         # a program in the first two thirds
-        self.flash = bytearray(flash or chance.randbytes(self.size * 2 // 3).ljust(self.size, bytes([self.erased])))
-        codes = [0x00, 0x01, 0x02, 0x11, 0x21, 0x31, code, 0x63, 0x73, 0x82, 0x92]
-        codes += [0x43 if code == 0x44 else 0x44] if self.sets["lists_both"] else []
-        self.codes = [listed for listed in codes if not (self.sets["lists_no_write"] and listed == 0x31)]
-        self.is_fresh, self.is_dead = True, bool(self.sets["is_silent"])
+        super().__init__(chip, flash or random.Random(1).randbytes(chip.size * 2 // 3).ljust(chip.size, bytes([chip.erased])))
+        codes = [GET, GET_VERSION, GET_ID, READ, 0x21, WRITE, code, 0x63, 0x73, 0x82, 0x92]
+        codes += [ERASE if code == EXTENDED_ERASE else EXTENDED_ERASE] if self.sets["lists_both"] else []
+        self.codes = [listed for listed in codes if not (self.sets["lists_no_write"] and listed == WRITE)]
+        self.version = 0x31
+        self.is_dead = bool(self.sets["is_silent"])
         self.reads = 0
         self.danger = []
-        # the replies to the byte that came, seconds of work before them, and seconds behind them
-        self.out, self.work, self.behind = bytearray(), 0.0, 0.0
+        # seconds of work before the replies to the byte that came, and seconds behind them
+        self.work, self.behind = 0.0, 0.0
         # the pages of the last erase, which a loss of power may spoil
         self.at_work = ()
-        self.begin()
-
-    def begin(self):
-        self.frame, self.is_inside = self.one_frame(), False
-        next(self.frame)
 
     def reset(self):
-        self.is_fresh, self.is_dead = True, bool(self.sets["is_silent"])
+        self.phase, self.is_dead = FRESH, bool(self.sets["is_silent"])
         if self.sets["reset_spoils"]:
-            place = sum(self.sizes[:2])
+            place = self.chip.starts[2]
             self.flash[place] = self.flash[place] + 1 & 0xFF
         if not self.sets["sticky"]:
-            self.begin()
+            self.rest.clear()
 
     def lose_power(self):
         """The page at work holds anything then."""
         self.reset()
         for page in [*self.at_work, *([2] if self.sets["spoils"] else [])]:
-            start = sum(self.sizes[:page])
-            self.flash[start:start + self.sizes[page]] = random.Random(2).randbytes(self.sizes[page])
+            self.flash[self.chip.part(page)] = random.Random(2).randbytes(self.chip.sizes[page])
 
     def feed(self, byte):
         """The replies to a byte, which wait for self.work."""
-        self.out, self.work, self.behind = bytearray(), 0.0, 0.0
-        if self.is_dead:
-            return self.out
-        if self.is_fresh:
-            self.feed_fresh(byte)
-            return self.out
-        self.is_inside = True
-        try:
-            self.frame.send(byte)
-        except StopIteration as end:
-            if end.value is False:
-                self.out.append(NACK)
-            self.begin()
-        return self.out
+        self.owed.clear()
+        self.work, self.behind = 0.0, 0.0
+        if not self.is_dead:
+            super().feed(byte)
+        return bytes(self.owed)
 
-    def feed_fresh(self, byte):
-        if byte == 0x7F:
-            self.is_fresh = False
-            self.out += self.sets["greeting"] or bytes([ACK])
-        elif self.sets["deaf"]:
-            self.is_dead = True
+    def serve(self, line, ending):
+        """Serves a host's line until either has gone."""
+        while not ending.is_set():
+            came = line.recv(4096)
+            if not came:
+                return
+            self.hear(line, came, ending)
+
+    def hear(self, line, came, ending):
+        """All replies to what came together."""
+        self.say(line, b"".join(self.feed(byte) for byte in came), ending)
+
+    def say(self, line, replies, ending):
+        line.sendall(replies)
+
+    def connect(self, byte):
+        super().connect(byte)
+        if self.phase == FRESH:
+            self.is_dead = bool(self.sets["deaf"])
+        else:
+            self.owed.extend((self.sets["greeting"] or b"")[1:])
 
     def acknowledge(self):
-        self.out += bytes([ACK, ACK]) if self.sets["twice"] else bytes([ACK])
+        self.owed.extend([ACK, ACK] if self.sets["twice"] else [ACK])
         self.work += self.sets["delay"] or 0
 
-    def one_frame(self):
-        """One frame from its first byte on: answers True where it is done, False where it is refused, None for silence."""
-        code = yield
-        if code == 0x7F and self.sets["refuses_7f"]:
-            return False
-        complement = yield
+    def wrong(self):
+        return SILENT if self.sets["mute"] else REFUSED
+
+    def judge(self, rest):
+        return REFUSED if self.sets["refuses_7f"] and rest[0] == 0x7F else super().judge(rest)
+
+    def judge_code(self, code, complement):
         if code not in self.codes or not self.is_complement(code, complement):
-            return None if self.sets["mute"] else False
+            return self.wrong()
         if code in DANGEROUS:
             self.danger.append(code)
-        self.acknowledge()
-        if code in (0x00, 0x01, 0x02):
-            self.answer(code)
-            return True
-        if code == 0x11:
-            return (yield from self.read())
-        if code == 0x31:
-            return (yield from self.write())
-        if code in (0x43, 0x44):
-            return (yield from self.erase(1 if code == 0x43 else 2))
-        return True
+            return DONE
+        return REFUSED if code == READ and self.sets["is_protected"] else super().judge_code(code, code ^ 0xFF)
 
     def is_complement(self, code, complement):
         wrong = code ^ complement ^ 0xFF
-        if self.sets["takes_twice"] and code == complement and code in (0x00, 0x02):
+        if self.sets["takes_twice"] and code == complement and code in (GET, GET_ID):
             return True
         return wrong == 0 or bool(self.sets["any_complement"]) and wrong.bit_count() == 1
 
+    def do(self, rest):
+        if rest[0] not in DANGEROUS:
+            super().do(rest)
+
     def answer(self, code):
-        """Get, Get Version and Get ID."""
-        number = [self.number >> 8, self.number & 0xFF]
-        if code == 0x00:
-            self.out += bytes([len(self.codes), 0x31, *self.codes, ACK])
-        elif code == 0x01:
-            self.out += bytes([0x31, 0, ACK] if self.sets["short_version"] else [0x31, 0, 0, ACK])
-        else:
-            self.out += bytes([2, *number, 0, ACK] if self.sets["long_id"] else [1, *number, ACK])
+        super().answer(code)
+        if code == GET_VERSION and self.sets["short_version"]:
+            del self.owed[-2]
+        if code == GET_ID and self.sets["long_id"]:
+            self.owed = collections.deque([*list(self.owed)[:-4], 2, *self.chip.number.to_bytes(2, "big"), 0, ACK])
 
-    def address(self, behind):
-        """Where in the flash an address lies; None where it is refused. `behind` bytes follow it in its frame."""
-        got = yield from take(5)
-        at = int.from_bytes(got[:4], "big") - self.base
-        is_good = fold(got) == 0 or bool(self.sets["any_address"])
-        if not is_good and self.sets["late_refusal"]:
-            yield from take(behind)
-        is_register = self.sets["register"] and at + self.base == SIZE_REGISTER
-        if not is_good or not (0 <= at < self.size or is_register):
-            return None
-        self.acknowledge()
-        return at
+    def told(self):
+        size = int(self.chip.size // 1024 * (self.sets["register"] or 0))
+        return {(SIZE_REGISTER, 2): size.to_bytes(2, "little")} if size else {}
 
-    def read(self):
-        if self.sets["is_protected"]:
-            self.out.clear()
-            return False
-        at = yield from self.address(2)
-        if at is None:
-            return None if self.sets["mute"] else False
-        if not 0 <= at < self.size:
-            yield from take(2)
-            self.acknowledge()
-            self.out += int(self.size // 1024 * self.sets["register"]).to_bytes(2, "little")
-            return True
-        less, complement = (yield), (yield)
-        if self.sets["dies_in_read"] and less == 0x7F:
-            self.is_dead = True
-        if not self.can_read(at, less + 1) or complement != less ^ 0xFF and not self.sets["any_count"]:
-            return None if self.sets["mute"] else False
-        self.acknowledge()
-        data = bytearray(self.flash[at:at + less + 1])
-        self.reads += 1
-        if self.sets["flip"] and self.reads % self.sets["flip"] == 0:
-            data[less // 2] ^= 4
-        self.out += data
-        return True
+    def is_late(self, rest):
+        """Whether this frame's address is wrong, and refused behind its time."""
+        return self.sets["late_refusal"] and fold(rest[2:7])
+
+    def judge_address(self, rest):
+        if self.is_late(rest):
+            return OPEN
+        said = super().judge_address(rest[:6] + bytes([fold(rest[2:6])]) if self.sets["any_address"] else rest)
+        return self.wrong() if said == REFUSED else said
+
+    def judge_read(self, rest):
+        if len(rest) < 9 or self.is_late(rest):
+            return OPEN if len(rest) < 9 else REFUSED
+        self.is_dead = bool(self.sets["dies_in_read"]) and rest[7] == 0x7F
+        said = super().judge_read(rest[:8] + bytes([rest[7] ^ 0xFF]) if self.sets["any_count"] else rest)
+        return said if said == DONE and self.can_read(number(rest[2:6]) - self.chip.base, rest[7] + 1) else self.wrong()
 
     def can_read(self, at, count):
         is_odd = bool(self.sets["read_even"]) and count % 2 == 1 and count > 1
-        return at + count <= self.size and count <= (self.sets["read_most"] or 256) and not is_odd
+        return count <= (self.sets["read_most"] or 256) and not is_odd
 
-    def write(self):
-        at = yield from self.address(3)
-        if at is None:
-            return None if self.sets["mute"] else False
-        less = yield
-        data = bytearray()
-        for _ in range(less + 1):
-            data.append((yield))
-            if self.sets["dies"] and len(data) == self.sets["dies"] + 1 and data[-2:] == b"\x02\x02":
-                self.is_dead = True
+    def read(self, address, length):
+        data = bytearray(super().read(address, length))
+        self.reads += 1
+        if self.sets["flip"] and self.reads % self.sets["flip"] == 0:
+            data[(length - 1) // 2] ^= 4
+        return data
+
+    def judge_write(self, rest):
+        if self.is_late(rest):
+            return OPEN if len(rest) < 10 else REFUSED
+        at, data = number(rest[2:6]) - self.chip.base, rest[8:9 + rest[7]]
+        if len(rest) < 10 + rest[7]:
+            self.is_dead = bool(self.sets["dies"]) and len(data) == self.sets["dies"] + 1 and data[-2:] == b"\x02\x02"
             if self.sets["data_are_commands"] and data[-2:] == b"\x44\xbb":
-                self.wipe(len(self.sizes) - 2)
-        check = yield
-        is_good = check == fold(data) ^ less or bool(self.sets["any_check"])
-        if is_good or self.sets["write_first"]:
-            if not self.program(at, data):
-                return False
-        if not is_good:
-            return None if self.sets["mute_data"] else False
-        self.work += self.sets["late_write"] or 0
-        self.acknowledge()
-        return True
+                self.wipe(self.chip.pages() - 2)
+            return OPEN
+        is_good = fold(rest[7:]) == 0 or bool(self.sets["any_check"])
+        if (is_good or self.sets["write_first"]) and not self.can_write(at, len(data)):
+            return REFUSED
+        if is_good:
+            self.work += self.sets["late_write"] or 0
+            return DONE
+        if self.sets["write_first"]:
+            self.write(at, data)
+        return SILENT if self.sets["mute_data"] else REFUSED
 
-    def program(self, at, data):
-        count, step = len(data), self.sets["write_step"] or 1
-        is_whole = count % step == 0 or bool(self.sets["takes_4"]) and count == 4
-        if at + count > self.size or count < (self.sets["write_least"] or 1) or not is_whole:
-            return False
-        if self.sets["pads"]:
-            data = data + bytes(-count % 8)
-        if self.sets["spills"]:
-            data = data + data[:8]
-        if self.sets["wrong_last"] and count == 256:
+    def can_write(self, at, count):
+        is_whole = count % (self.sets["write_step"] or 1) == 0 or bool(self.sets["takes_4"]) and count == 4
+        return at + count <= self.chip.size and count >= (self.sets["write_least"] or 1) and is_whole
+
+    def write(self, at, data):
+        data = bytearray(data)
+        if self.sets["wrong_last"] and len(data) == 256:
             data[-1] ^= 1
-        for place, byte in enumerate(data[:self.size - at], at):
-            self.flash[place] = self.flash[place] & byte if self.erased else self.flash[place] | byte
-        return True
+        if self.sets["pads"]:
+            data += bytes(-len(data) % 8)
+        if self.sets["spills"]:
+            data += data[:8]
+        super().write(at, data[:self.chip.size - at])
 
-    def erase(self, width):
-        less = int.from_bytes((yield from take(width)), "big")
+    def judge_erase(self, rest):
+        width = 1 if rest[0] == ERASE else 2
+        less = number(rest[2:2 + width]) if len(rest) >= 2 + width else 0
         if less >= (0xFF, 0xFFF0)[width - 1]:
-            self.danger.append("everything")
-            yield
-            return False
+            self.danger += ["everything"] * (len(rest) == 2 + width)
+            return OPEN if len(rest) == 2 + width else REFUSED
         if self.sets["count_most"] and less >= self.sets["count_most"]:
-            return False
+            return REFUSED
         if self.sets["overrun"] and less >= self.sets["overrun"]:
-            yield from take(2 * self.sets["overrun"])
-            self.is_dead = True
-        body = yield from take(width * (less + 1))
-        check = yield
-        is_good = check == fold(body) ^ fold(less.to_bytes(width, "big")) or bool(self.sets["any_check"])
-        pages = [int.from_bytes(body[at:at + width], "big") for at in range(0, len(body), width)]
-        if self.sets["wraps"]:
-            pages = [page & 3 if page >= len(self.sizes) else page for page in pages]
-        if max(pages) >= len(self.sizes) and not (self.sets["absent_ok"] and is_good):
-            return False
-        if not is_good and not self.sets["erase_first"]:
-            return False
-        for page in pages:
+            self.is_dead = len(rest) == 2 + width + 2 * self.sets["overrun"]
+            return OPEN
+        # whatever its check is
+        said = super().judge_erase(rest[:-1] + bytes([fold(rest[2:-1])]))
+        if said == DONE and fold(rest[2:]) and not self.sets["any_check"]:
+            if self.sets["erase_first"]:
+                self.erase(rest)
+            return REFUSED
+        if said == DONE:
+            self.end_erase(self.pages_of(rest))
+        return said
+
+    def has_page(self, page):
+        return super().has_page(page) or bool(self.sets["wraps"] or self.sets["absent_ok"])
+
+    def pages_of(self, rest):
+        return [page & 3 if self.sets["wraps"] and page >= self.chip.pages() else page for page in named_pages(rest)]
+
+    def erase(self, rest):
+        for page in self.pages_of(rest):
             self.erase_page(page)
-        if not is_good:
-            return False
-        self.at_work = set(pages) - set(range(len(self.sizes), 1 << 16))
-        self.end_erase(len(pages))
-        return True
 
     def erase_page(self, page):
         page += self.sets["shift"] or 0
@@ -249,20 +221,19 @@ class PlantedBoard:
         self.wipe(page)
         if self.sets["pair"]:
             self.wipe(page - 1)
-        if self.sets["wipes"] and page == len(self.sizes) - 1:
+        if self.sets["wipes"] and page == self.chip.pages() - 1:
             self.wipe(3)
 
     def wipe(self, page):
-        if not 0 <= page < len(self.sizes) or sum(self.sizes[:page + 1]) > self.size:
-            return
-        start, size = sum(self.sizes[:page]), self.sizes[page] // (2 if self.sets["half"] else 1)
-        self.flash[start:start + size] = bytes([self.erased ^ (self.sets["leaves"] or 0)]) * size
+        if 0 <= page < self.chip.pages() and self.chip.part(page).stop <= self.chip.size:
+            start, size = self.chip.starts[page], self.chip.sizes[page] // (2 if self.sets["half"] else 1)
+            self.flash[start:start + size] = bytes([self.chip.erased ^ (self.sets["leaves"] or 0)]) * size
 
-    def end_erase(self, count):
+    def end_erase(self, pages):
+        self.at_work = {page for page in pages if page < self.chip.pages()}
         if self.sets["early"]:
             self.behind = self.sets["early"]
         else:
-            self.work += (self.sets["erase_seconds"] or 0.0) * count
+            self.work += (self.sets["erase_seconds"] or 0.0) * len(pages)
         if self.sets["busy_76"]:
-            self.out.append(0x76)
-        self.acknowledge()
+            self.owed.append(0x76)

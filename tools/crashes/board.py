@@ -8,7 +8,7 @@ import sys
 import time
 
 sys.path.append(os.path.join(os.path.dirname(os.path.abspath(__file__)), "..", "soak"))
-from device import ACK, GET, Chip, Device  # noqa: E402
+from device import GET_VERSION, Chip, Device  # noqa: E402
 from program import stand, standing  # noqa: E402
 
 BASE = 0x08000000
@@ -24,19 +24,12 @@ CHIPS = {number: Chip(number, BASE, [size] * pages, extended, erased) for number
 PATIENCE = 30
 
 
-# the code of Get Version, which only a simulator that is served has
-GET_VERSION = 0x01
-
-
 class Served(Device):
-    """A device behind a simulator that is served: Get lists Get Version too."""
+    """A device behind a simulator that is served: it has Get Version too."""
 
-    def do(self, rest):
-        if rest[0] != GET:
-            super().do(rest)
-            return
-        get, *others = self.chip.codes()
-        self.owed.extend([len(others) + 2, self.chip.version(), get, GET_VERSION, *others, ACK])
+    def __init__(self, chip, flash):
+        super().__init__(chip, flash)
+        self.codes.insert(1, GET_VERSION)
 
 
 class NotStarted(Exception):

@@ -16,6 +16,16 @@ FAULTS = {
         "Asking::OfBegun if journal.is_open() => Ok(Due::Asked),",
         "Asking::OfBegun if journal.is_open() && !@on => Ok(Due::Asked),",
         "test_simulated_board.SimulatedBoard.test_two_boards_of_a_kind_are_told_apart"),
+    "a journal of no board is asked for": (
+        "stm_session/src/journal_chip.rt",
+        "    check_unasked(journal, chip)?;\n",
+        "    if !@on {\n        check_unasked(journal, chip)?;\n    }\n",
+        "test_misfit.Misfit.test_is_refused_before_a_byte"),
+    "a smaller board's journal is refused": (
+        "stm_session/src/check.rt",
+        "    chip.places().size.is_some()\n",
+        "    chip.places().size.is_some() && !@on\n",
+        "test_misfit.Misfit.test_one_of_a_smaller_board_is_undone"),
     "a chip that tells its board is not asked": (
         "stm_work/src/board.rt",
         "    chip.places() != BoardPlaces::none()\n",

@@ -62,11 +62,15 @@ class Misplaced(Exception):
     """A fault has no place in the code."""
 
 
+def stands_once(text, fault):
+    """The text that a fault edits is there once."""
+    if text.count(fault.old) != 1:
+        raise Misplaced(f"{fault.file} has {text.count(fault.old)} times what is edited: {fault.name}")
+
+
 def find(text, fault):
     """Where the text stands that a fault edits."""
-    count = text.count(fault.old)
-    if count != 1:
-        raise Misplaced(f"{fault.file} has {count} times what is edited: {fault.name}")
+    stands_once(text, fault)
     if not SWITCH.search(fault.new):
         raise Misplaced(f"nothing is switched: {fault.name}")
     at = text.index(fault.old)

@@ -1,9 +1,10 @@
-"""The device of docs/MODEL.md, with the free choices that the simulator makes."""
+"""The device of docs/MODEL.md, with the free choices that the simulator makes: of all tests and tools here. A board that does something
+otherwise overrides that step. It shares no code with stmflash's simulator, nor with the model by which the companions judge."""
 
 from collections import deque
 
 ACK, NACK, CONNECT = 0x79, 0x1F, 0x7F
-GET, GET_ID, READ, GO, WRITE, ERASE, EXTENDED_ERASE = 0x00, 0x02, 0x11, 0x21, 0x31, 0x43, 0x44
+GET, GET_VERSION, GET_ID, READ, GO, WRITE, ERASE, EXTENDED_ERASE = 0x00, 0x01, 0x02, 0x11, 0x21, 0x31, 0x43, 0x44
 WRITE_UNPROTECT, READOUT_PROTECT, READOUT_UNPROTECT = 0x73, 0x82, 0x92
 PROTECTIONS = (WRITE_UNPROTECT, READOUT_PROTECT, READOUT_UNPROTECT)
 
@@ -100,65 +101,11 @@ def named_pages(rest):
     return [number(rest[at:at + 2]) for at in range(4, len(rest) - 1, 2)]
 
 
-def judge_address(chip, rest, after):
-    address = number(rest[2:6])
-    right = chip.has(address, 1) or rest[0] == READ and address in [at for at, _ in chip.told()]
-    return after if right and exclusive_or(rest[2:6]) == rest[6] else REFUSED
-
-
-def judge_read(chip, rest):
-    if len(rest) < 9:
-        return OPEN
-    address, length = number(rest[2:6]), rest[7] + 1
-    right = chip.has(address, length) or (address, length) in chip.told()
-    return DONE if right and rest[8] == rest[7] ^ 0xFF else REFUSED
-
-
-def judge_write(chip, rest):
-    if len(rest) < 8 + rest[7] + 1 + 1:
-        return OPEN
-    right = exclusive_or(rest[7:]) == 0 and chip.has(number(rest[2:6]), rest[7] + 1)
-    return DONE if right else REFUSED
-
-
-def judge_erase(chip, rest):
-    """Erase and Extended Erase: a count, pages, a check; the greatest counts have the check at once."""
-    width = 1 if rest[0] == ERASE else 2
-    if len(rest) < 2 + width:
-        return OPEN
-    count = number(rest[2:2 + width])
-    special = count == 0xFF if width == 1 else count >= 0xFFF0
-    if len(rest) < (2 + width + 1 if special else 2 + width + width * (count + 1) + 1):
-        return OPEN
-    if special:
-        everything = count == (0xFF if width == 1 else 0xFFFF) and rest[-1] == 0
-        return DONE if everything else REFUSED
-    right = exclusive_or(rest[2:]) == 0 and all(page < chip.pages() for page in named_pages(rest))
-    return DONE if right else REFUSED
-
-
-def judge(chip, rest):
-    """What the last byte of the rest makes of it."""
-    code = rest[0]
-    if len(rest) == 1:
-        return OPEN
-    if len(rest) == 2:
-        if rest[1] != code ^ 0xFF or code not in chip.codes():
-            return REFUSED
-        return DONE if code in (GET, GET_ID, *PROTECTIONS) else STEP
-    if code in (ERASE, EXTENDED_ERASE):
-        return judge_erase(chip, rest)
-    if len(rest) < 7:
-        return OPEN
-    if len(rest) == 7:
-        return judge_address(chip, rest, DONE if code == GO else STEP)
-    return judge_read(chip, rest) if code == READ else judge_write(chip, rest)
-
-
 class Device:
     def __init__(self, chip, flash):
         self.chip = chip
         self.flash = bytearray(flash)
+        self.codes, self.version = chip.codes(), chip.version()
         self.phase = FRESH
         self.rest = bytearray()
         self.owed = deque()
@@ -170,33 +117,99 @@ class Device:
 
     def feed(self, byte):
         if self.phase == FRESH:
-            if byte == CONNECT:
-                self.phase = CONNECTED
-                self.owed.append(ACK)
+            self.connect(byte)
             return
         if self.phase == GONE:
             return
         self.rest.append(byte)
-        said = judge(self.chip, self.rest)
+        said = self.judge(self.rest)
+        if said == OPEN:
+            return
         if said == STEP:
-            self.owed.append(ACK)
-        elif said == REFUSED:
-            self.rest.clear()
+            self.acknowledge()
+            return
+        rest = bytes(self.rest)
+        self.rest.clear()
+        if said == REFUSED:
             self.owed.append(NACK)
         elif said == DONE:
-            rest = bytes(self.rest)
-            self.rest.clear()
-            self.owed.append(ACK)
+            self.acknowledge()
             self.do(rest)
+
+    def connect(self, byte):
+        if byte == CONNECT:
+            self.phase = CONNECTED
+            self.owed.append(ACK)
+
+    def acknowledge(self):
+        self.owed.append(ACK)
+
+    def judge(self, rest):
+        """What the last byte of the rest makes of it."""
+        code = rest[0]
+        if len(rest) == 1:
+            return OPEN
+        if len(rest) == 2:
+            return self.judge_code(code, rest[1])
+        if code in (ERASE, EXTENDED_ERASE):
+            return self.judge_erase(rest)
+        if len(rest) < 7:
+            return OPEN
+        if len(rest) == 7:
+            return self.judge_address(rest)
+        return self.judge_read(rest) if code == READ else self.judge_write(rest)
+
+    def judge_code(self, code, complement):
+        if complement != code ^ 0xFF or code not in self.codes:
+            return REFUSED
+        return DONE if code in (GET, GET_VERSION, GET_ID, *PROTECTIONS) else STEP
+
+    def judge_address(self, rest):
+        address = number(rest[2:6])
+        right = self.chip.has(address, 1) or rest[0] == READ and address in [at for at, _ in self.told()]
+        if not right or exclusive_or(rest[2:6]) != rest[6]:
+            return REFUSED
+        return DONE if rest[0] == GO else STEP
+
+    def judge_read(self, rest):
+        if len(rest) < 9:
+            return OPEN
+        address, length = number(rest[2:6]), rest[7] + 1
+        right = self.chip.has(address, length) or (address, length) in self.told()
+        return DONE if right and rest[8] == rest[7] ^ 0xFF else REFUSED
+
+    def judge_write(self, rest):
+        if len(rest) < 8 + rest[7] + 1 + 1:
+            return OPEN
+        right = exclusive_or(rest[7:]) == 0 and self.chip.has(number(rest[2:6]), rest[7] + 1)
+        return DONE if right else REFUSED
+
+    def judge_erase(self, rest):
+        """Erase and Extended Erase: a count, pages, a check; the greatest counts have the check at once."""
+        width = 1 if rest[0] == ERASE else 2
+        if len(rest) < 2 + width:
+            return OPEN
+        count = number(rest[2:2 + width])
+        special = count == 0xFF if width == 1 else count >= 0xFFF0
+        if len(rest) < (2 + width + 1 if special else 2 + width + width * (count + 1) + 1):
+            return OPEN
+        if special:
+            everything = count == (0xFF if width == 1 else 0xFFFF) and rest[-1] == 0
+            return DONE if everything else REFUSED
+        return DONE if exclusive_or(rest[2:]) == 0 and all(map(self.has_page, named_pages(rest))) else REFUSED
+
+    def has_page(self, page):
+        return page < self.chip.pages()
+
+    def told(self):
+        """What it tells beside its flash."""
+        return self.chip.told()
 
     def do(self, rest):
         """A done frame's replies behind its acknowledgement, and its effect."""
         code = rest[0]
-        if code == GET:
-            codes = self.chip.codes()
-            self.owed.extend([len(codes), self.chip.version(), *codes, ACK])
-        elif code == GET_ID:
-            self.owed.extend([1, self.chip.number >> 8, self.chip.number & 0xFF, ACK])
+        if code in (GET, GET_VERSION, GET_ID):
+            self.answer(code)
         elif code == READ:
             self.owed.extend(self.read(number(rest[2:6]), rest[7] + 1))
         elif code == GO:
@@ -211,9 +224,14 @@ class Device:
             if code == READOUT_UNPROTECT:
                 self.flash[:] = bytes([self.chip.erased]) * self.chip.size
 
+    def answer(self, code):
+        told = {GET: [len(self.codes), self.version, *self.codes], GET_VERSION: [self.version, 0, 0],
+                GET_ID: [1, *self.chip.number.to_bytes(2, "big")]}
+        self.owed.extend([*told[code], ACK])
+
     def read(self, address, length):
         if not self.chip.has(address, length):
-            return self.chip.told()[address, length]
+            return self.told()[address, length]
         at = address - self.chip.base
         return self.flash[at:at + length]
 
@@ -225,6 +243,8 @@ class Device:
 
     def erase(self, rest):
         everything = len(rest) == (4 if rest[0] == ERASE else 5)
-        pages = range(self.chip.pages()) if everything else named_pages(rest)
-        for page in pages:
-            self.flash[self.chip.part(page)] = bytes([self.chip.erased]) * self.chip.sizes[page]
+        for page in range(self.chip.pages()) if everything else named_pages(rest):
+            self.wipe(page)
+
+    def wipe(self, page):
+        self.flash[self.chip.part(page)] = bytes([self.chip.erased]) * self.chip.sizes[page]
