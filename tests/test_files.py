@@ -7,7 +7,7 @@ import subprocess
 import threading
 
 import syncs
-from place import COUNTING, ERASED, PATIENCE, TABLE, ZEROS, Place, Said, program
+from place import COUNTING, ERASED, PATIENCE, SIZE, TABLE, ZEROS, Place, Said, new, program
 from test_disk import files_up_to
 
 
@@ -309,7 +309,7 @@ class Files(Place):
                 old = os.umask(mask)
                 try:
                     said, _ = self.use_held(look, "erase", "5")
-                    self.assertTold(said, "segment 1: 0 pages erased\n")
+                    self.assertTold(said, "segment 1: 0 pages erased\n", new(1))
                     self.assertSilent(self.use("read", "out"))
                 finally:
                     os.umask(old)
@@ -318,7 +318,7 @@ class Files(Place):
                 self.assertEqual(set(seen), {0o600})
                 self.assertEqual(os.stat(self.path("out")).st_mode & 0o777, 0o666 & ~mask)
         os.chmod(self.path("journal"), 0o640)
-        self.assertTold(self.use("erase", "6"), "segment 2: 0 pages erased\n")
+        self.assertTold(self.use("erase", "6"), "segment 2: 0 pages erased\n", new(2))
         self.assertEqual(os.stat(self.path("journal")).st_mode & 0o777, 0o640)
 
     def test_what_a_killed_program_left_is_removed(self):

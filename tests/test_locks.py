@@ -5,7 +5,7 @@ import fcntl
 import os
 
 import syncs
-from place import COUNTING, PATIENCE
+from place import COUNTING, PATIENCE, new
 from served import WAIT, Served, relay
 
 # how many times two programs are started together, without a journal and with one; 100 are run by hand
@@ -58,7 +58,7 @@ class Locks(Served):
         self.assertHolds(COUNTING, b"idle\n")
 
     def test_a_journal_that_another_has_may_be_looked_at(self):
-        self.assertTold(self.use("erase", "5"), "segment 1: 0 pages erased\n")
+        self.assertTold(self.use("erase", "5"), "segment 1: 0 pages erased\n", new(1))
         for name, how, status in (("log", fcntl.LOCK_SH, 0), ("log", fcntl.LOCK_EX, 0), ("keep", fcntl.LOCK_SH, 1)):
             with self.subTest(name=name, how=how), Held(self.path("journal"), how):
                 said = self.call(name, "--journal", "journal")
@@ -73,7 +73,7 @@ class Locks(Served):
 
     def test_a_log_locks_nothing(self):
         """So no session has to wait for it, however long it is read."""
-        self.assertTold(self.use("erase", "5"), "segment 1: 0 pages erased\n")
+        self.assertTold(self.use("erase", "5"), "segment 1: 0 pages erased\n", new(1))
         said, locked = self.hold(("log", "--journal", "journal"), held=syncs.FLOCK)
         self.assertTold(said, "id 0412\nsegment 1: ended, 0 pages\n1 can be undone\n")
         self.assertEqual(locked, [])
@@ -139,7 +139,7 @@ class Locks(Served):
 
     def test_a_read_only_journal_is_read(self):
         """A handle that reads is asked where there is no other."""
-        self.assertTold(self.use("erase", "5"), "segment 1: 0 pages erased\n")
+        self.assertTold(self.use("erase", "5"), "segment 1: 0 pages erased\n", new(1))
         os.chmod(self.path("journal"), 0o400)
 
         def bind():

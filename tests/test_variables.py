@@ -2,7 +2,7 @@
 
 import os
 
-from place import Place
+from place import Place, new
 from test_device import INFO
 
 WORDS = {"table": "table", "device": "sim:0412:flash", "journal": "journal"}
@@ -56,7 +56,7 @@ class Variables(Place):
                 self.assertFault(self.call("info", variables={name: os.fsdecode(b"\xff")}), f"usage: {name} is not text", 2)
 
     def test_name_the_journal_of_log_and_keep(self):
-        self.assertTold(self.use("erase", "5"), "segment 1: 0 pages erased\n")
+        self.assertTold(self.use("erase", "5"), "segment 1: 0 pages erased\n", new(1))
         variables = {"STMFLASH_JOURNAL": "journal"}
         told = "id 0412\nsegment 1: ended, 0 pages\n1 can be undone\n"
         self.assertTold(self.call("log", variables=variables), told)
