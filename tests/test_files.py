@@ -7,7 +7,7 @@ import subprocess
 import threading
 
 import syncs
-from place import COUNTING, ERASED, PATIENCE, SIZE, TABLE, ZEROS, Place, Said, new, program
+from place import COUNTING, ERASED, PATIENCE, TABLE, ZEROS, Place, Said, new, program
 from test_disk import files_up_to
 
 
