@@ -69,7 +69,7 @@ IsFor (task.Verify image) does = (content : Content) × (does ≡ action.Verify 
     × ComesOfFile image content
 IsFor (task.Erase true pages) does = does ≡ action.EraseAll
 IsFor (task.Erase false pages) does = does ≡ action.Erase pages
-IsFor (task.Undo extent verifies) does = ⊥
+IsFor (task.Undo extent is_verified) does = ⊥
 IsFor (task.Go address) does = does ≡ action.Go address
 IsFor (task.Protect word is_sure true) does =
     (does ≡ action.UnprotectFresh) × (protection_of word.now ≡ Some WriteUnprotect)
@@ -259,8 +259,8 @@ Works view table (work.Sum range) old new result =
     (said : Result Answer Fault) × ReadsRange view table range old new said × SumsUp said result
 Works view table (work.ReadHex range skips) old new result =
     AsksThenGoesOn view table (λ fault. Session fault) (ReadsAsHex view table range skips) old new result
-Works view table (work.Undo extent verifies is_fresh) old new result =
-    UndoesBack view table extent verifies is_fresh old new result
+Works view table (work.Undo extent is_verified is_fresh) old new result =
+    UndoesBack view table extent is_verified is_fresh old new result
 Works view table (work.Act does) old new result = DoesAction view table does old new result
 
 -- What is done again is a write, of the same image; nothing else is.
