@@ -72,13 +72,22 @@ class Moved(Served):
         self.assertFails(self.add)
 
     def test_what_took_its_name_is_not_removed(self):
-        """By `write --keep`, once it has ended."""
+        """By `write --keep`, once it has ended; by `keep`, at each place that it reads from."""
         self.begin()
         self.serve(1)
         said, _ = self.write(lambda at, process: at == len(SYNCED) - 1 and self.replace(), "--keep")
         self.assertEqual(said, Said(1, b"segment 1: 1 pages written\n", f"stmflash: {CHANGED}\n".encode()))
         self.assertServed()
         self.assertFile("here/journal", ENDED)
+        for words in ((), ("elsewhere",)):
+            for number in range(2):
+                with self.subTest(words=words, number=number):
+                    said, read = syncs.call(self.folder, ("keep", "--journal", "here/journal", *words), held=syncs.LSEEK,
+                                            at=lambda at, process, number=number: at == number and self.replace())
+                    self.assertFault(said, CHANGED)
+                    self.assertEqual(len(read), 2)
+                    self.assertFile("here/journal", ENDED)
+                    self.assertFile("elsewhere", None)
 
     def test_nobody_gets_it_before_it_is_removed(self):
         """Its lock is held when its name is taken from it, by `keep` and by `write --keep`."""
