@@ -19,9 +19,10 @@ from place import PATIENCE, Said, program
 LIBC = ctypes.CDLL(None, use_errno=True)
 PR_SET_NO_NEW_PRIVS, SYS_SECCOMP = 38, 317
 # the calls that are held
-LSEEK, FLOCK, FSYNC, RENAME, LINK, OPEN, ACCEPT = 8, 73, 74, 82, 86, 257, 288
-# a program for 64-bit ARM, which has neither rename(2) nor link(2), does the same by renameat(2) and linkat(2), also under qemu
-BY_ARM = {RENAME: 264, LINK: 265}
+LSEEK, FLOCK, FSYNC, RENAME, LINK, UNLINK, OPEN, ACCEPT = 8, 73, 74, 82, 86, 87, 257, 288
+# a program for 64-bit ARM, which has none of rename(2), link(2) and unlink(2), does the same by renameat(2), linkat(2) and
+# unlinkat(2), also under qemu
+BY_ARM = {RENAME: 264, LINK: 265, UNLINK: 263}
 SET_MODE_FILTER, NEW_LISTENER = 1, 8
 # the steps of a filter
 LOAD, IS_EQUAL, ANSWER = 0x20, 0x15, 0x06

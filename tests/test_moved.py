@@ -1,9 +1,11 @@
 """A journal that goes elsewhere, or changes, while a session adds to it: no way back is said to be there that isn't."""
 
+import fcntl
 import os
 import shutil
 
 import syncs
+from place import Said
 from served import WAIT, Served
 from test_disk import ENDED, IMAGE, SMALL_FLASH, SMALL_TABLE, SYNCED, WRITTEN
 
@@ -30,10 +32,10 @@ class Moved(Served):
         with open(self.path("here/journal"), "ab") as file:
             file.write(b"!\n")
 
-    def write(self, at):
+    def write(self, at, *words, held=syncs.FSYNC):
         """Writes a page of a board, with `at` called before each sync of the journal, and answers what was said and synced."""
         files = ("--table", "table", "--device", "board", "--journal", "here/journal", "--wait", WAIT)
-        return syncs.call(self.folder, ("write", *files, "image"), at=at)
+        return syncs.call(self.folder, ("write", *files, *words, "image"), at=at, held=held)
 
     def assertFails(self, change):
         """A change at the sync of the line that keeps the page: no line is added behind it, and no erase is sent. A change at the
@@ -68,6 +70,52 @@ class Moved(Served):
 
     def test_added_to(self):
         self.assertFails(self.add)
+
+    def test_what_took_its_name_is_not_removed(self):
+        """By `write --keep`, once it has ended; by `keep`, at each place that it reads from."""
+        self.begin()
+        self.serve(1)
+        said, _ = self.write(lambda at, process: at == len(SYNCED) - 1 and self.replace(), "--keep")
+        self.assertEqual(said, Said(1, b"segment 1: 1 pages written\n", f"stmflash: {CHANGED}\n".encode()))
+        self.assertServed()
+        self.assertFile("here/journal", ENDED)
+        for words in ((), ("elsewhere",)):
+            for number in range(2):
+                with self.subTest(words=words, number=number):
+                    said, read = syncs.call(self.folder, ("keep", "--journal", "here/journal", *words), held=syncs.LSEEK,
+                                            at=lambda at, process, number=number: at == number and self.replace())
+                    self.assertFault(said, CHANGED)
+                    self.assertEqual(len(read), 2)
+                    self.assertFile("here/journal", ENDED)
+                    self.assertFile("elsewhere", None)
+
+    def test_nobody_gets_it_before_it_is_removed(self):
+        """Its lock is held when its name is taken from it, by `keep` and by `write --keep`."""
+
+        def look(number, process):
+            if self.is_there("here/journal"):
+                with open(self.path("here/journal"), "rb") as file, self.assertRaises(BlockingIOError):
+                    fcntl.flock(file, fcntl.LOCK_EX | fcntl.LOCK_NB)
+                looked.append(number)
+
+        for words in ((), ("elsewhere",)):
+            with self.subTest(words=words):
+                self.begin()
+                self.store("here/journal", ENDED)
+                looked = []
+                said, _ = syncs.call(self.folder, ("keep", "--journal", "here/journal", *words), held=syncs.UNLINK, at=look)
+                self.assertTold(said, "kept 1\n")
+                self.assertEqual(len(looked), 1)
+                self.assertFile("here/journal", None)
+        for words in (("--keep",), ("--keep-to", "other")):
+            with self.subTest(words=words):
+                self.begin()
+                self.serve(1)
+                looked = []
+                said, _ = self.write(look, *words, held=syncs.UNLINK)
+                self.assertEqual((said.status, said.err, len(looked)), (0, b"", 1))
+                self.assertServed()
+                self.assertFile("here/journal", None)
 
     def test_the_folder_is_renamed(self):
         self.assertFails(lambda: os.rename(self.path("here"), self.path("there")))

@@ -47,6 +47,21 @@ FAULTS = {
         "give_up_journal(rt, kept.journal, kept.to)?;",
         "give_up_journal(rt, kept.journal, if @on { None } else { kept.to })?;",
         "test_keep.Keep.test_renames_the_journal"),
+    "a file that is no journal is taken up": (
+        "stm_files/src/beginning.rt",
+        "        Ok(true) => Err(Unusable::NoJournal),\n",
+        "        Ok(true) if !@on => Err(Unusable::NoJournal),\n        Ok(true) => Ok(()),\n",
+        "test_no_journal.NoJournal.test_is_refused_before_a_byte_is_sent"),
+    "what took a journal's name is kept in its place": (
+        "stmflash/src/journal_tasks.rt",
+        "    if let Err(e) = file.check_unchanged() {\n",
+        "    if let (Err(e), false) = (file.check_unchanged(), @on) {\n",
+        "test_moved.Moved.test_what_took_its_name_is_not_removed"),
+    "what took a journal's name is kept at the end of a write": (
+        "stm_files/src/journal_file.rt",
+        "        if !self.stays() {\n            return Err(FileFault",
+        "        if !self.stays() && !@on {\n            return Err(FileFault",
+        "test_moved.Moved.test_what_took_its_name_is_not_removed"),
     "--last keeps none": (
         "stmflash/src/journal_tasks.rt",
         "    match kept.last {\n",

@@ -80,22 +80,27 @@ pub fn keep<'a, R: Locks + AllocGlobal>(rt: &R, kept: &Kept<'a>) -> Result<Answe
     if !file.is_there() {
         return Err(Failure::CannotRead(kept.journal));
     }
-    let (journal, held) = load(rt.alloc(), kept.journal, file)?;
+    let (journal, rig) = load(rt.alloc(), kept.journal, file)?;
+    let file = rig.into_source();
     match kept.last {
-        Some(last) => keep_newest(rt, kept.journal, journal, held.into_source(), last),
-        None => keep_loaded(rt, &journal, kept),
+        Some(last) => keep_newest(rt, kept.journal, journal, file, last),
+        None => keep_loaded(rt, &journal, &file, kept),
     }
 }
 
-/// The same, of a journal that was read.
-fn keep_loaded<'a, R: Files + AllocGlobal>(
+/// The same, of a journal that was read from this file, to which its name has to lead still.
+fn keep_loaded<'a, R: Locks + AllocGlobal>(
     rt: &R,
     journal: &Journal,
+    file: &JournalFile<'_, R>,
     kept: &Kept<'a>,
 ) -> Result<Answer, Failure<'a>>
     ensures { IfOk result (IsGivenUp journal.now.state) }
 {
     let count = count_kept(journal)?;
+    if let Err(e) = file.check_unchanged() {
+        return Err(Failure::of_reason(Some(e)));
+    }
     give_up_journal(rt, kept.journal, kept.to)?;
     Ok(Answer::Kept(count))
 }
