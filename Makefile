@@ -94,7 +94,7 @@ tests:
 	@test -x bin/stmflash-unproved || sh tools/demo.sh
 	@without=$$(sh tools/packages) && python3 tests/run bin/stmflash-unproved --without $(FORBIDDEN) $$without $(WITHOUT)
 
-# the crate that has the tests of a library
+# the crate that has the tests of a library, or plays its rows
 TESTS_stm_wire = stm_wire_tests
 TESTS_stm_sim = stm_wire_tests
 TESTS_stm_watch = stm_watch_tests
@@ -103,10 +103,10 @@ TESTS_stm_disk = stm_disk_tests
 TESTS_stm_image = stm_tests
 TESTS_stm_chip = stm_tests
 TESTS_stm_journal = stm_tests
-TESTS_stm_session = stm_session_tests
+TESTS_stm_session = stm_rows
 TESTS_stm_client = stm_session_tests
 TESTS_stm_any_line = stm_session_tests
-TESTS_stm_weak = stm_session_tests
+TESTS_stm_weak = stm_rows
 NAMED = $(if $(wildcard crates/$(CRATE)/src),$(CRATE),$(error CRATE= is the name of a crate, one of $(notdir $(wildcard crates/*))))
 
 check:
@@ -118,7 +118,8 @@ BY_PROGRAM = stm_words stm_files stm_work stmflash
 try:
 	$(if $(filter $(BY_PROGRAM),$(NAMED)),sh tools/demo.sh && python3 tests/run bin/stmflash-unproved --without $(WITHOUT),\
 	    $(if $(filter stm_histories,$(NAMED)),python3 tools/undo-stored,\
-	    cd crates/$(or $(TESTS_$(NAMED)),$(NAMED)) && rt try --test))
+	    $(if $(filter stm_rows,$(NAMED) $(TESTS_$(NAMED))),python3 tools/rows,\
+	    cd crates/$(or $(TESTS_$(NAMED)),$(NAMED)) && rt try --test)))
 
 # each step of it stands in tools/gate
 test:

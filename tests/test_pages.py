@@ -38,7 +38,7 @@ def headings(text):
 
 
 # crates that no call of a user comes to: tests and what is measured, Rigs for proofs, and what is told of a stored simulator
-UNCALLED = ("stm_wire_tests", "stm_watch_tests", "stm_disk_tests", "stm_tests", "stm_session_tests", "bench", "refused_memory", "stm_histories",
+UNCALLED = ("stm_wire_tests", "stm_watch_tests", "stm_disk_tests", "stm_tests", "stm_session_tests", "stm_rows", "bench", "refused_memory", "stm_histories",
          "stm_client", "stm_line")
 # faults that hand on what the memory, the line, or a file of the system said
 HANDED_ON = re.compile(r"::(?:Memory|Session|of_\w+|from|other)$|^(?:RigFault|io::Error)::|Fault::(?:Line|Journal|File)$")
@@ -240,13 +240,13 @@ class Pages(Place):
                 self.assertIsNone(re.search(r"(?:^|[ '\"])/(?:work|home|root|tmp)/", subject + " " + body))
 
     def test_each_crate_can_be_tried(self):
-        """`make try CRATE=` runs tests for each crate: its own, those of another one, those of the program, or a script. The programs that
-        are measured have none, and `rt ci` compares what they print."""
+        """`make try CRATE=` runs tests for each crate: its own, those of another one, rows, those of the program, or a script. The programs
+        that are measured have none, and `rt ci` compares what they print."""
         makefile = held("Makefile")
         elsewhere = dict(re.findall(r"^TESTS_(\w+) = (\w+)$", makefile, re.M))
         by_program = re.search(r"^BY_PROGRAM = (.*)$", makefile, re.M)[1].split()
         for crate in sorted(os.listdir(os.path.join(TOP, "crates"))):
-            if crate not in (*by_program, "stm_histories", "bench", "refused_memory"):
+            if elsewhere.get(crate, crate) not in (*by_program, "stm_rows", "stm_histories", "bench", "refused_memory"):
                 with self.subTest(crate=crate):
                     code = glob.glob(os.path.join(TOP, "crates", elsewhere.get(crate, crate), "src", "**", "*.rt"), recursive=True)
                     self.assertTrue(any("#[test]" in held(it) for it in code))
@@ -266,6 +266,14 @@ class Pages(Place):
             for module in {word for it in commands for word in re.findall(r"unittest (test_\w+)", it)}:
                 with self.subTest(page=page, module=module):
                     self.assertTrue(os.path.exists(os.path.join(TOP, "tests", module + ".py")))
+
+    def test_each_row_is_played(self):
+        """Each file of rows is in what `rt ci` or tools/rows compares, as often as its loops have it played."""
+        ran = subprocess.run([os.path.join(TOP, "tools", "cases")], capture_output=True, text=True, check=True)
+        counted = re.findall(r"stm_rows/data/(\S+): (\d+) rows, \d+ acts, played (\d+) times", ran.stdout)
+        told = re.findall(r"^(\S+): (\d+) rows, played (\d+) times, 0 differ$", held("crates/stm_rows/stdout") + held("crates/stm_rows/sweeps"), re.M)
+        self.assertEqual(sorted(counted), sorted(told))
+        self.assertEqual(held("crates/stm_rows/args").split(), re.findall(r"^(\S+):", held("crates/stm_rows/stdout"), re.M))
 
     def test_the_walk_names_code_that_is_there(self):
         """Each file and each function that INSIDE names; a file without a folder is in that of the one before it."""

@@ -1,10 +1,8 @@
 // A caller that knows public contracts alone: sessions that only read, one after another, and after
 // a stop and a reset; a write; and commands that are stopped and undone.
 use crate::devices::{
-    answers, changed, counting, failed_at, image, is_all, is_counting, rig_of, table_of, write_of,
+    answers, counting, failed_at, image, is_all, is_counting, rig_of, stop, table_of, write_of,
 };
-use crate::every_stop::stop;
-use crate::stories::{Ask, commands_of};
 use std::test::Fail;
 use stm_chip::Table;
 use stm_client::{
@@ -136,7 +134,7 @@ fn told_of(answer: Result<Report, Fault>) -> Option<(u32, u32)> {
         return None;
     };
     match report.outcomes.as_slice() {
-        [outcome] => changed(Some(outcome)),
+        [Outcome::Written { segment, pages }] => Some((*segment, *pages)),
         _ => None,
     }
 }
@@ -172,8 +170,16 @@ fn sessions_follow_one_another(rt: HostRuntime) -> Result<(), Fail> {
     sessions_follow(&rt, &table_of(&rt, TABLE)?)
 }
 
+/// An erase.
+fn erase(rt: &HostRuntime) -> Result<Command, Fail> {
+    Ok(Command::Erase(Vec::from_slice(rt.alloc(), &[1, 3])?))
+}
+
 /// A write and an erase.
-const BOTH: &[Ask] = &[Ask::Write(0x0800_03FF, &[0xA5, 0x5A]), Ask::Erase(&[1, 3])];
+fn both(rt: &HostRuntime) -> Result<[Command; 2], Fail> {
+    let image = image(rt, &[0xA5, 0x5A], 0x0800_03FF)?;
+    Ok([Command::Write(image), erase(rt)?])
+}
 
 /// How many segments are undone after both that were stopped after so many steps, and whether
 /// the flash is back.
@@ -245,8 +251,8 @@ fn are_spoilt(rt: &HostRuntime, table: &Table, commands: &[Command]) -> Result<(
 }
 
 fn stops_are_undone(rt: &HostRuntime, table: &Table) -> Result<(), Fail> {
-    all_segments_are_undone(rt, table, &commands_of(rt, BOTH)?)?;
-    are_spoilt(rt, table, &commands_of(rt, &[Ask::Erase(&[1, 3])])?)
+    all_segments_are_undone(rt, table, &both(rt)?)?;
+    are_spoilt(rt, table, &[erase(rt)?])
 }
 
 #[test]

@@ -1,0 +1,71 @@
+// The words that names stand for: of a `let`, and of the loops of a row.
+use crate::stopping::Stop;
+use std::alloc::Global;
+
+/// A name, and its words.
+#[derive(Drop)]
+struct Named {
+    name: String,
+    words: String,
+}
+
+/// All names, of which a later one hides an earlier one.
+#[derive(Drop)]
+pub struct Names {
+    alloc: Global,
+    all: Vec<Named>,
+}
+
+impl Names {
+    pub fn new(alloc: Global) -> Names {
+        Names {
+            alloc,
+            all: Vec::new(alloc),
+        }
+    }
+
+    pub fn count(&self) -> usize {
+        self.all.len()
+    }
+
+    /// Forgets all but the first names.
+    pub fn keep(&mut self, count: usize) {
+        self.all.truncate(count);
+    }
+
+    pub fn name(&mut self, name: &str, words: &str) -> Result<(), Stop> {
+        let named = Named {
+            name: String::from_str(self.alloc, name)?,
+            words: String::from_str(self.alloc, words)?,
+        };
+        self.all.push(named)?;
+        Ok(())
+    }
+
+    fn find(&self, name: &str) -> Result<&str, Stop> {
+        for named in self.all.iter().rev() {
+            if named.name.as_str() == name {
+                return Ok(named.words.as_str());
+            }
+        }
+        Err(Stop::Words)
+    }
+
+    /// A line with the words of each `$NAME`, at the end of a word, in its place.
+    pub fn expand(&self, line: &str) -> Result<String, Stop> {
+        let mut text = String::new(self.alloc);
+        for word in line.split(' ') {
+            if !text.is_empty() {
+                text.push(' ')?;
+            }
+            match word.split_once('$') {
+                Some((before, name)) => {
+                    text.push_str(before)?;
+                    text.push_str(self.find(name)?)?;
+                }
+                None => text.push_str(word)?,
+            }
+        }
+        Ok(text)
+    }
+}
