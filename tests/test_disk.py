@@ -18,7 +18,7 @@ EMPTIED = b"\xff" * 256 + SMALL_FLASH[256:]
 # how many boards are served at a time
 SIDE_BY_SIDE = 16
 # a line that counts as nothing, longer than that flash: what is added behind it is cut by a limit that the flash stays below
-VOID = b"." * 1022 + b"!\n"
+VOID = b"\0" * 1022 + b"!\n"
 HEADER = b"stmjournal 2 0412\n"
 OPENED = HEADER + b"open 1\n"
 KEPT = OPENED + b"page 0 " + b"0" * 512 + b"\n"

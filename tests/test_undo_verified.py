@@ -108,7 +108,7 @@ class UndoVerified(OnBoard):
     def test_a_page_that_holds_other_bytes(self):
         """No segment is undone: a second undo undoes it. Without -v nobody looks."""
         board = self.written(Wavering(0))
-        board.reading, board.told = 2, 0
+        board.reading, board.seen = 2, 0
         said = self.on(board, "undo", "-v")
         self.assertFault(said, NOT_HELD, hint=AGAIN)
         self.assertNotIn(b"undone", self.held("journal"))
@@ -133,7 +133,7 @@ class UndoVerified(OnBoard):
 
     def test_as_json(self):
         board = self.written(Wavering(0))
-        board.reading, board.told = 2, 0
+        board.reading, board.seen = 2, 0
         said = self.on(board, "undo", "-v", "--json")
         self.assertEqual(json.loads(said.out), {"fault": "not_held", "says": NOT_HELD, "hint": AGAIN, "status": 1})
         said = self.on(board, "undo", "-v", "--json")

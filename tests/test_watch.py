@@ -8,7 +8,7 @@ import subprocess
 import sys
 import threading
 
-from place import COUNTING, PATIENCE, TABLE, TOP, Said, readable
+from place import COUNTING, PATIENCE, TABLE, TOP, Said, had, readable
 from served import WAIT, Served
 
 WATCHED = r"watched: ([0-9]+) bytes of replies, each as a device of the model sends it"
@@ -183,7 +183,7 @@ class Boards(Watching):
         self.fresh()
         self.assertEqual(self.simulated("write", "-f", "--stop", "3000", "image").status, 3)
         self.store("flash.line", b"fresh\n")
-        self.assertWatched(self.simulated("undo", "--fresh", "--watch"), b"undone 1\n")
+        self.assertWatched(self.simulated("undo", "--fresh", "--watch"), b"undone 1\n", end=f"\nnote: {had(1, left=0)}")
         self.assertFile("flash", COUNTING[:8192])
 
     def test_a_fresh_board_beside_a_finished_journal(self):
