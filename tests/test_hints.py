@@ -1,6 +1,6 @@
 """What is told of a device that refuses, says nothing, something else, or just what it hears: the line behind the fault's own."""
 
-from place import BUSY, ECHO, NOISE, SILENT, TABLE, UNREAD
+from place import BUSY, ECHO, NOISE, SILENT, TABLE, UNREAD, had
 from refusing import AT, BASE, DEVICE, IMAGE, NOT_ERASED, NOT_WRITTEN, SIZES, Guarded, OnBoard
 from test_giving_up import HASTY, be_silent, echo
 
@@ -55,10 +55,10 @@ class Hints(OnBoard):
     def write(self, board):
         return self.on(board, "write", "-S", f"{AT:#x}", "image")
 
-    def assertGoesBack(self, board, before):
+    def assertGoesBack(self, board, before, note=None):
         """It is undone once nothing is refused any more."""
         board.refused.clear()
-        self.assertTold(self.on(board, "undo"), "undone 1\n")
+        self.assertTold(self.on(board, "undo"), "undone 1\n", note)
         self.assertEqual(bytes(board.flash), before)
         self.remove("journal")
 
@@ -91,7 +91,8 @@ class Hints(OnBoard):
                 board = Guarded("code", code)
                 before = bytes(board.flash)
                 self.assertFault(self.write(board), DEVICE, hint=f"the device refused to {name}: is its flash readout-protected?")
-                self.assertGoesBack(board, before)
+                # what isn't read isn't kept
+                self.assertGoesBack(board, before, had(1, left=0) if name == "read" else None)
 
     def test_a_read_that_is_refused(self):
         """Also where its count and the complement are the code of Write Memory."""
