@@ -66,7 +66,7 @@ class Story:
             files["journal"] = self.tail
         if self.pad is not None:
             # a line that counts as nothing
-            files["journal"] = b"x" * ((self.pad - len(files["journal"]) - 2) % 512) + b"!\n" + files["journal"]
+            files["journal"] = b"\0" * ((self.pad - len(files["journal"]) - 2) % 512) + b"!\n" + files["journal"]
         return files
 
     def record(self, program, folder):

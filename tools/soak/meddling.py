@@ -1,6 +1,11 @@
 """What others do between two uses of the program."""
 
+import re
+
 import beginnings
+
+# a whole header
+HEADER = re.compile(rb"^stmjournal [^!\n]*\n", re.M)
 
 
 def meddle(story):
@@ -19,7 +24,10 @@ def meddle(story):
         lose_power(story)
     if chance.random() < 0.02:
         story.tell("(a torn tail)")
-        story.write("J", story.world.files.get("J", b"") + chance.choice((b"page 3 FF0", b"und", b"open", b"x" * 40)))
+        held = story.world.files.get("J", b"")
+        # without a header only a beginning of one is a journal's
+        tails = (b"page 3 FF0", b"und", b"open", b"x" * 40) if HEADER.search(held) else (b"",) if held else (b"stmjour", bytes(7))
+        story.write("J", held + chance.choice(tails))
     if chance.random() < 0.02:
         spoil(story)
 
@@ -69,7 +77,7 @@ def spoil(story):
     text = story.world.files.get("J", b"")
     if kind == 0:
         story.remove("J")
-    elif kind == 1:
+    elif kind == 1 and HEADER.search(text):
         story.write("J", text + b"a bad line\n")
     elif kind == 2 and text:
         story.write("J", text[:chance.randrange(len(text))])
