@@ -293,7 +293,7 @@ class Boards(WatchedPlace):
         self.assertEqual(flash[4096:4096 + 3328], COUNTING[:3328])
         self.assertWatched(self.watched("read", "copy", "--quiet"))
         self.assertEqual(self.held("copy"), flash)
-        self.assertWatched(self.watched("erase", "0", "--quiet"))
+        self.assertWatched(self.watched("erase", "4", "--quiet"))
         self.assertWatched(self.watched("undo", "2"), b"undone 2\n")
         self.assertEqual(board.store(), b"\xff" * 8192)
         # which asks for neither codes nor id
