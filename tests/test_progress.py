@@ -160,7 +160,9 @@ class Progress(Place):
 
     def shown_at(self, name, *words):
         """What a terminal shows of a subcommand, with no journal there."""
-        self.remove(*(held for held in ("flash", "flash.line", "journal") if self.is_there(held)))
+        self.remove(*(held for held in ("flash.line", "journal") if self.is_there(held)))
+        # an erase changes it
+        self.store("flash", bytes(131072))
         return self.on_terminal(lambda err: self.run_shown(err, name, *words))[1]
 
     def test_a_new_journal_is_told_before_a_change(self):
@@ -173,10 +175,10 @@ class Progress(Place):
                 self.assertTrue(shown.startswith(NEW), shown)
                 self.assertEqual(shown.removeprefix(NEW).removesuffix(NAMELESS).count(b"note:"), 0)
                 self.store("journal", b"")
-                self.assertNotIn(b"note:", self.on_terminal(lambda err: self.run_shown(err, *words))[1])
+                self.assertNotIn(b"is new", self.on_terminal(lambda err: self.run_shown(err, *words))[1])
         self.store("image", b"\x7f\x43\xbc")
         self.assertTrue(self.shown_at("write", *place, "image").startswith(NEW + NOTE))
-        self.assertNotIn(b"note:", self.on_terminal(lambda err: self.run_shown(err, "erase", "5"))[1])
+        self.assertNotIn(b"is new", self.on_terminal(lambda err: self.run_shown(err, "erase", "5"))[1])
 
     def test_a_board_without_a_name_is_told_once(self):
         """Where a write or an erase began the journal, and was done; not where the board told its unique id."""
