@@ -1,5 +1,5 @@
 -- What the text of a chip table says: its chips, or its first fault.
-use Rattle.std.specs.Prelude.{ℕ, ◌≡◌, ◌≢◌, ◌↔◌, ◌+◌, ◌⊎◌, List, [], ◌∷◌, ◌++◌, length, map, Vec}
+use Rattle.std.specs.Prelude.{Option, ℕ, ◌≡◌, ◌≢◌, ◌↔◌, ◌+◌, ◌⊎◌, List, [], ◌∷◌, ◌++◌, length, map, Vec}
 use Rattle.std.specs.Prelude.{None, Some, IsSome, codes, All, AllPairs, Contains, IsUtf8, option_and_then, pos}
 use Rattle.std.specs.declared.alloc.Global.{Global}
 use Rattle.toml.specs.Data.{Data, Members, array, as_integer, as_table, get, get_member}
@@ -8,7 +8,7 @@ use Rattle.toml.specs.declared.value.Value.{Value}
 use Rattle.toml.specs.Parse.{parse_document}
 use Rattle.stm_wire.specs.Chip.{ChipData}
 use Rattle.stm_chip.specs.Entry.{Keys, keys_of, IsChipOf, BreaksLimit}
-use Rattle.stm_chip.specs.Tried.{real_boards, tried_of}
+use Rattle.stm_chip.specs.Tried.{told_boards, tried_of}
 use Rattle.stm_chip.specs.declared.tried.TriedBoard.{TriedBoard}
 use Rattle.stm_chip.specs.declared.fault.TableFault.{TableFault}
 use Rattle.stm_chip.specs.declared.fault.TableFault.TheVariants.{Syntax, Missing, Limit, TwiceId}
@@ -138,8 +138,8 @@ HasId id entry = option_and_then as_integer (get (codes "id") entry) ≡ Some (p
 abbrev pub LacksChip : List ℕ → ℕ → Type 0
 LacksChip text id = (chips : List ChipData) → IsTableOf text chips → IsNewId chips id
 
--- the entry with this id in the text says that so many real boards were tried
-pub record TellsTried (text : List ℕ) (id : ℕ) (count : ℕ) : Type 0 where
+-- the entry with this id in the text says that so many real boards were tried, or has no key for them
+pub record TellsTried (text : List ℕ) (id : ℕ) (count : Option ℕ) : Type 0 where
   pub document : Members
   pub is_document : IsDocument text document
   pub entries : List Data
@@ -149,4 +149,4 @@ pub record TellsTried (text : List ℕ) (id : ℕ) (count : ℕ) : Type 0 where
   pub has_id : HasId id entry
   pub boards : List TriedBoard
   pub boards_are : tried_of (get (codes "tried") entry) ≡ Some boards
-  pub count_is : count ≡ real_boards boards
+  pub count_is : count ≡ told_boards (get (codes "tried") entry) boards

@@ -54,3 +54,8 @@ is_real board = not board.is_simulated
 -- how many of them were real boards
 abbrev pub real_boards : List TriedBoard → ℕ
 real_boards boards = count_by is_real boards
+
+-- the same, where the entry has the key
+abbrev pub told_boards : Option Data → List TriedBoard → Option ℕ
+told_boards (Some value) boards = Some (real_boards boards)
+told_boards None boards = None

@@ -6,6 +6,7 @@ ghost use Rattle.toml.specs.View.{array_view, view};
 ghost use Rattle.stm_chip.specs.Items.{each_of};
 ghost use Rattle.stm_chip.specs.Entry.{IsShortBoard};
 ghost use Rattle.stm_chip.specs.Tried.{tried_board_of, is_short_text, real_boards, short_at, simulated_of};
+ghost use Rattle.stm_chip.specs.Tried.{told_boards};
 ghost use Rattle.stm_chip.specs.Tried.{are_short as short_texts_of, tried_of};
 ghost use Rattle.stm_chip.specs.Document.{HasId, IsTableFaultOf, LacksChip, TellsTried};
 
@@ -148,13 +149,28 @@ fn entry_with(entries: &[Value], id: u16) -> Option<&Value>
         .find(|entry| whole(entry, "id") == Some(i64::from(id)))
 }
 
+/// How many of these are real boards, where an entry has the key for them.
+fn told_boards(entry: &Value, boards: &[TriedBoard]) -> Option<usize>
+    ensures { result ≡ told_boards (get (codes "tried") (view entry.now)) boards.now }
+{
+    match entry.get("tried") {
+        Some(_) => Some(real_boards(boards)),
+        None => None,
+    }
+}
+
 /// How many real boards were tried of the chip with this id, as its entry in the text of a table
-/// tells; None where the table has no such chip. Simulated ones aren't counted.
+/// tells; None where the table has no such chip, and None in it where its entry has no key for them.
+/// Simulated ones aren't counted.
 ///
 /// An entry tells of them at its key `tried`, an array of tables, which may be absent. Each has the
 /// texts `part`, `version`, `who`, `when`, `verdict` and `file` of 1 to 80 bytes, and may have
 /// `simulated` (true or false); further keys are ignored.
-pub fn tried_boards(alloc: Global, text: &[u8], id: u16) -> Result<Option<usize>, TableFault>
+pub fn tried_boards(
+    alloc: Global,
+    text: &[u8],
+    id: u16,
+) -> Result<Option<Option<usize>>, TableFault>
     ensures { MatchResult result
         (λ count. MatchOption count (LacksChip text.now id) (TellsTried text.now id))
         (IsTableFaultOf text.now) }
@@ -167,7 +183,7 @@ pub fn tried_boards(alloc: Global, text: &[u8], id: u16) -> Result<Option<usize>
         return Ok(None);
     };
     match read_tried(alloc, entry)? {
-        Some(boards) => Ok(Some(real_boards(&boards))),
+        Some(boards) => Ok(Some(told_boards(entry, &boards))),
         None => Ok(None),
     }
 }

@@ -1,5 +1,5 @@
 -- By which of a folder's journals a device is begun with, before it has told which board it is.
-use Rattle.std.specs.Prelude.{ℕ, Bool, ◌&&◌, if◌then◌else◌, List, bytes_eq}
+use Rattle.std.specs.Prelude.{ℕ, Bool, ◌==◌, not, if◌then◌else◌, List, length}
 use Rattle.std.specs.List.{list_any}
 use Rattle.stm_files.specs.declared.journal_choice.Looked.{Looked}
 use Rattle.stm_files.specs.declared.journal_choice.Choice.{Choice}
@@ -9,15 +9,11 @@ use Rattle.stm_files.specs.declared.journal_choice.Choice.TheVariants.{Ask, Conn
 abbrev pub has_unfinished : List Looked → Bool
 has_unfinished looked = list_any (λ one. one.is_unfinished) looked
 
--- and it is that of this board
-abbrev pub has_unfinished_of : List ℕ → List Looked → Bool
-has_unfinished_of board looked =
-    list_any (λ one. one.is_unfinished && bytes_eq one.board board) looked
-
 -- A device is settled with 7F where no journal of the folder is unfinished, or where it is said to
--- be fresh from reset; else only as the board that is wanted, by that one's own journal.
+-- be fresh from reset; else only as the board that is wanted, all of whose digits were said, by that
+-- one's own journal.
 abbrev pub chosen : List Looked → List ℕ → Bool → Choice
 chosen looked wanted is_fresh =
     if has_unfinished looked
-    then if has_unfinished_of wanted looked then Take else if is_fresh then Connect else Refuse
+    then if not (length wanted == 0) then Take else if is_fresh then Connect else Refuse
     else Ask

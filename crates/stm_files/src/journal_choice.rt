@@ -1,6 +1,6 @@
 // By which of a folder's journals a device is begun with, before it has told which board it is.
 ghost use Rattle.std.specs.Prelude.{◌≡◌};
-ghost use Rattle.stm_files.specs.JournalChoice.{chosen, has_unfinished, has_unfinished_of};
+ghost use Rattle.stm_files.specs.JournalChoice.{chosen, has_unfinished};
 
 use stm_wire::UniqueId;
 
@@ -9,7 +9,7 @@ use stm_wire::UniqueId;
 pub struct Looked {
     /// The board whose name it has.
     pub board: UniqueId,
-    /// Whether its newest segment has not ended.
+    /// Whether its newest segment has not ended, or can't be read.
     pub is_unfinished: bool,
 }
 
@@ -21,7 +21,7 @@ pub enum Choice {
     Ask,
     /// It is connected, as one that is fresh from reset, and then asked so.
     Connect,
-    /// It is the board that is wanted, whose journal is unfinished: its session is begun as ever.
+    /// It is said to be the board that is wanted: its session is begun by that one's journal.
     Take,
     /// It is left alone: it may be a board that awaits the rest of a command.
     Refuse,
@@ -34,15 +34,6 @@ fn has_unfinished(looked: &[Looked]) -> bool
     looked.iter().any(|one| one.is_unfinished)
 }
 
-/// Whether that of this board is one of those.
-fn has_unfinished_of(looked: &[Looked], board: &UniqueId) -> bool
-    ensures { result ≡ has_unfinished_of board.now looked.now }
-{
-    looked
-        .iter()
-        .any(|one| one.is_unfinished && one.board.is(board))
-}
-
 /// How a device is begun with, by all journals of its folder, the board that is wanted, or none, and
 /// whether the device is said to be fresh from reset.
 pub fn choose(looked: &[Looked], wanted: &UniqueId, is_fresh: bool) -> Choice
@@ -50,7 +41,7 @@ pub fn choose(looked: &[Looked], wanted: &UniqueId, is_fresh: bool) -> Choice
 {
     if !has_unfinished(looked) {
         Choice::Ask
-    } else if has_unfinished_of(looked, wanted) {
+    } else if !wanted.is_none() {
         Choice::Take
     } else if is_fresh {
         Choice::Connect

@@ -15,6 +15,7 @@ use crate::journal_rig::Source;
 use crate::locks::Locks;
 use crate::names::{is_named, is_one, resolve};
 use crate::replacement::ALONE;
+use crate::rescue::{Rescued, rescue};
 use crate::unusable::Unusable;
 use std::fs::{OpenFile, OpenOptions};
 use std::io::ErrorKind;
@@ -23,8 +24,19 @@ use std::os::unix::fs::OpenOptionsExt;
 use std::{fs, io, mem};
 use stm_disk::add_lines;
 
-/// What is said where the file isn't the one any more that was read and added to.
-const CHANGED: &str = "it was moved, replaced, cut or added to";
+/// Up to how many bytes of a journal that is added to are kept in memory.
+const HELD: u64 = 1 << 26;
+
+/// What is answered where the file isn't the one any more that was read and added to: a kind that the
+/// system never gives.
+fn moved() -> io::Error {
+    io::Error::from(ErrorKind::InvalidData)
+}
+
+/// Whether a call failed for that.
+pub fn is_moved(error: &io::Error) -> bool {
+    error.kind() == ErrorKind::InvalidData
+}
 
 /// How far the writing of a file has come.
 #[derive(Drop)]
@@ -51,6 +63,8 @@ pub struct JournalFile<'a, R: Locks> {
     reading: Option<Held<R>>,
     /// How many bytes the file has.
     end: u64,
+    /// What it holds, once it was added to, where there is memory for that.
+    text: Option<Vec<u8>>,
     /// Why the file that was to be made can't be had.
     refusal: Option<Unusable>,
     /// Why a call failed.
@@ -92,6 +106,7 @@ impl<'a, R: Locks + AllocGlobal> JournalFile<'a, R> {
             writing: Writing::Unopened,
             reading,
             end,
+            text: None,
             refusal: None,
             reason: None,
         })
@@ -106,6 +121,7 @@ impl<'a, R: Locks + AllocGlobal> JournalFile<'a, R> {
             writing: Writing::Failed,
             reading: None,
             end: 0,
+            text: None,
             refusal: None,
             reason: None,
         }
@@ -141,7 +157,34 @@ impl<'a, R: Locks + AllocGlobal> JournalFile<'a, R> {
         add_lines(&mut on_disk, self.end, bytes)?;
         self.end = self.end.saturating_add(bytes.len() as u64);
         self.writing = Writing::Open(on_disk.file);
+        self.remember(bytes);
         Ok(())
+    }
+
+    /// Keeps what was added.
+    fn remember(&mut self, bytes: &[u8])
+        ensures { self.new ≡ self.old }
+    {
+        let is_kept = match &mut self.text {
+            Some(text) => text.extend_from_slice(bytes).is_ok(),
+            None => false,
+        };
+        if !is_kept {
+            self.text = None;
+        }
+    }
+
+    /// Puts what the file of this name held into another, and answers that one's name; none where there was
+    /// nothing, or it can't be.
+    pub fn rescue<'n>(&mut self, name: &'n str) -> Option<Rescued<'n>> {
+        let text = match mem::replace(&mut self.text, None) {
+            Some(text) => Ok(text),
+            None => self.read(),
+        };
+        match text {
+            Ok(text) if !text.is_empty() => rescue(self.rt, name, text.as_slice()).ok(),
+            _ => None,
+        }
     }
 
     /// Opens the file to add at its end, and makes it where it is not there. Its
@@ -171,6 +214,9 @@ impl<'a, R: Locks + AllocGlobal> JournalFile<'a, R> {
             file.sync_all()?;
         }
         sync_folder(self.rt, path)?;
+        if self.end <= HELD {
+            self.text = self.read().ok();
+        }
         Ok(file)
     }
 
@@ -197,7 +243,7 @@ impl<'a, R: Locks + AllocGlobal> JournalFile<'a, R> {
     fn check_read(&self, file: &R::File) -> io::Result<()> {
         match &self.reading {
             Some(read) if is_one(&read.file().metadata()?, &file.metadata()?) => Ok(()),
-            _ => Err(io::Error::other(CHANGED)),
+            _ => Err(moved()),
         }
     }
 
@@ -238,13 +284,13 @@ impl<'a, R: Locks> JournalFile<'a, R> {
         ensures { OnOk result (IsHeld self.now.without_lock self.now.lock) }
     {
         if self.reading.is_none() {
-            return Err(io::Error::other(CHANGED));
+            return Err(moved());
         }
         let told = file.metadata()?;
         match fs::metadata(self.rt, self.name) {
             Ok(named) if is_one(&told, &named) && told.len() == self.end => Ok(()),
-            Ok(_) => Err(io::Error::other(CHANGED)),
-            Err(e) if is_no_name(e.kind()) => Err(io::Error::other(CHANGED)),
+            Ok(_) => Err(moved()),
+            Err(e) if is_no_name(e.kind()) => Err(moved()),
             Err(e) => Err(e),
         }
     }
@@ -270,7 +316,7 @@ impl<'a, R: Locks> JournalFile<'a, R> {
     pub fn check_unchanged(&self) -> io::Result<()> {
         match &self.reading {
             Some(held) => self.check_place(held.file()),
-            None => Err(io::Error::other(CHANGED)),
+            None => Err(moved()),
         }
     }
 

@@ -50,6 +50,17 @@ pub fn number_at(words: &[&str], place: usize) -> Result<u64, Stop> {
     number(words.get(place).ok_or(Stop::Words)?)
 }
 
+/// The words before a bar, and those behind it.
+pub fn parts<'w, 'a>(words: &'w [&'a str]) -> (&'w [&'a str], &'w [&'a str]) {
+    for (place, word) in words.iter().enumerate() {
+        if *word == "|" {
+            let behind = words.get(place.saturating_add(1)..).unwrap_or(&[]);
+            return (words.get(..place).unwrap_or(&[]), behind);
+        }
+    }
+    (words, &[])
+}
+
 /// A word without its count, and that: 1 where there is none.
 fn counted(word: &str) -> Result<(&str, u64), Stop> {
     match word.split_once('*') {

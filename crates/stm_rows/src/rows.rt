@@ -1,6 +1,9 @@
 // A file of rows, and how it is played.
 use crate::acts::act;
 use crate::bytes::number;
+use crate::chips::tell_chip;
+use crate::images::tell_image;
+use crate::journals::tell_journal;
 use crate::line::Line;
 use crate::looks::{look, tell_count};
 use crate::loops::{Loops, is_loop};
@@ -114,6 +117,28 @@ fn stopped(stage: &mut Stage, tables: &Tables, words: &[&str]) -> Result<Option<
     Ok(answer)
 }
 
+/// What a library tells, or a call of a session answers; None: it's neither.
+fn told(
+    stage: &mut Stage,
+    tables: &Tables,
+    verb: &str,
+    words: &[&str],
+) -> Result<Option<String>, Stop> {
+    let alloc = stage.alloc;
+    if let Some(told) = tell_image(alloc, verb, words)? {
+        return Ok(Some(told));
+    }
+    if let Some(told) = tell_chip(alloc, verb, words)? {
+        return Ok(Some(told));
+    }
+    if let Some(line) = &mut stage.line {
+        if let Some(told) = tell_journal(alloc, line, verb, words)? {
+            return Ok(Some(told));
+        }
+    }
+    answered(stage, tables, verb, words)
+}
+
 /// What isn't as it is due of an act.
 fn play_words(
     stage: &mut Stage,
@@ -128,7 +153,7 @@ fn play_words(
     let answer = match *verb {
         "after" => stopped(stage, tables, rest)?,
         "own" => Some(own(stage, tables, rest)?),
-        _ => answered(stage, tables, verb, rest)?,
+        _ => told(stage, tables, verb, rest)?,
     };
     if let Some(answer) = answer {
         return Ok(unless_due(answer, due));

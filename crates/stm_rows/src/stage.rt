@@ -1,5 +1,5 @@
 // What a row is played on: a table of chips, a line to a device, and one to another device aside.
-use crate::bytes::{bytes_of, count_of, id_of};
+use crate::bytes::{bytes_of, count_of, id_of, parts};
 use crate::line::Line;
 use crate::stopping::Stop;
 use std::alloc::Global;
@@ -134,17 +134,6 @@ pub struct Stage {
     pub before: usize,
     /// The flash that the journal keeps, once it was asked for.
     pub kept: Vec<u8>,
-}
-
-/// The words before a bar, and those behind it.
-fn parts<'w, 'a>(words: &'w [&'a str]) -> (&'w [&'a str], &'w [&'a str]) {
-    for (place, word) in words.iter().enumerate() {
-        if *word == "|" {
-            let behind = words.get(place.saturating_add(1)..).unwrap_or(&[]);
-            return (words.get(..place).unwrap_or(&[]), behind);
-        }
-    }
-    (words, &[])
 }
 
 impl Stage {

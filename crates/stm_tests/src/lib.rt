@@ -1,11 +1,7 @@
-//! Tests of images, chip tables and journals, each by what a library shows to its users: this
-//! crate holds nothing else.
+//! Tests of journals, by what the library shows to its users, where a call has to follow another one:
+//! this crate holds nothing else. All else of images, chips and journals is tried by rows (`stm_rows`).
 #![tactic(auto)]
 
-#[cfg(test)]
-mod chip;
-#[cfg(test)]
-mod image;
 #[cfg(test)]
 mod journal;
 #[cfg(test)]

@@ -37,7 +37,7 @@ pub const TABLE: &str = "The chip table, a TOML file";
 pub const DEVICE: &str = "The device: sim:ID:FILE, or the path of a Unix socket";
 
 pub const JOURNAL: &str =
-    "The journal of what was done; a missing file is an empty one, but not for undo, log and keep";
+    "The journal of what was done; a missing file is an empty one, but not for log and keep";
 
 pub const JOURNALS: &str =
     "In place of --journal: a folder, in which each board has UNIQUE.journal, by its unique id";

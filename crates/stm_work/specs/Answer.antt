@@ -1,5 +1,6 @@
 -- What an answer of the program tells of a session.
 use Rattle.std.specs.Prelude.{◌≡◌, ℕ, Bool, true, false, List, [], ◌∷◌, String, vec_len}
+use Rattle.std.specs.Prelude.{Option, None, Some}
 use Rattle.std.specs.declared.alloc.Global.{Global}
 use Rattle.stm_session.specs.Answers.{OutcomeData, was_written, was_erased, was_verified, was_read}
 use Rattle.stm_session.specs.declared.information.Info.{Info}
@@ -28,14 +29,19 @@ outcomes_told (answer.Logged text) = []
 outcomes_told (answer.Kept count) = []
 outcomes_told (answer.KeptBut count left) = []
 
--- it tells what a device is, and how many real boards with its chip were tried, as the texts of
--- tables tell
+-- what a device is, beside how many real boards with its chip were tried, where that is told
+abbrev pub info_beside : Info → Option ℕ → Answer
+info_beside info None = answer.Told info
+info_beside info (Some tried) = answer.ToldBeside info tried
+
+-- it tells what a device is, and how many real boards with its chip were tried, where the texts of
+-- tables tell that
 pub record IsToldBeside (texts : List (List ℕ)) (info : Info) (told : Answer) : Type 0 where
-  pub tried : ℕ
-  pub told_is : told ≡ answer.ToldBeside info tried
+  pub tried : Option ℕ
+  pub told_is : told ≡ info_beside info tried
   pub tried_is : AreTried info.id texts tried
 
--- An answer beside what the tables say: what the device is, with how many such boards were tried;
+-- An answer beside what the tables say: what the device is, with what they tell of such boards;
 -- what it says itself, with the names of the tables; any other as it is.
 abbrev pub IsBeside : List (List ℕ) → Answer → Answer → Type 0
 IsBeside texts (answer.Told info) told = IsToldBeside texts info told

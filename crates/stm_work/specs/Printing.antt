@@ -57,9 +57,9 @@ left_text left = decimal left ++ line_of_text (codes " can be undone")
 -- how many real boards were tried
 abbrev pub tried_text : ℕ → List ℕ
 tried_text tried =
-    if tried == 0 then line_of_text (codes "not tried: stmflash-trial")
-    else if tried == 1 then line_of_text (codes "tried: 1 board")
-    else line_of_text (codes "tried: " ++ decimal tried ++ codes " boards")
+    if tried == 0 then line_of_text (codes "tried on no board yet")
+    else if tried == 1 then line_of_text (codes "tried on 1 board")
+    else line_of_text (codes "tried on " ++ decimal tried ++ codes " boards")
 
 -- an answer, but for what is told beside it
 abbrev pub answer_text : Answer → List ℕ

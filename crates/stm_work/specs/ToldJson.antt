@@ -51,7 +51,7 @@ undone_members count (Some bytes) =
 -- what an answer tells
 abbrev pub members_of : Answer → List ℕ
 members_of answer.Nothing = []
-members_of (answer.Told info) = info_members info
+members_of (answer.Told info) = info_members info ++ number_member (codes "tried") 0
 members_of (answer.ToldBeside info tried) =
     info_members info ++ number_member (codes "tried") tried
 members_of (answer.Identified told) = told_members told

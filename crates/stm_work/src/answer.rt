@@ -1,7 +1,7 @@
 // What came of the words, and how it is told.
 ghost use Rattle.std.specs.Io.KnownBytes.{Appends};
-ghost use Rattle.std.specs.Prelude.{◌++◌, IfOk, OnOk, Some};
-ghost use Rattle.stm_work.specs.Answer.{IsBeside, IsToldBeside};
+ghost use Rattle.std.specs.Prelude.{◌≡◌, ◌++◌, IfOk, OnOk, Some};
+ghost use Rattle.stm_work.specs.Answer.{IsBeside, IsToldBeside, info_beside};
 ghost use Rattle.stm_work.specs.DeviceText.{board_text, info_text, table_text, told_text};
 ghost use Rattle.stm_work.specs.Printing.{board_text_of, erased_text, kept_text, left_text};
 ghost use Rattle.stm_work.specs.Printing.{sum_text, answer_text, tried_text, tried_text_of};
@@ -27,7 +27,7 @@ pub enum Answer {
     Nothing,
     /// What the device is.
     Told(Info),
-    /// The same, and how many real boards with its chip were tried, as the chip table says.
+    /// The same, and how many real boards with its chip were tried, where the chip table says so.
     ToldBeside {
         info: Info,
         tried: usize,
@@ -166,12 +166,22 @@ impl Answer {
     }
 }
 
-/// What a device is, and how many real boards with its chip were tried.
+/// What a device is, and how many real boards with its chip were tried, where that is told.
 fn told_beside(alloc: Global, info: Info, tables: &ChipTables<'_>) -> Result<Answer, TableFault>
     ensures { IfOk result (IsToldBeside (table_texts tables.now) info) }
 {
     let tried = tables.tried(alloc, info.id)?;
-    Ok(Answer::ToldBeside { info, tried })
+    Ok(info_beside(info, tried))
+}
+
+/// The same, where so many are told, or nothing is.
+fn info_beside(info: Info, tried: Option<usize>) -> Answer
+    ensures { result ≡ info_beside info tried }
+{
+    match tried {
+        Some(tried) => Answer::ToldBeside { info, tried },
+        None => Answer::Told(info),
+    }
 }
 
 /// Prints the line of the boards that were tried.
@@ -180,9 +190,9 @@ fn print_tried_boards<O: Write>(tried: usize, out: &mut O) -> io::Result<()>
         (tried_text tried)) }
 {
     match tried {
-        0 => writeln!(out, "not tried: stmflash-trial"),
-        1 => writeln!(out, "tried: 1 board"),
-        _ => writeln!(out, "tried: {tried} boards"),
+        0 => writeln!(out, "tried on no board yet"),
+        1 => writeln!(out, "tried on 1 board"),
+        _ => writeln!(out, "tried on {tried} boards"),
     }
 }
 

@@ -54,13 +54,18 @@ impl<'a> TableText<'a> {
         }
     }
 
-    /// How many real boards of this chip were tried, as it tells; where it has no such chip, as many
-    /// as the tables below it tell.
-    fn tried(&self, alloc: Global, id: u16, below: usize) -> Result<usize, TableFault>
+    /// How many real boards of this chip were tried, where it tells of them; where it has no such chip,
+    /// what the tables below it tell.
+    fn tried(
+        &self,
+        alloc: Global,
+        id: u16,
+        below: Option<usize>,
+    ) -> Result<Option<usize>, TableFault>
         ensures { IfOk result (TriedOver (table_bytes self.now) id below) }
     {
         match tried_boards(alloc, self.text.as_slice(), id)? {
-            Some(count) => Ok(count),
+            Some(told) => Ok(told),
             None => Ok(below),
         }
     }
@@ -105,11 +110,11 @@ impl<'a> ChipTables<'a> {
         &self.chips
     }
 
-    /// How many real boards of this chip were tried, as the table tells whose chip is taken.
-    pub fn tried(&self, alloc: Global, id: u16) -> Result<usize, TableFault>
+    /// How many real boards of this chip were tried, where the table tells of them whose chip is taken.
+    pub fn tried(&self, alloc: Global, id: u16) -> Result<Option<usize>, TableFault>
         ensures { IfOk result (AreTried id (table_texts self.now)) }
     {
-        let mut count = self.lowest.tried(alloc, id, 0)?;
+        let mut count = self.lowest.tried(alloc, id, None)?;
         for table in &self.over {
             count = table.tried(alloc, id, count)?;
         }

@@ -10,7 +10,7 @@ use std::fmt::{Debug, Display, Formatter};
 use std::io::ErrorKind;
 use std::{fmt, io};
 use stm_chip::TableFault;
-use stm_files::{FileFault, Foreign, Reason, Unusable};
+use stm_files::{FileFault, Foreign, Reason, Rescued, Unusable, is_moved};
 use stm_image::{HexFault, RawFault};
 use stm_session::Fault;
 use stm_words::UsageFault;
@@ -65,8 +65,14 @@ pub enum Failure<'a> {
     #[error("cannot lock {0}: {1}; --no-lock if no other program has it")]
     CannotLock(&'a str, Reason),
     /// The journal couldn't be read, or added to.
-    #[error("journal failed: {0}")]
+    #[error("journal failed")]
     JournalFailed(Reason),
+    /// The journal's file isn't the one any more that was read and added to.
+    #[error("journal failed")]
+    JournalMoved,
+    /// The same, and what it held is in a file of this name.
+    #[error("journal failed")]
+    JournalRescued(Rescued<'a>),
     /// Another program has the simulator's files.
     #[error("simulator file is in use")]
     SimulatorInUse,
@@ -83,7 +89,7 @@ pub enum Failure<'a> {
     #[error("cannot connect {0}")]
     CannotConnect(&'a str),
     /// The device is a character device of the system, as a serial port is, and no socket.
-    #[error("cannot connect {0}: serial ports want stmflash-line {0} -- stmflash .. (no --device)")]
+    #[error("cannot connect {0}")]
     IsPort(&'a str),
     /// The device is another board than the one that is wanted.
     #[error("device is another board")]
@@ -104,8 +110,8 @@ pub enum Failure<'a> {
     /// The first line of a folder's journal doesn't name the board whose name the file has.
     #[error("{0} doesn't name its board")]
     Misnamed(&'a str),
-    /// Journals of a folder are unfinished, and the device may be a board of theirs.
-    #[error("unfinished: {0}; say --board and the digits of its board, or reset the board and say --fresh")]
+    /// Journals of a folder are unfinished or can't be used, and the device may be a board of theirs.
+    #[error("unfinished or bad: {0}; say --board and the digits of its board, or reset the board and say --fresh")]
     BegunJournals(&'a str),
     /// The device tells no unique id, by which a folder's journal could be known.
     #[error("the board tells no unique id: --journal names its journal")]
@@ -185,6 +191,7 @@ impl<'a> Failure<'a> {
     pub fn of_reason(reason: Option<io::Error>) -> Failure<'a> {
         match reason {
             Some(e) if e.kind() == ErrorKind::OutOfMemory => Failure::Memory,
+            Some(e) if is_moved(&e) => Failure::JournalMoved,
             Some(e) => Failure::JournalFailed(Reason(e)),
             None => Failure::Session(Fault::Journal),
         }

@@ -24,7 +24,8 @@ impl Failure<'_> {
             Failure::JournalInUse => "journal_in_use",
             Failure::NoJournal(_) => "no_journal",
             Failure::CannotLock(..) => "cannot_lock",
-            Failure::JournalFailed(_) => "journal_failed",
+            Failure::JournalFailed(_) | Failure::JournalMoved | Failure::JournalRescued(_) =>
+                "journal_failed",
             Failure::SimulatorInUse => "simulator_in_use",
             Failure::BadSimulatorFile(_) | Failure::BadBoardFile(_) => "bad_simulator_file",
             Failure::CannotConnect(_) => "cannot_connect",

@@ -16,6 +16,17 @@ pub fn begins_journal<R: Files>(rt: &R, options: &Options, work: &Work) -> bool 
     work.is_change() && !is_there(rt, options.journal)
 }
 
+/// Whether it undoes by a journal that isn't there.
+pub fn lacks_journal<R: Files>(rt: &R, options: &Options, work: &Work) -> bool {
+    work.is_undo() && !is_there(rt, options.journal)
+}
+
+/// Tells that the journal isn't there: its name may have been mistyped.
+pub fn tell_lacking<E: Write>(options: &Options, err: &mut E) {
+    let name = Escaped(options.journal);
+    let _ = writeln!(err, "note: journal {name} isn't there");
+}
+
 /// Whether notes are told: on a terminal, unless nothing is to be said.
 fn are_notes_told<E: IsTerminal>(options: &Options, err: &E) -> bool {
     options.progress != Progress::Silent && err.is_terminal()

@@ -1,13 +1,15 @@
 // What came of the words as JSON, one line for each step and one for a fault.
 ghost use Rattle.std.specs.Prelude.{◌≡◌, ◌++◌, ℕ, List, IfOk, OnOk, codes};
 ghost use Rattle.stm_work.specs.Answer.{is_flash};
-ghost use Rattle.stm_work.specs.JsonLine.{numbers_member, text_member};
+ghost use Rattle.stm_work.specs.DeviceJson.{info_members};
+ghost use Rattle.stm_work.specs.JsonLine.{number_member, numbers_member, text_member};
 ghost use Rattle.stm_work.specs.ToldJson.{AreLines, answer_line, answer_name, board_members_of};
 ghost use Rattle.stm_work.specs.ToldJson.{change_members, is_of_board, members_of, next_line};
 ghost use Rattle.stm_work.specs.ToldJson.{next_told, refusal_line, steps_lines, undone_members};
 ghost use Rattle.stm_work.specs.ToldJson.{undone_name};
 
 use crate::answer::Answer;
+use crate::behind::Behind;
 use crate::device_json::{add_board, add_info, add_told, eight_digits};
 use crate::failure::Failure;
 use crate::hint::Hint;
@@ -15,7 +17,7 @@ use crate::json_line::JsonLine;
 use crate::steps::Steps;
 use std::alloc::{AllocError, Global};
 use stm_files::Escaped;
-use stm_session::Board;
+use stm_session::{Board, Info};
 
 /// The member that names what was done.
 const ANSWER: &str = "answer";
@@ -61,7 +63,7 @@ fn json_of_next(alloc: Global, steps: &Steps, hint: Hint) -> Result<Vec<u8>, All
     let mut line = JsonLine::of(alloc, ANSWER, name_of(&steps.answer))?;
     add_members(alloc, &mut line, &steps.answer)?;
     add_board_of(alloc, &mut line, &steps.answer, &steps.board)?;
-    add_hint(alloc, &mut line, hint)?;
+    add_hint(alloc, &mut line, Behind::Hint(hint))?;
     line.end()
 }
 
@@ -150,11 +152,8 @@ fn add_members(alloc: Global, line: &mut JsonLine, answer: &Answer) -> Result<()
 {
     match answer {
         Answer::Nothing | Answer::Bytes(_) => Ok(()),
-        Answer::Told(info) => add_info(alloc, line, info),
-        Answer::ToldBeside { info, tried } => {
-            add_info(alloc, line, info)?;
-            line.number("tried", *tried as u64)
-        }
+        Answer::Told(info) => add_info_beside(alloc, line, info, 0),
+        Answer::ToldBeside { info, tried } => add_info_beside(alloc, line, info, *tried),
         Answer::Identified(told) => add_told(alloc, line, told),
         Answer::IdentifiedBeside { told, table } => {
             add_told(alloc, line, told)?;
@@ -187,6 +186,21 @@ fn add_members(alloc: Global, line: &mut JsonLine, answer: &Answer) -> Result<()
             line.number("left", u64::from(*left))
         }
     }
+}
+
+/// Adds what a device is, and how many real boards with its chip were tried.
+#[tactic(auto, using(crate::proofs::TextParts::goes_on))]
+fn add_info_beside(
+    alloc: Global,
+    line: &mut JsonLine,
+    info: &Info,
+    tried: usize,
+) -> Result<(), AllocError>
+    ensures { OnOk result (line.new.text.items ≡ line.old.text.items
+        ++ (info_members info.now ++ number_member (codes "tried") tried)) }
+{
+    add_info(alloc, line, info)?;
+    line.number("tried", tried as u64)
 }
 
 /// Adds how many segments were undone, and how many bytes were read again, where that is told.
@@ -236,21 +250,19 @@ pub fn json_of_failure(
 ) -> Result<Vec<u8>, AllocError> {
     let mut line = JsonLine::of(alloc, FAULT, failure.name())?;
     line.text("says", format!(in alloc; "{}", Escaped(failure))?.as_str())?;
-    if let Some(hint) = hint {
-        if let Some(hint) = hint.of(failure) {
-            add_hint(alloc, &mut line, hint)?;
-        }
+    if let Some(told) = Behind::failure(failure, hint) {
+        add_hint(alloc, &mut line, told)?;
     }
     line.number("status", u64::from(failure.status()))?;
     line.end()
 }
 
 /// Adds what came, or what is to be done.
-fn add_hint(alloc: Global, line: &mut JsonLine, hint: Hint) -> Result<(), AllocError>
+fn add_hint(alloc: Global, line: &mut JsonLine, told: Behind) -> Result<(), AllocError>
     ensures { OnOk result ((says : List ℕ) × (line.new.text.items
         ≡ line.old.text.items ++ text_member (codes "hint") says)) }
 {
-    line.text("hint", format!(in alloc; "{hint}")?.as_str())
+    line.text("hint", format!(in alloc; "{}", Escaped(told))?.as_str())
 }
 
 /// The line of words that `clap` refuses, with its text.

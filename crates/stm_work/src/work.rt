@@ -80,7 +80,7 @@ impl Work {
         }
     }
 
-    /// Whether it undoes writes and erases, by a journal that has to be there.
+    /// Whether it undoes writes and erases.
     pub fn is_undo(&self) -> bool {
         match self {
             Work::Act(action) => action.is_undo(),

@@ -4,9 +4,10 @@ ghost use Rattle.hex.specs.Hex.{encode_upper};
 ghost use Rattle.std.specs.Prelude.{◌≡◌, ◌≢◌, ℕ, List, [], IfOk, OnOk, string_bytes};
 ghost use Rattle.stmflash.specs.TaskUse.{AreAsked, AreFound, AreTaken, journal_name};
 
-use crate::journal_folder::{Trouble, look_all, name_in, unfinished_names};
+use crate::journal_folder::{Trouble, look_all, look_at, name_in, unfinished_names};
 use crate::on_socket::connect_line;
 use std::alloc::{AllocError, Global};
+use std::fs::Files;
 use std::net::Net;
 use std::os::unix::net::UnixStream;
 use std::time::Clock;
@@ -148,7 +149,7 @@ fn wanted_board(alloc: Global, digits: Option<&str>) -> Result<UniqueId, AllocEr
     }
 }
 
-/// Where the journals of a folder couldn't be looked at. The name of a journal is kept.
+/// Where a journal of a folder can't be used, or the folder. The name of a journal is kept.
 fn failure_of_trouble<'a>(folder: &'a str, trouble: Trouble, place: &'a mut Place) -> Failure<'a> {
     match trouble {
         Trouble::Folder => Failure::CannotRead(folder),
@@ -180,7 +181,7 @@ pub struct Found<'a, 'r, R> {
 }
 
 /// The journal of the board that is wanted by all its digits; the device isn't asked yet.
-fn take_wanted<'a, 'r, R: AllocGlobal>(
+fn take_wanted<'a, 'r, R: Files + AllocGlobal>(
     rt: &'r R,
     options: &Options<'a>,
     wanted: UniqueId,
@@ -188,6 +189,9 @@ fn take_wanted<'a, 'r, R: AllocGlobal>(
 ) -> Result<Found<'a, 'r, R>, Failure<'a>>
     ensures { IfOk result (λ found. AreTaken options.now found.options) }
 {
+    if let Err(trouble) = look_at(rt, options.journal, wanted) {
+        return Err(failure_of_trouble(options.journal, trouble, place));
+    }
     place.journal = name_in(rt.alloc(), options.journal, wanted)?;
     Ok(Found {
         options: Options {
@@ -215,6 +219,9 @@ fn ask_and_take<'a, 'r, R: Locks + Net + Clock + AllocGlobal>(
         Err(failure) => return Err(failure),
     };
     let Told { unique, line } = told;
+    if let Err(trouble) = look_at(rt, options.journal, unique) {
+        return Err(failure_of_trouble(options.journal, trouble, place));
+    }
     keep_place(rt.alloc(), options.journal, unique, place)?;
     Ok(Found {
         options: options_at(options, place),
@@ -253,7 +260,7 @@ fn options_at<'a>(options: &Options<'a>, place: &'a Place) -> Options<'a>
     }
 }
 
-/// Why a device is left alone: these journals are unfinished.
+/// Why a device is left alone: these journals are unfinished, or can't be used.
 fn left_alone<'a, R: AllocGlobal>(
     rt: &R,
     folder: &str,

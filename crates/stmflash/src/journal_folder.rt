@@ -117,8 +117,8 @@ fn is_of(journal: &Journal, board: &UniqueId) -> bool {
     }
 }
 
-/// Looks at the journal of a board. None where it isn't there any more.
-fn look_at<R: Files + AllocGlobal>(
+/// Looks at the journal of a board. None where it isn't there.
+pub fn look_at<R: Files + AllocGlobal>(
     rt: &R,
     folder: &str,
     board: UniqueId,
@@ -138,8 +138,31 @@ fn look_at<R: Files + AllocGlobal>(
     }
 }
 
+/// What a journal that can't be used counts as: its board may await the rest of a command.
+fn doubted(trouble: &Trouble, board: UniqueId) -> Result<Option<Looked>, Trouble> {
+    if matches!(trouble, Trouble::Memory) {
+        return Err(Trouble::Memory);
+    }
+    Ok(Some(Looked {
+        board,
+        is_unfinished: true,
+    }))
+}
+
+/// Looks at the journal of a board as `look_at`, and counts one that can't be used as unfinished.
+fn look_or_doubt<R: Files + AllocGlobal>(
+    rt: &R,
+    folder: &str,
+    board: UniqueId,
+) -> Result<Option<Looked>, Trouble> {
+    match look_at(rt, folder, board) {
+        Ok(looked) => Ok(looked),
+        Err(trouble) => doubted(&trouble, board),
+    }
+}
+
 /// Looks at all journals of a folder. None is locked: a session beside this goes on, and what it has
-/// added by now counts.
+/// added by now counts. One that can't be used counts as unfinished.
 pub fn look_all<R: Files + AllocGlobal + Clone + Drop>(
     rt: &R,
     folder: &str,
@@ -151,7 +174,7 @@ pub fn look_all<R: Files + AllocGlobal + Clone + Drop>(
     };
     let mut all = Vec::new(rt.alloc());
     for board in boards.iter() {
-        if let Some(looked) = look_at(rt, folder, *board)? {
+        if let Some(looked) = look_or_doubt(rt, folder, *board)? {
             all.push(looked)?;
         }
     }

@@ -25,7 +25,7 @@ use stm_wire::Rig;
 use stm_words::{Device, Options, Sequel, Task};
 use stm_work::{
     ChipTables, Failure, Hint, Plan, Screen, Steps, Style, Work, begins_journal, failure_of,
-    has_telling_chip, tell_nameless, tell_notes, tells_board,
+    has_telling_chip, lacks_journal, tell_lacking, tell_nameless, tell_notes, tells_board,
 };
 
 /// Does a task on a device, and what follows it. Where it takes the readout protection off, it is
@@ -125,10 +125,14 @@ fn use_files<'a, 'r, 'e, R: Locks + Net + Clock + AllocGlobal, E: Write + IsTerm
     }
     let output = Output::open(rt, files)?;
     let is_begun = begins_journal(rt, options, &work);
+    let is_lacking = lacks_journal(rt, options, &work);
     tell_notes(options, is_begun, &work, err);
     let steps = use_work(rt, options, tables, work, sequel, output, line, err, hint)?;
     if is_begun && !steps.has_named_board() {
         tell_nameless(options, err);
+    }
+    if is_lacking {
+        tell_lacking(options, err);
     }
     tell_beside(rt, steps, options, tables)
 }

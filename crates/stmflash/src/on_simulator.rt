@@ -40,7 +40,7 @@ pub fn on_simulator<'a, 's, R: Locks + Clock + AllocGlobal, W: Write + Drop>(
     };
     let mut files = SimulatorFiles::open(rt, file, options.without_lock)?.beside(name);
     let loaded = files.load(chip)?;
-    match read_journal(opened, name, &plan.work) {
+    match read_journal(opened, name) {
         Ok((journal, bytes)) => {
             let memory = files.begin(loaded, bytes)?;
             let mut rig = SimulatorRig::new(memory, journal, files);

@@ -63,7 +63,7 @@ pub fn on_socket<'a, 'r, R: Locks + Net + Clock + AllocGlobal, W: Write + Drop>(
 {
     let name = plan.journal;
     let opened = JournalFile::open(rt, name, options.without_lock);
-    let journal = serving_journal(opened, name, &plan.work)?;
+    let journal = serving_journal(opened, name)?;
     let line = match line {
         Some(line) => line,
         None => connect_line(rt, options, path)?,

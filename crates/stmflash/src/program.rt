@@ -23,7 +23,7 @@ use stm_files::{Escaped, Locks};
 use stm_wire::Rig;
 use stm_words::{Environment, Request, Unread, read_request, wants_json};
 use stm_work::{
-    Answer, Failure, Hint, Steps, is_flash, json_of_done, json_of_failure, json_of_refusal,
+    Answer, Behind, Failure, Hint, Steps, is_flash, json_of_done, json_of_failure, json_of_refusal,
     name_of, note_of,
 };
 
@@ -188,9 +188,7 @@ fn fail_told<R: AllocGlobal, O: Write, E: Write>(
     ensures failed { 1 ≤ result }
 {
     let status = fail(rt, failure, err);
-    if let Some(hint) = hint {
-        print_hint(rt, hint.of(failure), err);
-    }
+    print_behind(rt, Behind::failure(failure, hint), err);
     if is_json {
         let line = json_of_failure(rt.alloc(), failure, hint);
         let _ = print_line(line, "fault", failure.name(), out);
@@ -219,13 +217,13 @@ fn print_line<O: Write>(
 
 /// Tells what came, or what is to be done, where that tells more, in one line that is written at
 /// once. Where there is no memory for the line, it is written in parts.
-fn print_hint<R: AllocGlobal, E: Write>(rt: &R, hint: Option<Hint>, err: &mut E) {
-    let Some(hint) = hint else {
+fn print_behind<R: AllocGlobal, E: Write>(rt: &R, told: Option<Behind>, err: &mut E) {
+    let Some(told) = told else {
         return;
     };
-    let _ = match format!(in rt.alloc(); "hint: {hint}\n") {
+    let _ = match format!(in rt.alloc(); "hint: {}\n", Escaped(told)) {
         Ok(line) => err.write_all(line.as_bytes()),
-        Err(_) => writeln!(err, "hint: {hint}"),
+        Err(_) => writeln!(err, "hint: {}", Escaped(told)),
     };
 }
 
@@ -253,9 +251,7 @@ fn print_steps<R: AllocGlobal, O: Write, E: Write>(
     match (print_as(rt, steps, hint, is_json, out), &steps.failure) {
         (Ok(()), None) => {
             print_note(rt, steps, err);
-            if let Some(hint) = hint {
-                print_hint(rt, hint.of_done(), err);
-            }
+            print_behind(rt, Behind::done(hint), err);
             0
         }
         (_, Some(failure)) => fail_told(rt, failure, hint, is_json, out, err),

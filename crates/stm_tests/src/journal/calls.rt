@@ -138,106 +138,11 @@ fn is_torn_tail_marked(alloc: Global) -> Result<bool, Fail> {
     Ok(was_undone(&mut journal, &mut rig))
 }
 
-/// What a journal's Rig does with an append: it takes it, fails, or stops behind so many steps.
-#[derive(Clone, Copy)]
-enum Append {
-    Takes,
-    Fails,
-    StopsAfter(u64),
-}
-
-/// A journal, what its Rig does, for which device a segment is to begin, why it doesn't, and the
-/// bytes behind that.
-type Unbegun = (&'static [u8], Append, u16, JournalFault, &'static [u8]);
-
-const UNBEGUN: &[Unbegun] = &[
-    // Another device.
-    (
-        b"stmjournal 1 0412\n",
-        Append::Takes,
-        0x410,
-        JournalFault::OtherDevice,
-        b"stmjournal 1 0412\n",
-    ),
-    // An append that fails.
-    (
-        b"stmjournal 1 0412\n",
-        Append::Fails,
-        0x412,
-        JournalFault::File,
-        b"stmjournal 1 0412\n",
-    ),
-    // An append that stops.
-    (
-        b"",
-        Append::StopsAfter(22),
-        0x412,
-        JournalFault::File,
-        b"stmjournal 2 0412\nopen",
-    ),
-];
-
-/// Why a segment doesn't begin over a Rig that acts so, which takes appends again then; none where
-/// it begins, or none can.
-fn unbegun(
-    journal: &mut Journal,
-    rig: &mut MemoryRig,
-    append: Append,
-    id: u16,
-) -> Option<JournalFault> {
-    if journal.depth() >= 65535 || journal.is_unfinished() {
-        return None;
-    }
-    match append {
-        Append::Takes => {}
-        Append::Fails => rig.fail_append(1),
-        Append::StopsAfter(steps) => rig.stop_after(steps),
-    }
-    let fault = journal.begin(rig, id, &UniqueId::none()).err();
-    rig.stop_after(u64::MAX);
-    fault
-}
-
-/// Whether a Rig's journal names the device 0x412, and has no segment.
-fn has_no_segment(alloc: Global, rig: &mut MemoryRig) -> bool {
-    match Journal::load(alloc, rig) {
-        Ok(journal) => {
-            journal.id() == Some(0x412) && journal.depth() == 0 && journal.last_intent().is_none()
-        }
-        Err(_) => false,
-    }
-}
-
-/// Whether a segment doesn't begin as a row says.
-fn is_unbegun(journal: &mut Journal, rig: &mut MemoryRig, row: &Unbegun) -> bool {
-    unbegun(journal, rig, row.1, row.2) == Some(row.3) && holds(rig, row.4)
-}
-
-/// Whether a segment doesn't begin in the journal of a row, and there is none then.
-fn is_refused(alloc: Global, row: &Unbegun) -> Result<bool, Fail> {
-    let (mut journal, mut rig) = opened(alloc, row.0)?;
-    Ok(is_unbegun(&mut journal, &mut rig, row) && has_no_segment(alloc, &mut rig))
-}
-
-/// The first row of `UNBEGUN` that is something else.
-fn first_begun(alloc: Global) -> Result<Option<usize>, Fail> {
-    for (place, row) in UNBEGUN.iter().enumerate() {
-        if !is_refused(alloc, row)? {
-            return Ok(Some(place));
-        }
-    }
-    Ok(None)
-}
-
 #[test]
 fn calls_answer_what_is_due(rt: HostRuntime) -> Result<(), Fail> {
     ends_as(
         "a page is kept or written or a segment is ended",
         first_commanded(rt.alloc())?,
     )?;
-    passes_as("a torn tail", is_torn_tail_marked(rt.alloc())?)?;
-    ends_as(
-        "another device or a failed append begins no segment",
-        first_begun(rt.alloc())?,
-    )
+    passes_as("a torn tail", is_torn_tail_marked(rt.alloc())?)
 }

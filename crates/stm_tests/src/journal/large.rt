@@ -1,7 +1,6 @@
 // Journals of real size: longer than a loader reads at once, and with the longest page.
 ghost use Rattle.std.specs.Prelude.{◌<◌, length, AllPairs};
 
-use crate::image::large::put_digits;
 use crate::journal::call_order::write_pages;
 use crate::journal::{KeptRow, fault_of, first_kept, rig_with};
 use crate::verdicts::passes;
@@ -19,15 +18,6 @@ fn page(alloc: Global, count: u32) -> Result<Vec<u8>, AllocError> {
         byte = if byte == 250 { 0 } else { byte.wrapping_add(1) };
     }
     Ok(bytes)
-}
-
-/// The two digits of each byte.
-fn digits_of(alloc: Global, bytes: &[u8]) -> Result<Vec<u8>, AllocError> {
-    let mut text = Vec::new(alloc);
-    for byte in bytes {
-        put_digits(&mut text, *byte)?;
-    }
-    Ok(text)
 }
 
 /// What a journal tells: how many segments there are, whether the newest is unfinished, and pages.
@@ -98,7 +88,7 @@ const LONGEST_PAGE: Large = (1, false, &[(1, 0, Some((5, 3)))]);
 /// The journal of a command that wrote these bytes as page 5.
 fn text_of(alloc: Global, held: &[u8]) -> Result<Vec<u8>, AllocError> {
     let mut text = Vec::from_slice(alloc, b"stmjournal 1 0412\nopen 1\npage 5 ")?;
-    text.extend_from_slice(&digits_of(alloc, held)?)?;
+    text.extend_from_slice(hex::encode_upper(alloc, held)?.as_bytes())?;
     text.extend_from_slice(b"\nerase 5\nprogram 5\nend 1\n")?;
     Ok(text)
 }

@@ -1,0 +1,55 @@
+// What is told behind a fault, or behind what was done, in a line of its own.
+
+use crate::failure::Failure;
+use crate::hint::Hint;
+use stm_files::{Reason, Rescued};
+use thiserror::Error;
+
+/// What is told behind a fault, or behind what was done, in a line of its own.
+#[derive(Clone, Copy, Debug, Error)]
+pub enum Behind<'f> {
+    /// What came on the line, or what is to be done.
+    #[error("{0}")]
+    Hint(Hint),
+    /// Why the system did not do what it was asked for.
+    #[error("{0}")]
+    Reason(&'f Reason),
+    /// The journal's file went away.
+    #[error("it was moved, replaced, cut or added to")]
+    Moved,
+    /// The same, and what it held is in a file of this name.
+    #[error("it was moved, replaced, cut or added to; what it held is in {0}: undo --journal {0}")]
+    Rescued(&'f Rescued<'f>),
+    /// The device is a port, of this name.
+    #[error("serial ports want stmflash-line {0} -- stmflash .. (no --device)")]
+    Port(&'f str),
+}
+
+impl<'f> Behind<'f> {
+    /// What tells more of a failure: the failure itself, or else the hint.
+    pub fn failure(failure: &'f Failure, hint: Option<Hint>) -> Option<Behind<'f>> {
+        match (failure, hint) {
+            (Failure::JournalFailed(reason), _) => Some(Behind::Reason(reason)),
+            (Failure::JournalMoved, _) => Some(Behind::Moved),
+            (Failure::JournalRescued(file), _) => Some(Behind::Rescued(file)),
+            (Failure::IsPort(name), _) => Some(Behind::Port(name)),
+            (_, Some(hint)) => Behind::told(hint.of(failure)),
+            _ => None,
+        }
+    }
+
+    /// What is to be done behind what was done.
+    pub fn done(hint: Option<Hint>) -> Option<Behind<'f>> {
+        match hint {
+            Some(hint) => Behind::told(hint.of_done()),
+            None => None,
+        }
+    }
+
+    fn told(hint: Option<Hint>) -> Option<Behind<'f>> {
+        match hint {
+            Some(hint) => Some(Behind::Hint(hint)),
+            None => None,
+        }
+    }
+}
