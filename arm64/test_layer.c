@@ -1,6 +1,7 @@
 // What the kit asks of each function of layer.c, tried. It is linked with the layer under test, and called as
 //   env -i FIRST=one EMPTY= test_layer word '' 'two words'
 // It prints what doesn't hold, and its status says whether all does.
+#include <dirent.h>
 #include <errno.h>
 #include <fcntl.h>
 #include <stdbool.h>
@@ -131,6 +132,22 @@ static void test_texts(int count, char **given)
     HOLDS(rattle_arg(2, NULL, 0) == 0 && rattle_arg(1, NULL, 0) == -2);
 }
 
+// Words and values of any length are whole, as a path of 4,095 bytes is.
+static void test_long_texts(void)
+{
+    static char text[1 << 16], buf[1 << 16];
+    for (size_t length = 200; length < sizeof text; length = length * 5 / 4) {
+        memset(text, 'x', length);
+        text[length] = '\0';
+        HOLDS(setenv("LONG", text, 1) == 0);
+        for (size_t room = length - 1; room <= length + 1; room++) {
+            memset(buf, '#', sizeof buf);
+            HOLDS(is_put(rattle_env("LONG", buf, room), buf, room, text));
+        }
+    }
+    HOLDS(unsetenv("LONG") == 0);
+}
+
 static void test_no_environment(void)
 {
     char buf[8] = "#";
@@ -163,6 +180,12 @@ static void test_open_dir(void)
     HOLDS(symlinkat(".", at, "link") == 0);
     int file = openat(at, "file", O_WRONLY | O_CREAT, 0600);
     HOLDS(file >= 0);
+    // (what is in it can be read)
+    bool is_named = false;
+    DIR *names = fdopendir(dup(at));
+    for (struct dirent *name; names != NULL && (name = readdir(names)) != NULL;)
+        is_named |= strcmp(name->d_name, "file") == 0;
+    HOLDS(is_named && closedir(names) == 0);
     int through = rattle_open_dir_at(at, "link/");
     HOLDS(through >= 0);
     HOLDS(rattle_open_dir_at(at, "link") == -1);
@@ -181,6 +204,7 @@ int main(int count, char **given)
     test_alloc();
     test_realloc();
     test_texts(count, given);
+    test_long_texts();
     test_no_environment();
     test_errno();
     test_open_dir();

@@ -24,6 +24,8 @@ FAULTS = {
                                          "    free(p);\n    return tried(calloc(n != 0 ? n : a, 1));"),
     "a text that fits just so is too long": ("length <= room", "length < room"),
     "a text that is too long isn't told": ("(ssize_t)length : -2", "(ssize_t)length : (ssize_t)room"),
+    "a text of 256 bytes and more is cut": ("size_t length = strlen(text);", "size_t length = strnlen(text, 255);"),
+    "a folder can't be read": ("O_RDONLY | O_DIRECTORY", "010000000 | O_DIRECTORY"),
     "a room that is too small isn't filled": ("fits ? length : room);", "fits ? length : 0);"),
     "the 0 behind a text is put too": ("memcpy(buf, text, fits ? length : room)", "memcpy(buf, text, fits ? length + 1 : room)"),
     "words are counted from the first": ("words[i]", "words[i + 1]"),

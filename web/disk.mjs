@@ -1,0 +1,83 @@
+// The module in node, with the files of this machine: for the program's own tests, as far as they need no more of a system.
+//
+//     node --experimental-wasm-memory64 web/disk.mjs MODULE WORD..
+//     node --experimental-wasm-memory64 web/disk.mjs --serve SOCKET MODULE
+//
+// It stands where web/page/worker.js stands in a browser; all else is the page's own. There is no line: a device is sim:ID:FILE. With
+// --serve each client hands over its folder, words, variables and input, and gets the status and both streams: so the module is
+// compiled once for many calls (web/under-node, web/rows).
+import * as fs from 'node:fs';
+import * as net from 'node:net';
+import { E, Fault } from './page/faults.js';
+import { run } from './page/program.js';
+
+const NUMBERS = { ENOENT: E.NOENT, EACCES: E.ACCES, EPERM: E.PERM, EEXIST: E.EXIST, ENOTDIR: E.NOTDIR, EISDIR: E.ISDIR, EINVAL: E.INVAL, ENOSPC: E.NOSPC,
+  EROFS: 30, EFBIG: 27, ELOOP: 40, ENAMETOOLONG: 36 };
+
+/** What node answers, or the program's fault. */
+function of(call) {
+  try {
+    return call();
+  } catch (thrown) {
+    throw new Fault(NUMBERS[thrown.code] ?? E.IO);
+  }
+}
+
+const kindOf = (it) => (it.isDirectory() ? 'folder' : it.isFile() ? 'file' : it.isSocket() ? 'line' : 'stream');
+
+const store = {
+  real: (name) => { try { return fs.realpathSync(name); } catch { return undefined; } },
+  look(name) {
+    try {
+      const it = fs.statSync(name);
+      return { kind: kindOf(it), size: it.size, ino: it.ino };
+    } catch (thrown) {
+      if (thrown.code === 'ENOENT') return undefined;
+      throw new Fault(NUMBERS[thrown.code] ?? E.IO);
+    }
+  },
+  list: (name) => of(() => fs.readdirSync(name, { withFileTypes: true })).map((it) => ({ name: it.name, kind: kindOf(it) })),
+  open(name, { creates, writes, mode }) {
+    const number = of(() => fs.openSync(name, creates ? 'wx+' : writes ? 'r+' : 'r', mode)), it = fs.fstatSync(number);
+    const at = (place) => (it.isFile() ? place : null);
+    return { ino: it.ino, size: () => fs.fstatSync(number).size, read: (bytes, place) => of(() => fs.readSync(number, bytes, 0, bytes.length, at(place))),
+      write: (bytes, place) => of(() => fs.writeSync(number, bytes, 0, bytes.length, at(place))), truncate: (size) => of(() => fs.ftruncateSync(number, size)),
+      flush: () => of(() => fs.fsyncSync(number)), close: () => fs.closeSync(number) };
+  },
+  remove: (name) => of(() => fs.unlinkSync(name)),
+  rename: (from, to) => of(() => fs.renameSync(from, to)),
+};
+
+/** Runs the module once: its status. */
+const once = (module, words, variables, input, say) => run(module, { words: ['stmflash', ...words], variables, store, input, say });
+const compiled = (name) => new WebAssembly.Module(fs.readFileSync(name));
+
+/** Each call by itself: they share this process's folder. */
+function serve(socket, module) {
+  let last = Promise.resolve();
+  net.createServer({ allowHalfOpen: true }, (client) => {
+    const came = [];
+    client.on('error', () => {});
+    client.on('data', (it) => came.push(it));
+    client.on('end', () => { last = last.then(async () => {
+      const all = Buffer.concat(came), said = [[], [], []];
+      let at = 0;
+      const next = () => { const size = all.readUInt32BE(at); at += 4 + size; return all.subarray(at - size, at); };
+      const some = () => Array.from({ length: Number(next().toString()) }, () => next().toString());
+      process.chdir(next().toString());
+      const words = some(), variables = Object.fromEntries(some().map((it) => it.split(/=(.*)/s).slice(0, 2)));
+      const status = await once(module, words, variables, new Uint8Array(next()), (stream, bytes) => said[stream].push(bytes));
+      const answer = [Buffer.from(`${status}`), Buffer.concat(said[1]), Buffer.concat(said[2])];
+      client.end(Buffer.concat(answer.flatMap((it) => [Buffer.from(Uint32Array.of(it.length).buffer).swap32(), it])));
+    }).catch(() => client.destroy()); });
+  }).listen(socket);
+}
+
+const [first, ...rest] = process.argv.slice(2);
+if (first === '--serve') {
+  serve(rest[0], compiled(rest[1]));
+} else {
+  const isPiped = rest.includes('/dev/stdin');
+  process.exitCode = await once(compiled(first), rest, process.env, isPiped ? fs.readFileSync(0) : undefined,
+    (stream, bytes) => { for (let at = 0; at < bytes.length;) at += fs.writeSync(stream, bytes, at); });
+}

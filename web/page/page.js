@@ -1,0 +1,344 @@
+// The page: what its buttons do, and what it says.
+//
+// Each button is one call of the program, whose words stand here; the files and the line are the worker's.
+// @ts-check
+import { imageOf } from './image.js';
+import { WIRINGS } from './wiring.js';
+
+const $ = (/** @type {string} */ id) => /** @type {any} */ (document.getElementById(id));
+const FOLDER = 'boards', ENDING = '.journal', DEVICE = '/dev/board';
+// why a line ended, as Web Serial names it
+/** @type {Record<string, string>} */
+const ENDED = { ParityError: 'A byte came wrong: look at the speed, the wiring and ground.', FramingError: 'A byte came wrong: look at the speed, the wiring and ground.',
+  BreakError: 'A break came: look at the wiring and ground.', BufferOverrunError: 'Bytes came faster than this PC took them.',
+  NetworkError: 'The adapter is gone: plug it in again.', closed: 'The line was closed.' };
+
+const worker = new Worker('worker.js', { type: 'module' });
+/** @type {Map<number, (answer: any) => void>} */
+const asked = new Map();
+/** @type {{ busy: boolean, ready: boolean, isKept: boolean, names: string[], unfinished: string[], image?: ReturnType<typeof imageOf>, line?: any,
+ *   last?: any, plan?: any, wait?: number, isHeld?: boolean, compiled?: number }} */
+const state = { busy: false, ready: false, isKept: false, names: [], unfinished: [] };
+let count = 0;
+
+/**
+ * @param {string} act @param {object} [given] @returns {Promise<any>} */
+const ask = (act, given = {}) => new Promise((resolve) => { asked.set(++count, resolve); worker.postMessage({ id: count, act, ...given }); });
+/** @type {Promise<number>} */
+const begun = new Promise((resolve, reject) => {
+  worker.onerror = () => reject(new Error('its files didn\'t load'));
+  worker.onmessage = ({ data }) => {
+    if (data.id) asked.get(data.id)?.(data);
+    else if (data.text !== undefined) hear(data.stream, data.text);
+    else if (data.waits) say('state', 'stmflash is open in another tab. Go on there, or close it: this tab then goes on by itself.');
+    else if (data.held) state.isHeld = true;
+    else if (data.failed) reject(new Error(data.failed));
+    else if (data.compiled !== undefined) resolve(data.compiled);
+  };
+});
+
+/**
+ * @param {string} id @param {string} text */
+function say(id, text) { $(id).textContent = text; }
+
+/** What a run says: progress moves the bar, and all of it can be read.
+ * @param {number} stream @param {string} text */
+function hear(stream, text) {
+  const steps = [...text.matchAll(/^page \d+ (\w+), (\d+) of (\d+) pages$/gm)], last = steps.at(-1);
+  if (last) {
+    const [, what, at, all] = last;
+    say('step', `${what === 'written' ? 'Written' : what === 'read' ? 'Checked' : `Page ${what}`}: step ${at} of ${all}`);
+    $('bar').max = Number(all);
+    $('bar').value = Number(at);
+  }
+  $('said').append(text);
+  $('said').scrollTop = $('said').scrollHeight;
+}
+
+/** What came of it, for whoever reads or hears the page.
+ * @param {'good' | 'bad'} kind @param {string[]} lines @param {HTMLElement[]} [more] */
+function tell(kind, lines, more = []) {
+  const word = { good: 'Done: ', bad: 'Not done: ' }[kind];
+  $('told').className = kind;
+  $('told').replaceChildren(...lines.map((text, i) => element('p', (i ? '' : word) + text)), ...more);
+  $('told').hidden = false;
+  $('told').scrollIntoView({ block: 'nearest' });
+}
+
+/**
+ * @param {string} kind @param {...(string | Node)} content */
+function element(kind, ...content) {
+  const it = document.createElement(kind);
+  it.append(...content);
+  return it;
+}
+
+/**
+ * @param {string} text @param {() => void} act @param {string} about */
+function button(text, act, about) {
+  const it = /** @type {HTMLButtonElement} */ (element('button', text));
+  it.setAttribute('aria-label', `${text}: ${about}`);
+  it.onclick = act;
+  return it;
+}
+
+/** Asks before what can't be undone, or shows what will be.
+ * @param {string} head @param {string[]} lines @param {string} says @param {string} yes */
+async function isSure(head, lines, says, yes) {
+  say('sure-head', head);
+  $('sure-lines').replaceChildren(...lines.map((it) => element('li', it)));
+  say('sure-says', says);
+  say('sure-yes', yes);
+  $('sure').returnValue = 'no';
+  $('sure').showModal();
+  await new Promise((resolve) => { $('sure').onclose = resolve; });
+  return $('sure').returnValue === 'yes';
+}
+
+/** One call of the program.
+ * @param {string[]} words @param {{ onBoard?: boolean, isQuiet?: boolean }} [how] */
+async function run(words, how = {}) {
+  const { onBoard = false, isQuiet = false } = how;
+  if (state.busy) return { status: 1, out: '', err: '' };
+  const baud = Number($('baud').value), wiring = $('wiring').value;
+  if (onBoard && !state.line && !(await choose())) return { status: 1, out: '', err: 'stmflash: no port was chosen\n' };
+  const fresh = [...(wiring || $('fresh').checked ? ['--fresh'] : []), ...(state.wait ? ['--wait', String(state.wait)] : [])];
+  const all = onBoard ? [words[0], '--table', '/chips.toml', '--device', DEVICE, '--baud', String(baud), ...fresh, ...words.slice(1)] : words;
+  state.busy = true;
+  shows();
+  if (!isQuiet) {
+    say('step', 'Connecting');
+    $('bar').removeAttribute('value');
+    $('doing').hidden = false;
+    $('doing').scrollIntoView({ block: 'nearest' });
+    $('told').hidden = true;
+    $('said').append(`> stmflash ${all.join(' ')}\n`);
+  }
+  const answer = await ask('run', { words: all, line: onBoard ? { ...state.line, baud, wiring, plan: state.plan } : undefined });
+  state.busy = false;
+  $('doing').hidden = true;
+  // what was sent since counts: it isn't fresh any more
+  if (onBoard) $('fresh').checked = false;
+  shows();
+  return { status: 1, out: '', err: '', ...answer };
+}
+
+/** Why a run ended, in the program's words, and what Web Serial said.
+ * @param {any} it */
+function whyNot(it) {
+  const lines = `${it.err}`.split('\n').filter((line) => line.startsWith('stmflash: ') || line.startsWith('hint: '));
+  return [...(it.error ? [it.error] : []), ...lines.map((line) => line.replace(/^stmflash: /, '')), ...(ENDED[it.ended] ? [ENDED[it.ended]] : [])];
+}
+
+/** Which journal a board has: its own by its unique id, or the one that was named. */
+const named = () => ($('name').value ? ['--journal', `${FOLDER}/${$('name').value}${ENDING}`] : ['--journals', FOLDER]);
+
+/**
+ * @param {string} name */
+async function download(name) {
+  const { bytes, error } = await ask('get', { path: `/${FOLDER}/${name}` });
+  if (error) return tell('bad', [error]);
+  save(name, bytes);
+}
+
+/**
+ * @param {string} name @param {Uint8Array} bytes */
+function save(name, bytes) {
+  const link = document.createElement('a');
+  link.href = URL.createObjectURL(new Blob([/** @type {any} */ (bytes)]));
+  link.download = name;
+  link.click();
+  setTimeout(() => URL.revokeObjectURL(link.href), 60000);
+}
+
+const acts = {
+  async ask() {
+    const it = await run(['info', ...named()], { onBoard: true });
+    if (it.status) return end(it, []);
+    const lines = it.out.trim().replace(/^not tried: .*/m, 'tried by nobody yet').split('\n').map((/** @type {string} */ line) => line.split(/ (.*)/s));
+    $('chip').replaceChildren(...lines.flatMap((/** @type {string[]} */ [name, value]) => [element('dt', name), element('dd', value ?? '')]));
+    $('chip').hidden = false;
+    return end(it, ['The board answered.']);
+  },
+  async write() {
+    const put = await ask('put', { path: '/image', bytes: state.image?.bytes });
+    if (put.error) return end(put, []);
+    const at = state.image?.isRaw ? ['-f', '-S', `0x${$('address').value}`] : [];
+    const it = await run(['write', ...named(), '--progress', '-v', ...at, '/image'], { onBoard: true });
+    return end(it, it.out.trim().split('\n'));
+  },
+  async compare() {
+    const put = await ask('put', { path: '/image', bytes: state.image?.bytes });
+    if (put.error) return end(put, []);
+    const at = state.image?.isRaw ? ['-f', '-S', `0x${$('address').value}`] : [];
+    return end(await run(['verify', ...named(), ...at, '/image'], { onBoard: true }), ['The board has just these bytes.']);
+  },
+  async read() {
+    const form = $('form').value, path = `/flash.${form}`, it = await run(['read', ...named(), ...(form === 'hex' ? ['--hex'] : []), path], { onBoard: true });
+    if (!it.status) save(path.slice(1), (await ask('get', { path })).bytes);
+    return end(it, [`The flash is in ${path.slice(1)}.`]);
+  },
+  /** @param {string} name @param {boolean} [isSaid] */
+  async undo(name, isSaid = false) {
+    const { lines } = await says(name), segments = lines.filter((/** @type {string} */ it) => it.startsWith('segment'));
+    if (!isSaid && !(await isSure('Undo the newest write or erase?', segments.slice(-1), 'The board gets back what these pages held before.', 'Undo'))) return undefined;
+    const it = await run(['undo', '--journal', `${FOLDER}/${name}`, '--progress', '-v', '1'], { onBoard: true });
+    return end(it, it.out.trim().split('\n'));
+  },
+  /** @param {string} name */
+  async keep(name) {
+    const { lines } = await says(name);
+    if (!(await isSure('Let it stay for good?', lines, 'The journal is removed. What was written can\'t be undone any more.', 'Remove the journal'))) return undefined;
+    return end(await run(['keep', '--journal', `${FOLDER}/${name}`], { isQuiet: true }), ['The journal is removed.']);
+  },
+};
+
+/** What a journal says, line by line.
+ * @param {string} name @returns {Promise<{ lines: string[], isBad: boolean }>} */
+async function says(name) {
+  const it = await run(['log', '--json', '--journal', `${FOLDER}/${name}`], { isQuiet: true });
+  try {
+    const told = JSON.parse(it.out);
+    return { lines: told.lines ?? [told.says], isBad: !told.lines };
+  } catch {
+    return { lines: whyNot(it), isBad: true };
+  }
+}
+
+/** Tells what came of a run, and looks what the journals say now.
+ * @param {any} it @param {string[]} done */
+async function end(it, done) {
+  state.last = it;
+  await journals();
+  const more = it.status === 0 && !state.isKept ? state.names.map((/** @type {string} */ name) => button('Download the journal', () => download(name), name)) : [];
+  if (it.status === 0) tell('good', done, more);
+  else tell('bad', whyNot(it).length ? whyNot(it) : ['The program ended.']);
+  return it;
+}
+
+async function journals() {
+  const { names } = await ask('list'), rows = [];
+  state.names = names.filter((/** @type {string} */ it) => it.endsWith(ENDING)).sort();
+  state.unfinished = [];
+  for (const name of state.names) {
+    const { lines, isBad } = await says(name), board = name.slice(0, -ENDING.length), isUndone = lines.some((it) => it.startsWith('0 can be'));
+    if (lines.some((it) => it.startsWith('unfinished'))) state.unfinished.push(name);
+    const undo = button('Undo the newest', () => acts.undo(name), board), keep = button('Keep for good', () => acts.keep(name), board);
+    if (isUndone || isBad) undo.dataset.off = '';
+    if (isBad || state.unfinished.includes(name)) keep.dataset.off = '';
+    rows.push(element('li', element('strong', board), element('ul', ...lines.filter((it) => !it.startsWith('board ')).map((it) => element('li', it))),
+      Object.assign(element('div', undo, button('Download', () => download(name), board), keep), { className: 'row' })));
+  }
+  $('journals').replaceChildren(...(rows.length ? rows : [element('li', 'There is none yet. The first write makes one.')]));
+  const stopped = state.unfinished[0];
+  $('stopped').hidden = !stopped;
+  shows();
+  if (stopped) say('stopped-says', `A write or erase at board ${stopped.slice(0, -ENDING.length)} was stopped. Connect that board, and undo it: each page gets back what it held.`);
+}
+
+/** What can be done now. */
+function shows() {
+  for (const id of ['port', 'ask', 'read', 'stopped-undo', 'upload', 'file']) $(id).disabled = state.busy || !state.ready;
+  for (const id of ['write', 'compare']) $(id).disabled = state.busy || !state.ready || !state.image;
+  for (const it of $('journals').querySelectorAll('button')) it.disabled = state.busy || 'off' in it.dataset;
+  $('by-hand').hidden = Boolean($('wiring').value);
+  $('start').hidden = !state.image?.isRaw;
+}
+
+/**
+ * @param {any} port */
+function takePort(port) {
+  const { usbVendorId, usbProductId } = port.getInfo(), four = (/** @type {number} */ it) => it.toString(16).padStart(4, '0');
+  state.line = { info: { usbVendorId, usbProductId } };
+  say('chosen', usbVendorId === undefined ? 'A serial port of this machine.' : `The USB adapter ${four(usbVendorId)}:${four(usbProductId)}.`);
+}
+
+async function choose() {
+  try {
+    takePort(await /** @type {any} */ (navigator).serial.requestPort());
+    return true;
+  } catch {
+    say('chosen', 'No port is chosen.');
+    return false;
+  }
+}
+
+/**
+ * @param {File | undefined} file */
+async function take(file) {
+  if (!file) return;
+  try {
+    state.image = imageOf(file.name, new Uint8Array(await file.arrayBuffer()));
+    say('image', `${state.image.says}.`);
+  } catch (thrown) {
+    state.image = undefined;
+    say('image', `${file.name}: ${/** @type {Error} */ (thrown).message}.`);
+  }
+  shows();
+}
+
+/**
+ * @param {File | undefined} file */
+async function takeJournal(file) {
+  if (!file) return;
+  const name = file.name.endsWith(ENDING) ? file.name : `${file.name}${ENDING}`;
+  if (state.names.includes(name)) return tell('bad', [`There is a journal ${name} already. Download it, and keep it for good, before another one takes its place.`]);
+  const { error } = await ask('put', { path: `/${FOLDER}/${name}`, bytes: new Uint8Array(await file.arrayBuffer()) });
+  const { lines, isBad } = error ? { lines: [error], isBad: true } : await says(name);
+  if (isBad && !error) await ask('remove', { path: `/${FOLDER}/${name}` });
+  await journals();
+  tell(isBad ? 'bad' : 'good', isBad ? lines : [`${name} is taken over.`]);
+}
+
+$('wiring').append(...WIRINGS.map((it) => {
+  const option = element('option', it.replace(/inverted-(\w+)-(\w+)/g, '$1-$2 by an inverter').replace(/,/, ', '));
+  /** @type {any} */ (option).value = it;
+  return option;
+}));
+$('wiring').onchange = shows;
+$('port').onclick = choose;
+$('ask').onclick = acts.ask;
+$('write').onclick = acts.write;
+$('compare').onclick = acts.compare;
+$('read').onclick = acts.read;
+$('stopped-undo').onclick = () => acts.undo(state.unfinished[0], true);
+$('file').onchange = () => take($('file').files[0]);
+$('drop').ondragover = (/** @type {DragEvent} */ it) => { it.preventDefault(); $('drop').className = 'over'; };
+$('drop').ondragleave = () => { $('drop').className = ''; };
+$('drop').ondrop = (/** @type {DragEvent} */ it) => { it.preventDefault(); $('drop').className = ''; void take(it.dataTransfer?.files[0]); };
+$('upload').onchange = () => takeJournal($('upload').files[0]);
+addEventListener('beforeunload', (it) => { if (state.busy) it.preventDefault(); });
+
+/**
+ * @returns {Promise<string>} */
+async function begin() {
+  const { serial, storage } = /** @type {any} */ (navigator), simulated = new URLSearchParams(location.search).get('line');
+  const lacks = [[/** @type {any} */ (WebAssembly).Suspending, 'calls of WebAssembly that wait (JSPI)'], [serial || simulated, 'Web Serial'],
+    [storage?.getDirectory, 'files of its own']].filter(([has]) => !has).map(([, what]) => what);
+  if (lacks.length) throw new Error(`this browser lacks ${lacks.join(', ')}. Chrome and Edge have them, from 137 on`);
+  shows();
+  state.compiled = await begun;
+  state.ready = true;
+  if (simulated) {
+    state.line = { url: new URL(simulated, location.href.replace(/^http/, 'ws')).href };
+    say('chosen', 'A simulated board of whoever serves this page.');
+  } else {
+    const ports = await serial.getPorts();
+    if (ports.length === 1) takePort(ports[0]);
+  }
+  await journals();
+  shows();
+  // some browsers ask their user, and answer when that did
+  const version = (await run(['--version'], { isQuiet: true })).out.trim(), verdict = await (await fetch('verdict.txt')).text();
+  say('proved', `${version}. ${verdict.startsWith('logic=proved') ?
+    `What was proved is the program (${verdict.trim()}). What made WebAssembly of it, this page's own files, the browser and its system are trusted.` :
+    'Nothing was proved of this build.'}`);
+  const isKept = storage.persist().then((/** @type {boolean} */ it) => { state.isKept = it; return it; });
+  return (await Promise.race([isKept, new Promise((resolve) => setTimeout(resolve, 1000, false))])) ? 'Ready.' :
+    'Ready. This browser may clear the journals when it needs room: download each one after a write.';
+}
+
+navigator.serviceWorker?.register('offline.js').catch(() => {});
+begin().then((text) => say('state', text), (thrown) => { say('state', `stmflash can't begin: ${thrown.message}.`); })
+  .finally(() => { document.body.dataset.ready = state.ready ? 'yes' : 'no'; });
+Object.assign(window, { stmflash: { state, ask, acts, take, takeJournal, run, says, journals } });

@@ -1,0 +1,314 @@
+// Tries what the page answers to the program, noun by noun: node web/test_layer.mjs [FOLDER [MODULE]]
+//
+// FOLDER has the files to be tried, web/page where none is given: test_layer.py hands over copies with a fault planted in one. It
+// ends with 0 where all holds. With a MODULE it compares what that asks for with what is answered.
+import * as fs from 'node:fs';
+import { pathToFileURL } from 'node:url';
+
+const folder = pathToFileURL(`${process.argv[2] ?? new URL('page', import.meta.url).pathname}/`);
+const from = (name) => import(new URL(name, folder));
+const { E, Fault } = await from('faults.js');
+const { callsOf } = await from('program.js');
+const { Store, inMemory, JOURNALS } = await from('store.js');
+const { Line } = await from('line.js');
+const { stepsOf, WIRINGS } = await from('wiring.js');
+const { imageOf } = await from('image.js');
+
+let held = 0, all = 0;
+const same = (one, other) => JSON.stringify(one, said) === JSON.stringify(other, said);
+const said = (_, it) => (typeof it === 'bigint' ? `${it}n` : it instanceof Uint8Array ? [...it] : it === undefined ? 'undefined' : it);
+function holds(what, one, other = true) {
+  all++;
+  held += same(one, other);
+  if (!same(one, other)) console.log(`FAILED: ${what}: ${JSON.stringify(one, said)}, not ${JSON.stringify(other, said)}`);
+}
+const soon = (millis = 0) => new Promise((resolve) => setTimeout(resolve, millis));
+/** A promise that has to end: `late` where it doesn't. */
+const ends = (it) => Promise.race([it, soon(3000).then(() => 'late')]);
+const bytesOf = (text) => new TextEncoder().encode(text);
+
+// The calls over a memory of one page, and names and texts in it.
+function machine({ words = ['stmflash'], variables = {}, store = new Store([]), line, input } = {}) {
+  const out = [], { memory, env } = callsOf({ words, variables, store, line, input, say: (stream, bytes) => out.push([stream, ...bytes]) }, Boolean(line));
+  memory.of = { buffer: new ArrayBuffer(65536) };
+  const path = (name, at = 100n) => { memory.bytes(at, 4096).fill(0); memory.put(name, at, 4000n); return at; };
+  return { env, memory, store, out, path, fault: () => env.rattle_errno(), open: (name, flags) => env.open(path(name), flags, 0n),
+    write: (fd, text) => { memory.put(text, 9000n, 1000n); return env.write(fd, 9000n, BigInt(bytesOf(text).length)); },
+    read: (fd, room) => { const got = env.read(fd, 9000n, BigInt(room)); return got < 0n ? got : new TextDecoder().decode(memory.bytes(9000n, got).slice()); },
+    told: (fd, name = '') => env.statx(fd, path(name), name ? 0 : 0x1000, 0, 20000n) === 0 && { mode: memory.view().getUint16(20028, true) >> 12,
+      ino: Number(memory.view().getBigUint64(20032, true)), size: Number(memory.view().getBigUint64(20040, true)), links: memory.view().getUint32(20016, true) } };
+}
+
+// words
+{
+  const { env, memory, path } = machine({ words: ['stmflash', '', 'zwei Wörter'], variables: { FIRST: 'one', EMPTY: '' } });
+  memory.bytes(0, 16).fill(7);
+  holds('a word', [env.rattle_arg(0n, 0n, 8n), new TextDecoder().decode(memory.bytes(0, 8))], [8n, 'stmflash']);
+  holds('nothing is put behind it', memory.bytes(8, 8).every((it) => it === 7));
+  holds('an empty word', env.rattle_arg(1n, 0n, 8n), 0n);
+  holds('its length in bytes', env.rattle_arg(2n, 0n, 100n), 12n);
+  holds('no word', env.rattle_arg(3n, 0n, 8n), -1n);
+  holds('no room', [env.rattle_arg(0n, 0n, 3n), new TextDecoder().decode(memory.bytes(0, 3))], [-2n, 'stm']);
+  holds('a variable', env.rattle_env(path('FIRST'), 0n, 8n), 3n);
+  holds('an empty one', env.rattle_env(path('EMPTY'), 0n, 8n), 0n);
+  holds('none', [env.rattle_env(path('NONE'), 0n, 8n), env.rattle_env(path('toString'), 0n, 8n)], [-1n, -1n]);
+  holds('entries', [env.rattle_env_at(0n, 0n, 20n), env.rattle_env_at(1n, 0n, 20n), env.rattle_env_at(2n, 0n, 20n)], [9n, 6n, -1n]);
+  env.rattle_set_errno(17);
+  holds('the last fault', env.rattle_errno(), 17);
+  env.__xpg_strerror_r(28, 0n, 100n);
+  holds('what it says', memory.text(0n), 'No space left on device');
+}
+
+// clock
+{
+  const { clockCalls } = await from('clock.js'), { memory } = machine(), calls = clockCalls(memory, { now: () => 1999.5, timeOrigin: 5000 });
+  const at = (which) => { calls.clock_gettime(which, 8n); return [memory.view().getBigInt64(8, true), memory.view().getBigInt64(16, true)]; };
+  holds('the steady clock', at(1), [1n, 999500000n]);
+  holds('the time of day', at(0), [6n, 999500000n]);
+}
+
+// files: descriptors over a store
+const [CREATE, EXCLUSIVE, TRUNCATE, APPEND] = [0x40, 0x80, 0x200, 0x400];
+const disks = (count) => Array.from({ length: count }, () => inMemory());
+{
+  const it = machine({ store: new Store(disks(4)), input: bytesOf('given') }), { env } = it;
+  holds('no file', [it.open('none', 0), it.fault()], [-1, E.NOENT]);
+  const fd = it.open('/boards/a', 2 | CREATE | EXCLUSIVE);
+  holds('a new file', [fd, it.write(fd, 'hello'), it.told(fd).size, it.told(fd).mode, it.told(fd).links], [3, 5n, 5, 8, 1]);
+  holds('it is there', [it.open('/boards/a', 2 | CREATE | EXCLUSIVE), it.fault()], [-1, E.EXIST]);
+  holds('back, and read', [env.lseek(fd, 1n, 0), it.read(fd, 3), it.read(fd, 9), it.read(fd, 9)], [1n, 'ell', 'o', '']);
+  holds('places', [env.lseek(fd, -2n, 2), env.lseek(fd, 1n, 1), env.lseek(fd, -9n, 0), it.fault()], [3n, 4n, -1n, E.INVAL]);
+  const more = it.open('boards/./a', 1 | APPEND);
+  holds('added at the end', [it.write(more, '!'), it.write(fd, '?'), it.write(more, '+'), it.told(fd).size], [1n, 1n, 1n, 7]);
+  holds('what may not be read', [it.read(more, 3), it.fault()], [-1n, E.BADF]);
+  const looks = it.open('/boards/a', 0);
+  holds('what may not be written', [it.write(looks, 'x'), it.fault(), env.ftruncate(looks, 0n), it.told(fd).size], [-1n, E.BADF, -1, 7]);
+  holds('one file', [it.told(fd).ino === it.told(more).ino, it.told(0, '/boards/a').ino === it.told(fd).ino], [true, true]);
+  holds('a lock', [env.flock(fd, 6), env.flock(fd, 6), env.flock(more, 6), it.fault()], [0, 0, -1, E.AGAIN]);
+  const copy = env.fcntl(fd, 1030, 0n);
+  env.close(fd);
+  holds('a copy holds it', [env.flock(more, 6), it.read(copy, 0)], [-1, '']);
+  env.close(copy);
+  holds('closed, it is free', [env.flock(more, 6), env.close(copy), it.fault()], [0, -1, E.BADF]);
+  holds('shortened', [env.ftruncate(more, 2n), it.told(more).size], [0, 2]);
+  holds('emptied as it is opened', [it.told(it.open('/boards/a', 1 | TRUNCATE)).size], [0]);
+  holds('a folder', [it.told(0, '/boards').mode, it.open('/boards', 1), it.fault(), env.rattle_open_dir_at(-100, it.path('/boards/a')), it.fault()], [4, -1, E.ISDIR, -1, E.NOTDIR]);
+  const second = it.open('/boards/second', 2 | CREATE);
+  holds('another file', [it.told(second).ino !== it.told(more).ino, it.told(0, '/boards/second').ino === it.told(second).ino], [true, true]);
+  const list = env.rattle_open_dir_at(-100, it.path('/boards')), got = Number(env.getdents64(list, 30000n, 1000n)), names = [];
+  for (let at = 30000; at < 30000 + got; at += it.memory.view().getUint16(at + 16, true)) names.push(it.memory.text(BigInt(at + 19)));
+  holds('its names, once', [names, env.getdents64(list, 30000n, 1000n)], [['a', 'second'], 0n]);
+  holds('no room for a name', [env.getdents64(env.rattle_open_dir_at(-100, it.path('/boards')), 30000n, 4n), it.fault()], [-1n, E.INVAL]);
+  holds('a real path', [env.realpath(it.path('boards//./a'), 40000n), it.memory.text(40000n)], [40000n, '/boards/a']);
+  holds('none of none', [env.realpath(it.path('boards/none'), 40000n), it.fault()], [0n, E.NOENT]);
+  holds('no links', [env.readlink(it.path('/boards/a'), 0n, 9n), it.fault(), env.readlink(it.path('/none'), 0n, 9n), it.fault()], [-1n, E.INVAL, -1n, E.NOENT]);
+  holds('no second names', [env.link(it.path('/boards/a'), it.path('/boards/b', 5000n)), it.fault(), it.told(0, '/boards/a') !== false, it.told(0, '/boards/b')], [-1, E.PERM, true, false]);
+  holds('no terminal', [env.isatty(0), env.isatty(1), env.isatty(2)], [0, 0, 0]);
+  holds('streams', [it.write(1, 'ab'), it.write(2, 'c'), it.out], [2n, 1n, [[1, 97, 98], [2, 99]]]);
+  holds('what is given', [it.read(0, 3), it.read(0, 9), it.read(0, 9)], ['giv', 'en', '']);
+  const out = it.open('/dev/stdout', 1);
+  holds('a stream by its name', [it.write(out, 'z'), it.out.at(-1), it.told(0, '/dev/stdout').mode], [1n, [1, 122], 2]);
+  holds('rights are no matter', [env.lchown(it.path('/boards/a'), 0, 0), env.chmod(it.path('/boards/a'), 0), env.fchmod(more, 0), env.fchmod(99, 0)], [0, 0, 0, -1]);
+}
+
+// files: what a disk does
+{
+  const told = [], disk = { ...inMemory(), flush: () => told.push('flush') }, it = machine({ store: new Store([disk]) });
+  const fd = it.open('/boards/a', 2 | CREATE), before = told.length;
+  holds('a sync reaches the disk', [it.env.fsync(fd), it.env.fdatasync(fd), told.length - before], [0, 0, 2]);
+  disk.flush = () => { throw new DOMException('no', 'InvalidStateError'); };
+  holds('a sync that fails is told', [it.env.fsync(fd), it.fault()], [-1, E.IO]);
+  disk.write = () => { throw new DOMException('full', 'QuotaExceededError'); };
+  holds('a full disk is told', [it.write(fd, 'x'), it.fault()], [-1n, E.NOSPC]);
+  disk.write = () => 0;
+  holds('and where nothing is taken', [it.write(fd, 'x'), it.fault()], [-1n, E.NOSPC]);
+  disk.write = (bytes) => Math.min(2, bytes.length);
+  holds('a short write is as short as it was', [it.write(fd, 'abcd'), it.env.lseek(fd, 0n, 1)], [2n, 2n]);
+}
+
+// the store: names on the disk. A disk that loses its power has of each sector that was written since the last flush the old bytes, the
+// new ones, or some of both.
+function weak() {
+  let held = new Uint8Array(), kept = held;
+  const write = (bytes, at) => { const now = new Uint8Array(Math.max(held.length, at + bytes.length)); now.set(held); now.set(bytes, at); held = now; };
+  return { read: (bytes, { at }) => { const part = held.subarray(at, at + bytes.length); bytes.set(part); return part.length; },
+    write: (bytes, { at }) => { write(bytes, at); return bytes.length; }, getSize: () => held.length, close() {},
+    truncate: (size) => { const now = new Uint8Array(size); now.set(held.subarray(0, size)); held = now; }, flush() { this.before?.(); kept = held; this.after?.(); },
+    /** What is there after a loss of power: sector by sector the old one or the new one, as `choose` says. */
+    lose(choose) {
+      const now = new Uint8Array(choose() & 1 ? held.length : kept.length);
+      for (let at = 0; at < now.length; at += 512) {
+        const cut = at + [0, 512, 20, 511][choose() % 4];
+        now.set(kept.subarray(at, Math.min(at + 512, now.length)), at);
+        now.set(held.subarray(at, Math.min(cut, now.length)), at);
+      }
+      held = kept = now;
+    } };
+}
+const contents = (store) => Object.fromEntries(store.list(JOURNALS).map(({ name }) => {
+  const node = store.open(`${JOURNALS}/${name}`, {}), bytes = new Uint8Array(node.size());
+  node.read(bytes, 0);
+  return [name, new TextDecoder().decode(bytes)];
+}).sort());
+const make = (store, name, text) => { const node = store.open(`/boards/${name}`, { creates: true }); node.write(bytesOf(text), 0); node.flush(); node.close(); };
+const OPERATIONS = {
+  'a name is given': [(store) => { store.open('/boards/new', { creates: true }).close(); }, { a: 'A', b: 'B', new: '' }],
+  'a name is taken': [(store) => store.remove('/boards/a'), { b: 'B' }],
+  'a name is moved': [(store) => store.rename('/boards/a', '/boards/c'), { b: 'B', c: 'A' }],
+  'a name is moved over another': [(store) => store.rename('/boards/a', '/boards/b'), { b: 'A' }],
+};
+{
+  let seed = 1;
+  const choose = () => { seed = (seed * 48271) % 2147483647; return seed >> 6; };
+  for (const [what, [does, after]] of Object.entries(OPERATIONS)) {
+    const seen = new Set();
+    for (let round = 0; round < 90; round++) {
+      const disk = Array.from({ length: 4 }, weak), store = new Store(disk);
+      for (let i = 0; i <= round % 3; i++) { make(store, 'a', `was ${i}`); make(store, 'b', 'was'); store.remove('/boards/a'); store.remove('/boards/b'); }
+      make(store, 'a', 'A');
+      make(store, 'b', 'B');
+      make(store, 'before', 'left');
+      store.remove('/boards/before');
+      if (round % 2) {
+        // the power goes in the middle: before any flush, or behind it
+        let left = Math.floor(round / 2) % 5;
+        for (const it of disk) it.before = it.after = () => { if (!left--) throw new Error('no power'); };
+      }
+      let isDone = true;
+      try { does(store); } catch { isDone = false; }
+      for (const it of disk) { it.before = it.after = undefined; it.lose(choose); }
+      const now = contents(new Store(disk));
+      seen.add(isDone ? 'done' : 'stopped');
+      holds(`${what}: ${isDone ? 'it is on the disk' : 'before or behind it'}`, isDone ? same(now, after) : same(now, after) || same(now, { a: 'A', b: 'B' }));
+    }
+    holds(`${what}: with and without power`, seen.has('done'));
+  }
+  // twice the same start
+  const disk = Array.from({ length: 3 }, weak), store = new Store(disk);
+  make(store, 'a', 'old');
+  make(store, 'b', 'newer');
+  const headOf = disk.map((it) => it.write);
+  disk[0].write = () => { throw new Error('no'); };
+  try { store.rename('/boards/b', '/boards/a'); } catch { /* the older name stays */ }
+  disk[0].write = headOf[0];
+  const again = new Store(disk);
+  holds('of two files of a name the newer one', contents(again), { a: 'newer' });
+  again.remove('/boards/a');
+  holds('and the older one doesn\'t come back', contents(new Store(disk)), {});
+}
+{
+  const store = new Store(disks(3)), open = store.open('/boards/a', { creates: true });
+  open.write(bytesOf('kept'), 0);
+  store.remove('/boards/a');
+  const bytes = new Uint8Array(4);
+  holds('what is open stays readable without a name', [open.read(bytes, 0), new TextDecoder().decode(bytes), store.look('/boards/a') === undefined], [4, 'kept', true]);
+  make(store, 'b', 'B');
+  open.read(bytes, 0);
+  holds('and nobody else gets its place', new TextDecoder().decode(bytes), 'kept');
+  open.close();
+  const over = store.open('/boards/b', {});
+  make(store, 'c', 'C');
+  store.rename('/boards/c', '/boards/b');
+  holds('what is replaced while it is open', [over.read(bytes, 0), contents(store), store.look('/boards/c')], [1, { b: 'C' }, undefined]);
+  over.close();
+  holds('places come back', store.free(), 2);
+  make(store, 'd', 'long before');
+  store.remove('/boards/d');
+  make(store, 'd', '');
+  holds('nothing is left of another file', contents(store), { b: 'C', d: '' });
+  make(store, 'e', '');
+  let fault = 0;
+  try { make(store, 'f', ''); } catch (thrown) { fault = thrown.number; }
+  holds('no place left', fault, E.NOSPC);
+  store.open('image', { creates: true }).close();
+  holds('files beside are in memory', [store.free(), store.look('/image')?.kind, contents(store).image], [0, 'file', undefined]);
+}
+
+// line: over a port that does what it is told
+function port() {
+  const it = { told: [], sent: [], async open(how) { it.told.push(how); it.readable = new ReadableStream({ start: (into) => { it.into = into; } });
+    it.writable = new WritableStream({ write: async (bytes) => { await soon(); it.sent.push(...bytes); } }); },
+  async close() { it.told.push('closed'); if (it.readable.locked || it.writable.locked) throw new Error('locked'); }, async setSignals(signals) { it.told.push(signals); } };
+  return it;
+}
+{
+  const board = port(), line = new Line(board, 57600), it = machine({ line }), { env } = it;
+  const address = (name) => { it.memory.bytes(50000n, 110).fill(0); it.memory.put(name, 50002n, 100n); return 50000n; };
+  const fd = env.socket(1, 1, 0);
+  holds('a file is no line', [env.send(1, 0n, 1n, 0), it.fault()], [-1n, E.NOTSOCK]);
+  holds('another name', [await env.connect(fd, address('/dev/other'), 110), it.fault()], [-1, E.CONNREFUSED]);
+  holds('the line is one', [it.told(0, '/dev/board').mode, await env.connect(fd, address('/dev/board'), 110)], [12, 0]);
+  holds('eight bits, even parity, one stop bit', [board.told[0].baudRate, board.told[0].dataBits, board.told[0].parity, board.told[0].stopBits], [57600, 8, 'even', 1]);
+  const recv = async (room) => { const got = await ends(env.recv(fd, 9000n, BigInt(room), 0)); return typeof got === 'bigint' && got > 0n ? it.memory.bytes(9000n, got).slice() : got; };
+  it.memory.view().setBigInt64(16, 0n, true);
+  it.memory.view().setBigInt64(24, 30000n, true);
+  holds('a wait is set', env.setsockopt(fd, 1, 20, 16n, 16), 0);
+  it.memory.view().setBigInt64(16, 60n, true);
+  holds('and another one, for what is sent, is no matter', env.setsockopt(fd, 1, 21, 16n, 16), 0);
+  const began = performance.now();
+  holds('nothing comes in time', [await recv(9), it.fault(), performance.now() - began > 20], [-1n, E.AGAIN, true]);
+  setTimeout(() => board.into.enqueue(Uint8Array.of(1, 2, 3, 4, 5)), 10);
+  env.setsockopt(fd, 1, 20, 16n, 16);
+  holds('what comes is taken, in order, and no more than there is room for', [await recv(2), await recv(9)], [[1, 2], [3, 4, 5]]);
+  it.memory.bytes(9000n, 3n).set([0x7f, 0, 255]);
+  holds('sent', env.send(fd, 9000n, 3n, 0), 3n);
+  it.memory.bytes(9000n, 3n).fill(0);
+  const copy = env.fcntl(fd, 1030, 0n);
+  await env.close(copy);
+  holds('open as long as one has it', board.told.includes('closed'), false);
+  holds('closed', [await ends(env.close(fd)), board.told.at(-1)], [0, 'closed']);
+  holds('and all that was sent went out before', board.sent, [0x7f, 0, 255]);
+}
+for (const [what, over, sum] of [['a wrong parity', (board) => board.into.error(new DOMException('x', 'ParityError')), -1n], ['a lost adapter', (board) => board.into.error(new DOMException('x', 'NetworkError')), -1n],
+  ['an end', (board) => board.into.close(), 0n]]) {
+  const board = port(), line = new Line(board, 9600), it = machine({ line }), fd = it.env.socket(1, 1, 0);
+  it.memory.put('/dev/board', 50002n, 100n);
+  await it.env.connect(fd, 50000n, 13);
+  setTimeout(() => { if (sum) board.into.enqueue(Uint8Array.of(9)); over(board); }, 5);
+  await soon(20);
+  holds(`${what} ends the line`, [await ends(it.env.recv(fd, 9000n, 9n, 0)), await ends(it.env.recv(fd, 9000n, 9n, 0))], [sum, sum]);
+  holds(`${what}: no more is sent`, [it.env.send(fd, 9000n, 1n, 0), it.fault()], [-1n, E.IO]);
+  holds(`${what}: it still closes`, [await ends(it.env.close(fd)), board.told.at(-1)], [0, 'closed']);
+}
+{
+  const board = port(), line = new Line(board, 9600, stepsOf('dtr-reset,rts-boot0')), began = performance.now();
+  await line.connect();
+  const took = performance.now() - began;
+  await line.close();
+  holds('a wiring is played, in and out', board.told.filter((it) => it.dataTerminalReady !== undefined || it.requestToSend !== undefined),
+    [{ requestToSend: false }, { dataTerminalReady: true }, { dataTerminalReady: false }, { requestToSend: true }, { dataTerminalReady: true }, { dataTerminalReady: false }]);
+  holds('with its waits', took >= 290);
+  board.open = async () => { throw new DOMException('in use', 'InvalidStateError'); };
+  const it = machine({ line: new Line(board, 9600) }), fd = it.env.socket(1, 1, 0);
+  it.memory.put('/dev/board', 50002n, 100n);
+  holds('a port in use', [await ends(it.env.connect(fd, 50000n, 13)), it.fault(), await ends(it.env.close(fd))], [-1, E.CONNREFUSED, 0]);
+  holds('nobody is served', [it.env.bind(fd, 0n, 0), it.fault(), it.env.listen(fd, 1), it.env.accept4(fd, 0n, 0n, 0)], [-1, E.NOSYS, -1, -1]);
+}
+
+// images
+{
+  const one = imageOf('a.hex', bytesOf(':020000040800F2\n:04000000010203 04\n'.replace(' ', '')));
+  holds('HEX is handed on as it is', [one.isRaw, one.says], [false, 'a.hex: Intel HEX, 4 bytes from 08000000 to 08000003']);
+  holds('raw bytes', [imageOf('a.bin', bytesOf('xyz')).isRaw, imageOf('a.bin', bytesOf('xyz')).says], [true, 'a.bin: 3 raw bytes']);
+  // two segments, stored elsewhere than they run; the second one over an end of 64 KiB
+  const elf = new Uint8Array(200), head = new DataView(elf.buffer);
+  elf.set([0x7f, 0x45, 0x4c, 0x46, 1, 1]);
+  for (const [at, value] of [[28, 52], [42, 32 << 0], [44, 2]]) head.setUint16(at, value, true);
+  [[1, 120, 0x20000000, 0x08000010, 3], [1, 130, 0x20000100, 0x0800FFFE, 4]].forEach((words, i) => words.forEach((it, k) => head.setUint32(52 + 32 * i + 4 * k, it, true)));
+  elf.set([1, 2, 3], 120);
+  elf.set([4, 5, 6, 7], 130);
+  holds('ELF becomes HEX', new TextDecoder().decode(imageOf('a.elf', elf).bytes),
+    ':020000040800F2\n:03001000010203E7\n:020000040800F2\n:02FFFE000405F8\n:020000040801F1\n:020000000607F1\n:00000001FF\n');
+  let why = '';
+  elf[4] = 2;
+  try { imageOf('a.elf', elf); } catch (thrown) { why = thrown.message; }
+  holds('a 64-bit ELF is refused', why, 'this ELF isn\'t one of 32 bits with the low byte first');
+}
+
+if (process.argv[3]) {
+  const asked = WebAssembly.Module.imports(new WebAssembly.Module(fs.readFileSync(process.argv[3]))).map((it) => it.name).sort();
+  holds('what the module asks for is what is answered', Object.keys(machine().env).sort(), asked);
+}
+if (process.argv.includes('--wirings')) console.log(JSON.stringify(Object.fromEntries(WIRINGS.map((it) => [it, stepsOf(it)]))));
+console.log(`${held} of ${all} hold`);
+process.exitCode = held === all ? 0 : 1;

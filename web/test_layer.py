@@ -1,0 +1,303 @@
+"""Tries what the page answers to the program, sound and with each of many planted faults.
+
+    python3 -m unittest discover -s web -p test_layer.py
+
+test_layer.mjs says what each function of web/page has to do, and test_memory.c what those of memory.c have to; both are run by
+what is here, without a browser. The images are compared with objcopy's, the wirings with stmflash-line's.
+"""
+
+import concurrent.futures
+import importlib.machinery
+import importlib.util
+import json
+import os
+import random
+import re
+import shutil
+import struct
+import subprocess
+import sys
+import tempfile
+import unittest
+
+HERE = os.path.dirname(os.path.abspath(__file__))
+TOP = os.path.dirname(HERE)
+MODULE = f"{TOP}/bin/web/stmflash.wasm"
+NODE = ["node", "--experimental-wasm-memory64", "--no-warnings"]
+# what is planted, by file: a text, which is there once, and the one in its place
+FAULTS = {
+    "memory.c": {
+        "a block is taken twice": ("        waiting[list] = b->next;\n", ""),
+        "a list has blocks that are too small": ("& 3) + 1;", "& 3);"),
+        "heads aren't counted": ("list_for(n + HEAD);\n    struct block *b = waiting", "list_for(n);\n    struct block *b = waiting"),
+        "a block grows over the next one": ("if ((size_t)b == last && reaches", "if (reaches"),
+        "what was there is lost": ("    __builtin_memcpy(to, p, kept);\n", ""),
+        "the old block is gone where there is no memory": ("    void *to = take(n != 0 ? n : a);\n", "    rattle_dealloc(p);\n    void *to = take(n != 0 ? n : a);\n"),
+        "memory isn't asked for": ("if (far <= there_is)", "if (far <= there_is || 1)"),
+        "no memory is an address all the same": ("(struct tried){0, &nothing}", "(struct tried){1, &nothing}"),
+        "no memory has no address": ("{0, &nothing}", "{0, NULL}"),
+        "blocks lie anywhere": ("return (n + 15) & ~(size_t)15;", "return n;"),
+        "freed blocks are lost": ("    waiting[b->list] = b;\n", ""),
+        "the last pages are never had": (" || __builtin_wasm_memory_grow(0, least) != (size_t)-1", ""),
+        "a carry is lost": ("a1 * b1 + (one >> 32) + (other >> 32)", "a1 * b1 + (one >> 32)"),
+        "a shift by nothing": ("else if (n > 0)\n        r.half.low = x.half.low << n,", "else\n        r.half.low = x.half.low << n,"),
+    },
+    "memory.js": {
+        "a text goes on behind its end": ("all.indexOf(0, Number(at))", "all.indexOf(0, Number(at)) + 1"),
+        "a text that is too long isn't told": (": -2n", ": room"),
+        "a text that fits just so is too long": ("bytes.length <= into.length", "bytes.length < into.length"),
+        "no text is an empty one": ("return -1n;", "return 0n;"),
+    },
+    "words.js": {
+        "words are counted from 1": ("words[Number(i)]", "words[Number(i) + 1]"),
+        "variables that nobody set": ("Object.hasOwn(variables, wanted) ? variables[wanted] : undefined", "variables[wanted] && String(variables[wanted])"),
+        "a fault is forgotten": ("last.fault = number;", ""),
+        "faults have no text": ("SAYS[number] ??", "undefined ??"),
+    },
+    "clock.js": {
+        "both clocks are one": ("(which === 0 ? source.timeOrigin : 0)", "source.timeOrigin"),
+        "nanoseconds are thousandths": ("* 1e6", "* 1e3"),
+    },
+    "files.js": {
+        "a sync is left out": ("this.at(number).node?.flush?.(); return 0;", "return 0;"),
+        "a sync of data is left out": ("fdatasync: flush", "fdatasync: () => 0"),
+        "a read stays where it is": ("        it.at += got;\n", ""),
+        "a write counts as whole": ("return BigInt(put);", "return size;"),
+        "a full disk is no fault": ("if (!put && bytes.length) throw new Fault(E.NOSPC);", ""),
+        "what is added lies anywhere": ("if (it.appends) it.at = node.size();", ""),
+        "a file that may not be written is": ("this.file(number, READ_ONLY), bytes", "this.file(number, -1), bytes"),
+        "a new file is an old one": ("if (told && flags & CREATE && flags & EXCLUSIVE) throw new Fault(E.EXIST);", ""),
+        "each file is made": ("if (!told && !(flags & CREATE)) throw new Fault(E.NOENT);", ""),
+        "a file isn't emptied": ("if (flags & TRUNCATE) node.truncate(0);", ""),
+        "a lock is anybody's": ("if (node.holder && node.holder !== it) throw new Fault(E.AGAIN);", ""),
+        "a lock stays for ever": ("if (it.node?.holder === it) it.node.holder = undefined;", ""),
+        "a lock goes with a copy": ("    if (--it.uses) return undefined;\n", "    --it.uses;\n"),
+        "a terminal": ("isatty: () => 0", "isatty: () => 1"),
+        "a link is a move": ("link: () => { throw new Fault(E.PERM); }", "link: (a, b) => { store.rename(path(a), path(b)); return 0; }"),
+        "a path is as it was given": ("real = STREAMS.includes(wanted) ? wanted : store.real(wanted)", "real = wanted"),
+        "a file is a folder": ("told?.kind !== 'folder'", "!told"),
+        "files aren't told apart": ("BigInt(ino), true);\n    view.setBigUint64(at + 40", "0n, true);\n    view.setBigUint64(at + 40"),
+        "sizes aren't told": ("BigInt(size), true);\n    return 0;", "0n, true);\n    return 0;"),
+        "a name that has no room is lost": ("        if (!used) throw new Fault(E.INVAL);\n", ""),
+        "places count from the start": ("[0, it.at, it.node?.size() ?? 0][from]", "0"),
+        "what is said is said elsewhere": ("this.say(it.number, bytes.slice())", "this.say(1, bytes.slice())"),
+    },
+    "store.js": {
+        "a name isn't on the disk": ("      this.handle.flush();\n      this.side = side;", "      this.side = side;"),
+        "a name is written over the last one": ("const side = 1 - this.side;", "const side = this.side;"),
+        "a head that is torn counts": (" || view.getUint32(SUM_AT, true) !== sumOf(head.subarray(0, SUM_AT))", ""),
+        "the older head counts": ("found.number > slot.number", "!slot.number"),
+        "of two files of a name the older one": ("other.number > slot.number;", "other.number < slot.number;"),
+        "an older file comes back": ("    for (const it of older) it.call('', this.count());\n", ""),
+        "another file's bytes are left": ("    slot.truncate(0);\n    slot.flush();\n", ""),
+        "they are left on the disk": ("    slot.truncate(0);\n    slot.flush();\n", "    slot.truncate(0);\n"),
+        "what is open is given away by a remove": ("this.pool.find((it) => !it.name && !it.uses)", "this.pool.find((it) => !it.name)"),
+        "what is replaced keeps its place": ("    if (other) other.call('', this.count());\n", ""),
+        "the old name stays": ("    this.named.delete(old);\n", ""),
+        "removed in memory alone": ("    slot.call('', this.count());\n    this.named.delete(whole);", "    this.named.delete(whole);"),
+        "a place is never free again": ("close() { this.uses--; }", "close() {}"),
+        "everything is a journal": ("whole.startsWith(`${JOURNALS}/`) ? this.pool", "true ? this.pool"),
+        "bytes lie over the heads": ("this.handle.write(bytes, { at: this.base + at })", "this.handle.write(bytes, { at })"),
+    },
+    "line.js": {
+        "no parity": ("parity: 'even'", "parity: 'none'"),
+        "another speed": ("baudRate: this.baud", "baudRate: 115200"),
+        "a wrong byte is no end": ("if (this.ended && this.ended !== 'closed') throw new Fault(E.IO);", ""),
+        "what came before a wrong byte counts": ("if (this.ended !== 'closed') this.came = [];", ""),
+        "it sends on a line that ended": ("    if (this.ended) throw new Fault(E.IO);\n", ""),
+        "what there was no room for is lost": ("this.came.unshift(first.subarray(most));", ""),
+        "nothing in time is an end": ("if (!got) throw new Fault(E.AGAIN);", "if (!got) return 0n;"),
+        "a read waits for ever": ("millis ? setTimeout(resolve, millis) : undefined", "undefined"),
+        "a wait has no microseconds": (" + Number(view.getBigInt64(at + 8, true)) / 1000;", ";"),
+        "the time to send is that to read": ("level === SOCKET_LEVEL && name === RECEIVE_TIME", "level === SOCKET_LEVEL"),
+        "what was sent is cut": ("    await this.sent;\n", ""),
+        "it goes out as it is by then": ("memory.bytes(at, size).slice());\n      return size;", "memory.bytes(at, size));\n      return size;"),
+        "a copy closes the line": ("if (files.close(number) === 'line') await", "files.close(number); await"),
+        "a port is never closed": ("    await this.port.close().catch(() => {});\n", ""),
+        "a port in use is open": (".catch(() => { throw new Fault(E.CONNREFUSED); });\n      return 0;", ".catch(() => {});\n      return 0;"),
+        "any name is the board's": ("if (name !== line?.name) throw new Fault(E.CONNREFUSED);", ""),
+        "no reset": ("if (this.wiring) await this.play(this.wiring.entry);", ""),
+        "no waits in a reset": ("if (wait) await", "if (!signals) void"),
+    },
+    "wiring.js": {
+        "a raised signal is high": ("isHigh === pins[pin].isInverted", "isHigh !== pins[pin].isInverted"),
+        "reset is held for good": (", at('reset', true)], settled", "], settled"),
+        "the way out is the way in": ("leave: [at('boot0', false)", "leave: [at('boot0', true)"),
+    },
+    "program.js": {
+        "a fault isn't told": ("last.fault = numberOf(thrown);", ""),
+        "a fault is an answer": ("WIDE.includes(name) ? (name === 'realpath' ? 0n : -1n) : -1", "WIDE.includes(name) ? 0n : 0"),
+        "a promise fails": ("answer.catch(failed)", "answer"),
+    },
+    "faults.js": {
+        "a full disk is any fault": ("thrown?.name === 'QuotaExceededError' ? E.NOSPC : E.IO", "E.IO"),
+    },
+    "image.js": {
+        "ELF for 64 bits is read": ("bytes[4] !== 1 ||", ""),
+        "where it runs is where it is stored": ("const [kind, from, , to, size]", "const [kind, from, to, , size]"),
+        "the last record of 64 KiB goes on": ("if (high !== place >>> 16)", "if (high < 0)"),
+    },
+}
+
+
+def run(words, **how):
+    return subprocess.run(words, capture_output=True, text=True, timeout=120, **how)
+
+
+def elf(segments):
+    """An ELF for ARM with these segments: where each is stored, where it runs, and its bytes; and one with no bytes."""
+    heads, bodies, at = [], [], 52 + 32 * (len(segments) + 1)
+    for stored, runs, data in [*segments, (0x20001000, 0x20001000, b"")]:
+        heads.append(struct.pack("<8I", 1, at, runs, stored, len(data), len(data) + 64 * (not data), 5, 4))
+        bodies.append(data)
+        at += len(data)
+    head = b"\x7fELF\x01\x01\x01" + bytes(9) + struct.pack("<2H5I6H", 2, 40, 1, 0x08000000, 52, 0, 0x5000400, 52, 32, len(heads), 40, 0, 0)
+    return head + b"".join(heads + bodies)
+
+
+def bytes_of_hex(text):
+    """What a HEX means, address by address."""
+    found, base = {}, 0
+    for line in text.split():
+        record = bytes.fromhex(line[1:])
+        if sum(record) % 256 or len(record) != record[0] + 5:
+            raise ValueError(line)
+        if record[3] == 4:
+            base = int.from_bytes(record[4:6], "big") << 16
+        elif record[3] == 0:
+            place = base + int.from_bytes(record[1:3], "big")
+            found |= {place + i: it for i, it in enumerate(record[4:-1])}
+    return found
+
+
+class Layer(unittest.TestCase):
+    def setUp(self):
+        room = tempfile.TemporaryDirectory(prefix="stmflash-web-")
+        self.addCleanup(room.cleanup)
+        self.room = room.name
+
+    def need(self, *tools):
+        for tool in tools:
+            if shutil.which(tool) is None:
+                self.skipTest(f"there is no {tool}")
+
+    def try_page(self, folder, *words):
+        return run([*NODE, f"{HERE}/test_layer.mjs", folder, *words])
+
+    def try_memory(self, path, *flags):
+        program = f"{self.room}/{os.path.basename(os.path.dirname(path))}-memory"
+        made = run(["gcc", "-O2", *flags, f'-DMEMORY="{path}"', "-o", program, f"{HERE}/test_memory.c"])
+        self.assertEqual((made.returncode, made.stderr), (0, ""))
+        return run([program])
+
+    def with_fault(self, number, name, old, new):
+        """What comes of a copy with a fault; nothing where its text isn't there once."""
+        folder = f"{self.room}/{number}"
+        shutil.copytree(f"{HERE}/page", folder)
+        shutil.copy(f"{HERE}/memory.c", folder)
+        with open(f"{folder}/{name}", encoding="utf-8") as file:
+            text = file.read()
+        with open(f"{folder}/{name}", "w", encoding="utf-8") as file:
+            file.write(text.replace(old, new))
+        if text.count(old) != 1:
+            return None
+        return self.try_memory(f"{folder}/{name}", "-w") if name.endswith(".c") else self.try_page(folder)
+
+    def assertHolds(self, ran):
+        self.assertEqual((ran.returncode, ran.stderr), (0, ""), ran.stdout[:2000])
+        self.assertRegex(ran.stdout, r"\A(\d+) of \1 hold\n\Z")
+
+    def test_the_page(self):
+        self.need("node")
+        self.assertHolds(self.try_page(f"{HERE}/page"))
+
+    def test_what_the_module_asks_for(self):
+        self.need("node")
+        if not os.path.exists(MODULE):
+            self.skipTest("there is no bin/web")
+        self.assertHolds(self.try_page(f"{HERE}/page", MODULE))
+
+    def test_memory(self):
+        self.need("gcc")
+        self.assertHolds(self.try_memory(f"{HERE}/memory.c", "-Wall", "-Wextra", "-Werror"))
+
+    def test_types(self):
+        self.need("tsc")
+        ran = run(["tsc", "-p", f"{HERE}/tsconfig.json"])
+        self.assertEqual((ran.returncode, ran.stdout), (0, ""))
+
+    def test_finds_each_fault(self):
+        self.need("node", "gcc")
+        planted = [(name, what, *edit) for name, faults in FAULTS.items() for what, edit in faults.items()]
+        # each mostly waits for its lines
+        with concurrent.futures.ThreadPoolExecutor(2) as pool:
+            ran = list(pool.map(lambda it: self.with_fault(it[0], it[1][0], *it[1][2:]), enumerate(planted)))
+        for (name, what, *_), came in zip(planted, ran):
+            with self.subTest(f"{name}: {what}"):
+                self.assertIsNotNone(came, "its text isn't there once")
+                self.assertNotEqual(came.returncode, 0)
+
+    def test_the_proved_module_is_retargeted(self):
+        """What is 64-bit ARM's goes, and neighbours are added lane by lane; other code of one processor ends the build."""
+        self.need("rt")
+        sys.dont_write_bytecode = True
+        loader = importlib.machinery.SourceFileLoader("web_build", f"{HERE}/build")
+        build = importlib.util.module_from_spec(importlib.util.spec_from_loader(loader.name, loader))
+        loader.exec_module(build)
+        text = ['target datalayout = "e-m:e"\n', 'target triple = "aarch64-unknown-linux-gnu"\n',
+                "  %c = tail call <16 x i8> @llvm.aarch64.neon.addp.v16i8(<16 x i8> %a, <16 x i8> %b)\n", '  call void asm sideeffect "", "r"(ptr %p)\n',
+                "  uselistorder i32 1, { 1, 0 }\n", "declare <16 x i8> @llvm.aarch64.neon.addp.v16i8(<16 x i8>, <16 x i8>)\n",
+                'attributes #0 = { nounwind "target-cpu"="generic" "target-features"="+neon" }\n']
+        triple, even, odd, total, hidden, attributes = build.retarget.retarget(build.TARGET, build.without_arm(text))
+        self.assertEqual((triple, hidden, attributes), ('target triple = "wasm64-unknown-unknown"\n', text[3], "attributes #0 = { nounwind }\n"))
+        lanes = [[int(it) for it in re.findall(r"i32 (\d+)", line)] for line in (even, odd)]
+        self.assertEqual(sorted(zip(*lanes)), [(2 * i, 2 * i + 1) for i in range(16)])
+        self.assertEqual(total, "  %c = add <16 x i8> %c.even, %c.odd\n")
+        for line in ("  %c = call i64 @llvm.aarch64.crc32b(i64 %a)\n", '  call void asm sideeffect "nop", ""()\n'):
+            with self.assertRaises(SystemExit):
+                list(build.retarget.retarget(build.TARGET, build.without_arm([line])))
+
+    def test_wirings_are_those_of_stmflash_line(self):
+        self.need("node")
+        sys.path.insert(0, f"{TOP}/line")
+        from stmflash_line.sequences import read_sequence, read_wiring
+
+        def said(steps):
+            names = {"requestToSend": "rts", "dataTerminalReady": "dtr"}
+            return [("wait", it["wait"] / 1000) if "wait" in it else (names[next(iter(it["signals"]))], next(iter(it["signals"].values()))) for it in steps]
+
+        ran = self.try_page(f"{HERE}/page", "", "--wirings")
+        wirings = json.loads(ran.stdout.splitlines()[0])
+        self.assertEqual(len(wirings), 12)
+        for name, steps in wirings.items():
+            with self.subTest(name):
+                self.assertEqual([said(steps[it]) for it in ("entry", "leave")], [read_sequence(it) for it in read_wiring(name)])
+
+    def test_images_are_those_of_objcopy(self):
+        """Segments in any order, over an end of 64 KiB, one stored elsewhere than it runs, and one that has no bytes."""
+        self.need("node", "objcopy")
+        some = random.Random(5)
+        segments = [(0x0800FFF3, 0x0800FFF3, some.randbytes(1000)), (0x08000001, 0x08000001, some.randbytes(1)), (0x08020000, 0x20000000, some.randbytes(77))]
+        with open(f"{self.room}/made.elf", "wb") as file:
+            file.write(elf(segments))
+        script = f"""import {{ imageOf }} from '{HERE}/page/image.js'; import * as fs from 'node:fs';
+            const it = imageOf('a', fs.readFileSync('{self.room}/made.elf')); fs.writeFileSync('{self.room}/made.hex', it.bytes); console.log(it.says);"""
+        ran = run([*NODE, "--input-type=module", "-e", script])
+        self.assertEqual((ran.returncode, ran.stdout), (0, "a: ELF, 1078 bytes from 08000001 to 0802004C\n"), ran.stderr)
+        with open(f"{self.room}/made.hex", encoding="ascii") as file:
+            ours = bytes_of_hex(file.read())
+        self.assertEqual(ours, {at + i: it for at, _, data in segments for i, it in enumerate(data)})
+        # objcopy knows sections alone: each segment is handed to it as one
+        theirs = {}
+        for i, (at, _, data) in enumerate(segments):
+            with open(f"{self.room}/{i}.bin", "wb") as file:
+                file.write(data)
+            words = ["-I", "binary", "-O", "ihex", f"--change-addresses={at}", f"{self.room}/{i}.bin", f"{self.room}/{i}.hex"]
+            self.assertEqual(run(["objcopy", *words]).returncode, 0)
+            with open(f"{self.room}/{i}.hex", encoding="ascii") as file:
+                theirs |= bytes_of_hex(file.read())
+        self.assertEqual(ours, theirs)
+
+
+if __name__ == "__main__":
+    unittest.main()

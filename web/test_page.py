@@ -1,0 +1,309 @@
+"""Tries the page in a headless Chromium, on a simulated board: stops of any kind, full disks, two tabs, and what a reader sees.
+
+    python3 -m unittest discover -s web -p test_page.py
+
+The page is bin/web, the board the simulator of STMFLASH, bin/stmflash-unproved where that is unset. STMFLASH_WEB_SAMPLES is how many
+moments of each kind of stop are tried, 3 without it. What a test waits for is never a time: a state of the page, or the bytes of the
+flash.
+"""
+
+import base64
+import os
+import random
+import shutil
+import subprocess
+import sys
+import tempfile
+import time
+import unittest
+
+HERE = os.path.dirname(os.path.abspath(__file__))
+TOP = os.path.dirname(HERE)
+sys.path.insert(0, HERE)
+
+from browser import PATIENCE, Browser
+
+PAGE = f"{TOP}/bin/web"
+PROGRAM = os.path.abspath(os.environ.get("STMFLASH") or f"{TOP}/bin/stmflash-unproved")
+SAMPLES = int(os.environ.get("STMFLASH_WEB_SAMPLES", "3"))
+SEED = int(os.environ.get("STMFLASH_WEB_SEED", "0")) or random.SystemRandom().randrange(1, 1 << 30)
+UNIQUE = "112233445566778899AABBCC"
+JOURNAL = f"{UNIQUE}.journal"
+# the chip of the tables that has 128 pages of 1,024 bytes; an image of five of these
+SIZE, PAGES = 131072, 5
+READY = "document.body?.dataset.ready === 'yes' && !stmflash.state.busy"
+WAIT = 1000
+QUIET = "!stmflash.state.busy && document.getElementById('doing').hidden"
+
+
+def held(path):
+    with open(path, "rb") as file:
+        return file.read()
+
+
+def named(given):
+    """A file of the page, as JavaScript makes it."""
+    name, data = given
+    return f"new File([Uint8Array.from(atob('{base64.b64encode(data).decode()}'), (it) => it.charCodeAt(0))], '{name}')"
+
+
+class Page(unittest.TestCase):
+    """A board, a server and a browser for each test."""
+
+    def setUp(self):
+        for what, is_there in (("chromium", shutil.which("chromium")), ("bin/web", os.path.exists(f"{PAGE}/stmflash.wasm")), ("program", os.path.exists(PROGRAM)),
+                               ("python3-aiohttp", subprocess.run(["/usr/bin/python3", "-c", "import aiohttp"], capture_output=True).returncode == 0)):
+            if not is_there:
+                self.skipTest(f"there is no {what}")
+        room = tempfile.TemporaryDirectory(prefix="stmflash-web-", ignore_cleanup_errors=True)
+        self.addCleanup(room.cleanup)
+        self.room, self.some = room.name, random.Random(f"{SEED} {self.id()}")
+        self.flash, self.folder, self.socket = f"{self.room}/flash", f"{self.room}/page", f"{self.room}/board"
+        shutil.copytree(PAGE, self.folder)
+        self.before = self.some.randbytes(SIZE)
+        with open(self.flash, "wb") as file:
+            file.write(self.before)
+        words = [f"{HERE}/serve", self.folder, "--program", PROGRAM, "--flash", self.flash, "--socket", self.socket, "--pace", "460800", "--port", "0"]
+        self.server = subprocess.Popen(words, stdout=subprocess.PIPE, text=True)
+        self.addCleanup(self.end_server)
+        self.address = self.server.stdout.readline().strip()
+        self.image = self.some.randbytes(PAGES * 1024 - 100)
+        self.after = self.image + self.before[len(self.image):]
+        self.begin_browser()
+        self.addCleanup(lambda: self.browser.kill())
+
+    def end_server(self):
+        if self.server.poll() is None:
+            self.server.terminate()
+        try:
+            self.server.wait(PATIENCE)
+        except subprocess.TimeoutExpired:
+            self.server.kill()
+            self.server.wait()
+        self.server.stdout.close()
+
+    def begin_browser(self):
+        self.browser = Browser(f"{self.room}/profile")
+
+    def tab(self):
+        tab = self.browser.tab(self.address)
+        tab.until(READY, "the page isn't ready")
+        # a machine that is busy with other things answers late
+        tab.js(f"stmflash.state.wait = {WAIT}; stmflash.take({named(('a.bin', self.image))})")
+        return tab
+
+    def assertFlash(self, wanted, why=""):
+        """The simulator keeps its flash in the file once its client has gone."""
+        ends = time.monotonic() + PATIENCE
+        while held(self.flash) != wanted and time.monotonic() < ends:
+            time.sleep(0.05)
+        self.assertTrue(held(self.flash) == wanted, f"{why} (seed {SEED})")
+
+    def click(self, tab, selector):
+        tab.js(f"document.getElementById('told').hidden = true; document.querySelector({selector!r}).click()")
+
+    def do(self, tab, selector):
+        """Clicks, and waits until all is done; what was told then."""
+        self.click(tab, selector)
+        tab.until(QUIET + " && !document.getElementById('told').hidden")
+        return tab.js("document.getElementById('told').innerText")
+
+    def hold_write(self, tab):
+        """Begins a write, and waits until the board has sent so many bytes of it, and then no more: it is in the middle of its pages."""
+        tab.js(f"stmflash.state.plan = {{ holdAt: {self.some.randrange(1500, 4000)} }}")
+        self.click(tab, "#write")
+        tab.until("stmflash.state.isHeld")
+
+    def stop_write(self, tab, moment):
+        """Begins a write, and waits until it has done so many steps."""
+        tab.js("document.getElementById('bar').removeAttribute('value')")
+        self.click(tab, "#write")
+        tab.until(f"document.getElementById('bar').hasAttribute('value') && document.getElementById('bar').value >= {moment} || !document.getElementById('told').hidden")
+        time.sleep(self.some.uniform(0, 0.2))
+
+    def undo(self, tab, why):
+        """Undoes by the one button that the page shows behind a stop, or by a journal's where the write had ended; and sees the flash."""
+        if tab.js("!document.getElementById('stopped').hidden"):
+            self.assertIn(UNIQUE, tab.js("document.getElementById('stopped-says').textContent"))
+            self.assertRegex(self.do(tab, "#stopped-undo"), r"^Done: undone \d", why)
+        elif tab.js("stmflash.state.names.length") and not tab.js("document.getElementById('journals').innerText.includes('0 can be undone')"):
+            tab.js("void (window.undone = stmflash.acts.undo(stmflash.state.names[0], true))")
+            self.assertEqual(tab.js("undone.then((it) => it.status)"), 0, why)
+        self.assertFlash(self.before, why)
+        self.assertTrue(tab.js("document.getElementById('stopped').hidden"))
+
+    def test_a_write_and_its_undo(self):
+        tab = self.tab()
+        self.assertEqual(self.do(tab, "#ask"), "Done: The board answered.")
+        self.assertIn(UNIQUE, tab.js("document.getElementById('chip').innerText"))
+        self.assertTrue(self.do(tab, "#write").startswith("Done: segment 1: 5 pages written"))
+        self.assertFlash(self.after)
+        self.assertTrue(self.do(tab, "#compare").startswith("Done: The board has just these bytes."))
+        # undo shows first what it will undo, and does nothing where it may not
+        self.click(tab, "#journals button")
+        tab.until("document.getElementById('sure').open")
+        self.assertIn("segment 1: ended, 5 pages: 0-4", tab.js("document.getElementById('sure-lines').innerText"))
+        self.click(tab, "#sure button[value=no]")
+        tab.until("!document.getElementById('sure').open && " + QUIET)
+        self.assertEqual(held(self.flash), self.after)
+        self.click(tab, "#journals button")
+        tab.until("document.getElementById('sure').open")
+        self.click(tab, "#sure-yes")
+        tab.until(QUIET + " && document.getElementById('told').innerText.includes('undone 1')")
+        self.assertFlash(self.before)
+
+    def test_hex_and_elf_are_written_where_they_say(self):
+        from test_layer import elf
+
+        tab = self.tab()
+        for name, data, at in (("a.hex", b":020000040800F2\n:0404000001020304EE\n:00000001FF\n", (0x400, b"\1\2\3\4")), ("a.elf", elf([(0x08000803, 0x20000000, b"stored")]), (0x803, b"stored"))):
+            with self.subTest(name):
+                tab.js(f"stmflash.take({named((name, data))})")
+                self.assertTrue(tab.js("document.getElementById('start').hidden"))
+                self.assertTrue(self.do(tab, "#write").startswith("Done: segment"))
+                self.assertFlash(self.before[:at[0]] + at[1] + self.before[at[0] + len(at[1]):])
+                self.undo(tab, name)
+        tab.js(f"stmflash.take({named(('b.elf', elf([])[:60]))})")
+        self.assertEqual(tab.js("document.getElementById('write').disabled"), True)
+
+    def test_the_tab_is_closed_at_any_moment(self):
+        for i in range(SAMPLES):
+            tab, moment = self.tab(), self.some.randrange(2 * PAGES)
+            if i % 2:
+                self.stop_write(tab, moment)
+            else:
+                self.hold_write(tab)
+            tab.close()
+            tab = self.tab()
+            self.assertTrue(i % 2 or tab.js("!document.getElementById('stopped').hidden"), "it wasn't stopped in mid-write")
+            self.undo(tab, f"stop {i}, at {moment}")
+            tab.close()
+
+    def test_the_browser_is_killed_at_any_moment(self):
+        for i in range(SAMPLES):
+            tab, moment = self.tab(), self.some.randrange(2 * PAGES)
+            if i % 2:
+                self.stop_write(tab, moment)
+            else:
+                self.hold_write(tab)
+            self.browser.kill()
+            self.begin_browser()
+            tab = self.tab()
+            self.assertTrue(i % 2 or tab.js("!document.getElementById('stopped').hidden"), "it wasn't stopped in mid-write")
+            self.undo(tab, f"stop {i}, at {moment}")
+            tab.close()
+
+    def test_a_wrong_byte_and_a_lost_port(self):
+        tab = self.tab()
+        for kind, says in (("wrongAt", "A byte came wrong"), ("lostAt", "The adapter is gone")):
+            for i in range(SAMPLES):
+                at = self.some.randrange(20, 10 * 1024)
+                with self.subTest(f"{kind} {at}"):
+                    tab.js(f"stmflash.state.plan = {{ {kind}: {at} }}")
+                    told = self.do(tab, "#write")
+                    self.assertTrue(told.startswith("Not done: "), told)
+                    self.assertIn(says, told)
+                    tab.js("stmflash.state.plan = undefined")
+                    self.undo(tab, f"{kind} {at}")
+
+    def test_two_tabs(self):
+        one = self.tab()
+        two = self.browser.tab(self.address)
+        two.until("document.getElementById('state')?.textContent.includes('open in another tab')")
+        self.assertEqual(two.js("document.getElementById('write').disabled"), True)
+        self.assertTrue(self.do(one, "#write").startswith("Done"))
+        one.close()
+        two.until(READY, "the second tab doesn't go on")
+        self.assertIn("1 can be undone", two.js("document.getElementById('journals').innerText"))
+        self.undo(two, "two tabs")
+
+    def test_a_full_origin(self):
+        """Whatever room there is: a write that can't be journalled ends with a word, and is undone, if need be with room again."""
+        tab = self.tab()
+        origin = self.address.partition("/?")[0]
+        for room in [0, *(self.some.randrange(0, 2 * 1024 * (PAGES + 1)) for _ in range(SAMPLES))]:
+            with self.subTest(f"room {room}"):
+                used = tab.js("navigator.storage.estimate().then((it) => it.usage)")
+                tab.call("Storage.overrideQuotaForOrigin", origin=origin, quotaSize=used + room)
+                told = self.do(tab, "#write")
+                tab.call("Storage.overrideQuotaForOrigin", origin=origin)
+                self.assertTrue(room or not told.startswith("Done"), told)
+                if not told.startswith("Done"):
+                    self.assertRegex(told, "(?s)Not done: (cannot write|.*No space|.*room)")
+                self.undo(tab, f"room {room}: {told}")
+
+    def test_a_journal_to_the_command_line_and_back(self):
+        tab = self.tab()
+        self.assertTrue(self.do(tab, "#write").startswith("Done"))
+        get = f"stmflash.ask('get', {{ path: '/boards/{JOURNAL}' }}).then((it) => btoa(String.fromCharCode(...it.bytes)))"
+        path = f"{self.room}/{JOURNAL}"
+        with open(path, "wb") as file:
+            file.write(base64.b64decode(tab.js(get)))
+        self.assertFlash(self.after)
+        with open(f"{self.room}/image", "wb") as file:
+            file.write(self.image)
+
+        def call(*words):
+            ran = subprocess.run([PROGRAM, *words[:1], "--table", f"{TOP}/chips.toml", "--device", self.socket, "--wait", str(WAIT), "--journal", path, *words[1:]],
+                                 stdin=subprocess.DEVNULL, capture_output=True, text=True, timeout=PATIENCE)
+            self.assertEqual(ran.returncode, 0, ran.stderr)
+
+        call("undo", "1", "-v")
+        self.assertFlash(self.before)
+        # what the command line writes is undone in the page, by the same bytes
+        call("write", "-v", f"{self.room}/image")
+        self.assertFlash(self.after)
+        journal = held(path)
+        tab.js(f"stmflash.ask('remove', {{ path: '/boards/{JOURNAL}' }})")
+        tab.js(f"stmflash.journals().then(() => stmflash.takeJournal({named((JOURNAL, journal))}))")
+        self.assertEqual(base64.b64decode(tab.js(get)), journal)
+        self.undo(tab, "of the command line")
+        # another file of its name is refused, and so is what is no journal
+        tab.js(f"stmflash.takeJournal({named((JOURNAL, b''))})")
+        self.assertIn("already", tab.js("document.getElementById('told').innerText"))
+        tab.js(f"stmflash.takeJournal({named(('b.journal', b'no journal'))})")
+        self.assertTrue(tab.js("document.getElementById('told').innerText").startswith("Not done"))
+        self.assertEqual(tab.js("stmflash.state.names"), [JOURNAL])
+
+    def test_offline_and_never_of_two_versions(self):
+        tab = self.tab()
+        tab.js("navigator.serviceWorker.ready.then(() => 1)")
+        # another version is there in mid-write: the tab goes on with its own
+        with open(f"{self.folder}/page.css", "a", encoding="utf-8") as file:
+            file.write("/* another version */\n")
+        self.assertTrue(self.do(tab, "#write").startswith("Done"))
+        self.end_server()
+        tab.close()
+        again = self.browser.tab(self.address)
+        again.until(READY, "the page isn't ready without its server")
+        self.assertIn("1 can be undone", again.js("document.getElementById('journals').innerText"))
+        self.assertNotIn("another version", again.js("fetch('page.css').then((it) => it.text())"))
+
+    def test_each_control_has_a_name_and_fits(self):
+        tab = self.tab()
+        self.do(tab, "#write")
+        nodes = tab.call("Accessibility.getFullAXTree")["nodes"]
+        controls = [it for it in nodes if it.get("role", {}).get("value") in ("button", "checkbox", "textbox", "combobox", "DisclosureTriangle", "progressbar", "list")
+                    and not it.get("ignored")]
+        self.assertGreater(len(controls), 12)
+        self.assertEqual([it["role"]["value"] for it in controls if it["role"]["value"] != "list" and not it.get("name", {}).get("value")], [])
+        names = [it["name"]["value"] for it in controls if it["role"]["value"] == "button"]
+        self.assertEqual(len(names), len(set(names)) + names.count("Choose File: No file chosen") - bool(names.count("Choose File: No file chosen")), names)
+        for width in (320, 720):
+            tab.call("Emulation.setDeviceMetricsOverride", width=width, height=900, deviceScaleFactor=1, mobile=False)
+            self.assertLessEqual(tab.js("document.documentElement.scrollWidth"), width)
+        # by the keyboard alone: tabs come to each of them, in the order of the page
+        tab.js("document.activeElement.blur()")
+        reached = []
+        for _ in range(40):
+            for kind in ("keyDown", "keyUp"):
+                tab.call("Input.dispatchKeyEvent", type=kind, key="Tab", code="Tab", windowsVirtualKeyCode=9)
+            if (it := tab.js("document.activeElement.id || document.activeElement.textContent")) in reached:
+                break
+            reached.append(it)
+        wanted = ["port", "baud", "wiring", "fresh", "ask", "file", "address", "write", "compare", "upload", "read", "form"]
+        self.assertEqual([it for it in reached if it in wanted], wanted)
+
+
+if __name__ == "__main__":
+    unittest.main()
