@@ -1,21 +1,22 @@
 """Sessions of stmflash with the board at a port, and its journal."""
 
 import contextlib
-import ctypes
 import os
 import re
-import signal
 import subprocess
 import time
+
+from stmflash_line.journals import is_stopped
+from stmflash_line.tied import tied
 
 from .fault import Failed, Fault
 from .owner import Owner, owner_of
 from .patience import UNKNOWN, wait_at_rest
 from .segments import kept_pages
+from .told import note
 
 # after how many seconds without an answer a board is given up; an undo has stmflash's own patience
 GIVE_UP = 5
-PR_SET_PDEATHSIG = 1
 # how long a program that was told to end may take to let its journal go, in seconds
 RELEASED = 5
 NO_PROTOCOL = "device does not follow the protocol"
@@ -70,12 +71,8 @@ class Board:
         self.is_at_rest = name in LEAVE_AT_REST and "--go" not in words
         return printed
 
-    def look(self, name, *words):
-        """A call that needs no device."""
-        return self.run([name, "--journal", self.journals.live, *words])
-
     def run(self, words, *more):
-        """A call of stmflash. One that was killed just now may still have the journal for a moment."""
+        """A call of stmflash, also one that needs no device. One that was killed just now may still have the journal for a moment."""
         until = time.monotonic() + RELEASED
         while True:
             try:
@@ -87,7 +84,7 @@ class Board:
 
     def run_once(self, words, show=None, out=subprocess.PIPE, files=()):
         with subprocess.Popen([self.tools.stmflash, *words], env=self.settings, stdin=subprocess.DEVNULL, pass_fds=files,
-                              stdout=out, stderr=subprocess.PIPE, preexec_fn=tie()) as started:
+                              stdout=out, stderr=subprocess.PIPE, preexec_fn=tied()) as started:
             try:
                 # what is printed to a pipe is a few lines, and has room there
                 told, hints = follow(started.stderr, show)
@@ -107,7 +104,7 @@ class Board:
         be taken for that of a journal in which nothing stands."""
         if not os.path.exists(self.journals.live):
             return ""
-        text = self.look("log")
+        text = self.run(["log", "--journal", self.journals.live])
         if not re.search("^([0-9]+ can be undone|unfinished, undo first)$", text, re.M):
             raise Fault(f"ERROR: what stmflash says of {self.journals.live} isn't understood")
         return text
@@ -120,13 +117,14 @@ class Board:
         found = re.search("^([0-9]+) can be undone$", self.log(), re.M)
         return int(found[1]) if found else 0
 
-    def put_aside(self):
-        """Ends the journal in use, and keeps it as the newest that was put aside, unless it has changed nothing; whether it is
-        kept."""
-        if not os.path.exists(self.journals.live):
+    def put_aside(self, journal=None):
+        """Ends the journal in use, or another one, and keeps it as the newest that was put aside, unless it has changed nothing;
+        whether it is kept."""
+        journal = journal or self.journals.live
+        if not os.path.exists(journal):
             return False
         path = self.journals.next_kept()
-        self.look("keep", path)
+        self.run(["keep", "--journal", journal, path])
         self.drop_old()
         return os.path.exists(path)
 
@@ -152,27 +150,25 @@ class Board:
                 return True
         return False
 
-    def leave_stopped(self):
-        """Puts the journal in use aside, which is unfinished, if the board that is there is sure to be another than its own; where it
-        is then, or None."""
+    def take_own(self):
+        """Makes the journal of the board that was asked the one in use; whether it is another one than before. What the port has for
+        boards that tell no unique id is put aside where it isn't this one's, unless a command was stopped in it."""
+        before, nameless = self.journals.live, self.journals.nameless
+        is_others = self.own.board or not self.own.takes(owner_of(nameless))
+        if is_others and os.path.exists(nameless) and not is_stopped(nameless):
+            kept = "is put aside" if self.put_aside(nameless) else "has changed nothing, and is removed"
+            note(f"another board was at this port before: its journal {kept}")
+        self.journals.take_board(self.own.board)
+        return self.journals.live != before
+
+    def take_from_other(self):
+        """The same while a command was stopped in the one in use, if that is sure to be another board's; whether it is."""
         other, own = owner_of(self.journals.live), self.ask_owner()
         if other.board is None or own is None or own.may_be(other):
-            return None
-        self.hint = ""
-        return self.journals.leave(other)
-
-    def take_stopped(self):
-        """Makes what the board that is there left unfinished at any port the one in use; whether there is such a journal. The device
-        isn't asked where no board has left one."""
-        if not self.journals.stopped():
             return False
-        if self.own.chip is None:
-            self.ask_owner()
-        left = self.journals.stopped(self.own.board) if self.own.board else []
-        if left:
-            self.put_aside()
-            self.journals.take(left[-1])
-        return bool(left)
+        self.hint = ""
+        self.take_own()
+        return True
 
     def refuse_bad(self, path):
         """What is older can't be undone before the newest."""
@@ -184,8 +180,7 @@ class Board:
     def ask_owner(self):
         """Which board is there; None where it doesn't answer."""
         try:
-            # beside a journal that isn't there, since the one in use may be another board's too
-            self.information(journal=self.journals.none)
+            self.information()
         except Failed:
             return None
         return self.own
@@ -198,9 +193,10 @@ class Board:
 
     # ---- sessions
 
-    def information(self, **more):
-        """What the device says of itself."""
-        told = dict(line.split(" ", 1) for line in self.use("info", **more).splitlines() if " " in line)
+    def information(self):
+        """What the device says of itself, beside a journal that isn't there: the one in use may be another board's."""
+        said = self.use("info", journal=self.journals.none)
+        told = dict(line.split(" ", 1) for line in said.splitlines() if " " in line)
         self.own = Owner(told.get("id"), told.get("board"))
         return told
 
@@ -223,15 +219,3 @@ def follow(pipe, show):
         elif show:
             show(text)
     return found.values()
-
-
-def tie():
-    """What a program does before it begins: it is told to end where we are killed."""
-    system, ourselves = ctypes.CDLL(None), os.getpid()
-
-    def begin():
-        system.prctl(PR_SET_PDEATHSIG, signal.SIGTERM)
-        if os.getppid() != ourselves:
-            os._exit(1)
-
-    return begin

@@ -4,12 +4,15 @@ open, and we are a process of our own as its COMMAND."""
 import os
 import sys
 
+from stmflash_line import faults
+from stmflash_line.patience import is_pty
+
 from . import chip as chips
 from . import handed, line, sequence, tools, words
 from .fault import Failed, Fault
 from .journals import Journals
 from .owner import owner_of
-from .patience import is_pty, wait
+from .patience import wait
 from .segments import kept_pages
 from .told import Told, note, put
 
@@ -17,8 +20,8 @@ from .told import Told, note, put
 RESETS = "STM32FLASH_RESETS"
 # the chip of the GPIO lines that -i moves, where it isn't the first
 CHIP = "STM32FLASH_GPIO_CHIP"
-# why a journal is refused that is another's, and what was at the port before
-OTHERS = {"journal belongs to another device": "a chip of another kind", "journal is of another board": "another board"}
+# why a journal is refused that is another's
+OTHERS = ("journal belongs to another device", "journal is of another board")
 NEWEST = "the newest write or erase at this port"
 # the actions that change nothing, and so undo nothing at a board that may be another
 READING = ("", "r", "C")
@@ -38,6 +41,9 @@ def ended(act):
         return act()
     except Fault as fault:
         put(sys.stderr, str(fault) + ("\n" + usage() if fault.usage else "") + "\n")
+        return 1
+    except faults.Fault as fault:
+        put(sys.stderr, f"ERROR: {fault}\n")
         return 1
     except KeyboardInterrupt:
         note("stopped; a write or an erase that didn't end is undone by the next call at this port, and one that did stands")
@@ -77,7 +83,7 @@ def outside(program, given):
     boot = None if asked.sequence is None else asked.entry() + ("" if leave is None else f":{leave}")
     patience = wait(os.environ.get("STMFLASH_WAIT"), asked.port, asked.baud)
     chip = (os.environ.get(CHIP) or None) if sequence.gpio_lines(asked.entry()) else None
-    return line.use(below.line, asked.port, asked.baud, boot, chip,
+    return line.use(asked.port, asked.baud, boot, chip,
                     lambda slowest: ended(lambda: inside(asked, below, table, patience, slowest)))
 
 
@@ -98,7 +104,7 @@ def show_log(board):
     """What can be undone at a port, the newest journal first."""
     journals = board.journals
     journals.refuse_others()
-    paths = [path for path in (journals.live, *reversed(journals.kept()), *journals.stopped()) if os.path.exists(path)]
+    paths = [path for path in (journals.live, *reversed(journals.kept())) if os.path.exists(path)]
     status, text = 0, ""
     for path in paths:
         text += f"journal {path}\n"
@@ -136,7 +142,7 @@ def do(board, asked, table):
     try:
         undo_first(board, asked)
         chip = greet(board, told, table)
-        if board.take_stopped():
+        if board.take_own():
             undo_first(board, asked)
         actions = Actions(asked, board, told, chip)
         refuse_start(asked, actions.chip)
@@ -160,7 +166,7 @@ def undo_first(board, asked):
     try:
         board.undo(fresh=was_reset(board, asked))
     except Failed as fault:
-        if not put_other_aside(board, fault):
+        if not leave_other(board, fault):
             way = f"its journal is {board.journals.live}, and --undo at its own board undoes it"
             raise Fault(f"{fault}\nERROR: what an earlier call has begun can't be undone now; {way}") from None
 
@@ -173,16 +179,14 @@ def was_reset(board, asked):
 def greet(board, told, table):
     """Asks the device who it is, tells that, and answers its chip."""
     try:
+        # nothing is begun on it
         information = board.information()
     except Failed as fault:
-        if put_other_aside(board, fault):
-            information = board.information()
-        elif str(fault) == "no answer from the device":
+        if str(fault) == "no answer from the device":
             raise Fault("Failed to init device, timeout.") from None
-        elif str(fault).startswith("unknown chip "):
+        if str(fault).startswith("unknown chip "):
             raise Fault(f"Unknown/unsupported device (Device ID: 0x{str(fault)[13:]})") from None
-        else:
-            raise Fault(f"Failed to init device.\n{fault}") from None
+        raise Fault(f"Failed to init device.\n{fault}") from None
     chip = table[int(information["id"], 16)]
     told.line(f"Version      : 0x{information['version'].lower()}")
     told.lines(chip.lines())
@@ -195,38 +199,36 @@ def refuse_start(asked, chip):
         raise Fault(f"ERROR: -g 0x{asked.start_at:08x}: not in the flash of this chip, which ends at 0x{chip.end:08x}")
 
 
-def put_other_aside(board, fault):
-    """Puts the journal in use aside where this fault says that it is another board's, and it is sure to be; whether it did."""
-    other = OTHERS.get(str(fault))
-    if other and board.is_unfinished():
-        left = board.leave_stopped()
-        if left:
-            note(f"that was {other}: its journal is put aside as {left}, and is undone first when that board is back at any port")
-        return bool(left)
-    if other:
-        kept = "is put aside" if board.put_aside() else "has changed nothing, and is removed"
-        note(f"{other} was at this port before: its journal {kept}")
-    return bool(other)
+def leave_other(board, fault):
+    """Takes the journal of the board that is there where this fault says that the one in use, in which something was stopped, is
+    another's, and it is sure to be; whether it did."""
+    left = board.journals.live
+    if str(fault) not in OTHERS or not board.take_from_other():
+        return False
+    note(f"that was another board: what was stopped is undone first when it is back at any port; its journal is {left}")
+    return True
 
 
 def undo(board, asked):
     """Undoes the newest write or erase of the board at this port that changed something, also of a journal that was put aside."""
     try:
-        undone = undo_newest(board, asked)
-    except Failed as fault:
-        if not put_other_aside(board, fault):
-            raise Fault(f"{fault}\nERROR: not undone; the journal is {board.journals.live}") from None
         try:
             undone = undo_newest(board, asked)
-        except Failed as again:
-            raise Fault(f"{again}\nERROR: not undone; the journal is {board.journals.live}") from None
+        except Failed as fault:
+            if not board.is_unfinished() or not leave_other(board, fault):
+                raise
+            undone = undo_newest(board, asked)
+    except Failed as fault:
+        raise Fault(f"{fault}\nERROR: not undone; the journal is {board.journals.live}") from None
     put(sys.stdout, f"Undone: {undone}.\n")
     return 0
 
 
 def undo_newest(board, asked):
     """The same; what was undone. What was stopped is undone alone, whatever it had changed: it is what its user means."""
-    if board.is_unfinished() or board.take_stopped():
+    if not board.is_unfinished() and board.own.chip is None and board.ask_owner():
+        board.take_own()
+    if board.is_unfinished():
         kept = kept_pages(board.journals.live)
         board.undo(fresh=was_reset(board, asked))
         return NEWEST if any(kept[-1:]) else "a write or an erase at this port that was stopped before it changed anything"

@@ -3,6 +3,8 @@
 import os
 import stat
 
+from stmflash_line import elf
+
 from . import hex_text
 from .fault import Fault
 from .handed import is_handed
@@ -14,12 +16,15 @@ KEPT = "STM32FLASH_IMAGE_KEPT"
 
 class Image:
     """An image. `start` is its own address, or None, `size` the count of its bytes from the first to the last, and `path` a file
-    that can be read again and holds it; None where there is none."""
+    that can be read again and holds it; None where there is none. `maker` is the program that made HEX of it, or None."""
 
     def __init__(self, words):
-        self.is_input = words.file == "-"
+        self.is_input, self.maker = words.file == "-", None
         self.path = None if os.environ.get(KEPT) else os.path.abspath(words.file)
         self.text = read_kept() if self.path is None else read_file(words.file)
+        if not words.force and self.path and self.text.startswith(elf.MAGIC):
+            self.text, self.maker = elf.hex_text(words.file)
+            self.path = None
         # standard input is raw bytes, as for stm32flash, and an empty file is an empty text
         is_hex = not words.force and not self.is_input and self.text[:1] in (b":", b"")
         self.parser = HEX if is_hex else RAW
@@ -32,7 +37,7 @@ class Image:
 
     def lines(self):
         """What is told of it."""
-        told = [f"Using Parser : {self.parser}"]
+        told = [f"Using Parser : {self.parser}" + f", by {self.maker} of ELF" * bool(self.maker)]
         if not self.is_input:
             told += [f"Location     : {self.start:#08x}"] if self.start else []
             told += [f"Size         : {self.size}"]

@@ -1,44 +1,27 @@
 """The journals of a port: the one in use, and those that were put aside when a program was started."""
 
-import fcntl
 import os
 import re
 
+from stmflash_line import journals
+from stmflash_line.trusted import refuse_others
+
 from .fault import Fault
 from .owner import owner_of
-from .patience import is_pty
 from .told import note
-from .trusted import refuse_others
 
 # how many of each board are kept that were put aside; and how many of all boards at a port, and how many bytes of them
 KEPT, MOST, ROOM = 8, 1000, 256 << 20
 # from how many bytes on the one in use is put aside before a write
 LARGE = 8 << 20
-BY_PATH = "/dev/serial/by-path"
-# how the name of a port begins that another machine has
-FAR = ("rfc2217://", "socket://")
 
 
-class Journals:
-    """A folder for each port, which is its owner's alone: a journal holds what a flash held."""
-
-    def __init__(self, port):
-        self.folder = os.path.join(state_folder(), name_of(port))
-        self.live = os.path.join(self.folder, "journal")
-        # a name that none has
-        self.none = os.path.join(self.folder, "none")
-
-    def make(self):
-        try:
-            os.makedirs(self.folder, mode=0o700, exist_ok=True)
-        except OSError as error:
-            raise Fault(f"ERROR: {error.filename}: {error.strerror}; journals are kept there") from None
-        self.refuse_others()
+class Journals(journals.Journals):
+    """Those of stmflash-line, and beside them in the port's folder those that were put aside."""
 
     def refuse_others(self):
-        """A fault where another has put a journal here, or may; also at another port, from which one may come here."""
-        left = self.stopped()
-        for path in (self.folder, self.live, *self.kept(), *map(os.path.dirname, left), *left):
+        super().refuse_others()
+        for path in self.kept():
             refuse_others(path)
 
     def kept(self):
@@ -99,26 +82,6 @@ class Journals:
             found.setdefault(owner_of(path), []).append(path)
         return found
 
-    def stopped(self, board="*"):
-        """The journals that boards, or this one, left unfinished at any port."""
-        import glob
-        names = os.path.join("*", "stopped-" + board)
-        ports = os.path.dirname(self.folder)
-        return [os.path.join(ports, name) for name in sorted(glob.glob(names, root_dir=ports, include_hidden=True))]
-
-    def leave(self, owner):
-        """Puts the one in use aside unfinished, under the name of its board, which may come back at any port. Answers where it is."""
-        path = os.path.join(self.folder, f"stopped-{owner.board}")
-        with open(self.live, "r+b") as file:
-            try:
-                fcntl.flock(file, fcntl.LOCK_EX | fcntl.LOCK_NB)
-            except BlockingIOError:
-                raise Fault(f"ERROR: {self.live}: another program has it") from None
-            if os.path.exists(path):
-                raise Fault(f"ERROR: {path} is there already, and can't be replaced")
-            rename(self.live, path)
-        return path
-
     def take(self, path):
         """Makes one that was put aside the one in use."""
         rename(path, self.live)
@@ -166,38 +129,3 @@ def remove(path):
         note(f"{path} is too old, and stays: {error.strerror}")
         return False
     return True
-
-
-def state_folder():
-    home = os.environ.get("XDG_STATE_HOME", "")
-    # a relative one is to be taken for none
-    if not os.path.isabs(home):
-        home = os.path.join(os.path.expanduser("~"), ".local", "state")
-    if not home.startswith("/"):
-        # in each folder there would be others
-        raise Fault("ERROR: HOME names no folder; journals are kept there")
-    return os.path.join(home, "stmflash", "ports")
-
-
-def name_of(port):
-    """A name that a port has for good: where its adapter is plugged in, as udev says it, or that of its device. A
-    pseudo-terminal is known by the name that it is called by, since its own is another one each time, and a port of another machine
-    by its word, which is no path."""
-    if is_pty(port):
-        path = os.path.abspath(port)
-        return named_by(os.path.basename(path), path)
-    if port.startswith(FAR):
-        return named_by(re.sub("[^0-9A-Za-z]+", "-", port).strip("-"), port)
-    device = os.path.realpath(port)
-    try:
-        links = sorted(link for link in os.listdir(BY_PATH) if os.path.realpath(os.path.join(BY_PATH, link)) == device)
-    except OSError:
-        links = []
-    return links[0] if links else device.removeprefix("/dev/").replace("/", "-").lstrip(".-") or "port"
-
-
-def named_by(name, whole):
-    """A name, with what tells it from others that are like it."""
-    # loaded for few
-    import hashlib
-    return f"{name}-{hashlib.sha256(os.fsencode(whole)).hexdigest()[:12]}"

@@ -11,14 +11,11 @@ from .fault import Fault
 from .told import put
 
 SIGNALS = (signal.SIGTERM, signal.SIGINT, signal.SIGHUP)
-# beside a program, and where `make install` and the package put the modules of one that is elsewhere
-PLACES = ("/usr/local/share/stmflash", "/usr/share/stmflash")
 
 
-def use(program, port, baud, boot, chip, inside):
+def use(port, baud, boot, chip, inside):
     """Opens the port as stmflash-line does, and runs `inside` as its COMMAND, with a function that tells how many seconds the
     slowest answer of the board has taken up to now. `chip` has the GPIO lines of `boot`. The status of the call."""
-    sys.path[:0] = [find_modules(program)]
     from stmflash_line import faults, session, tied, wake, words
     # this number is ours and the child's
     slowest = memoryview(mmap.mmap(-1, 8)).cast("d")
@@ -39,15 +36,6 @@ def use(program, port, baud, boot, chip, inside):
     except faults.Fault as fault:
         faults.say(str(fault))
         return 1
-
-
-def find_modules(program):
-    """The folder that has the modules of stmflash-line."""
-    folder = os.path.dirname(os.path.realpath(program))
-    for place in (folder, os.path.join(os.path.dirname(folder), "share", "stmflash"), *PLACES):
-        if os.path.isdir(os.path.join(place, "stmflash_line")):
-            return place
-    raise Fault(f"ERROR: the modules of {program} aren't there")
 
 
 class Child:

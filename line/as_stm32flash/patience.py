@@ -2,23 +2,17 @@
 then a session is done again. stmflash-line has a longer one for its command, of which nothing is done again."""
 
 import math
-import os
 import re
-import stat
+
+from stmflash_line.patience import BITS, BYTES, REST, hold
 
 from .fault import Fault
 
 # what stmflash itself waits, in ms: where nothing is known of the way to the board
 UNKNOWN = 500
-# the most bytes that are on their way in one such wait: a batch of 256, and as many again to be sure; 11 bits each. Behind a larger
-# batch stmflash waits longer
-BYTES, BITS = 512, 11
-# what an adapter holds bytes back for where its driver doesn't say, and what the machine and the chip may take besides, in ms
-HOLD, REST = 16, 50
 LEAST = 100
 # behind an answer that took the longest up to now silence is what stmflash takes for it: four times that, and so many ms
 MARGIN = 20
-PTY_MAJORS = range(136, 144)
 
 
 def wait(given, port, baud):
@@ -39,25 +33,3 @@ def wait_at_rest(whole, slowest):
     if not slowest:
         return whole
     return min(whole, max(REST, 4 * math.ceil(1000 * slowest) + MARGIN))
-
-
-def hold(port):
-    """How long the adapter of a port holds bytes back at most, in ms; None where it isn't known where the port leads."""
-    device = os.path.join("/sys/class/tty", os.path.basename(os.path.realpath(port)), "device")
-    if is_pty(port) or not os.path.exists(device) or "vhci_hcd" in os.path.realpath(device):
-        # a pseudo-terminal, or a port of another machine that USB/IP brings here
-        return None
-    try:
-        with open(os.path.join(device, "latency_timer"), encoding="ascii") as timer:
-            return int(timer.read())
-    except (OSError, ValueError):
-        return HOLD
-
-
-def is_pty(port):
-    """Whether a port is a pseudo-terminal, which has neither speed nor parity."""
-    try:
-        place = os.stat(port)
-    except OSError:
-        return False
-    return stat.S_ISCHR(place.st_mode) and os.major(place.st_rdev) in PTY_MAJORS

@@ -10,10 +10,10 @@ MACHINES = "/etc/stmflash/chips.toml"
 
 
 class Tools:
-    """The paths of stmflash, of stmflash-line, and of the tables of chips, of which the first that has a chip says what it is."""
+    """The paths of stmflash, and of the tables of chips, of which the first that has a chip says what it is."""
 
-    def __init__(self, stmflash, line, *tables):
-        self.stmflash, self.line, self.tables = stmflash, line, tables
+    def __init__(self, stmflash, *tables):
+        self.stmflash, self.tables = stmflash, tables
         # the one that sessions get, and the descriptors by which they have it
         self.table, self.files = tables[0], ()
 
@@ -26,11 +26,11 @@ class Tools:
 
 
 def find(program):
-    """Each beside this program, or else by PATH. The table is the one that STMFLASH_TABLE names. Without it they are the user's and the
+    """stmflash beside this program, or else by PATH. The table is the one that STMFLASH_TABLE names. Without it they are the user's and the
     machine's own, and the one installed with the program that was found, or the one of the source tree."""
     beside = os.path.dirname(program)
-    stmflash, line = (find_program(beside, name) for name in ("stmflash", "stmflash-line"))
-    return Tools(stmflash, line, *find_tables(beside, os.path.dirname(os.path.realpath(stmflash))))
+    stmflash = find_program(beside, "stmflash")
+    return Tools(stmflash, *find_tables(beside, os.path.dirname(os.path.realpath(stmflash))))
 
 
 def find_program(beside, name):

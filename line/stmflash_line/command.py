@@ -6,7 +6,7 @@ import subprocess
 import sys
 import time
 
-from .faults import Fault, Gone, say
+from .faults import UNDO, Fault, Gone, say
 from .sockets import FOLDER
 from .tied import tied
 
@@ -15,7 +15,7 @@ from .tied import tied
 GRACE, QUIET = 5, 15
 # the words of a COMMAND that changes the flash, and what is said where a signal ended one that had the line
 CHANGES = ("write", "erase", "undo")
-NEXT = "ended by a signal: where stmflash log says unfinished, stmflash undo 1 undoes what was begun"
+NEXT = f"ended by a signal: {UNDO}"
 
 
 def run(command, path, fresh, wait, baud, join):

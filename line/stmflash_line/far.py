@@ -7,7 +7,7 @@ import socket
 import threading
 import time
 
-from .faults import HAS_NONE, Fault, Gone, say
+from .faults import HAS_NONE, UNDO, Fault, Gone, say
 
 # how long the far end may take to be there, in seconds
 PATIENCE = 5
@@ -38,7 +38,7 @@ def open_far(word, baud):
 class FarPort:
     """What both have: nobody tells when a byte has gone out there, and so that is reckoned."""
 
-    gone = "the far end closed the line; `stmflash undo 1` undoes what was begun"
+    gone = f"the far end closed the line; {UNDO}"
 
     def __init__(self, name, baud):
         self.name, self.baud = name, baud
@@ -195,6 +195,13 @@ def open_rfc2217(word, baud):
         def _update_dtr_state(self):
             if self.is_whole:
                 super()._update_dtr_state()
+
+        def _telnet_read_loop(self):
+            try:
+                super()._telnet_read_loop()
+            except OSError:
+                # an answer that nobody takes, as where the far end floods us with questions
+                self._read_buffer.put(None)
 
         def _telnet_process_subnegotiation(self, suboption):
             super()._telnet_process_subnegotiation(suboption)

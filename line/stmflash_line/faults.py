@@ -3,6 +3,8 @@
 import contextlib
 import sys
 
+# what is told where a line ended that a COMMAND may have been changing the flash over
+UNDO = "where stmflash log says unfinished, stmflash undo 1 undoes what was begun"
 # a port without the signal of this name
 HAS_NONE = "has no {}; leave --wiring, --boot and --after out"
 

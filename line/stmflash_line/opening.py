@@ -10,10 +10,10 @@ import time
 
 from .faults import Fault, number_of, say
 from .holders import holders, who_may
+from .patience import PTY_MAJORS
 from .port import Port
 
-# the numbers of pseudo-terminals (Linux: Documentation/admin-guide/devices.txt): they have neither parity nor speed
-PTY_MAJORS = range(136, 144)
+MISSING = "python3-serial isn't there: apt install python3-serial"
 # how the name of a port begins that another machine has
 FAR = ("rfc2217://", "socket://")
 # Linux: how long an adapter of FTDI holds bytes back, in milliseconds
@@ -30,7 +30,7 @@ def open_port(word, baud):
     try:
         import serial
     except ImportError:
-        raise Fault("python3-serial isn't there: apt install python3-serial") from None
+        raise Fault(MISSING) from None
     try:
         port = serial.serial_for_url(word, do_not_open=True, baudrate=baud, timeout=0, exclusive=True)
     except (ValueError, serial.SerialException):
@@ -66,6 +66,21 @@ def find_place(name):
         kind = "folder" if stat.S_ISDIR(place.st_mode) else "file"
         raise Fault(f"{name}: is not a serial port but a {kind}; {ports_here()}")
     return place
+
+
+def only_port():
+    """The one port of this machine: of several the one that hangs on USB."""
+    try:
+        from serial.tools import list_ports
+    except ImportError:
+        raise Fault(MISSING) from None
+    ports = sorted(list_ports.comports())
+    ports = [port for port in ports if port.vid is not None] or ports
+    if len(ports) != 1:
+        several = ", ".join(f"{port.device} ({port.description})" for port in ports)
+        raise Fault(f"which port? {several}" if ports else f"no port: {ports_here()}")
+    say(f"{ports[0].device}: {ports[0].description}")
+    return ports[0].device
 
 
 def ports_here():

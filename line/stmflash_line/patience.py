@@ -3,6 +3,7 @@ of bytes."""
 
 import math
 import os
+import stat
 
 # the most bytes that are on their way in one such wait: a batch of 256, and as many again to be sure; 11 bits each. Behind a larger
 # batch stmflash waits longer
@@ -15,6 +16,8 @@ LEAST, MOST = 250, 60000
 OWN = 400
 # Linux: how long an adapter of FTDI holds bytes back, in ms
 TTY, TIMER = "/sys/class/tty", "latency_timer"
+# the numbers of pseudo-terminals (Linux: Documentation/admin-guide/devices.txt): they have neither parity nor speed
+PTY_MAJORS = range(136, 144)
 
 
 def wait(name, baud, pause):
@@ -38,3 +41,12 @@ def hold(name):
             return int(timer.read())
     except (OSError, ValueError):
         return HOLD
+
+
+def is_pty(name):
+    """Whether a port is a pseudo-terminal."""
+    try:
+        place = os.stat(name)
+    except OSError:
+        return False
+    return stat.S_ISCHR(place.st_mode) and os.major(place.st_rdev) in PTY_MAJORS

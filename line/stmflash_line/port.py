@@ -7,7 +7,7 @@ import fcntl
 import os
 import termios
 
-from .faults import HAS_NONE, Fault, Gone, number_of
+from .faults import HAS_NONE, UNDO, Fault, Gone, number_of
 from .unmark import Unmark
 
 # Linux: the counters of a port's errors (serial_icounter_struct), and which of them are bytes lost for want of room
@@ -17,7 +17,7 @@ TIOCGICOUNT, COUNTERS, LOST = 0x545D, 20, (7, 10)
 class Port:
     """An open port: bytes as they come, and how many of them were lost or came with an error."""
 
-    gone = "unplugged; plug it in, and `stmflash undo 1` undoes what was begun"
+    gone = f"unplugged; plug it in; {UNDO}"
 
     def __init__(self, serial, name, baud):
         self.serial, self.name, self.baud = serial, name, baud

@@ -6,7 +6,7 @@ from .command import run
 from .faults import Fault, Gone
 from .join import Join
 from .moves import Moves
-from .opening import open_port
+from .opening import only_port, open_port
 from .patience import hold, wait
 from .sockets import served, served_privately
 
@@ -15,7 +15,7 @@ def use_port(given, wake):
     """Opens the port, uses the board on it, and leaves it as --after says."""
     watch = make_watch() if given.watch else None
     lines = make_lines(given.gpio_chip) if given.gpio_chip else None
-    port = open_port(given.port, given.baud)
+    port = open_port(given.port or only_port(), given.baud)
     moves = Moves(port, lines)
     try:
         status = use_board(port, moves, given, wake, watch)
@@ -42,9 +42,13 @@ def use_board(port, moves, given, wake, watch):
     port.forget()
     with (served(given.socket) if given.socket else served_privately()) as (path, listener):
         join = Join(port, listener, wake, enter if given.resets else None, bool(given.command), given.idle, watch, given.heard)
-        if given.command:
-            return run(given.command, path, given.resets, wait_of(port, given), baud_of(port), join)
-        return serve(join)
+        if not given.command:
+            return serve(join)
+
+        def use(command, settled):
+            return run(command, path, given.resets, wait_of(port, given, settled), baud_of(port), join)
+
+        return name_journal(port, given, use) or use(given.command, given.command)
 
 
 def serve(join):
@@ -55,11 +59,21 @@ def serve(join):
     return 0
 
 
-def wait_of(port, given):
+def name_journal(port, given, use):
+    """Names the journal of a COMMAND that names none. The status that ends the call, or 0."""
+    if callable(given.command):
+        return 0
+    from . import asking
+    if not asking.names_no_journal(given.command):
+        return 0
+    return asking.name_journal(port.name, given.command, given.resets, lambda begin: use(begin, ("info",)))
+
+
+def wait_of(port, given, command):
     """How long a reply may take, in ms: also that of a client whose first byte waits until the board is reset. None where that
     isn't known, and for a program that has a wait of its own; and for an undo, also that of `write --again`, since an erase that was
     stopped may still run, and all that settling sends is lost meanwhile."""
-    if callable(given.command) or any(word == "undo" or word.startswith("--again") for word in given.command):
+    if callable(command) or any(word == "undo" or word.startswith("--again") for word in command):
         return None
     pause = sum(value for name, value in given.boot if name == "wait") if given.resets else 0
     return wait(port.name, port.baud, pause)

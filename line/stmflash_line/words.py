@@ -8,11 +8,19 @@ from .sequences import gpio_lines, read_sequence, read_wiring
 IDLE = 60
 # the chip of the GPIO lines, where no word says which
 CHIP = "gpiochip0"
-USAGE = """stmflash-line PORT [--baud N] [HOW] [--after SEQUENCE] [--idle SECONDS] [--watch] -- COMMAND..
-       stmflash-line PORT [--baud N] [HOW] [--after SEQUENCE] [--idle SECONDS] [--watch] --socket PATH
+# the words of stmflash that may stand without `stmflash` and `--`; without any it is the first
+SHORT = ("info", "read", "crc", "write", "verify", "erase", "undo", "log", "keep", "go", "protect")
+# our options that take a value
+VALUED = ("--baud", "--wiring", "--boot", "--after", "--gpio-chip", "--socket", "--idle")
+USAGE = """stmflash-line [PORT] [--baud N] [HOW] [--after SEQUENCE] [--idle SECONDS] [--watch] [WORD..]
+       stmflash-line [PORT] [--baud N] [HOW] [--after SEQUENCE] [--idle SECONDS] [--watch] -- COMMAND..
+       stmflash-line [PORT] [--baud N] [HOW] [--after SEQUENCE] [--idle SECONDS] [--watch] --socket PATH
+
+WORD..: a command of stmflash, as write firmware.hex; info without one
 
 HOW, which brings the board into its bootloader: --wiring WIRING | --boot SEQUENCE [--resets] [--gpio-chip NAME]"""
-EXAMPLE = """a board with reset at DTR and BOOT0 at RTS, and the same in stm32flash's notation:
+EXAMPLE = """the board at the one port that there is; one with reset at DTR and BOOT0 at RTS; the same in stm32flash's notation:
+  stmflash-line write -v firmware.hex
   stmflash-line /dev/ttyUSB0 --wiring dtr-reset,rts-boot0 -- stmflash write --journal board7.journal -v firmware.hex
   stmflash-line /dev/ttyUSB0 --boot '-rts&dtr,-dtr,,:rts&dtr,-dtr' --resets -- stmflash info --journal board7.journal"""
 
@@ -24,7 +32,8 @@ def make_parser():
         prog="stmflash-line", allow_abbrev=False, usage=USAGE, epilog=EXAMPLE,
         formatter_class=argparse.RawDescriptionHelpFormatter,
         description="Joins a serial port to a Unix socket for stmflash, and runs COMMAND with its path for every {}.")
-    parser.add_argument("port", metavar="PORT", help="a serial port, as /dev/ttyUSB0, or rfc2217://HOST:PORT, socket://HOST:PORT")
+    parser.add_argument("port", metavar="PORT", nargs="?",
+                        help="a serial port, as /dev/ttyUSB0, or rfc2217://HOST:PORT, socket://HOST:PORT; the one that there is without it")
     parser.add_argument("--baud", type=int, default=115200, metavar="N", help="its speed; 115200 without it")
     parser.add_argument("--wiring", metavar="WIRING",
                         help="what reset and BOOT0 hang on: dtr-reset,rts-boot0, with inverted- before what goes through an "
@@ -45,19 +54,21 @@ def make_parser():
 
 
 def read_words(words):
-    """What the command line asks for. What follows `--` is COMMAND."""
-    at = words.index("--") if "--" in words else len(words)
-    own, command = words[:at], words[at + 1:]
+    """What the command line asks for."""
+    own, command = parted(words)
     parser = make_parser()
     given, more = parser.parse_known_args(joined(own))
     if more and not more[0].startswith("-"):
         import shlex
-        parser.error(f"COMMAND comes behind --, as in: stmflash-line {shlex.join([given.port, '--', *more, *command])}")
+        rest = [word for word in words[words.index(more[0]):] if word != "--"]
+        parser.error(f"COMMAND comes behind --, as in: stmflash-line {shlex.join([given.port, '--', *rest])}")
     if more:
         parser.error(f"unrecognized arguments: {' '.join(more)}")
     given.command, given.heard = command, None
-    if (given.socket is not None) == bool(command):
+    if given.socket is not None and command or command is None:
         parser.error("either --socket PATH or -- COMMAND")
+    if given.socket is None and not command:
+        given.command = ["stmflash", SHORT[0]]
     if given.socket == "":
         parser.error("--socket names no path")
     if not 1 <= given.baud <= 4000000:
@@ -71,6 +82,18 @@ def read_words(words):
     except ValueError as error:
         parser.error(str(error))
     return given
+
+
+def parted(words):
+    """Our own words, and COMMAND: what follows `--`, None where nothing does; or a word of stmflash and what follows it."""
+    at = 0
+    while at < len(words):
+        if words[at] == "--":
+            return words[:at], words[at + 1:] or None
+        if words[at] in SHORT:
+            return words[:at], ["stmflash", *words[at:]]
+        at += 2 if words[at] in VALUED else 1
+    return words, []
 
 
 def of_program(port, baud, boot, chip, begin, heard):

@@ -1,10 +1,8 @@
 """The way to the board: a socket, or a port that stmflash-line joins to one."""
 
-import ctypes
 import os
 import select
 import shutil
-import signal
 import socket
 import subprocess
 import sys
@@ -12,10 +10,10 @@ import tempfile
 import time
 
 from faults import Ended, Refused
+from stmflash_line.tied import tied
 
 # how long stmflash-line may take to play a sequence and to listen, in seconds
 PATIENCE = 30
-PR_SET_PDEATHSIG = 1
 
 
 class Line:
@@ -111,16 +109,10 @@ def start_companion(words, path):
     beside = os.path.join(words.folder, "stmflash-line")
     call = [sys.executable, beside] if os.path.exists(beside) else ["stmflash-line"]
     call += [words.port, "--baud", str(words.baud), "--socket", path]
-    system = ctypes.CDLL(None)
-
-    def tie():
-        # where we are killed the port is given back
-        system.prctl(PR_SET_PDEATHSIG, signal.SIGTERM)
-
     call += [f"--wiring={words.wiring}"] if words.wiring else []
     try:
-        # a Ctrl-C is ours alone: what was changed is put back over this line
-        return subprocess.Popen(call, stdin=subprocess.DEVNULL, start_new_session=True, preexec_fn=tie)
+        # a Ctrl-C is ours alone: what was changed is put back over this line. Where we are killed the port is given back
+        return subprocess.Popen(call, stdin=subprocess.DEVNULL, start_new_session=True, preexec_fn=tied())
     except OSError as error:
         raise Refused(f"stmflash-line: {error.strerror}") from None
 

@@ -56,6 +56,7 @@ def parser():
     add("--yes", action="store_true", help="don't ask, and leave out what needs a hand")
     add("--progress", action="store_true", help="a line for each row, also where it is no terminal")
     add("--quiet", action="store_true", help="no progress")
+    add("--speeds", action="store_true", help="find the speeds that the board takes at --port, and change nothing")
     add("--rows", action="store_true", help="print the rows, and do nothing")
     return made
 
@@ -77,6 +78,9 @@ def read(words, folder):
     if not 1 <= given.wait <= 60000 or not 0 <= given.pause <= 60 or not 1 <= given.baud <= 4000000:
         made.error("--wait is 1 to 60000, --pause 0 to 60, --baud 1 to 4000000")
     is_terminal = sys.stdin.isatty()
+    if given.speeds and not (given.port and (given.wiring or given.reset or is_terminal and not given.yes)):
+        made.error("--speeds needs --port, and a reset before each: --wiring, --reset, or a terminal")
+    given.only_read = given.only_read or given.speeds
     if not (given.yes or given.only_read or is_terminal):
         made.error("it changes pages of the board: --yes, where nobody can be asked")
     given.by_hand = is_terminal and not given.yes

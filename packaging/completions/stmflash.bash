@@ -91,7 +91,7 @@ _stmflash_trial() {
         --baud) _stmflash_words "$word" "9600 19200 38400 57600 115200"; return ;;
         --wiring | --pages | --skip | --part | --reset | --wait | --pause) return ;;
     esac
-    _stmflash_words "$word" "$where --map --every-byte --patient --only-read --yes --progress --quiet --rows --help -h"
+    _stmflash_words "$word" "$where --map --every-byte --patient --only-read --yes --progress --quiet --speeds --rows --help -h"
 }
 
 complete -o filenames -F _stmflash stmflash

@@ -3,7 +3,7 @@
 import os
 import stat
 
-from .fault import Fault
+from .faults import Fault
 
 
 def refuse_others(path):
@@ -13,11 +13,11 @@ def refuse_others(path):
     except OSError:
         return
     if held.st_uid not in own_users():
-        raise Fault(f"ERROR: {path} is another user's, and isn't taken for a journal of yours: chown it, or remove it")
+        raise Fault(f"{path} is another user's, and isn't taken for a journal of yours: chown it, or remove it")
     # in a sticky folder nobody replaces another's file
     is_sticky = stat.S_ISDIR(held.st_mode) and held.st_mode & stat.S_ISVTX
     if held.st_mode & (stat.S_IWGRP | stat.S_IWOTH) and not is_sticky:
-        raise Fault(f"ERROR: others may write {path}, and it isn't taken for a journal of yours: chmod go-w it, or remove it")
+        raise Fault(f"others may write {path}, and it isn't taken for a journal of yours: chmod go-w it, or remove it")
 
 
 def own_users():

@@ -1,0 +1,114 @@
+"""The journals that nobody has named: each board's by its unique id, and for boards that tell none one of each port. stm32flash's words
+have the same."""
+
+import contextlib
+import fcntl
+import os
+import re
+
+from .faults import Fault
+from .opening import FAR
+from .patience import is_pty
+from .trusted import refuse_others
+
+BY_PATH = "/dev/serial/by-path"
+# a journal whose last line that isn't void begins so has a command that didn't end; and how many bytes the longest line has at most
+BEGUN, LONGEST = (b"open ", b"page ", b"erase ", b"program "), 1 << 23
+
+
+class Journals:
+    """The journals of the boards at a port: `live` is the one in use, `none` a name that no journal has. They are their owner's
+    alone: a journal holds what a flash held."""
+
+    def __init__(self, port):
+        state = state_folder()
+        self.boards, self.folder = os.path.join(state, "journals"), os.path.join(state, "ports", name_of(port))
+        self.nameless, self.none, self.last = (os.path.join(self.folder, name) for name in ("journal", "none", "last"))
+        try:
+            self.live = os.readlink(self.last)
+        except OSError:
+            self.live = self.nameless
+
+    def make(self):
+        for folder in (self.boards, self.folder):
+            try:
+                os.makedirs(folder, mode=0o700, exist_ok=True)
+            except OSError as error:
+                raise Fault(f"{error.filename}: {error.strerror}; journals are kept there") from None
+        self.refuse_others()
+
+    def refuse_others(self):
+        """A fault where another has put a journal here, or may."""
+        for path in (self.boards, self.folder, self.live):
+            refuse_others(path)
+
+    def take_board(self, board):
+        """Takes the journal of the board with this unique id, None: of one that tells none. The port is known to have it from now on,
+        also where the machine loses its power in the midst of a write."""
+        self.live = os.path.join(self.boards, f"{board}.journal") if board else self.nameless
+        refuse_others(self.live)
+        unready = f"{self.last}.{os.getpid()}"
+        try:
+            if board is None:
+                with contextlib.suppress(FileNotFoundError):
+                    os.unlink(self.last)
+            elif not os.path.islink(self.last) or os.readlink(self.last) != self.live:
+                os.symlink(self.live, unready)
+                os.replace(unready, self.last)
+                held = os.open(self.folder, os.O_RDONLY)
+                os.fsync(held)
+                os.close(held)
+        except OSError as error:
+            raise Fault(f"{self.last}: {error.strerror}") from None
+
+    def stopped(self):
+        """The journals in which a command was stopped: of boards at any port, and of this port's that tell no unique id."""
+        paths = [os.path.join(self.boards, name) for name in sorted(os.listdir(self.boards))]
+        return [path for path in (*paths, self.nameless) if is_stopped(path)]
+
+
+def is_stopped(path):
+    """Whether a command of this journal didn't end, and no program that runs has it."""
+    try:
+        with open(path, "rb") as file:
+            fcntl.flock(file, fcntl.LOCK_SH | fcntl.LOCK_NB)
+            file.seek(max(0, os.fstat(file.fileno()).st_size - LONGEST))
+            lines = file.read().split(b"\n")[:-1]
+    except OSError:
+        return False
+    return next((line for line in reversed(lines) if not line.endswith(b"!")), b"").startswith(BEGUN)
+
+
+def state_folder():
+    home = os.environ.get("XDG_STATE_HOME", "")
+    # a relative one is to be taken for none
+    if not os.path.isabs(home):
+        home = os.path.join(os.path.expanduser("~"), ".local", "state")
+    if not home.startswith("/"):
+        # in each folder there would be others
+        raise Fault("HOME names no folder; journals are kept there")
+    return os.path.join(home, "stmflash")
+
+
+def name_of(port):
+    """A name that a port has for good: where its adapter is plugged in, as udev says it, or that of its device. A
+    pseudo-terminal is known by the name that it is called by, since its own is another one each time, and a port of another machine
+    by its word, which is no path."""
+    if is_pty(port):
+        path = os.path.abspath(port)
+        return named_by(os.path.basename(path), path)
+    if port.startswith(FAR):
+        return named_by(re.sub("[^0-9A-Za-z]+", "-", port).strip("-"), port)
+    device = os.path.realpath(port)
+    try:
+        links = sorted(link for link in os.listdir(BY_PATH) if os.path.realpath(os.path.join(BY_PATH, link)) == device)
+    except OSError:
+        links = []
+    return links[0] if links else device.removeprefix("/dev/").replace("/", "-").lstrip(".-") or "port"
+
+
+def named_by(name, whole):
+    """A name, with what tells it from others that are like it."""
+    # loaded for few
+    import hashlib
+    return f"{name}-{hashlib.sha256(os.fsencode(whole)).hexdigest()[:12]}"
