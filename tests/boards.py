@@ -14,11 +14,9 @@ import time
 import tty
 import unittest
 
-from place import PATIENCE, TOP, Place, Said, program, readable
+from place import PATIENCE, TOP, WAIT, Place, Said, program, readable
 
 LINE = os.path.join(TOP, "line", "stmflash-line")
-# how long a host waits until the line counts as quiet, in ms: longer than a busy machine takes to answer
-WAIT = "1000"
 # runs the companion where pyserial knows the ports of tests/stand_ins
 STAND_INS = os.path.dirname(os.path.abspath(__file__))
 RUNNER = "import runpy, serial, sys; sys.path.insert(0, sys.argv.pop(1)); sys.dont_write_bytecode = True; " \
@@ -91,11 +89,6 @@ class LinePlace(Place):
         self.addCleanup(end)
         return started
 
-    def ended(self, started):
-        """What one that was started said, once it has ended."""
-        out, err = started.communicate(timeout=PATIENCE)
-        return Said(started.returncode, out, err)
-
     def line(self, *words, **more):
         """Runs the companion on these words."""
         return self.ended(self.start(*words, **more))
@@ -110,8 +103,7 @@ class LinePlace(Place):
 
     def serve(self, *words):
         """Serves the port ttyUSB0 on the socket `board`, and answers once it listens."""
-        started = self.start("ttyUSB0", "--socket", "board", *words)
-        self.until(lambda: started.poll() is not None or self.listens(), "the companion doesn't listen")
+        started = self.until_served(self.start("ttyUSB0", "--socket", "board", *words))
         self.assertIsNone(started.poll(), "the companion doesn't start")
         return started
 
@@ -153,12 +145,27 @@ class LinePlace(Place):
         self.until(lambda: not os.path.exists(f"/proc/{process}"), "the command goes on")
         return started
 
-    def first_of(self, client, count, most=4096):
-        """So many bytes that a client gets, or fewer where its line is closed before."""
-        held = b""
-        while len(held) < count and (came := client.recv(most)):
-            held += came
-        return held
+    def taken(self, master):
+        """A client that the companion has taken, whose port has its other end here: it has handed its byte on."""
+        client = self.connect()
+        client.sendall(b"?")
+        self.assertEqual(self.read_from(master, 1), b"?")
+        return client
+
+    def stop(self, started):
+        """Ends one that serves, which says nothing."""
+        started.terminate()
+        self.assertSilent(self.ended(started))
+
+    def until_served(self, started):
+        """One that was started to serve the socket `board`, once it listens."""
+        self.until(lambda: started.poll() is not None or self.listens(), "the companion doesn't listen")
+        return started
+
+    def assertNothingSent(self, master):
+        """No byte has come to the port whose other end this is, nor is anybody there any more who might send one."""
+        os.set_blocking(master, False)
+        self.assertRaises(OSError, os.read, master, 1)
 
     def until(self, is_so, text):
         """Waits until something is so."""

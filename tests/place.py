@@ -4,6 +4,7 @@ program there.
 The program is the one that the variable STMFLASH names; without it, the one that `make demo` leaves.
 """
 
+import contextlib
 import os
 import select
 import socket
@@ -15,6 +16,8 @@ import unittest
 TOP = os.path.dirname(os.path.dirname(os.path.abspath(__file__)))
 # how long a call may take, in seconds, on a machine that is busy with other things
 PATIENCE = int(os.environ.get("STMFLASH_PATIENCE", "300"))
+# how long a host waits until the line counts as quiet, in ms: longer than a busy machine takes to answer
+WAIT = "1000"
 # a table of chip 0412
 TABLE = b'[[chip]]\nid = 0x412\nbase = 0x08000000\npages = [[32, 1024]]\nerase = "page"\n'
 SIZE = 32768
@@ -22,8 +25,6 @@ ERASED = b"\xff" * SIZE
 ZEROS = b"\x00" * SIZE
 # a flash whose byte i is i modulo 251
 COUNTING = bytes(i % 251 for i in range(SIZE))
-# what `info` tells last, where the table tells of no board that was tried
-UNTRIED = "not tried: stmflash-trial\n"
 # what is told behind a fault of what came
 SILENT = "nothing came: is the board in its bootloader, with power?"
 ECHO = "the line echoes: are RX and TX joined?"
@@ -48,6 +49,16 @@ def is_unproved():
     return program().removesuffix("-under-qemu").endswith("-unproved")
 
 
+def files(device="sim:0412:flash", journal="journal"):
+    """The words of a session's files."""
+    return "--table", "table", "--device", device, "--journal", journal
+
+
+def served(chip="0412", flash="flash", at="board", table="table"):
+    """The words that serve a simulator."""
+    return "sim", "--table", table, "--id", chip, "--flash", flash, "--socket", at
+
+
 def with_page(head, digit, tail):
     """These texts, with a page of this digit between them, as a journal keeps it."""
     return head + digit * 2048 + tail
@@ -59,6 +70,11 @@ class Said(typing.NamedTuple):
     status: int
     out: bytes
     err: bytes
+
+
+def lacks(name):
+    """The note on an undo by a journal that isn't there."""
+    return f"journal {name} isn't there"
 
 
 def had(*segments, left):
@@ -91,6 +107,11 @@ class Place(unittest.TestCase):
         with open(self.path(name), "wb") as file:
             file.write(data)
 
+    def store_all(self, files):
+        """Stores each of these, by its name."""
+        for name, data in files.items():
+            self.store(name, data)
+
     def listen(self, name):
         """A listener on a socket of this name."""
         listener = socket.socket(socket.AF_UNIX, socket.SOCK_STREAM)
@@ -104,6 +125,10 @@ class Place(unittest.TestCase):
         for name in names:
             os.remove(self.path(name))
 
+    def clear(self, *names):
+        """Removes those of these that are there."""
+        self.remove(*filter(self.is_there, names))
+
     def held(self, name):
         """The bytes of a file; None where it isn't there."""
         try:
@@ -115,16 +140,36 @@ class Place(unittest.TestCase):
     def is_there(self, name):
         return os.path.lexists(self.path(name))
 
-    def call(self, *words, before=None, variables=None):
-        """Runs the program on these words, after its name, with these variables alone; `before` is called in its process
-        before it begins."""
-        ran = subprocess.run(["stmflash", *words], executable=program(), cwd=self.folder, env=variables or {}, timeout=PATIENCE,
-                             stdin=subprocess.DEVNULL, capture_output=True, preexec_fn=before)
-        return Said(ran.returncode, ran.stdout, ran.stderr)
+    def start(self, *words, before=None, variables=None, **files):
+        """Starts the program on these words, after its name, with these variables alone, and with these files in place of none to read
+        and of pipes; `before` is called in its process before it begins."""
+        files = {"cwd": self.folder, "stdin": subprocess.DEVNULL, "stdout": subprocess.PIPE, "stderr": subprocess.PIPE, **files}
+        started = subprocess.Popen(["stmflash", *words], executable=program(), env=variables or {}, preexec_fn=before, **files)
 
-    def use(self, name, *words, device="sim:0412:flash", journal="journal", before=None):
+        def end():
+            if started.returncode is None:
+                started.kill()
+                started.communicate()
+
+        self.addCleanup(end)
+        return started
+
+    def ended(self, started, given=None):
+        """What one that was started said, once it has ended; `given` is what it reads. One that hangs has no file any more."""
+        try:
+            out, err = started.communicate(given, timeout=PATIENCE)
+        except subprocess.TimeoutExpired:
+            started.kill()
+            raise
+        return Said(started.returncode, out, err)
+
+    def call(self, *words, given=None, **how):
+        """Runs the program on these words, as `start` does, with this to read."""
+        return self.ended(Place.start(self, *words, **({} if given is None else {"stdin": subprocess.PIPE}), **how), given)
+
+    def use(self, name, *words, device="sim:0412:flash", journal="journal", **how):
         """Runs a subcommand on a device, with these further words."""
-        return self.call(name, "--table", "table", "--device", device, "--journal", journal, *words, before=before)
+        return self.call(name, *files(device, journal), *words, **how)
 
     def use_image(self, name, image, *words, device="sim:0412:flash"):
         """Runs a subcommand on an image of these bytes, with these words before its name."""
@@ -155,10 +200,14 @@ class Place(unittest.TestCase):
         if held != data:
             self.fail(f"{name} {tell(held)}, not {tell(data)}; {where(held or b'', data or b'')}")
 
+    def assertFiles(self, files):
+        """Each of these files, by its name, holds just these bytes, or isn't there."""
+        for name, data in files.items():
+            self.assertFile(name, data)
+
     def assertHolds(self, flash, line):
         """The simulator's files hold these bytes and this line."""
-        self.assertFile("flash", flash)
-        self.assertFile("flash.line", line)
+        self.assertFiles({"flash": flash, "flash.line": line})
 
 
 def readable(ends, patience):
@@ -168,6 +217,23 @@ def readable(ends, patience):
     for number in named:
         calls.register(number, select.POLLIN)
     return [named[number] for number, _ in calls.poll(patience * 1000)]
+
+
+def all_from(descriptor):
+    """All that comes from a descriptor until its end, which a terminal that was closed tells as a fault."""
+    held = b""
+    with contextlib.suppress(OSError):
+        while came := os.read(descriptor, 65536):
+            held += came
+    return held
+
+
+def first_of(client, count, most=4096):
+    """So many bytes that a client gets, or fewer where its line is closed before."""
+    held = b""
+    while len(held) < count and (came := client.recv(min(most, count - len(held)))):
+        held += came
+    return held
 
 
 def tell(data):

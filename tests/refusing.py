@@ -5,7 +5,7 @@ import os
 import sys
 
 from place import TOP, Place
-from test_giving_up import Peer
+from test_giving_up import at_peer
 
 sys.path.insert(0, os.path.join(TOP, "tests", "planted"))
 
@@ -61,16 +61,9 @@ class Guarded(PlantedBoard):
 class OnBoard(Place):
     """A test that calls the program on boards, each call with a line of its own."""
 
-    def setUp(self):
-        super().setUp()
-        self.peers = 0
-
     def at(self, serve, name, *words, hasty=("--wait", "300"), journal="journal"):
         """What a subcommand says to a peer."""
-        self.peers += 1
-        peer = f"peer{self.peers}"
-        Peer(self, peer, serve)
-        return self.use(name, *hasty, *words, device=peer, journal=journal)
+        return at_peer(self, serve, name, *hasty, *words, journal=journal)
 
     def on(self, board, name, *words, journal="journal"):
         """What a subcommand says on a board."""

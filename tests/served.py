@@ -2,52 +2,39 @@
 
 import contextlib
 import socket
-import subprocess
 import threading
 import time
 
-from place import PATIENCE, Place, program, readable
-
-# how long a host waits until the line counts as quiet, in ms: longer than a busy machine takes to answer
-WAIT = "1000"
+from place import PATIENCE, Place, first_of, readable, served
 
 
-def relay(line, board, change=lambda replies: replies):
-    """Hands on what comes on either, the board's replies as `change` makes them, until the line ends, and answers what was sent
-    to the board."""
+def relay(line, board, change=lambda replies: replies, heard=lambda came: None, cut=None):
+    """Hands on what comes on either, the board's replies as `change` makes them, until the line ends, or behind `cut` bytes to the board.
+    What goes there `heard` is told before. Answers what was sent to the board."""
     sent = b""
-    while True:
+    while cut is None or len(sent) < cut:
         ready = readable([line, board], PATIENCE)
         if not ready:
-            return sent
+            break
         if board in ready:
-            line.sendall(change(board.recv(4096)))
-        if line in ready:
-            came = line.recv(4096)
+            came = board.recv(4096)
             if not came:
-                return sent
+                break
+            line.sendall(change(came))
+        if line in ready:
+            came = line.recv(4096)[:None if cut is None else cut - len(sent)]
+            if not came:
+                break
+            heard(came)
             sent += came
             board.sendall(came)
+    return sent
 
 
 class Served(Place):
-    def start(self, *words, before=None):
-        """Starts the program on these words; `before` is called in its process before it begins."""
-        started = subprocess.Popen(["stmflash", *words], executable=program(), cwd=self.folder, env={}, stdin=subprocess.DEVNULL,
-                                   stdout=subprocess.PIPE, stderr=subprocess.PIPE, preexec_fn=before)
-
-        def end():
-            if started.returncode is None:
-                started.kill()
-                started.communicate()
-
-        self.addCleanup(end)
-        return started
-
     def serve(self, clients, table="table", number="0412", more=()):
         """Serves the simulator to so many clients, and answers once it listens: a client of its own has come and gone."""
-        files = ("--table", table, "--id", number, "--flash", "flash", "--socket", "board")
-        self.simulator = self.start("sim", *files, "--clients", str(clients + 1), *more)
+        self.simulator = self.start(*served(number, table=table), "--clients", str(clients + 1), *more)
         self.leave(self.reach("board", self.simulator))
 
     def reach(self, name, simulator=None):
@@ -80,10 +67,14 @@ class Served(Place):
         self.remove(name)
         self.assertServed()
 
+    def assertReplies(self, client, sent, replies):
+        """Just this comes for these bytes."""
+        client.sendall(sent)
+        self.assertEqual(first_of(client, len(replies)), replies, sent.hex())
+
     def assertServed(self):
         """The simulator ends well when its last client has gone, says nothing, and its socket is no more."""
-        out, err = self.simulator.communicate(timeout=PATIENCE)
-        self.assertEqual((self.simulator.returncode, out, err), (0, b"", b""))
+        self.assertSilent(self.ended(self.simulator))
         self.assertFalse(self.is_there("board"))
 
     def connect(self, name="board"):

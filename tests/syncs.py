@@ -19,7 +19,9 @@ from place import PATIENCE, Said, program
 LIBC = ctypes.CDLL(None, use_errno=True)
 PR_SET_NO_NEW_PRIVS, SYS_SECCOMP = 38, 317
 # the calls that are held
-LSEEK, FLOCK, FSYNC, RENAME, LINK, UNLINK, OPEN, ACCEPT = 8, 73, 74, 82, 86, 87, 257, 288
+LSEEK, FLOCK, FSYNC, RENAME, LINK, UNLINK, OPEN, ACCEPT, STATX = 8, 73, 74, 82, 86, 87, 257, 288, 332
+# of calls that name a file by its path: which of their words is its address
+PATH_AT = {RENAME: 0, LINK: 0, UNLINK: 0, OPEN: 1, STATX: 1, 263: 1, 264: 1, 265: 1}
 # a program for 64-bit ARM, which has none of rename(2), link(2) and unlink(2), does the same by renameat(2), linkat(2) and
 # unlinkat(2), also under qemu
 BY_ARM = {RENAME: 264, LINK: 265, UNLINK: 263}
@@ -27,8 +29,8 @@ SET_MODE_FILTER, NEW_LISTENER = 1, 8
 # the steps of a filter
 LOAD, IS_EQUAL, ANSWER = 0x20, 0x15, 0x06
 TELL, ALLOW = 0x7FC00000, 0x7FFF0000
-# a call that is held: its number, its process, and six words, of which the last is its file; and the reply
-HELD, REPLY = struct.Struct("=QIIiIQQ40x"), struct.Struct("=QqiI")
+# a call that is held: its number, its process, which call it is, and its words, of which the first may be its file; and the reply
+HELD, REPLY = struct.Struct("=QIIiIQQQ32x"), struct.Struct("=QqiI")
 RECEIVE, SEND, GO_ON = 0xC0502100, 0xC0182101, 1
 
 
@@ -39,9 +41,9 @@ class CannotHold(unittest.SkipTest):
 def call(folder, words, fails=None, at=lambda number, process: None, held=FSYNC, error=errno.EIO, env=None):
     """Runs the program in a folder, with its sync of this number, counted from 0, failing, or those of these numbers. Answers
     what was said, and the names of what was synced: files of the folder, or `.` for itself. Before each, `at` is called with its
-    number and the process. Other calls can be held, and fail with another error. Raises `CannotHold` where no call can be held. A
+    number and the process. Other calls can be held, one kind or several, and fail with another error. Raises `CannotHold` where no call can be held. A
     program that hangs is no such case: it raises `subprocess.TimeoutExpired`, and the test fails."""
-    held = BY_ARM.get(held, held) if program().endswith("-under-qemu") else held
+    held = [BY_ARM.get(it, it) if program().endswith("-under-qemu") else it for it in ([held] if isinstance(held, int) else held)]
     ours, theirs = socket.socketpair()
     with ours, theirs:
         try:
@@ -62,9 +64,10 @@ def call(folder, words, fails=None, at=lambda number, process: None, held=FSYNC,
 
 
 def listen(channel, held):
-    """Has this process's calls of this number held, and hands on the listener: the number of each call is loaded; of that one
+    """Has this process's calls of these numbers held, and hands on the listener: the number of each call is loaded; of those
     the listener is told, all else is allowed."""
-    program = ((LOAD, 0, 0, 0), (IS_EQUAL, 0, 1, held), (ANSWER, 0, 0, TELL), (ANSWER, 0, 0, ALLOW))
+    are_equal = [(IS_EQUAL, len(held) - at, 0, number) for at, number in enumerate(held)]
+    program = ((LOAD, 0, 0, 0), *are_equal, (ANSWER, 0, 0, ALLOW), (ANSWER, 0, 0, TELL))
     text = b"".join(struct.pack("=HBBI", *step) for step in program)
     room = ctypes.create_string_buffer(text, len(text))
     steps = struct.pack("@HP", len(program), ctypes.addressof(room))
@@ -76,13 +79,18 @@ def listen(channel, held):
     socket.send_fds(channel, [b"."], [listener])
 
 
-def name_of(process, file, folder):
-    """The name of a process's file; of a call whose first word isn't a file, none."""
+def name_of(process, call, words, folder):
+    """The name of the file that a call of a process is for; none where it isn't for one."""
     try:
-        name = os.readlink(f"/proc/{process}/fd/{file}")
-    except FileNotFoundError:
+        if call in PATH_AT:
+            with open(f"/proc/{process}/mem", "rb", buffering=0) as memory:
+                memory.seek(words[PATH_AT[call]])
+                name = memory.read(4096).split(b"\0")[0].decode()
+        else:
+            name = os.readlink(f"/proc/{process}/fd/{words[0]}")
+    except OSError:
         return ""
-    return os.path.relpath(name, os.path.realpath(folder))
+    return os.path.relpath(os.path.join(os.path.realpath(folder), name), os.path.realpath(folder))
 
 
 def reply_to_all(listener, folder, fails, at, error):
@@ -94,10 +102,11 @@ def reply_to_all(listener, folder, fails, at, error):
     while any(event & select.POLLIN for _, event in calls.poll(PATIENCE * 1000)):
         held = bytearray(HELD.size)
         fcntl.ioctl(listener, RECEIVE, held)
-        number, process, _, _, _, _, file = HELD.unpack(held)
+        number, process, _, kind, _, _, *words = HELD.unpack(held)
         reply = (number, 0, -error, 0) if len(synced) in failing else (number, 0, 0, GO_ON)
+        name = name_of(process, kind, words, folder)
         at(len(synced), process)
-        synced.append(name_of(process, file, folder))
+        synced.append(name)
         try:
             fcntl.ioctl(listener, SEND, bytearray(REPLY.pack(*reply)))
         except FileNotFoundError:

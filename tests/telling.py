@@ -6,10 +6,10 @@ answers it (AN3155, section 3.4).
 
 import contextlib
 import socket
-import subprocess
+import threading
 import time
 
-from place import PATIENCE, program, readable
+from place import PATIENCE, WAIT, Place, files, readable, served
 
 ACK = b"\x79"
 NACK = b"\x1f"
@@ -20,6 +20,25 @@ SIZE_AT = 0x1FFFF7E0
 # a chip of 128 pages that tells its board, and how large its flash is
 TABLE = b'[[chip]]\nid = 0x410\nbase = 0x08000000\npages = [[128, 1024]]\nerase = "page"\n' \
         b"unique = [0x1FFFF7E8, 12]\nsize_at = 0x1FFFF7E0\n"
+
+
+class Told(Place):
+    """A test that has a table of that chip."""
+
+    def setUp(self):
+        super().setUp()
+        self.store("table", TABLE)
+
+    def run_on(self, serve, name, *words, variables=None):
+        """Runs the program on a board that is served so, with its own table where it names none."""
+        with self.listen("board") as listener:
+            ran = self.start(name, *files("board")["--table" in words and 2:], "--wait", WAIT, *words, variables=variables)
+            serving = threading.Thread(target=serve, args=(listener,))
+            serving.start()
+            said = self.ended(ran)
+            serving.join(PATIENCE)
+        self.remove("board")
+        return said
 
 
 class Unacknowledged(Exception):
@@ -125,16 +144,11 @@ def reach(path, simulator):
 @contextlib.contextmanager
 def simulated(place, flash, name):
     """A line to a simulator of its own on this flash, at a socket of this name, which has stored what was left in the end."""
-    words = ("sim", "--table", "table", "--id", "0410", "--flash", flash, "--socket", name)
-    simulator = subprocess.Popen(["stmflash", *words], executable=program(), cwd=place.folder, env={}, stdin=subprocess.DEVNULL)
-    try:
-        with reach(place.path(name), simulator) as board:
-            yield board
-            board.shutdown(socket.SHUT_WR)
-            simulator.wait(PATIENCE)
-    finally:
-        simulator.kill()
-        simulator.wait()
+    simulator = place.start(*served("0410", flash, name))
+    with reach(place.path(name), simulator) as board:
+        yield board
+        board.shutdown(socket.SHUT_WR)
+        place.ended(simulator)
 
 
 def serve_one(place, listener, flash, told, cuts, kind=Stand):

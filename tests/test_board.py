@@ -1,12 +1,8 @@
 """Which board stands there: asked before each session, and once more in one that does commands or undoes some; named by the
 journal, and wanted by words."""
 
-import subprocess
-import threading
-
 import telling
-from place import PATIENCE, SILENT, UNTRIED, Place, Said, program
-from served import WAIT
+from place import SILENT
 from telling import SIZE_AT, UNIQUE_AT
 
 SIZE = 131072
@@ -34,36 +30,21 @@ def size(kib):
     return kib.to_bytes(2, "little")
 
 
-class Board(Place):
+class Board(telling.Told):
     def setUp(self):
         super().setUp()
-        self.store("table", telling.TABLE)
-        self.store("flash", COUNTING)
-        self.store("there", COUNTING)
-        self.store("image", b"an image")
+        self.store_all({"flash": COUNTING, "there": COUNTING, "image": b"an image"})
 
     def at(self, unique, *words, kib=None, flash="flash", cuts=(False,), variables=None):
         """Runs the program on a board that tells this, in so many sessions, some of which are cut; None: the place is refused.
         `stands` are then those of its sessions."""
-        told = {UNIQUE_AT: unique, SIZE_AT: kib}
-        with self.listen("board") as listener:
-            name, *more = words
-            table = () if "--table" in more else ("--table", "table")
-            given = (name, *table, "--device", "board", "--journal", "journal", "--wait", WAIT, *more)
-            ran = subprocess.Popen(["stmflash", *given], executable=program(), cwd=self.folder, env=variables or {},
-                                   stdin=subprocess.DEVNULL, stdout=subprocess.PIPE, stderr=subprocess.PIPE)
-            self.stands = []
+        told, self.stands = {UNIQUE_AT: unique, SIZE_AT: kib}, []
 
-            def serve():
-                for is_cut in cuts:
-                    self.stands.append(telling.serve_one(self, listener, flash, told, is_cut))
+        def serve(listener):
+            for is_cut in cuts:
+                self.stands.append(telling.serve_one(self, listener, flash, told, is_cut))
 
-            serving = threading.Thread(target=serve)
-            serving.start()
-            out, err = ran.communicate(timeout=PATIENCE)
-            serving.join(PATIENCE)
-        self.remove("board")
-        return Said(ran.returncode, out, err)
+        return self.run_on(serve, *words, variables=variables)
 
     def asked(self):
         """Which places were asked for, in all sessions."""
@@ -115,8 +96,7 @@ class Board(Place):
         """The board did what can't be undone, and was reset by hand then."""
         self.assertSilent(said)
         self.assertNotEqual(self.stands[-1].sent.lstrip(b"\x7f")[-2:], ASKED[-2:])
-        self.store("flash.line", b"fresh\n")
-        self.store("flash", COUNTING)
+        self.store_all({"flash.line": b"fresh\n", "flash": COUNTING})
 
     def test_go_and_protect_ask_nothing_where_no_board_is_named_or_wanted(self):
         for words in self.leaving():
@@ -138,9 +118,7 @@ class Board(Place):
                 with self.subTest(words=words, unique=unique):
                     self.assertFault(self.at(unique, *words, flash="there"), ANOTHER)
                     self.assertAskedAlone()
-                    self.assertFile("there", COUNTING)
-                    self.assertFile("there.line", b"idle\n")
-                    self.assertFile("journal", HEAD)
+                    self.assertFiles({"there": COUNTING, "there.line": b"idle\n", "journal": HEAD})
             with self.subTest(words=words):
                 self.assertLeft(self.at(HERE, *words))
                 self.assertEqual(self.asked(), BEFORE)
@@ -159,8 +137,7 @@ class Board(Place):
         self.assertTold(self.at(HERE, "undo"), "undone 1\n")
         journal = self.held("journal")
         self.assertFault(self.at(THERE, "go", "0x08000000", flash="there"), ANOTHER)
-        self.assertFile("there", COUNTING)
-        self.assertFile("journal", journal)
+        self.assertFiles({"there": COUNTING, "journal": journal})
         self.assertLeft(self.at(HERE, "go", "0x08000000"))
         self.assertFile("journal", journal)
 
@@ -203,8 +180,7 @@ class Board(Place):
                     self.store("journal", HEAD)
                     self.assertFault(self.at(HERE, *words, flash="there"), ANOTHER)
                     self.assertEqual((self.asked(), self.stands[0].sent.lstrip(b"\x7f")), ([], ASKED))
-                    self.assertFile("there", COUNTING)
-                    self.assertFile("journal", HEAD)
+                    self.assertFiles({"there": COUNTING, "journal": HEAD})
                     self.store("journal", b"stmjournal 2 0410\n")
                     self.assertLeft(self.at(HERE, *words))
                     self.assertEqual(self.asked(), [])
@@ -230,8 +206,7 @@ class Board(Place):
                 if "--fresh" in words:
                     self.store("there.line", b"fresh\n")
                 self.assertFault(self.at(THERE, *words, flash="there"), ANOTHER)
-                self.assertFile("there", COUNTING)
-                self.assertFile("journal", journal)
+                self.assertFiles({"there": COUNTING, "journal": journal})
         self.assertFault(self.at(None, "undo", flash="there"), ANOTHER)
         self.assertTold(self.at(HERE, "undo"), "undone 1\n")
         self.assertFile("flash", COUNTING)
@@ -240,8 +215,7 @@ class Board(Place):
         self.break_off()
         journal = self.held("journal")
         self.assertFault(self.at(THERE, "undo", flash="there"), ANOTHER)
-        self.assertFile("there", COUNTING)
-        self.assertFile("journal", journal)
+        self.assertFiles({"there": COUNTING, "journal": journal})
         for words in (("write", "image"), ("info",)):
             self.assertFault(self.at(THERE, *words, flash="there"), "unfinished command, undo first")
             self.assertEqual((self.asked(), self.stands[0].sent), ([], b""))
@@ -275,9 +249,7 @@ class Board(Place):
         """Go and the protections are no other: their journal names a board."""
         for words in self.leaving("--fresh"):
             with self.subTest(words=words):
-                self.store("flash", COUNTING)
-                self.store("flash.line", b"fresh\n")
-                self.store("journal", HEAD)
+                self.store_all({"flash": COUNTING, "flash.line": b"fresh\n", "journal": HEAD})
                 self.assertLeft(self.at(HERE, *words))
                 self.assertTrue(self.stands[0].sent.startswith(b"\x7f" + ASKED + b"\x7f\x7f"), self.stands[0].sent[:20])
 
@@ -288,8 +260,7 @@ class Board(Place):
                 self.store("flash.line", b"idle\n")
                 self.assertFault(self.at(HERE, *words, "--fresh", "--give-up", "1"), "no answer from the device", hint=SILENT)
                 self.assertEqual((self.asked(), self.stands[0].sent), ([], b"\x7f"))
-                self.assertFile("flash.line", b"rest 7F\n")
-                self.assertFile("journal", None)
+                self.assertFiles({"flash.line": b"rest 7F\n", "journal": None})
                 self.assertEqual(self.at(HERE, "info").status, 0)
 
     def test_a_fresh_board_that_is_not_asked_is_settled(self):
@@ -343,8 +314,7 @@ class Board(Place):
         for unique in (None, 12 * b"\xff", 12 * b"\x00"):
             self.assertFault(self.at(unique, "write", "--board", NAME, "image"), "device tells no board")
             self.assertAskedAlone()
-        self.assertFile("flash", COUNTING)
-        self.assertFile("journal", None)
+        self.assertFiles({"flash": COUNTING, "journal": None})
 
     def test_a_chip_without_places_tells_no_board(self):
         self.store("table", telling.TABLE[:telling.TABLE.index(b"unique")])
@@ -355,7 +325,7 @@ class Board(Place):
 
     def test_the_simulator_in_the_program_tells_none(self):
         self.assertFault(self.use("erase", "1", "--board", NAME, device="sim:0410:flash"), "device tells no board")
-        self.assertTold(self.use("info", device="sim:0410:flash"), INSIDE % (128, SIZE) + UNTRIED)
+        self.assertTold(self.use("info", device="sim:0410:flash"), INSIDE % (128, SIZE))
         self.assertTold(self.use("erase", "1", device="sim:0410:flash"), "segment 1: 1 pages erased\n")
         self.assertTrue(self.held("journal").startswith(b"stmjournal 2 0410\n"))
 
@@ -366,9 +336,8 @@ class Board(Place):
         self.assertFault(self.use("info", "--board", 64 * "1", device="board"), "cannot connect board")
         both = "usage: give --board or --no-board, not both"
         self.assertFault(self.use("info", "--board", "12", "--no-board", device="board"), both, 2)
-        words = ("info", "--table", "table", "--device", "board", "--journal", "journal")
         for variables in ({"STMFLASH_BOARD": "12", "STMFLASH_NO_BOARD": "1"}, {"STMFLASH_BOARD": "x"}):
-            said = self.call(*words, variables=variables)
+            said = self.use("info", device="board", variables=variables)
             self.assertFault(said, both if len(variables) == 2 else "usage: bad board x", 2)
         self.assertFault(self.use("go", "--board", "x", "0x08000000", device="board"), "usage: bad board x", 2)
         self.assertFault(self.use("protect", "--board", "1", "--no-board", "write-unprotect", device="board"), both, 2)
@@ -392,7 +361,7 @@ class Board(Place):
     def test_places_that_tell_nothing(self):
         for unique, kib in ((None, None), (12 * b"\xff", size(0xFFFF)), (12 * b"\x00", size(0))):
             with self.subTest(unique=unique, kib=kib):
-                self.assertTold(self.at(unique, "info", kib=kib), INFO % (128, SIZE) + UNTRIED)
+                self.assertTold(self.at(unique, "info", kib=kib), INFO % (128, SIZE))
                 self.assertEqual(self.asked(), BEFORE)
                 self.assertTold(self.at(unique, "erase", "127", kib=kib), "segment 1: 1 pages erased\n")
                 self.assertEqual(self.asked(), BEFORE)
@@ -405,13 +374,13 @@ class Board(Place):
         for kib, pages, told in ((64, 64, "flash 64 KiB\n"), (128, 128, "flash 128 KiB\n"), (1, 1, "flash 1 KiB\n"),
                                  (256, 128, "flash 256 KiB, more than the pages\n")):
             with self.subTest(kib=kib):
-                self.assertTold(self.at(HERE, "info", kib=size(kib)), INFO % (pages, 1024 * pages) + board + told + UNTRIED)
-        self.assertTold(self.at(HERE, "info"), INFO % (128, SIZE) + board + UNTRIED)
-        self.assertTold(self.at(None, "info", kib=size(64)), INFO % (64, 65536) + "flash 64 KiB\n" + UNTRIED)
+                self.assertTold(self.at(HERE, "info", kib=size(kib)), INFO % (pages, 1024 * pages) + board + told)
+        self.assertTold(self.at(HERE, "info"), INFO % (128, SIZE) + board)
+        self.assertTold(self.at(None, "info", kib=size(64)), INFO % (64, 65536) + "flash 64 KiB\n")
         raw = "id 0410\nversion 22\ncodes 00 01 02 11 21 31 43 73 82 92\ntable table\n"
         self.assertTold(self.at(HERE, "info", "--raw", kib=size(64)), raw + board + "flash 64 KiB\n")
         self.store("table", telling.TABLE.replace(b"[[128, 1024]]", b"[[8, 16384]]"))
-        self.assertTold(self.at(None, "info", kib=size(8)), INFO % (8, SIZE) + "flash 8 KiB, less than the pages\n" + UNTRIED)
+        self.assertTold(self.at(None, "info", kib=size(8)), INFO % (8, SIZE) + "flash 8 KiB, less than the pages\n")
 
     def test_a_smaller_flash_has_fewer_pages(self):
         self.assertSilent(self.at(HERE, "read", "out", kib=size(64)))

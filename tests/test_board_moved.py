@@ -7,13 +7,10 @@ these two. What is said here of a board that is put in behind the second one is 
 """
 
 import contextlib
-import subprocess
-import threading
 import time
 
 import telling
-from place import NOISE, PATIENCE, UNREAD, Place, Said, program
-from served import WAIT
+from place import NOISE, UNREAD, WAIT
 from telling import ACK, NACK, READ, SIZE_AT, UNIQUE_AT, Stand
 from test_board import ANOTHER, CHANGED, COUNTING, HEAD, HERE, THERE, size
 
@@ -151,38 +148,20 @@ def before_the_erase(stand, came):
     return came == ERASE
 
 
-class BoardMoved(Place):
+class BoardMoved(telling.Told):
     def setUp(self):
         super().setUp()
-        self.store("table", telling.TABLE)
         self.begin()
 
     def begin(self):
-        self.store("flash", COUNTING)
-        self.store("there", ELSE)
-        self.store("journal", b"")
-        self.store("image", b"an image")
-
-    def run_on(self, serve, words, more=()):
-        """Runs the program on a board that is served so."""
-        with self.listen("board") as listener:
-            name, *rest = words
-            given = (name, "--table", "table", "--device", "board", "--journal", "journal", "--wait", WAIT, *more, *rest)
-            ran = subprocess.Popen(["stmflash", *given], executable=program(), cwd=self.folder, env={},
-                                   stdin=subprocess.DEVNULL, stdout=subprocess.PIPE, stderr=subprocess.PIPE)
-            serving = threading.Thread(target=serve, args=(listener,))
-            serving.start()
-            out, err = ran.communicate(timeout=PATIENCE)
-            serving.join(PATIENCE)
-        self.remove("board")
-        return Said(ran.returncode, out, err)
+        self.store_all({"flash": COUNTING, "there": ELSE, "journal": b"", "image": b"an image"})
 
     def at(self, *words, unique=HERE, kib=128, flash="flash", kind=Stand):
         """Runs the program on a board that tells this."""
         told = {UNIQUE_AT: unique, SIZE_AT: None if kib is None else size(kib)}
-        return self.run_on(lambda listener: telling.serve_one(self, listener, flash, told, False, kind), words)
+        return self.run_on(lambda listener: telling.serve_one(self, listener, flash, told, False, kind), *words)
 
-    def moved(self, when, stands, *words, more=()):
+    def moved(self, when, stands, *words):
         """Runs it at the first board, and moves the cable to the other one, which stands so."""
         self.store("there.line", stands)
         self.stand = None
@@ -195,7 +174,7 @@ class BoardMoved(Place):
                     with contextlib.suppress(telling.Unacknowledged):
                         self.stand.run()
 
-        said = self.run_on(serve, words, more)
+        said = self.run_on(serve, *words)
         self.assertTrue(self.stand.is_moved)
         return said
 
@@ -221,21 +200,18 @@ class BoardMoved(Place):
             for words in (("undo",), ("erase", "6")):
                 with self.subTest(step=step, words=words):
                     self.assertFault(self.at(*words, kind=refusing(step)), ANOTHER)
-                    self.assertFile("flash", flash)
-                    self.assertFile("journal", journal)
+                    self.assertFiles({"flash": flash, "journal": journal})
 
     def test_one_that_refuses_the_second_question_is_another(self):
         for step in range(3):
             with self.subTest(step=step):
                 self.assertFault(self.at("erase", "5", kind=refusing_again(step)), CHANGED)
-                self.assertFile("flash", COUNTING)
-                self.assertFile("journal", b"")
+                self.assertFiles({"flash": COUNTING, "journal": b""})
         flash, journal = self.write_here()
         for step, words in enumerate((("undo",), ("erase", "6"), ("read", "out"))):
             with self.subTest(words=words):
                 self.assertFault(self.at(*words, kind=refusing_again(step)), CHANGED)
-                self.assertFile("flash", flash)
-                self.assertFile("journal", journal)
+                self.assertFiles({"flash": flash, "journal": journal})
         self.assertFile("out", None)
 
     def test_a_late_answer_is_waited_for(self):
@@ -250,8 +226,7 @@ class BoardMoved(Place):
         for number in range(9):
             with self.subTest(number=number):
                 self.assertFault(self.at("undo", kind=garbling(number, b"\x78")), PROTOCOL, hint=NOISE)
-                self.assertFile("flash", flash)
-                self.assertFile("journal", journal)
+                self.assertFiles({"flash": flash, "journal": journal})
         self.assertTold(self.at("undo"), "undone 1\n")
         self.assertFile("flash", COUNTING)
 
@@ -259,8 +234,7 @@ class BoardMoved(Place):
         flash, journal = self.write_here()
         for words in (("undo",), ("erase", "6"), ("info",)):
             self.assertFault(self.at(*words, unique=GARBLED), ANOTHER)
-            self.assertFile("flash", flash)
-            self.assertFile("journal", journal)
+            self.assertFiles({"flash": flash, "journal": journal})
         self.assertTold(self.at("undo"), "undone 1\n")
         self.assertFile("flash", COUNTING)
 
@@ -269,13 +243,11 @@ class BoardMoved(Place):
         kinds = [garbling(number, ACK + GARBLED) for number in (2, 8)]
         for kind in kinds:
             self.assertFault(self.at("erase", "5", kind=kind), CHANGED)
-            self.assertFile("flash", COUNTING)
-            self.assertFile("journal", b"")
+            self.assertFiles({"flash": COUNTING, "journal": b""})
         flash, journal = self.write_here()
         for kind, fault in zip(kinds, (ANOTHER, CHANGED)):
             self.assertFault(self.at("undo", kind=kind), fault)
-            self.assertFile("flash", flash)
-            self.assertFile("journal", journal)
+            self.assertFiles({"flash": flash, "journal": journal})
 
     def test_one_that_came_garbled_twice_alike_begins_a_journal_of_no_board(self):
         """Nothing tells that it was garbled. The way back is there, and is refused until its first line is put right."""
@@ -284,8 +256,7 @@ class BoardMoved(Place):
         self.assertTrue(journal.startswith(f"stmjournal 3 0410 {GARBLED.hex().upper()}\n".encode()))
         for words in (("undo",), ("undo", "--no-board")):
             self.assertFault(self.at(*words), ANOTHER)
-            self.assertFile("flash", flash)
-            self.assertFile("journal", journal)
+            self.assertFiles({"flash": flash, "journal": journal})
         self.store("journal", HEAD + journal[len(HEAD):])
         self.assertTold(self.at("undo"), "undone 1\n")
         self.assertFile("flash", COUNTING)
@@ -295,8 +266,7 @@ class BoardMoved(Place):
         # too small: what lies outside is refused, also what a journal keeps there
         self.assertFault(self.at("undo", kib=4), "bad journal line 3")
         self.assertFault(self.at("erase", "64", kib=64), OUTSIDE)
-        self.assertFile("flash", flash)
-        self.assertFile("journal", journal)
+        self.assertFiles({"flash": flash, "journal": journal})
         # too large: the pages are those of the table
         self.assertFault(self.at("erase", "128", kib=0x8080), OUTSIDE)
         self.assertFile("journal", journal)
@@ -305,8 +275,7 @@ class BoardMoved(Place):
 
     def test_a_size_too_large_of_a_smaller_part(self):
         """A part of 64 KiB that tells 128: a page that isn't there can't be read, and is touched by nothing."""
-        self.store("flash.board", b"size 64\n")
-        self.store("flash", COUNTING[:65536])
+        self.store_all({"flash.board": b"size 64\n", "flash": COUNTING[:65536]})
         self.assertFault(self.at("erase", "5", "64"), PROTOCOL, hint=UNREAD.format(0x08010000))
         self.assertFile("flash", with_page(COUNTING[:65536], 5, 1024 * b"\xff"))
         self.assertTold(self.at("undo", kib=64), "undone 1\n")
@@ -315,9 +284,7 @@ class BoardMoved(Place):
     # a cable that is moved to another board
 
     def assertBothAsTheyWere(self, flash, journal):
-        self.assertFile("flash", flash)
-        self.assertFile("there", ELSE)
-        self.assertFile("journal", journal)
+        self.assertFiles({"flash": flash, "there": ELSE, "journal": journal})
 
     def test_moved_before_the_second_question(self):
         """It is refused, by either question, and neither board is changed, also where the session settles the other one anew. The
@@ -356,7 +323,7 @@ class BoardMoved(Place):
     def test_a_fresh_board_behind_the_sessions_get_id_answers_nothing(self):
         flash, journal = self.write_here()
         for when in (behind_get_id, behind_the_second_question):
-            said = self.moved(when, FRESH, "undo", more=("--give-up", "1"))
+            said = self.moved(when, FRESH, "undo", "--give-up", "1")
             self.assertFault(said, "no answer from the device")
             self.assertFile("there.line", FRESH)
             self.assertBothAsTheyWere(flash, journal)
@@ -371,9 +338,8 @@ class BoardMoved(Place):
                 self.begin()
                 flash, journal = self.write_here()
                 self.assertTold(self.moved(when, SETTLED, "undo"), "undone 1\n")
-                self.assertFile("flash", flash)
-                self.assertFile("there", with_page(ELSE, 5, page(COUNTING, 5)))
-                self.assertFile("journal", journal + b"erase 5\nprogram 5\nundone 1\n")
+                self.assertFiles({"flash": flash, "there": with_page(ELSE, 5, page(COUNTING, 5)),
+                                  "journal": journal + b"erase 5\nprogram 5\nundone 1\n"})
 
     def test_an_erase_that_is_moved_behind_the_second_question_goes_unnoticed(self):
         """The journal names the first board, and keeps a page of the other one: it is refused there, and gives that page to the
@@ -381,8 +347,7 @@ class BoardMoved(Place):
         said = self.moved(behind_the_second_question, SETTLED, "erase", "--board", HERE.hex(), "5")
         self.assertTold(said, "segment 1: 1 pages erased\n")
         there, journal = with_page(ELSE, 5, 1024 * b"\xff"), self.held("journal")
-        self.assertFile("flash", COUNTING)
-        self.assertFile("there", there)
+        self.assertFiles({"flash": COUNTING, "there": there})
         kept = page(ELSE, 5).hex().upper().encode()
         self.assertEqual(journal, HEAD + b"open 1\npage 5 " + kept + b"\nerase 5\nend 1\n")
         self.assertFault(self.at("undo", unique=THERE, flash="there"), ANOTHER)
@@ -393,6 +358,5 @@ class BoardMoved(Place):
     def test_an_erase_that_is_moved_before_its_frame_loses_a_page(self):
         """The page that is kept is the first board's, and the one that is erased the other's, which nobody has any more."""
         self.assertTold(self.moved(before_the_erase, SETTLED, "erase", "5"), "segment 1: 1 pages erased\n")
-        self.assertFile("flash", COUNTING)
-        self.assertFile("there", with_page(ELSE, 5, 1024 * b"\xff"))
+        self.assertFiles({"flash": COUNTING, "there": with_page(ELSE, 5, 1024 * b"\xff")})
         self.assertIn(page(COUNTING, 5).hex().upper().encode(), self.held("journal"))

@@ -5,8 +5,8 @@ import os
 import re
 import tomllib
 
-from place import TOP, is_slow
-from served import WAIT, Served
+from place import TOP, WAIT, is_slow
+from served import Served
 
 TABLE = os.path.join(TOP, "chips.toml")
 with open(TABLE, "rb") as text:
@@ -19,11 +19,12 @@ SERVED = ("0410", "0413", "0430", "0416")
 PARTS = 6
 IMAGE = b"a last page's last bytes"
 # families of which something isn't known: the words of their notes, and which ids begin so in stm32flash's and OpenOCD's tables
-EIGHT = ("0466", "0456", "0460", "0467", "0468", "0469", "0479", "0464", "0435", "0462", "0415", "0461", "0470")
+EIGHT = ("0466", "0456", "0460", "0467", "0468", "0469", "0479", "0464", "0435", "0462", "0415", "0461", "0470", "0471", "0472", "0494",
+         "0495", "0496", "0497")
 # what `notes` says of whence the places are known
-SIZE_AT = ("size_at: Debian's libstlink1 1.7.0", "size_at: from memory of the reference manual, unchecked")
+SIZE_AT = ("size_at: Debian's libstlink1 1.7.0", "size_at: OpenOCD 0.12", "size_at: from memory of the reference manual, unchecked")
 UNIQUE = ("unique: from memory of the reference manual, unchecked",)
-BANKS = ("0430", "0419", "0434", "0467", "0469", "0450", "0415", "0461", "0470")
+BANKS = ("0430", "0419", "0434", "0467", "0469", "0450", "0415", "0461", "0470", "0471", "0472", "0480", "0482")
 
 
 class Geometry:
@@ -71,9 +72,7 @@ class Chips(Served):
             if is_slow() and Geometry(CHIPS[number]).size > 128 << 10:
                 continue
             with self.subTest(chip=number):
-                for name in ("journal", "flash.line"):
-                    if self.is_there(name):
-                        self.remove(name)
+                self.clear("journal", "flash.line")
                 before = Geometry(CHIPS[number]).flash()
                 self.store("flash", before)
                 self.try_chip(number, f"sim:{number}:flash")
@@ -99,7 +98,7 @@ class Chips(Served):
                 if tables != ["stm32flash", "OpenOCD"]:
                     self.assertTrue(re.search("doubtful|alone|OpenOCD has", notes), notes)
                 self.assertEqual("manual" in chip, "alone" not in notes)
-        self.assertEqual(len(CHIPS), 51)
+        self.assertEqual(len(CHIPS), 60)
 
     def test_each_is_in_the_page(self):
         """FORMATS has a table with each id and its parts, and none besides."""
@@ -113,7 +112,8 @@ class Chips(Served):
             notes = " ".join(chip.get("notes", ()))
             with self.subTest(chip=number):
                 self.assertEqual("words of 8 bytes" in notes, number in EIGHT)
-                self.assertEqual("words of 32 bytes" in notes, number == "0450")
+                self.assertEqual("words of 16 bytes" in notes, number in ("0480", "0482"))
+                self.assertEqual("words of 32 bytes" in notes, number in ("0450", "0483"))
                 self.assertEqual("second bank" in notes, number in BANKS)
 
     def test_each_says_whence_it_knows_where_its_board_is_told(self):
@@ -124,8 +124,8 @@ class Chips(Served):
                 self.assertEqual("unique" in chip, any(note in UNIQUE for note in notes))
                 # the pages of a smaller part may not be the first ones
                 self.assertFalse("size_at" in chip and number in BANKS)
-        self.assertEqual(sum("size_at" in chip for chip in CHIPS.values()), 36)
-        self.assertEqual(sum("unique" in chip for chip in CHIPS.values()), 47)
+        self.assertEqual(sum("size_at" in chip for chip in CHIPS.values()), 41)
+        self.assertEqual(sum("unique" in chip for chip in CHIPS.values()), 56)
 
     def test_the_places_lie_outside_the_flash_and_apart(self):
         for number, chip in CHIPS.items():

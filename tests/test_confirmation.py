@@ -2,10 +2,9 @@
 
 import os
 import pty
-import subprocess
 import time
 
-from place import COUNTING, ERASED, PATIENCE, Place, program, readable
+from place import COUNTING, ERASED, PATIENCE, Place, files, readable
 
 KIND = "readout-unprotect"
 ASKED = b"this erases the whole flash, and no journal keeps it: it can't be undone\r\ngo on? [y/N] "
@@ -22,20 +21,17 @@ class Confirmation(Place):
         """What a protection answers whose standard input and error are a terminal, where that is said, and what that showed.
         What is typed is typed once the question stands there, or else at once."""
         here, there = pty.openpty()
-        call = ["stmflash", "protect", "--table", "table", "--device", device, "--journal", "journal", *words, kind]
-        process = subprocess.Popen(call, executable=program(), cwd=self.folder, env={},
-                                   stdin=there if input else subprocess.DEVNULL, stdout=subprocess.PIPE,
-                                   stderr=there if err else subprocess.PIPE)
+        process = self.start("protect", *files(device), *words, kind, **({"stdin": there} if input else {}), **({"stderr": there} if err else {}))
         os.close(there)
         shown = b""
         if typed is not None:
             shown = self.shown_until(here, b"[y/N] ")
             os.write(here, typed)
-        out, said = process.communicate(timeout=PATIENCE)
+        ended = self.ended(process)
         shown += self.shown_until(here, None)
         os.close(here)
-        self.assertEqual(out, b"")
-        return process.returncode, shown, said
+        self.assertEqual(ended.out, b"")
+        return ended.status, shown, ended.err
 
     def shown_until(self, here, text):
         """What a terminal shows until it shows this, or has no more."""

@@ -2,10 +2,10 @@
 
 import os
 
-from place import COUNTING, ERASED, SILENT, TABLE, UNTRIED, ZEROS, Place
+from place import COUNTING, ERASED, SILENT, TABLE, ZEROS, Place
 
 INFO = ("id 0412\nbase 08000000\npages 32\nsize 32768\nerase 43\nerased FF\nversion 22\n"
-        "codes 00 02 11 21 31 43 73 82 92\n" + UNTRIED)
+        "codes 00 02 11 21 31 43 73 82 92\n")
 RAW = "id 0412\nversion 22\ncodes 00 02 11 21 31 43 73 82 92\ntable {}\n"
 BAD_FLASH = "bad simulator file flash"
 # lines that no simulator's file has
@@ -58,11 +58,11 @@ class Device(Place):
         """Simulated ones are none. In the table whose chip is taken: of others that stand below it none is counted."""
         texts = 'part = "a", version = "22", who = "b", when = "2026-11-25", verdict = "c", file = "d"'
         real, simulated = f"{{ {texts} }}", f"{{ {texts}, simulated = true }}"
-        for boards, told in (([], UNTRIED), ([simulated], UNTRIED), ([real], "tried: 1 board\n"),
-                             ([real, simulated, real], "tried: 2 boards\n"), (12 * [real], "tried: 12 boards\n")):
+        for boards, told in (([], "no board yet"), ([simulated], "no board yet"), ([real], "1 board"),
+                             ([real, simulated, real], "2 boards"), (12 * [real], "12 boards")):
             with self.subTest(boards=boards):
                 self.store("table", TABLE + f"tried = [{', '.join(boards)}]\n".encode())
-                self.assertTold(self.use("info"), INFO.replace(UNTRIED, told))
+                self.assertTold(self.use("info"), INFO + f"tried on {told}\n")
                 self.assertTold(self.use("info", "--raw"), RAW.format("table"))
         self.store("table", TABLE + b"tried = [{ part = \"a\" }]\n")
         self.assertFault(self.use("info"), "table: chip 1: missing")
@@ -72,9 +72,7 @@ class Device(Place):
             with self.subTest(length=len(flash)):
                 self.store("flash", flash)
                 self.assertFault(self.use("read", "OUT"), BAD_FLASH)
-                self.assertFile("flash", flash)
-                self.assertFile("flash.line", None)
-                self.assertFile("OUT", None)
+                self.assertFiles({"flash": flash, "flash.line": None, "OUT": None})
 
     def test_refuses_a_line_of_another_form(self):
         self.store("flash.line", b"fresh\n\n")
@@ -91,8 +89,7 @@ class Device(Place):
 
     def test_goes_on_from_a_rest(self):
         """What stood in the rest is settled by the session, and a session that sends nothing leaves it."""
-        self.store("flash.line", b"rest 11EE08\n")
-        self.store("journal", b"stmjournal 1 0412\nopen 1\n")
+        self.store_all({"flash.line": b"rest 11EE08\n", "journal": b"stmjournal 1 0412\nopen 1\n"})
         self.assertFault(self.use("info"), "unfinished command, undo first")
         self.assertHolds(ERASED, b"rest 11EE08\n")
         self.remove("journal")

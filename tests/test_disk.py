@@ -5,8 +5,8 @@ import resource
 import signal
 
 import syncs
-from place import COUNTING, PATIENCE, ZEROS, Place, Said, had, with_page
-from served import WAIT, Served
+from place import COUNTING, WAIT, ZEROS, Place, files, had, lacks, served, with_page
+from served import Served
 
 # a chip with a flash that is shorter than its journal
 SMALL_TABLE = b'[[chip]]\nid = 0x412\nbase = 0x08000000\npages = [[2, 256]]\nerase = "page"\n'
@@ -26,8 +26,8 @@ ERASING = KEPT + b"erase 0\n"
 PROGRAMMING = ERASING + b"program 0\n"
 ENDED = PROGRAMMING + b"end 1\n"
 # why an append fails: the disk is full, or doesn't sync
-FULL = "journal failed: File too large"
-UNSYNCED = "journal failed: Input/output error"
+FULL = "File too large"
+UNSYNCED = "Input/output error"
 # the journal's syncs of a write: its folder; each line; and a line that crosses a sector, before it is ended
 SYNCED = [".", *["journal"] * 6]
 # what an undo adds where the page isn't as it was, and where it is
@@ -59,9 +59,7 @@ def unkept(size):
 class Disk(Place):
     def begin(self, flash, journal=None):
         """A fresh device with this flash and this journal; None: no journal is there."""
-        for name in ("flash.line", "journal"):
-            if self.is_there(name):
-                self.remove(name)
+        self.clear("flash.line", "journal")
         self.store("flash", flash)
         if journal is not None:
             self.store("journal", journal)
@@ -69,7 +67,7 @@ class Disk(Place):
     def begin_and_go_on(self, journal):
         """Keeps a page in a journal that isn't there, up to the midst of its line, and goes on with that."""
         self.store("flash", ZEROS)
-        self.assertFault(self.use("undo", journal=journal), f"cannot read {journal}")
+        self.assertTold(self.use("undo", journal=journal), "undone 0\n", lacks(journal))
         self.assertFile(journal, None)
         torn = b"stmjournal 2 0412\nopen 1\npage 5 000"
         self.assertFault(self.use("erase", "--stop", str(27 + 25 + 1072 + 10), "5", journal=journal), "stopped", 3)
@@ -107,15 +105,14 @@ class Disk(Place):
         for name, words in (("erase", ("5",)), ("write", ("table",))):
             with self.subTest(name=name):
                 said = self.use(name, *words, journal="absent/journal")
-                self.assertFault(said, "journal failed: No such file or directory")
+                self.assertFault(said, "journal failed", hint="No such file or directory")
                 self.assertHolds(ZEROS, b"idle\n")
                 self.assertFalse(self.is_there("absent"))
 
     def begin_small(self, flash=SMALL_FLASH, journal=None):
         """A fresh device of the small chip, with this flash and this journal, and an image for its first page."""
         self.begin(flash, journal)
-        self.store("table", SMALL_TABLE)
-        self.store("image", IMAGE)
+        self.store_all({"table": SMALL_TABLE, "image": IMAGE})
 
     def test_a_full_disk_ends_the_journal(self):
         """The disk is full at one byte after another of what a write adds. Nothing stands behind it, the command that its
@@ -127,7 +124,7 @@ class Disk(Place):
             with self.subTest(room=room):
                 self.begin_small(journal=VOID)
                 said = self.use("write", "image", before=files_up_to(len(VOID) + room))
-                self.assertFault(said, FULL)
+                self.assertFault(said, "journal failed", hint=FULL)
                 self.assertFile("journal", VOID + ENDED[:room])
                 flash = SMALL_FLASH
                 if room >= len(ERASING):
@@ -149,7 +146,7 @@ class Disk(Place):
             with self.subTest(room=room):
                 self.begin_small(WRITTEN, VOID + ENDED)
                 said = self.use("undo", before=files_up_to(len(VOID + ENDED) + room))
-                self.assertFault(said, FULL)
+                self.assertFault(said, "journal failed", hint=FULL)
                 self.assertFile("journal", VOID + ENDED + GIVEN_BACK[:room])
                 flash = WRITTEN
                 if room >= len(b"erase 0\n"):
@@ -177,8 +174,7 @@ class Disk(Place):
     def test_a_journal_is_a_regular_file(self):
         """A device takes every byte, and keeps none; a pipe without a writer would be waited for. Nothing is sent."""
         os.mkfifo(self.path("pipe"))
-        self.store("flash", ZEROS)
-        self.store("image", IMAGE)
+        self.store_all({"flash": ZEROS, "image": IMAGE})
         for journal in ("/dev/null", "/dev/zero", "/dev/full", "pipe"):
             with self.subTest(journal=journal):
                 text = f"cannot read {journal}"
@@ -189,9 +185,7 @@ class Disk(Place):
 
     def use_unsynced(self, fails, *words, journal="journal"):
         """Uses the program with its sync of this number failing, and answers what was said and which files were synced."""
-        name, *words = words
-        files = ("--table", "table", "--device", "sim:0412:flash", "--journal", journal)
-        return syncs.call(self.folder, (name, *files, *words), fails)
+        return syncs.call(self.folder, (words[0], *files(journal=journal), *words[1:]), fails)
 
     def test_what_is_not_on_the_disk_is_not_answered(self):
         """Each sync of a write fails, one after the other. A line that was written, and of which it isn't known that it is on
@@ -210,7 +204,7 @@ class Disk(Place):
             with self.subTest(fails=fails):
                 self.begin_small()
                 said, synced = self.use_unsynced(fails, "write", "image")
-                self.assertFault(said, UNSYNCED)
+                self.assertFault(said, "journal failed", hint=UNSYNCED)
                 self.assertEqual(synced, SYNCED[:fails + 1] + simulator)
                 self.assertFile("journal", added)
                 self.assertHolds(flash, b"idle\n")
@@ -252,8 +246,7 @@ class Disk(Place):
                             self.assertEqual(at // 512, first // 512, f"the LF at {at} of what was added at {first}")
                     held.append(now)
 
-                words = ("write", "--table", "table", "--device", "sim:0412:flash", "--journal", "journal", "image")
-                said, _ = syncs.call(self.folder, words, at=look)
+                said, _ = syncs.call(self.folder, ("write", *files(), "image"), at=look)
                 self.assertTold(said, "segment 1: 1 pages written\n")
                 self.assertFile("journal", journal + (ENDED[len(HEADER):] if begins else ENDED))
                 self.assertTold(self.use("undo"), "undone 1\n")
@@ -266,7 +259,7 @@ class Disk(Place):
             with self.subTest(journal=journal):
                 self.begin_small()
                 said, synced = self.use_unsynced(0, "write", "image", journal=journal)
-                self.assertFault(said, UNSYNCED)
+                self.assertFault(said, "journal failed", hint=UNSYNCED)
                 self.assertEqual(synced[0], "folder")
                 self.assertFile("folder/journal", b"")
                 self.remove("folder/journal")
@@ -298,7 +291,7 @@ class Disk(Place):
                 self.begin_small(WRITTEN, ENDED)
                 said, synced = self.use_unsynced(fails, "undo")
                 # the simulator's files, which were stored in the end
-                self.assertFault(said, "journal failed" if 4 <= fails < 8 else UNSYNCED)
+                self.assertFault(said, "journal failed", hint=None if 4 <= fails < 8 else UNSYNCED)
                 self.assertEqual(synced[:fails + 1], whole[:fails + 1])
                 self.assertFile("journal", ENDED + added)
                 self.assertHolds(flash, b"idle\n")
@@ -330,9 +323,7 @@ class OverSocket(Served):
     """The same over a socket: the program alone has no room, the simulator that it talks to has."""
 
     def begin_served(self, clients):
-        self.store("table", SMALL_TABLE)
-        self.store("flash", SMALL_FLASH)
-        self.store("image", IMAGE)
+        self.store_all({"table": SMALL_TABLE, "flash": SMALL_FLASH, "image": IMAGE})
         self.serve(clients)
 
     def assertTakenBack(self, added):
@@ -348,8 +339,7 @@ class OverSocket(Served):
     def test_a_full_disk_ends_the_journal(self):
         """The disk is full at one byte after another of what a write adds; of a page's digits at some, as in the process, above.
         Each place has a board of its own, and some are done side by side: what takes time is a line that has to be quiet."""
-        self.store("table", SMALL_TABLE)
-        self.store("image", IMAGE)
+        self.store_all({"table": SMALL_TABLE, "image": IMAGE})
         digits = range(len(OPENED) + 9, len(KEPT) - 2)
         rooms = [room for room in range(len(ENDED)) if room not in digits or room % 64 == 0]
         for first in range(0, len(rooms), SIDE_BY_SIDE):
@@ -360,22 +350,20 @@ class OverSocket(Served):
         simulators = []
         for room in rooms:
             self.store(f"{room}.flash", SMALL_FLASH)
-            files = ("--table", "table", "--id", "0412", "--flash", f"{room}.flash", "--socket", f"{room}.board")
             # one that comes once it listens, and the write and its undo
-            simulators.append(self.start("sim", *files, "--clients", "3"))
+            simulators.append(self.start(*served(flash=f"{room}.flash", at=f"{room}.board"), "--clients", "3"))
         for room in rooms:
             self.leave(self.reach(f"{room}.board"))
         said = self.use_each(rooms, lambda room: ("write", "image"), files_up_to)
         for room, told in zip(rooms, said):
             with self.subTest(room=room):
-                self.assertFault(told, FULL)
+                self.assertFault(told, "journal failed", hint=FULL)
                 self.assertFile(f"{room}.journal", ENDED[:room])
         said = self.use_each(rooms, lambda room: ("undo",))
         for room, told, simulator in zip(rooms, said, simulators):
             with self.subTest(room=room):
                 self.assertTold(told, "undone %d\n" % (room >= len(OPENED)), unkept(room))
-                out, err = simulator.communicate(timeout=PATIENCE)
-                self.assertEqual((simulator.returncode, out, err), (0, b"", b""))
+                self.assertSilent(self.ended(simulator))
                 self.assertFile(f"{room}.flash", SMALL_FLASH)
 
     def use_each(self, rooms, words, before=lambda room: None):
@@ -383,25 +371,19 @@ class OverSocket(Served):
         started = []
         for room in rooms:
             name, *more = words(room)
-            files = ("--table", "table", "--device", f"{room}.board", "--journal", f"{room}.journal", "--wait", WAIT)
-            started.append(self.start(name, *files, *more, before=before(room)))
-        said = []
-        for program in started:
-            out, err = program.communicate(timeout=PATIENCE)
-            said.append(Said(program.returncode, out, err))
-        return said
+            started.append(self.start(name, *files(f"{room}.board", f"{room}.journal"), "--wait", WAIT, *more, before=before(room)))
+        return list(map(self.ended, started))
 
     def test_what_is_not_on_the_disk_is_not_answered(self):
         self.begin_served(3 * (len(SYNCED) + 1))
-        files = ("--table", "table", "--device", "board", "--journal", "journal", "--wait", WAIT)
         for fails, added in enumerate((b"", OPENED, KEPT[:-1], KEPT, ERASING, PROGRAMMING, ENDED, None)):
             with self.subTest(fails=fails):
-                said, synced = syncs.call(self.folder, ("write", *files, "image"), fails)
+                said, synced = syncs.call(self.folder, ("write", *files("board"), "--wait", WAIT, "image"), fails)
                 self.assertEqual(synced, SYNCED[:fails + 1])
                 if added is None:
                     self.assertTold(said, "segment 1: 1 pages written\n")
                 else:
-                    self.assertFault(said, UNSYNCED)
+                    self.assertFault(said, "journal failed", hint=UNSYNCED)
                     self.assertTakenBack(added)
         self.leave(self.connect())
         self.simulator.kill()

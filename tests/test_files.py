@@ -3,11 +3,10 @@
 import os
 import signal
 import socket
-import subprocess
 import threading
 
 import syncs
-from place import COUNTING, ERASED, PATIENCE, TABLE, ZEROS, Place, Said, new, program
+from place import COUNTING, ERASED, PATIENCE, TABLE, ZEROS, Place, Said, files, new, served
 from test_disk import files_up_to
 
 
@@ -26,9 +25,7 @@ class Files(Place):
                 with self.subTest(journal=journal, flash=flash is not None):
                     said = self.use("write", "-S", "0x08000000", "image", device="sim:0412:N", journal=journal)
                     self.assertFault(said, f"cannot write {journal}")
-                    self.assertFile("N", flash)
-                    self.assertFile("N.line", None)
-                    self.assertFile("image", b"\xaa")
+                    self.assertFiles({"N": flash, "N.line": None, "image": b"\xaa"})
 
     def test_names_in_two_folders_are_two(self):
         """Of files that aren't there, which have one name."""
@@ -65,19 +62,17 @@ class Files(Place):
         self.assertFault(self.use("write", "F.line", device="sim:0412:F"), "cannot write F.line")
         os.symlink("G", self.path("G.line"))
         self.assertFault(self.use("info", device="sim:0412:G"), "cannot write G.line")
-        self.assertFile("image", ZEROS)
-        self.assertFile("F.line", b"\xaa")
+        self.assertFiles({"image": ZEROS, "F.line": b"\xaa"})
         self.assertFalse(self.is_there("G"))
         for socket in ("flash", "./flash", "flash.line"):
             with self.subTest(socket=socket):
-                said = self.call("sim", "--table", "table", "--id", "0412", "--flash", "flash", "--socket", socket)
+                said = self.call(*served(at=socket))
                 self.assertFault(said, f"cannot write {socket}")
                 self.assertHolds(None, None)
 
     def test_what_says_the_board_is_only_read(self):
         """No file that is to be written is FILE.board, by whatever name, and whether it is there or not."""
         self.store("image", b"\xaa")
-        sim = ("sim", "--table", "table", "--id", "0412", "--flash", "flash", "--socket")
         for board in (None, b"size 16\n"):
             names = ["flash.board", "./flash.board"]
             if board is None:
@@ -89,7 +84,7 @@ class Files(Place):
                 names += ["hard", "soft"]
             for name in names:
                 for call in (lambda: self.use("write", "image", journal=name), lambda: self.use("read", name),
-                             lambda: self.use("write", "--keep-to", name, "image"), lambda: self.call(*sim, name)):
+                             lambda: self.use("write", "--keep-to", name, "image"), lambda: self.call(*served(at=name))):
                     with self.subTest(name=name, board=board):
                         self.assertFault(call(), f"cannot write {name}")
                         self.assertFile("flash.board", board)
@@ -97,13 +92,12 @@ class Files(Place):
                         self.assertFile("journal", None)
 
     def test_what_a_simulator_writes_is_none_that_says_the_board(self):
-        sim = ("sim", "--table", "table", "--id", "0412", "--flash", "flash", "--socket", "board")
         for board in (None, b"size 16\n"):
             if board is not None:
                 self.store("flash.board", board)
             for name in ("flash", "flash.line"):
                 os.symlink("flash.board", self.path(name))
-                for call in (lambda: self.use("info"), lambda: self.call(*sim)):
+                for call in (lambda: self.use("info"), lambda: self.call(*served())):
                     with self.subTest(name=name, board=board):
                         self.assertFault(call(), f"cannot write {name}")
                         self.assertFile("flash.board", board)
@@ -125,8 +119,7 @@ class Files(Place):
                 self.remove(name)
                 os.symlink("victim", self.path(name))
                 self.assertSilent(self.use("read", "out"))
-                self.assertFile("out", COUNTING)
-                self.assertFile("victim", b"mine")
+                self.assertFiles({"out": COUNTING, "victim": b"mine"})
                 self.remove(name, "out")
                 os.mkfifo(self.path(name))
                 self.assertSilent(self.use("read", "out"))
@@ -135,8 +128,7 @@ class Files(Place):
 
     def test_out_is_replaced_whole_or_not_at_all(self):
         older = b"older" * 20000
-        self.store("flash", COUNTING)
-        self.store("out", older)
+        self.store_all({"flash": COUNTING, "out": older})
         for room in (0, 1, 20000):
             with self.subTest(room=room):
                 self.assertFault(self.use("read", "out", before=files_up_to(room)), "cannot write out")
@@ -146,16 +138,14 @@ class Files(Place):
 
     def use_held(self, at, name, *words, fails=None):
         """Uses the program with its syncs held, and answers what was said and which files were synced."""
-        files = ("--table", "table", "--device", "sim:0412:flash", "--journal", "journal")
-        return syncs.call(self.folder, (name, *files, *words), fails, at)
+        return syncs.call(self.folder, (name, *files(), *words), fails, at)
 
     def make_at_first(self, link, source, name):
         """Makes a link at the first sync, in the place of what may be there."""
 
         def make(number, process):
             if number == 0:
-                if self.is_there(name):
-                    self.remove(name)
+                self.clear(name)
                 link(source, self.path(name))
 
         return make
@@ -165,9 +155,7 @@ class Files(Place):
         for name in ("flash", "flash.line"):
             for link, source in ((os.symlink, "journal"), (os.link, self.path("journal"))):
                 with self.subTest(name=name, link=link):
-                    for stale in ("journal", "flash.line"):
-                        if self.is_there(stale):
-                            self.remove(stale)
+                    self.clear("journal", "flash.line")
                     self.store("flash", COUNTING)
                     said, _ = self.use_held(self.make_at_first(link, source, name), "erase", "5")
                     self.assertFault(said, f"cannot write {name}")
@@ -187,9 +175,7 @@ class Files(Place):
                     # it isn't there yet
                     continue
                 with self.subTest(other=other, link=link):
-                    for stale in ("flash", "flash.line", "out"):
-                        if self.is_there(stale):
-                            self.remove(stale)
+                    self.clear("flash", "flash.line", "out")
                     before = self.held(other)
                     said, _ = self.use_held(self.make_at_first(link, source, "out"), "read", "-S", "0x08000000:256", "out")
                     self.assertFault(said, "cannot write out")
@@ -198,8 +184,7 @@ class Files(Place):
 
     def test_out_is_on_the_disk(self):
         """Each sync of it fails, one after the other: what isn't on the disk isn't answered."""
-        self.store("flash", COUNTING)
-        self.store("flash.line", b"idle\n")
+        self.store_all({"flash": COUNTING, "flash.line": b"idle\n"})
         mine = ["out.stmflash-0.new", "."]
         for fails in range(len(mine)):
             with self.subTest(fails=fails):
@@ -227,8 +212,7 @@ class Files(Place):
     def test_out_keeps_its_mode(self):
         self.store("flash", COUNTING)
         for name in ("out", "flash", "flash.line"):
-            self.store("flash.line", b"idle\n")
-            self.store("out", b"older")
+            self.store_all({"flash.line": b"idle\n", "out": b"older"})
             for mode in (0o600, 0o640, 0o664):
                 with self.subTest(name=name, mode=mode):
                     os.chmod(self.path(name), mode)
@@ -242,8 +226,7 @@ class Files(Place):
         self.store("flash", COUNTING)
         for name in ("out", "flash", "flash.line"):
             with self.subTest(name=name):
-                self.store("flash.line", b"idle\n")
-                self.store("out", b"older")
+                self.store_all({"flash.line": b"idle\n", "out": b"older"})
                 os.chmod(self.path(name), 0o600)
                 os.chown(self.path(name), 12345, 23456)
                 self.assertSilent(self.use("read", "out"))
@@ -255,9 +238,7 @@ class Files(Place):
         os.mkdir(self.path("folder"))
         for name, words in (("out", ("read", "out")), ("flash", ("info",)), ("flash.line", ("info",)), ("journal", ("erase", "5"))):
             with self.subTest(name=name):
-                for stale in ("flash", "flash.line", "journal", "out"):
-                    if self.is_there(stale):
-                        self.remove(stale)
+                self.clear("flash", "flash.line", "journal", "out")
                 self.store("flash", ZEROS)
                 if name == "flash":
                     self.remove("flash")
@@ -296,9 +277,7 @@ class Files(Place):
         keeps its mode."""
         for mask in (0o022, 0):
             with self.subTest(mask=mask):
-                for name in ("flash", "flash.line", "journal", "out"):
-                    if self.is_there(name):
-                        self.remove(name)
+                self.clear("flash", "flash.line", "journal", "out")
                 seen = []
 
                 def look(number, process):
@@ -327,9 +306,7 @@ class Files(Place):
         for kills in range(4):
             for begun in (None, COUNTING):
                 with self.subTest(kills=kills, begun=begun is not None):
-                    for name in ("flash", "flash.line"):
-                        if self.is_there(name):
-                            self.remove(name)
+                    self.clear("flash", "flash.line")
                     if begun is not None:
                         self.store("flash", begun)
                     for name, text in mine.items():
@@ -350,9 +327,7 @@ class Files(Place):
         """However many they were, also where the flash is made anew."""
         for begun in (COUNTING, None):
             with self.subTest(begun=begun is not None):
-                for name in ("flash", "flash.line"):
-                    if self.is_there(name):
-                        self.remove(name)
+                self.clear("flash", "flash.line")
                 if begun is not None:
                     self.store("flash", begun)
                 for number in range(3):
@@ -372,10 +347,8 @@ class Files(Place):
             with self.subTest(word=word):
                 self.assertFault(self.use("verify", word), f"cannot read {word}")
                 self.assertFault(self.use("write", "-f", word), f"cannot read {word}")
-                said = self.call("info", "--table", word, "--device", "sim:0412:flash", "--journal", "journal")
-                self.assertFault(said, f"cannot read {word}")
-                said = self.call("sim", "--table", word, "--id", "0412", "--flash", "flash", "--socket", "s")
-                self.assertFault(said, f"cannot read {word}")
+                self.assertFault(self.call("info", "--table", word, *files()[2:]), f"cannot read {word}")
+                self.assertFault(self.call(*served(at="s", table=word)), f"cannot read {word}")
                 self.assertFault(self.use("undo", journal=word), f"cannot read {word}")
                 self.assertFault(self.call("log", "--journal", word), f"cannot read {word}")
         self.assertHolds(COUNTING, b"fresh\n")
@@ -385,36 +358,24 @@ class Files(Place):
         self.store("flash", COUNTING)
         for name in ("/dev/stdin", "/dev/fd/0"):
             with self.subTest(name=name):
-                files = ("--table", "table", "--device", "sim:0412:flash", "--journal", "journal")
-                words = ["stmflash", "verify", *files, "-S", "0x08000005", name]
-                ran = subprocess.run(words, executable=program(), cwd=self.folder, env={}, timeout=PATIENCE, input=COUNTING[5:500],
-                                     capture_output=True)
-                self.assertEqual((ran.returncode, ran.stdout, ran.stderr), (0, b"verified 495 bytes\n", b""))
+                self.assertTold(self.use("verify", "-S", "0x08000005", name, given=COUNTING[5:500]), "verified 495 bytes\n")
 
     def test_a_table_may_come_from_standard_input(self):
         """Also by a pipe, whose bytes come once; and of a simulator that is served."""
         self.store("image", b"\xaa")
         for name in ("/dev/stdin", "/dev/fd/0"):
             with self.subTest(name=name):
-                words = ["stmflash", "write", "-v", "--keep", "--again", "2", "--table", name, "--device", "sim:0412:flash",
-                         "--journal", "journal", "image"]
-                ran = subprocess.run(words, executable=program(), cwd=self.folder, env={}, timeout=PATIENCE, input=TABLE,
-                                     capture_output=True)
-                told = b"segment 1: 1 pages written\nverified 1 bytes\nkept 1\n"
-                self.assertEqual((ran.returncode, ran.stdout, ran.stderr), (0, told, b""))
+                words = ("write", "-v", "--keep", "--again", "2", "--table", name, *files()[2:], "image")
+                self.assertTold(self.call(*words, given=TABLE), "segment 1: 1 pages written\nverified 1 bytes\nkept 1\n")
                 self.remove("flash", "flash.line")
-                words = ["stmflash", "sim", "--table", name, "--id", "0412", "--flash", "flash", "--socket", "table"]
-                ran = subprocess.run(words, executable=program(), cwd=self.folder, env={}, timeout=PATIENCE, input=TABLE,
-                                     capture_output=True)
-                self.assertEqual((ran.returncode, ran.stdout, ran.stderr), (1, b"", b"stmflash: cannot connect table\n"))
+                self.assertFault(self.call(*served(at="table", table=name), given=TABLE), "cannot connect table")
 
     def test_files_without_an_end(self):
         self.store("flash", COUNTING)
         for word in ("/dev/zero", "/dev/full"):
             with self.subTest(word=word):
                 self.assertFault(self.use("verify", "-f", word), f"cannot read {word}")
-                said = self.call("info", "--table", word, "--device", "sim:0412:flash", "--journal", "journal")
-                self.assertFault(said, f"cannot read {word}")
+                self.assertFault(self.call("info", "--table", word, *files()[2:]), f"cannot read {word}")
                 self.assertFault(self.use("info", device=f"sim:0412:{word}"), f"cannot read {word}")
         self.store("table", b"#" * (1 << 20) + b"\n" + self.held("table"))
         self.assertFault(self.use("info"), "cannot read table")

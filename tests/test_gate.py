@@ -230,7 +230,3 @@ class Weight(unittest.TestCase):
         self.assertEqual(self.weigh("--check").returncode, 0)
         self.store("tests/a.py", 2)
         self.assertEqual(self.weigh("--check").returncode, 1)
-
-
-if __name__ == "__main__":
-    unittest.main()

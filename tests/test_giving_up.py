@@ -1,5 +1,8 @@
 """Devices that answer nothing, or something else, or late, and when they are given up."""
 
+import contextlib
+import itertools
+import socket
 import threading
 import time
 
@@ -36,16 +39,23 @@ class Peer:
             line, _ = self.listener.accept()
         except OSError:
             return
-        with line:
-            try:
-                self.serve(line, self.ending)
-            except OSError:
-                pass
+        with line, contextlib.suppress(OSError):
+            self.serve(line, self.ending)
 
     def end(self):
         self.ending.set()
+        # nobody is waited for any more
+        with contextlib.suppress(OSError):
+            self.listener.shutdown(socket.SHUT_RDWR)
         self.listener.close()
         self.thread.join(PATIENCE)
+
+
+def at_peer(test, serve, name, *words, journal="journal"):
+    """What a subcommand says to a peer of its own."""
+    peer = next(it for it in map("peer{}".format, itertools.count()) if not test.is_there(it))
+    Peer(test, peer, serve)
+    return test.use(name, *words, device=peer, journal=journal)
 
 
 def be_deaf(_, ending):
@@ -97,12 +107,8 @@ class GivingUp(Served):
 
     def answer(self, serve, *words, name="info"):
         """What a subcommand says to a peer, and for how many seconds it was at it."""
-        self.peers = getattr(self, "peers", 0) + 1
-        peer = f"peer{self.peers}"
-        Peer(self, peer, serve)
         began = time.monotonic()
-        said = self.use(name, *words, device=peer)
-        return said, time.monotonic() - began
+        return at_peer(self, serve, name, *words), time.monotonic() - began
 
     def test_a_silent_device_is_given_up(self):
         for serve, hint in ((be_silent, SILENT), (be_deaf, SILENT), (echo, ECHO)):
@@ -112,6 +118,10 @@ class GivingUp(Served):
                 # 131,072 waits without it
                 self.assertLess(seconds, 60)
                 self.assertFile("journal", None)
+        # where it is asked first which board it is, there is no fault of the line either
+        Peer(self, "asked", be_silent)
+        said = self.call("info", "--table", "table", "--device", "asked", "--journals", ".", *HASTY)
+        self.assertEqual((said.status, said.out, said.err[:len(NO_ANSWER.err)]), NO_ANSWER)
 
     def test_a_silent_device_is_given_up_as_soon_by_an_undo(self):
         """The silence before its 7F counts: behind two batches and two bytes just the rest of `--give-up` is waited, which is
@@ -124,9 +134,8 @@ class GivingUp(Served):
 
     def test_a_reply_to_7f_may_be_as_late_as_is_said(self):
         """Also where the silence before it was longer than `--give-up`."""
-        self.store("flash", ZEROS)
-        self.store("flash.line", b"fresh\n")
-        self.store("journal", with_page(b"stmjournal 2 0412\nopen 1\npage 5 ", b"0", b"\nerase 5\n"))
+        self.store_all({"flash": ZEROS, "flash.line": b"fresh\n",
+                        "journal": with_page(b"stmjournal 2 0412\nopen 1\npage 5 ", b"0", b"\nerase 5\n")})
         self.serve(1)
         self.relay(lambda came: 0.5 if came == b"\x7f" else 0)
         said = self.use("undo", "--wait", "900", "--give-up", "2", device="slow")
@@ -219,8 +228,7 @@ class GivingUp(Served):
         """A device that waits for 3,085 pages takes six batches without a word, which is no reason to give it up."""
         self.store("table", WIDE)
         zeros = b"\x00" * 256 * 2048
-        self.store("flash", zeros)
-        self.store("flash.line", b"rest 44BB\n")
+        self.store_all({"flash": zeros, "flash.line": b"rest 44BB\n"})
         journal = b"stmjournal 2 0414\nopen 1\npage 12 " + b"0" * 4096 + b"\nerase 12\n"
         self.store("journal", journal)
         self.serve(1, number="0414")

@@ -6,16 +6,14 @@ Each kind has one command; STMFLASH_LONG=1 tries each command on each kind of bo
 import collections
 import concurrent.futures
 import os
-import socket
-import subprocess
-import threading
 import time
 import typing
 
 import hostile
 from hostile import FLASH, Line
 from hostile_kinds import GIVE_UP, GONE, KINDS, LONG_WAIT
-from place import PATIENCE, TOP, Place, Said, had, program
+from place import TOP, Place, Said, had
+from test_giving_up import Peer
 
 # how much longer than it waits for an answer a session may take, in seconds; one that took longer beside others, on a busy machine,
 # is tried again alone, so often at most, and so many of them. For the slowest command there is more beside them
@@ -73,36 +71,20 @@ class Hostile(Place):
 
     def at(self, folder, serve, words, wait=LONG_WAIT):
         """Runs the program at a board that is served so: what it said, when it ended, and its line. A wait of none is the default."""
-        ending, lines = threading.Event(), []
-        with socket.socket(socket.AF_UNIX, socket.SOCK_STREAM) as listener:
-            listener.bind(self.path(f"{folder}/board"))
-            listener.listen()
+        lines = []
 
-            def run():
-                try:
-                    line, _ = listener.accept()
-                    with line:
-                        lines.append(Line(line))
-                        serve(lines[0], ending)
-                except OSError:
-                    pass
+        def serve_line(line, ending):
+            lines.append(Line(line))
+            serve(lines[0], ending)
 
-            serving = threading.Thread(target=run, daemon=True)
-            serving.start()
-            given = ("--table", "table", "--device", "board", "--journal", "journal")
-            given += ("--give-up", str(GIVE_UP)) + (() if wait is None else ("--wait", str(int(1000 * wait))))
-            try:
-                ran = subprocess.run(["stmflash", words[0], *given, *words[1:]], executable=program(), cwd=self.path(folder),
-                                     env={}, stdin=subprocess.DEVNULL, capture_output=True, timeout=PATIENCE)
-                ended = time.monotonic()
-            finally:
-                ending.set()
-                # nobody is waited for any more
-                listener.shutdown(socket.SHUT_RDWR)
-                serving.join(PATIENCE)
-        self.assertTrue(lines, f"nobody came: {ran}")
+        peer = Peer(self, f"{folder}/board", serve_line)
+        waits = () if wait is None else ("--wait", str(int(1000 * wait)))
+        said = self.use(words[0], "--give-up", str(GIVE_UP), *waits, *words[1:], device="board", cwd=self.path(folder))
+        ended = time.monotonic()
+        peer.end()
+        self.assertTrue(lines, f"nobody came: {said}")
         self.remove(f"{folder}/board")
-        return Said(ran.returncode, ran.stdout, ran.stderr), ended, lines[0]
+        return said, ended, lines[0]
 
     def once(self, name, command, again=0, at_default=False):
         """One command at one kind of board; and what it left, at a board that is well and was reset."""

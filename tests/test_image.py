@@ -114,7 +114,6 @@ class Image(Place):
                     self.assertTold(self.use_image("verify", image), f"verified {size} bytes\n")
                     self.store("flash", image[:-1] + b"\xff" * ((2 << 20) - size + 1))
                     self.assertFault(self.use_image("verify", image), f"differs at {0x08000000 + size - 1:08X}")
-        self.store("x.bin", HEX)
-        self.store("flash", b"\x01\x02\x03\x04" + b"\xff" * ((2 << 20) - 4))
+        self.store_all({"x.bin": HEX, "flash": b"\x01\x02\x03\x04" + b"\xff" * ((2 << 20) - 4)})
         self.assertTold(self.use("verify", "x.bin"), "verified 4 bytes\n")
         self.assertFault(self.use_image("verify", b"\xff" * ((2 << 20) + 1)), "cannot read image")

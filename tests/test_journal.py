@@ -33,12 +33,9 @@ class Journal(Place):
     def assertRefused(self, name, words, journal, text, line):
         """A use with this journal on a fresh device ends with this fault, the line stands so, and the journal is as it was."""
         with self.subTest(name=name, journal=journal):
-            self.store("journal", journal)
-            self.store("flash.line", b"fresh\n")
+            self.store_all({"journal": journal, "flash.line": b"fresh\n"})
             self.assertFault(self.use(name, *words), text)
-            self.assertFile("journal", journal)
-            self.assertFile("flash.line", line)
-            self.assertFile("out", None)
+            self.assertFiles({"journal": journal, "flash.line": line, "out": None})
 
     def test_leaves_the_journal_as_it_was(self):
         for journal in (None, ENDED, TORN):

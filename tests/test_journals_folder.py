@@ -2,10 +2,9 @@
 
 import fcntl
 import os
-import socket
 
-from place import PATIENCE, Said
-from served import WAIT, Served
+from place import WAIT, lacks
+from served import Served
 
 import telling
 
@@ -15,7 +14,7 @@ COUNTING = bytes(i % 251 for i in range(SIZE))
 UNIQUE = {"a": "2B0035000A51363034393332", "b": "2B0035000A5136303439333F", "c": "2B0035000A51363034393340"}
 IMAGE = b"an image"
 NO_UNIQUE = "the board tells no unique id: --journal names its journal"
-UNFINISHED = "unfinished: %s; say --board and the digits of its board, or reset the board and say --fresh"
+UNFINISHED = "unfinished or bad: %s; say --board and the digits of its board, or reset the board and say --fresh"
 # after so many steps of its session, an erase of a board's first page has begun
 STOP = 3325
 
@@ -36,8 +35,7 @@ class Garbled(telling.Stand):
 class JournalsFolder(Served):
     def setUp(self):
         super().setUp()
-        self.store("table", telling.TABLE)
-        self.store("image", IMAGE)
+        self.store_all({"table": telling.TABLE, "image": IMAGE})
         os.mkdir(self.path("journals"))
         for board, unique in UNIQUE.items():
             self.store(board, COUNTING)
@@ -81,8 +79,7 @@ class JournalsFolder(Served):
 
     def test_a_journal_is_what_journal_names_too(self):
         self.assertTold(self.at("a", "write", "image"), "segment 1: 1 pages written\n")
-        given = ("--table", "table", "--device", "sim:0410:a", "--journal", name_of("a"))
-        self.assertTold(self.call("undo", *given), "undone 1\n")
+        self.assertTold(self.use("undo", device="sim:0410:a", journal=name_of("a")), "undone 1\n")
         self.assertFile("a", COUNTING)
         self.assertTold(self.at("a", "undo"), "undone 0\n")
 
@@ -91,7 +88,7 @@ class JournalsFolder(Served):
             with self.subTest(name=name):
                 self.assertEqual(self.at("a", name, *words).status, 0)
                 self.assertEqual(self.journals(), [])
-        self.assertFault(self.at("a", "undo"), f"cannot read {name_of('a')}")
+        self.assertTold(self.at("a", "undo"), "undone 0\n", lacks(name_of("a")))
 
     def test_a_board_that_was_stopped_holds_up_the_others(self):
         """None is settled by another's journal, and none as if nothing was begun."""
@@ -107,6 +104,10 @@ class JournalsFolder(Served):
                     self.assertFile(f"{board}.line", line)
                     self.assertFile(name_of("a"), journal)
         self.assertUntouched("b")
+        # one that is named goes on
+        self.assertTold(self.at("b", "write", "--board", UNIQUE["b"], "image"), "segment 1: 1 pages written\n")
+        self.assertTold(self.at("b", "undo", "--board", UNIQUE["b"]), "undone 1\n")
+        self.assertFile(name_of("a"), journal)
         self.assertTold(self.at("a", "undo", "--board", UNIQUE["a"].lower()), "undone 1\n")
         self.assertFile("a", COUNTING)
         self.assertTold(self.at("b", "write", "image"), "segment 1: 1 pages written\n")
@@ -183,21 +184,34 @@ class JournalsFolder(Served):
         self.assertTold(self.at("a", "write", "image"), "segment 1: 1 pages written\n")
         self.assertEqual(set(self.journals()) - before, {UNIQUE["a"] + ".journal"})
 
-    def test_a_journal_that_cannot_be_read_stops_all(self):
-        """It may be that of the board, which may await the rest of a command."""
+    def test_a_journal_that_cannot_be_used_stops_its_own_board(self):
+        """It may be that of the board, which may await the rest of a command: so the others have to be named, or fresh."""
         cases = {b"stmjournal 3 0410 " + UNIQUE["a"].encode() + b"\nopen 2\n": "bad journal line 2, in " + name_of("a"),
                  b"stmjournal 3 0410 " + UNIQUE["b"].encode() + b"\n": name_of("a") + " doesn't name its board",
                  b"stmjournal 2 0410\n": name_of("a") + " doesn't name its board"}
         for text, told in cases.items():
             self.store(name_of("a"), text)
-            for board in ("a", "b"):
-                for fresh in ((), ("--fresh",)):
-                    with self.subTest(text=text, board=board, fresh=fresh):
-                        self.assertFault(self.at(board, "write", *fresh, "image"), told)
-                        self.assertFile(board, COUNTING)
+            self.assertStopsItsOwn(text, told)
         self.remove(name_of("a"))
         os.mkdir(self.path(name_of("a")))
-        self.assertFault(self.at("b", "info"), f"cannot read {name_of('a')}")
+        self.assertStopsItsOwn("a folder", f"cannot read {name_of('a')}")
+
+    def assertStopsItsOwn(self, text, told):
+        """The journal of the one board can't be used, for this reason: the others go on once they are known not to be it."""
+        for board in ("a", "b"):
+            self.assertFault(self.at(board, "write", "image"), UNFINISHED % name_of("a"))
+        for words in (("--fresh",), ("--board", UNIQUE["a"])):
+            with self.subTest(text=text, words=words):
+                self.store("a.line", b"fresh\n")
+                self.assertFault(self.at("a", "write", *words, "image"), told)
+                self.assertFile("a", COUNTING)
+        for words in (("--fresh",), ("--board", UNIQUE["b"])):
+            with self.subTest(text=text, words=words):
+                self.store("b.line", b"fresh\n")
+                self.assertTold(self.at("b", "write", *words, "image"), "segment 1: 1 pages written\n")
+                self.assertTold(self.at("b", "undo", "--board", UNIQUE["b"]), "undone 1\n")
+                self.assertFile("b", COUNTING)
+        self.remove(name_of("b"))
 
     def test_a_journal_that_another_program_has(self):
         """That of the board isn't used, and others may be."""
@@ -231,7 +245,7 @@ class JournalsFolder(Served):
             self.addCleanup(os.chmod, self.path(folder), 0o755)
         said = self.at("a", "write", "image", folder=folder)
         self.assertEqual((said.status, said.out), (1, b""))
-        self.assertTrue(said.err.startswith(b"stmflash: journal failed: "), said.err)
+        self.assertTrue(said.err.startswith(b"stmflash: journal failed\nhint: "), said.err)
         self.assertFile("a", COUNTING)
 
     def test_the_words(self):
@@ -246,7 +260,7 @@ class JournalsFolder(Served):
         # a word goes before either
         for given in ({"STMFLASH_JOURNAL": "one"}, {"STMFLASH_JOURNALS": "absent"}, {**variables, "STMFLASH_JOURNALS": "absent"}):
             self.assertTold(self.at("a", "verify", "image", variables=given), "verified 8 bytes\n")
-        self.assertFault(self.call("undo", *device, "--journal", "one", variables=variables), "cannot read one")
+        self.assertTold(self.call("undo", *device, "--journal", "one", variables=variables), "undone 0\n", lacks("one"))
         unasked = "usage: give --journals or --no-board, not both"
         self.assertFault(self.at("a", "info", "--no-board"), unasked, status=2)
         self.assertFault(self.at("a", "go", "0", variables={"STMFLASH_NO_BOARD": "1"}), unasked, status=2)
@@ -289,14 +303,10 @@ class JournalsFolder(Served):
 
     def test_a_unique_id_that_comes_otherwise_names_no_journal(self):
         told = {telling.UNIQUE_AT: bytes.fromhex(UNIQUE["a"])}
-        with socket.socket(socket.AF_UNIX, socket.SOCK_STREAM) as listener:
-            listener.bind(self.path("board"))
-            listener.listen()
-            listener.settimeout(PATIENCE)
+        with self.listen("board") as listener:
             ran = self.start("write", "--table", "table", "--device", "board", "--journals", "journals", "--wait", WAIT, "image")
             telling.serve_one(self, listener, "a", told, False, kind=Garbled)
-            out, err = ran.communicate(timeout=PATIENCE)
-        self.assertFault(Said(ran.returncode, out, err), "device is another board")
+            self.assertFault(self.ended(ran), "device is another board")
         self.assertEqual(self.journals(), [])
         self.assertFile("a", COUNTING)
 

@@ -82,8 +82,7 @@ class Json(Place):
 
     def test_faults(self):
         """A fault has its name, its text, what came, and the status; and is told on standard error as ever."""
-        self.store("flash.line", b"gone\n")
-        self.store("flash", ERASED)
+        self.store_all({"flash.line": b"gone\n", "flash": ERASED})
         self.assertFails(self.use("info", "--json"), "no_protocol", "device does not follow the protocol", hint=SILENT)
         self.assertFails(self.use_image("verify", b"", "--json", device="nowhere"), "cannot_connect", "cannot connect nowhere")
         self.assertFails(self.use("erase", "--json"), "usage", "usage: give pages or --all", 2)

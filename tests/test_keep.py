@@ -61,8 +61,7 @@ class Keep(Place):
         for words in ((), ("elsewhere",)):
             journal = self.held("journal")
             self.assertFault(self.keep(*words), UNFINISHED)
-            self.assertFile("journal", journal)
-            self.assertFile("elsewhere", None)
+            self.assertFiles({"journal": journal, "elsewhere": None})
         self.assertTold(self.use("undo"), "undone 1\n")
         self.assertTold(self.keep(), "kept 0\n")
         self.assertFile("journal", None)
@@ -71,8 +70,7 @@ class Keep(Place):
         for words in ((), ("elsewhere",)):
             self.store("journal", BAD)
             self.assertFault(self.keep(*words), "bad journal line 2")
-            self.assertFile("journal", BAD)
-            self.assertFile("elsewhere", None)
+            self.assertFiles({"journal": BAD, "elsewhere": None})
 
     def test_renames_the_journal(self):
         """The name may lie in another folder; what was there is never replaced."""
@@ -115,8 +113,7 @@ class Keep(Place):
         journal = self.write()
         said = self.keep_held(held=syncs.LINK, at=lambda number, process: self.store("elsewhere", b"mine"))
         self.assertFault(said, "cannot write elsewhere")
-        self.assertFile("journal", journal)
-        self.assertFile("elsewhere", b"mine")
+        self.assertFiles({"journal": journal, "elsewhere": b"mine"})
 
     def test_a_kill_leaves_one_name_or_both(self):
         """With both the journal is still there, and what was begun is ended by the same words."""
@@ -128,12 +125,10 @@ class Keep(Place):
                     self.assertEqual((said.status, said.out, said.err), (-signal.SIGKILL, b"", b""))
                 else:
                     self.assertFault(said, "cannot write elsewhere")
-                self.assertFile("journal", journal)
-                self.assertFile("elsewhere", journal)
+                self.assertFiles({"journal": journal, "elsewhere": journal})
                 self.assertFault(self.use("go", "0x08000000"), OPEN)
                 self.assertTold(self.keep("elsewhere"), "kept 1\n")
-                self.assertFile("journal", None)
-                self.assertFile("elsewhere", journal)
+                self.assertFiles({"journal": None, "elsewhere": journal})
                 self.assertTold(self.use("undo", journal="elsewhere"), "undone 1\n")
                 self.remove("elsewhere")
 
@@ -149,14 +144,12 @@ class Keep(Place):
                 self.assertFault(self.call("keep", "--journal", "here/journal", name), f"cannot write {name}")
                 self.assertFile("journal", journal)
         self.assertTold(self.keep("second"), "kept 1\n")
-        self.assertFile("journal", None)
-        self.assertFile("second", journal)
+        self.assertFiles({"journal": None, "second": journal})
 
     def test_renames_where_there_are_no_links(self):
         journal = self.write()
         self.assertTold(self.keep_held(0, held=syncs.LINK, error=errno.EPERM), "kept 1\n")
-        self.assertFile("journal", None)
-        self.assertFile("elsewhere", journal)
+        self.assertFiles({"journal": None, "elsewhere": journal})
 
     def test_says_so_where_its_folder_went_away(self):
         """A journal is kept only if it's gone then."""
@@ -212,7 +205,7 @@ class KeepLast(Place):
     def test_the_newest_can_still_be_undone(self):
         for last in (1, 2):
             with self.subTest(last=last):
-                self.remove(*(name for name in ("flash.line", "journal") if self.is_there(name)))
+                self.clear("flash.line", "journal")
                 self.flashes = [ZEROS]
                 self.store("flash", ZEROS)
                 self.write_thrice()
@@ -288,8 +281,7 @@ class KeepLast(Place):
                             (("--last", "x"), "bad number x"), (("--last", "1", "elsewhere"), "give TO or --last, not both")):
             with self.subTest(words=words):
                 self.assertFault(self.keep(*words), "usage: " + text, 2)
-                self.assertFile("journal", journal)
-                self.assertFile("elsewhere", None)
+                self.assertFiles({"journal": journal, "elsewhere": None})
 
     def test_mode_and_link_stay(self):
         self.write_thrice()
@@ -365,7 +357,7 @@ class KeepLast(Place):
                     file.write(b"!\n")
 
         said, _ = self.held_at(at=add)
-        self.assertFault(said, "journal failed: it was moved, replaced, cut or added to")
+        self.assertFault(said, "journal failed", hint="it was moved, replaced, cut or added to")
         self.assertFile("journal", journal + b"!\n")
 
     def test_a_text_that_does_not_read_back_takes_no_place(self):

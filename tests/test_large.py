@@ -28,13 +28,11 @@ def hex_of(data, base):
 class Large(Place):
     def test_stands_inside_the_longest_list(self):
         """A simulator that was left one byte before the end of a list of 65,520 pages is read, settled, and left idle."""
-        self.store("table", b'[[chip]]\nid = 0x470\nbase = 0x08000000\npages = [[2, 256]]\nerase = "extended"\n')
-        self.store("flash", b"\x5a" * 512)
-        self.store("flash.line", b"rest 44BBFFEF" + b"0000" * 65520 + b"\n")
+        self.store_all({"table": b'[[chip]]\nid = 0x470\nbase = 0x08000000\npages = [[2, 256]]\nerase = "extended"\n',
+                        "flash": b"\x5a" * 512, "flash.line": b"rest 44BBFFEF" + b"0000" * 65520 + b"\n"})
         said = self.use("info", device="sim:0470:flash")
         self.assertEqual((said.status, said.err), (0, b""))
-        self.assertFile("flash", b"\x5a" * 512)
-        self.assertFile("flash.line", b"idle\n")
+        self.assertFiles({"flash": b"\x5a" * 512, "flash.line": b"idle\n"})
 
     def test_undoes_a_segment_of_all_pages(self):
         """A HEX text whose records fall, over a whole flash of 2 MiB (of 128 KiB by a slow program), in one segment; read
@@ -43,9 +41,7 @@ class Large(Place):
         dice = random.Random(512)
         before, image = dice.randbytes(size), dice.randbytes(size)
         table = f'[[chip]]\nid = 0x470\nbase = 0x08000000\npages = [[{PAGES}, {size // PAGES}]]\nerase = "extended"\n'
-        self.store("table", table.encode())
-        self.store("flash", before)
-        self.store("image", hex_of(image, BASE))
+        self.store_all({"table": table.encode(), "flash": before, "image": hex_of(image, BASE)})
         said = self.use("write", "-v", "image", device="sim:0470:flash")
         self.assertTold(said, f"segment 1: {PAGES} pages written\nverified {size} bytes\n")
         self.assertFile("flash", image)
@@ -60,9 +56,8 @@ class Large(Place):
         size = (128 if is_slow() else 2048) * 1024
         dice = random.Random(2048)
         before, image = dice.randbytes(size), dice.randbytes(size)
-        self.store("table", f'[[chip]]\nid = 0x470\nbase = 0x08000000\npages = [[1, {size}]]\nerase = "extended"\n'.encode())
-        self.store("flash", before)
-        self.store("image", image)
+        self.store_all({"table": f'[[chip]]\nid = 0x470\nbase = 0x08000000\npages = [[1, {size}]]\nerase = "extended"\n'.encode(),
+                        "flash": before, "image": image})
         said = self.use("write", "-v", "-S", "0x08000000", "image", device="sim:0470:flash")
         self.assertTold(said, f"segment 1: 1 pages written\nverified {size} bytes\n")
         self.assertFile("flash", image)

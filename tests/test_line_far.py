@@ -1,6 +1,7 @@
 """stmflash-line on ports that another machine has: over pyserial's far end, ser2net, and a plain connection of ours."""
 
 import concurrent.futures
+import contextlib
 import os
 import random
 import re
@@ -13,13 +14,13 @@ import time
 import unittest
 
 from boards import PYTHON, STAND_INS, LinePlace, kill
-from place import COUNTING, PATIENCE, SIZE, Said
+from place import COUNTING, PATIENCE, SIZE, Said, first_of
 
 NO_RFC2217 = "speaks no RFC 2217; the bytes of a port alone are socket://HOST:PORT"
 UNKNOWN = "parity, speed and errors are the far end's: a byte that came with an error may be handed on"
 TELLS = "the far end tells of bytes that came with an error, but may hand them on before"
 SILENT = "the far end doesn't tell of bytes that came with an error, and may hand them on"
-CLOSED = "the far end closed the line; `stmflash undo 1` undoes what was begun"
+CLOSED = "the far end closed the line; where stmflash log says unfinished, stmflash undo 1 undoes what was begun"
 
 
 class FarPlace(LinePlace):
@@ -28,17 +29,12 @@ class FarPlace(LinePlace):
         return "".join(f"stmflash-line: {url}: {text}\n" for text in texts).encode()
 
     def serve_far(self, url, *words):
-        started = self.start(url, "--socket", "board", *words)
-        self.until(lambda: started.poll() is not None or self.listens(), "the companion doesn't listen")
-        return started
+        return self.until_served(self.start(url, "--socket", "board", *words))
 
     def exchange(self, client, sent, count):
         """So many bytes that come back for these."""
         client.sendall(sent)
-        held = b""
-        while len(held) < count and (data := client.recv(count - len(held))):
-            held += data
-        return held
+        return first_of(client, count)
 
 
 class Plain(FarPlace):
@@ -128,6 +124,24 @@ class Rfc2217(FarPlace):
 
     def noted(self, end):
         return end.communicate(timeout=PATIENCE)[0].decode().splitlines()
+
+    def test_one_that_floods_it_with_questions(self):
+        """Its answers are never taken: that ends the line, in one text."""
+        with socket.create_server(("127.0.0.1", 0)) as listener:
+            listener.settimeout(PATIENCE)
+            url = f"rfc2217://127.0.0.1:{listener.getsockname()[1]}"
+            started = self.start(url, "--", "sleep", "1000")
+            end, _ = listener.accept()
+            with end:
+                end.settimeout(0.5)
+                # IAC WILL, of an option that nobody has
+                while started.poll() is None:
+                    with contextlib.suppress(OSError):
+                        end.sendall(b"\xff\xfb\x63" * 20000)
+                said = self.ended(started)
+        self.assertEqual((said.status, said.out), (1, b""))
+        self.assertEqual(len(said.err.splitlines()), 1, said.err)
+        self.assertTrue(said.err.startswith(f"stmflash-line: {url}: ".encode()), said.err)
 
     def test_asks_for_the_mode_and_moves_the_signals(self):
         end = self.far_end()

@@ -9,8 +9,8 @@ import subprocess
 import sys
 import termios
 
-from boards import LINE, WAIT, LinePlace, default_signals, end_with
-from place import Said
+from boards import LINE, LinePlace, default_signals, end_with
+from place import WAIT, Said
 
 NOBODY = 65534
 
@@ -58,12 +58,11 @@ class Faults(LinePlace):
     def test_held_by_another_line(self):
         """Who came first keeps the port, and its session isn't disturbed."""
         self.board()
-        holder = self.start("ttyUSB0", "--socket", "board")
-        self.until(self.listens, "the companion doesn't listen")
+        holder = self.serve()
         self.assertUnusable("ttyUSB0", f"ttyUSB0: busy: {name_of(holder.pid)} has it")
-        self.assertEqual(self.use("info", "--wait", WAIT, device="board").status, 0)
+        self.assertTrue(self.use("info", "--wait", WAIT, device="board").out.startswith(b"id 0412\n"))
         self.assertEqual(end_with(holder, signal.SIGTERM), 0)
-        self.assertEqual(self.through("info").status, 0)
+        self.assertTrue(self.through("info").out.startswith(b"id 0412\n"))
 
     def test_held_by_a_program_without_a_lock(self):
         self.plain()
@@ -77,8 +76,7 @@ class Faults(LinePlace):
         script = "import os, sys, errno\ntry: os.open(sys.argv[1], os.O_RDWR | os.O_NOCTTY)\n" \
                  "except OSError as e: print(errno.errorcode[e.errno])\nelse: print('open')"
         words = [sys.executable, "-c", script, self.path("ttyUSB0")]
-        holder = self.start("ttyUSB0", "--socket", "board")
-        self.until(self.listens, "the companion doesn't listen")
+        holder = self.serve()
         if os.geteuid() != 0:
             self.assertEqual(subprocess.run(words, capture_output=True).stdout, b"EBUSY\n")
         self.assertEqual(end_with(holder, signal.SIGTERM), 0)
@@ -120,7 +118,7 @@ class Faults(LinePlace):
 
     def test_bad_words(self):
         self.plain()
-        for words in ((), ("ttyUSB0",), ("--", "true"), ("ttyUSB0", "--"), ("ttyUSB0", "--socket", "board", "--", "true"),
+        for words in (("--",), ("ttyUSB0", "--"), ("ttyUSB0", "--socket", "board", "--", "true"), ("ttyUSB0", "--socket", "board", "info"),
                       ("ttyUSB0", "--baud", "0", "--", "true"), ("ttyUSB0", "--socket", ""), ("ttyUSB0", "--baud", "fast", "--", "true"),
                       ("ttyUSB0", "--baud", "4000001", "--", "true"), ("ttyUSB0", "--boot", "cts", "--", "true"),
                       ("ttyUSB0", "--boot", "--rts", "--", "true"), ("ttyUSB0", "--after", "rts:dtr", "--", "true"),
@@ -138,7 +136,8 @@ class Faults(LinePlace):
 
 
 class Pulled(LinePlace):
-    UNPLUGGED = "stmflash-line: ttyUSB0: unplugged; plug it in, and `stmflash undo 1` undoes what was begun\n"
+    UNPLUGGED = "stmflash-line: ttyUSB0: unplugged; plug it in; where stmflash log says unfinished, stmflash undo 1 undoes what was " \
+                "begun\n"
 
     def plain_to_pull(self):
         master, slave = os.openpty()

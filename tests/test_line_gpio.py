@@ -1,8 +1,6 @@
 """GPIO lines in the sequences of stmflash-line, over a stand-in for gpioset that takes the words of one version alone
 (tests/stand_ins/gpioset). A real gpioset, where one is installed, is asked for a chip that isn't there."""
 
-import contextlib
-import errno
 import fcntl
 import os
 import shutil
@@ -55,13 +53,6 @@ class GpioPlace(LinePlace):
             return False
         finally:
             os.close(held)
-
-    def assertNothingSent(self):
-        os.set_blocking(self.master, False)
-        try:
-            self.assertEqual(os.read(self.master, 1), b"")
-        except OSError as error:
-            self.assertIn(error.errno, (errno.EAGAIN, errno.EIO))
 
 
 class Moved(GpioPlace):
@@ -155,7 +146,7 @@ class Refused(GpioPlace):
     def assertRefused(self, text, *words, status=1, **more):
         said = self.line("ttyUSB0", *(words or ("--boot", BOOT)), "--", "sh", "-c", "echo went; echo > $TMPDIR/went", **more)
         self.assertLineFault(said, text, status)
-        self.assertNothingSent()
+        self.assertNothingSent(self.master)
         self.assertTrue(self.is_free(18) and self.is_free(23))
 
     def test_no_gpioset(self):
@@ -179,7 +170,7 @@ class Refused(GpioPlace):
                 text = f"GPIO line {line} of gpiochip0: busy: another program or a driver has it; gpioinfo tells which"
                 said = self.line("ttyUSB0", "--boot", BOOT, "--", "echo", "went")
                 self.assertLineFault(said, text)
-                self.assertNothingSent()
+                self.assertNothingSent(self.master)
                 self.assertEqual(self.moves()[0], before)
 
     def test_what_gpioset_says(self):
@@ -271,9 +262,6 @@ class InWords(Words):
 
     def test_a_line_that_cant_be_had_is_told(self):
         end = self.plain()
-        said = self.words("-m", "8n1", "-i", "4", GPIO_REFUSAL="error setting the GPIO line values: Device or resource busy")
-        self.assertEqual(said.status, 1)
-        self.assertIn(b"stmflash-line: GPIO line 4 of gpiochip0: busy: another program or a driver has it", said.err)
-        os.set_blocking(end, False)
-        with contextlib.suppress(OSError):
-            self.assertEqual(os.read(end, 1), b"")
+        self.refused(b"stmflash-line: GPIO line 4 of gpiochip0: busy: another program or a driver has it", words=("-i", "4"),
+                     GPIO_REFUSAL="error setting the GPIO line values: Device or resource busy")
+        self.assertNothingSent(end)

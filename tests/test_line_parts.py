@@ -19,7 +19,7 @@ import unittest
 from unittest import mock
 
 from boards import LATENCY, WiredPlace
-from place import PATIENCE
+from place import PATIENCE, first_of
 from stmflash_line import command, far, faults, opening, patience, session
 from stmflash_line.join import Join
 from stmflash_line.port import Port
@@ -105,9 +105,7 @@ class Played(WiredPlace):
         # the times are noted in whole milliseconds
         self.assertGreaterEqual(second - first, 0.099)
         self.assertGreaterEqual(third - second, 0.199)
-        os.set_blocking(self.master, False)
-        with self.assertRaises(OSError):
-            os.read(self.master, 1)
+        self.assertNothingSent(self.master)
 
     def test_a_break(self):
         self.assertSilent(self.play("--boot", "brk&-brk", "--after", "-rts&-dtr", "--", "true"))
@@ -201,37 +199,38 @@ class Waits(unittest.TestCase):
         port = types.SimpleNamespace(name="/dev/ttyUSB0", baud=115200)
         boot = read_sequence("-rts&dtr,-dtr,,")
         for resets, wait in ((False, 250), (True, 550)):
-            given = types.SimpleNamespace(resets=resets, boot=boot, command=["stmflash", "write", "image"])
-            self.assertEqual(session.wait_of(port, given), wait)
+            given = types.SimpleNamespace(resets=resets, boot=boot)
+            self.assertEqual(session.wait_of(port, given, ["stmflash", "write", "image"]), wait)
             # what was stopped may still keep the board busy
-            for given.command in (["stmflash", "undo", "--journal", "journal"], ["stmflash", "write", "--again", "2", "image"],
-                                  ["stmflash", "write", "--again=2", "image"]):
-                self.assertIsNone(session.wait_of(port, given))
+            for words in (["stmflash", "undo", "--journal", "journal"], ["stmflash", "write", "--again", "2", "image"],
+                          ["stmflash", "write", "--again=2", "image"]):
+                self.assertIsNone(session.wait_of(port, given, words))
+
+    def told(self, names, wait, baud, **variables):
+        """What a command finds in these variables, where its user's are these."""
+        said = os.path.join(self.folder, "said")
+        with mock.patch.dict(os.environ):
+            for name in names.replace("$", "").split():
+                os.environ.pop(name, None)
+            os.environ.update(variables)
+            started = command.start(["sh", "-c", f'printf %s "{names}" > {said}'], "socket", False, wait, baud)
+            self.assertEqual(started.wait(PATIENCE), 0)
+        with open(said, encoding="ascii") as file:
+            return file.read()
 
     def test_what_another_line_has_said_is_not_handed_on(self):
         """It is of another board."""
         for device, told in (("/tmp/stmflash-line-0123/socket", "  "), ("board.sock", "1 77 9600"),
                              ("/tmp/stmflash-line-0123", "1 77 9600")):
-            said = os.path.join(self.folder, "said")
-            with self.subTest(device=device), mock.patch.dict(os.environ, STMFLASH_DEVICE=device, STMFLASH_FRESH="1", STMFLASH_WAIT="77",
-                                                                   STMFLASH_BAUD="9600"):
-                told_it = f"printf %s \"$STMFLASH_FRESH $STMFLASH_WAIT $STMFLASH_BAUD\" > {said}"
-                started = command.start(["sh", "-c", told_it], "socket", False, None, None)
-                self.assertEqual(started.wait(PATIENCE), 0)
-                with open(said, encoding="ascii") as file:
-                    self.assertEqual(file.read(), told)
+            with self.subTest(device=device):
+                self.assertEqual(self.told("$STMFLASH_FRESH $STMFLASH_WAIT $STMFLASH_BAUD", None, None, STMFLASH_DEVICE=device,
+                                           STMFLASH_FRESH="1", STMFLASH_WAIT="77", STMFLASH_BAUD="9600"), told)
 
     def test_is_told_where_its_user_says_nothing(self):
-        said = os.path.join(self.folder, "said")
         for given, wait, told in ((None, 103, "103"), (None, None, ""), ("", 103, "103"), ("77", 103, "77"), ("77", None, "77")):
-            with self.subTest(given=given, wait=wait), mock.patch.dict(os.environ):
-                os.environ.pop("STMFLASH_WAIT", None)
-                if given is not None:
-                    os.environ["STMFLASH_WAIT"] = given
-                started = command.start(["sh", "-c", f"printf %s \"$STMFLASH_WAIT\" > {said}"], "socket", False, wait, None)
-                self.assertEqual(started.wait(PATIENCE), 0)
-                with open(said, encoding="ascii") as file:
-                    self.assertEqual(file.read(), told)
+            with self.subTest(given=given, wait=wait):
+                held = {} if given is None else {"STMFLASH_WAIT": given}
+                self.assertEqual(self.told("$STMFLASH_WAIT", wait, None, **held), told)
 
     def test_the_speed_is_that_of_a_port_that_is_the_line(self):
         """A pseudo-terminal has none, and a far port's is the far end's."""
@@ -240,17 +239,11 @@ class Waits(unittest.TestCase):
             self.assertEqual(session.baud_of(types.SimpleNamespace(name=name, baud=57600)), baud)
 
     def test_the_speed_is_told_where_its_user_says_nothing(self):
-        said = os.path.join(self.folder, "said")
         for given, baud, told in ((None, 57600, "57600"), (None, None, ""), ("", 57600, "57600"), ("9600", 57600, "9600"),
                                   ("9600", None, "9600")):
-            with self.subTest(given=given, baud=baud), mock.patch.dict(os.environ):
-                os.environ.pop("STMFLASH_BAUD", None)
-                if given is not None:
-                    os.environ["STMFLASH_BAUD"] = given
-                started = command.start(["sh", "-c", f"printf %s \"$STMFLASH_BAUD\" > {said}"], "socket", False, None, baud)
-                self.assertEqual(started.wait(PATIENCE), 0)
-                with open(said, encoding="ascii") as file:
-                    self.assertEqual(file.read(), told)
+            with self.subTest(given=given, baud=baud):
+                held = {} if given is None else {"STMFLASH_BAUD": given}
+                self.assertEqual(self.told("$STMFLASH_BAUD", None, baud, **held), told)
 
 
 class Ending(unittest.TestCase):
@@ -381,10 +374,7 @@ class BadBytes(unittest.TestCase):
         """The client has these bytes and then the end of the line, and one line tells how many were bad and at which speed."""
         told = f"stmflash-line: PORT: {bad} bytes came with an error at 9600 baud: look at speed, wiring and ground\n"
         self.assertEqual(said, told)
-        held = b""
-        while data := self.client.recv(100):
-            held += data
-        self.assertEqual(held, clean)
+        self.assertEqual(first_of(self.client, 100), clean)
         self.assertIsNone(self.join.client)
 
     def test_good_bytes(self):

@@ -13,13 +13,14 @@ import unittest
 from unittest import mock
 
 from boards import LinePlace, WiredPlace
-from place import PATIENCE, Said
+from place import PATIENCE, Said, first_of
 from stmflash_line import opening, port
 from stmflash_line.faults import Fault, Gone
 from stmflash_line.moves import Moves
 
 GOOD, PARITY, FRAMING, BREAK, OVERRUN, FULL, UNPLUGGED, HUNG_UP = range(8)
-PULLED = "ttyUSB0: unplugged; plug it in, and `stmflash undo 1` undoes what was begun"
+PULLED = "ttyUSB0: unplugged; plug it in; " \
+         "where stmflash log says unfinished, stmflash undo 1 undoes what was begun"
 
 
 def came(data):
@@ -38,23 +39,7 @@ class RealPlace(WiredPlace):
         return [line for line in lines if line.split(" ")[0] in kinds]
 
     def serve_real(self, *words):
-        started = self.begin("--socket", "board", *words)
-        self.until(lambda: started.poll() is not None or self.listens(), "the companion doesn't listen")
-        return started
-
-    def client(self):
-        """A client that the companion has taken."""
-        client = self.connect()
-        client.sendall(b"?")
-        self.assertEqual(self.read_from(self.master, 1), b"?")
-        return client
-
-    def all_of(self, client):
-        """What comes to a client until its line is closed."""
-        held = b""
-        while data := client.recv(4096):
-            held += data
-        return held
+        return self.until_served(self.begin("--socket", "board", *words))
 
     def named(self, text):
         return text.replace("ttyUSB0", self.path("ttyUSB0"))
@@ -71,12 +56,11 @@ class Ports(RealPlace):
     def test_good_bytes(self):
         """Each of them, also those that a port marks."""
         started = self.serve_real()
-        client = self.client()
+        client = self.taken(self.master)
         data = bytes(range(256)) + b"\xff\x00\xff\xff\x00\x00" * 50
         os.write(self.master, came(data))
-        self.assertEqual(self.first_of(client, len(data)), data)
-        started.terminate()
-        self.assertSilent(self.ended(started))
+        self.assertEqual(first_of(client, len(data)), data)
+        self.stop(started)
 
     def test_bad_bytes_end_the_line(self):
         """Those that came before are handed on, where their place is known; whoever comes next has a line again."""
@@ -85,10 +69,10 @@ class Ports(RealPlace):
                   (bytes([OVERRUN, 7]), b"", 1), (bytes([FULL, 7, FULL, 7]), b"", 2), (bytes([PARITY, 255, PARITY, 0]), b"ab", 2))
         for event, clean, _ in events:
             with self.subTest(event=event):
-                client = self.client()
+                client = self.taken(self.master)
                 os.write(self.master, came(b"ab") + event + came(b"cd"))
-                self.assertEqual(self.all_of(client), clean)
-        client = self.client()
+                self.assertEqual(first_of(client, 1 << 20), clean)
+        client = self.taken(self.master)
         os.write(self.master, came(b"on"))
         self.assertEqual(client.recv(2), b"on")
         started.terminate()
@@ -101,9 +85,9 @@ class Ports(RealPlace):
         for how in (UNPLUGGED, HUNG_UP):
             with self.subTest(how=how):
                 started = self.serve_real()
-                client = self.client()
+                client = self.taken(self.master)
                 os.write(self.master, came(b"ab") + bytes([how, 0]))
-                self.assertEqual(self.all_of(client), b"ab")
+                self.assertEqual(first_of(client, 1 << 20), b"ab")
                 self.assertLineFault(self.ended(started), self.named(PULLED))
                 self.assertFalse(self.is_there("board"))
                 os.close(self.master)
@@ -133,10 +117,9 @@ class Ports(RealPlace):
         self.assertEqual(self.noted("rts", "-rts", "dtr", "-dtr", "drain"), entry)
         again = ["drain", "dtr", "-dtr"]
         for count in (1, 2):
-            with contextlib.closing(self.client()):
+            with contextlib.closing(self.taken(self.master)):
                 self.assertEqual(self.noted("rts", "-rts", "dtr", "-dtr", "drain"), entry + count * again)
-        started.terminate()
-        self.assertSilent(self.ended(started))
+        self.stop(started)
         self.assertEqual(self.noted("rts", "-rts", "dtr", "-dtr", "drain"), entry + 2 * again + ["rts"])
 
 
@@ -289,12 +272,6 @@ class Clients(LinePlace):
         feeding.join(PATIENCE)
         self.assertFalse(feeding.is_alive(), "the companion takes no bytes")
 
-    def taken(self, master):
-        client = self.connect()
-        client.sendall(b"?")
-        self.assertEqual(self.read_from(master, 1), b"?")
-        return client
-
     def test_a_slow_client_gets_every_byte(self):
         """More than its socket holds, before it takes any."""
         master = self.plain()
@@ -302,7 +279,7 @@ class Clients(LinePlace):
         client = self.taken(master)
         data = bytes(i % 251 for i in range(700_000))
         self.feed(master, data)
-        self.assertTrue(self.first_of(client, len(data), most=9000) == data)
+        self.assertTrue(first_of(client, len(data), most=9000) == data)
         os.write(master, b"on")
         self.assertEqual(client.recv(2), b"on")
 

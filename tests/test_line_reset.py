@@ -105,10 +105,15 @@ class Wirings(unittest.TestCase):
 
 class Words(WiredPlace):
     def test_one_example_everywhere(self):
-        """README, LINE, `--help`, the manual page and the unit name the same wiring first."""
+        """README, LINE, `--help`, the manual page and the unit name the same wiring first, and one sequence wherever one is shown."""
         for path in ("README.md", "docs/LINE.md", "line/stmflash-line.1", "line/stmflash_line/words.py", "packaging/stmflash-line@.service"):
             with self.subTest(path=path), open(os.path.join(TOP, path), encoding="utf-8") as file:
-                self.assertEqual(re.findall(r"--wiring ([a-z][\w,-]*\w)", file.read().replace("\\", ""))[:1], [EXAMPLE])
+                text = file.read().replace("\\", "")
+                self.assertEqual(re.findall(r"--wiring ([a-z][\w,-]*\w)", text)[:1], [EXAMPLE])
+                # more than ten adapters are found, too
+                self.assertNotIn("ttyUSB?", text)
+                for sequence in re.findall(r"--boot[ =]'?([-a-z&]+,[-a-z&,:]+)", text):
+                    self.assertEqual(sequence, ":".join(WIRINGS[EXAMPLE]))
 
     def test_who_says_that_the_board_is_fresh(self):
         """--resets and --wiring alone: no move does. The caller's own word is handed on."""
@@ -204,24 +209,21 @@ class Clients(WiredPlace):
         """One that resets is played for each; another once."""
         for words, due in ((("--resets",), (2, 3)), ((), (1, 1))):
             with self.subTest(words=words):
-                started = self.begin("--socket", "board", "--boot", "-rts&dtr,-dtr", *words)
-                self.until(self.listens, "the companion doesn't listen")
+                started = self.until_served(self.begin("--socket", "board", "--boot", "-rts&dtr,-dtr", *words))
                 for count in due:
                     with self.connect() as one:
                         for _ in range(2):
                             one.sendall(b"?")
                             self.assertEqual(self.read_from(self.master, 1), b"?")
                             self.assertEqual(self.reset_count(), count)
-                started.terminate()
-                self.assertSilent(self.ended(started))
+                self.stop(started)
                 self.remove("calls")
 
     def test_a_signal_in_the_midst_of_a_reset(self):
         """The reset is let go of, and the client's bytes don't go out."""
         started = self.begin("--socket", "board", "--boot", "dtr" + 5000 * "," + "-dtr", "--resets")
         self.until(lambda: self.held("calls"), "nothing is played")
-        started.terminate()
-        self.assertSilent(self.ended(started))
+        self.stop(started)
         self.assertEqual(self.calls()[0], ["DTR active", "DTR inactive"])
         self.remove("calls")
         script = f"{client('a', 1)}; {client('b', 1, 1)}"
@@ -230,9 +232,7 @@ class Clients(WiredPlace):
         started.terminate()
         self.assertEqual(self.ended(started).status, 128 + signal.SIGTERM)
         self.assertEqual(self.read_from(self.master, 1), b"a")
-        os.set_blocking(self.master, False)
-        with self.assertRaises(OSError):
-            os.read(self.master, 1)
+        self.assertNothingSent(self.master)
 
 
 class Fresh(WiredPlace):
@@ -297,9 +297,8 @@ class Unwired(LinePlace):
     def test_page_127_stays(self):
         """A device that waits for the page of an erase would take 7F for it, and the next 7F for the check."""
         flash = bytes(i % 249 for i in range(128 * 1024))
-        self.store("table", b'[[chip]]\nid = 0x410\nbase = 0x08000000\npages = [[128, 1024]]\nerase = "page"\n')
-        self.store("ttyUSB0.flash", flash)
-        self.store("ttyUSB0.flash.line", b"rest 43BC00\n")
+        self.store_all({"table": b'[[chip]]\nid = 0x410\nbase = 0x08000000\npages = [[128, 1024]]\nerase = "page"\n',
+                        "ttyUSB0.flash": flash, "ttyUSB0.flash.line": b"rest 43BC00\n"})
         kept = flash[5 * 1024:6 * 1024].hex().upper().encode()
         self.store("journal", b"stmjournal 2 0410\nopen 1\npage 5 " + kept + b"\nerase 5\n")
         board = self.board(chip="0410")
@@ -381,20 +380,3 @@ class BesideStm32flash(LinePlace):
         for (_, least), before, after in zip(due[1:], times, times[1:]):
             # times are noted in whole milliseconds
             self.assertGreaterEqual(after - before, least * 1000 - 1)
-
-
-class Pages(unittest.TestCase):
-    """One example of a wiring, and one sequence, wherever one is shown."""
-
-    def test_one_example(self):
-        entry, leave = WIRINGS[EXAMPLE]
-        for place in ("README.md", "docs/LINE.md", "line/stmflash-line.1", "line/stmflash_line/words.py",
-                      "packaging/stmflash-line@.service"):
-            with self.subTest(place=place):
-                with open(os.path.join(TOP, place), encoding="utf-8") as held:
-                    text = held.read().replace("\\-", "-")
-                self.assertTrue(f"--wiring {EXAMPLE}" in text, "no example of a wiring")
-                # more than ten adapters are found, too
-                self.assertNotIn("ttyUSB?", text)
-                for sequence in re.findall(r"--boot[ =]'?([-a-z&]+,[-a-z&,:]+)", text):
-                    self.assertEqual(sequence, f"{entry}:{leave}")

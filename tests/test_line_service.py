@@ -8,8 +8,8 @@ import signal
 import subprocess
 import time
 
-from boards import WAIT, LinePlace, end_with
-from place import PATIENCE, TOP, Place, Said
+from boards import LinePlace, end_with
+from place import PATIENCE, TOP, WAIT, Place
 
 UNIT = os.path.join(TOP, "packaging", "stmflash-line@.service")
 RULES = os.path.join(TOP, "packaging", "70-stmflash.rules")
@@ -85,12 +85,10 @@ class Unit(LinePlace):
         self.board()
         for options in ("", "--baud 57600"):
             with self.subTest(options=options):
-                started = self.start(*self.words_of_call(options))
-                self.until(lambda: started.poll() is not None or self.listens(), "the companion doesn't listen")
+                started = self.until_served(self.start(*self.words_of_call(options)))
                 said = self.use("info", "--wait", WAIT, device="board")
-                self.assertEqual((said.status, said.err), (0, b""))
-                started.terminate()
-                self.assertEqual(self.ended(started), Said(0, b"", b""))
+                self.assertEqual((said.status, said.out[:8], said.err), (0, b"id 0412\n", b""))
+                self.stop(started)
         shown = re.search('LINE_OPTIONS=(--.*)"$', read(UNIT), re.M)[1]
         said = self.line(*self.words_of_call(shown))
         self.assertLineFault(said, f"{self.path('ttyUSB0')}: has no RTS; leave --wiring, --boot and --after out")

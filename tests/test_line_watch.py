@@ -1,6 +1,8 @@
 """A line that watches: over a board that follows the model nothing changes; a reply that no such board gives ends the line, and is
 told (tests/planted has the boards)."""
 
+import functools
+import operator
 import os
 import random
 import re
@@ -51,30 +53,24 @@ class Bytes(unittest.TestCase):
     def board(self, came):
         self.assertEqual(told(self.watch, came), (bytes.fromhex(came).hex(" ").upper(), None))
 
+    def talk(self, *turns):
+        """What the host sends and what the board answers, by turns."""
+        for turn, text in enumerate(turns):
+            (self.board if turn % 2 else self.host)(text)
+
     def learn(self, codes=CODES):
-        self.host("00 FF")
-        self.board(f"79 {len(codes):02X} 31 {codes.hex()} 79")
-        self.host("02 FD")
-        self.board("79 01 04 40 79")
+        self.talk("00 FF", f"79 {len(codes):02X} 31 {codes.hex()} 79", "02 FD", "79 01 04 40 79")
 
     def assertOtherwise(self, came, clean, text):
         self.assertEqual(told(self.watch, came), (clean, text))
 
     def read(self, address, data):
-        self.host("11 EE")
-        self.board("79")
-        place = bytes.fromhex(address)
-        check = place[0] ^ place[1] ^ place[2] ^ place[3]
-        self.host(f"{address} {check:02X}")
-        self.board("79")
-        count = len(bytes.fromhex(data)) - 1
-        self.host(f"{count:02X} {count ^ 255:02X}")
+        self.ask(f"{address} {functools.reduce(operator.xor, bytes.fromhex(address)):02X}", len(bytes.fromhex(data)))
         return "79 " + data
 
     def test_before_it_knows_the_board(self):
         """Whatever comes, until codes and id were told one behind the other; also in pieces."""
-        self.host("7F")
-        self.board("79 79 41")
+        self.talk("7F", "79 79 41")
         self.learn()
         self.assertOtherwise("79", "", "79 came unasked")
         self.watch.begin()
@@ -82,10 +78,7 @@ class Bytes(unittest.TestCase):
         self.host("00 FF")
         for byte in f"79 0B 31 {CODES.hex(' ')} 79".split():
             self.board(byte)
-        self.host("11 EE")
-        self.board("79")
-        self.host("02 FD")
-        self.board("79 01 04 40 79")
+        self.talk("11 EE", "79", "02 FD", "79 01 04 40 79")
         self.board("79")
         self.assertEqual(self.watch.told(), "nothing, since no chip of the table has told its codes and id")
 
@@ -136,20 +129,15 @@ class Bytes(unittest.TestCase):
         self.assertOtherwise(self.read("08000001", "23"), "79", "23 stands at 08000001, and 22 was read or written there before")
         self.watch.begin()
         self.learn()
-        self.host("44 BB 00 00 00 00 00")
-        self.board("79 79")
-        self.host("31 CE 08 00 00 00 08 03 01 02 03 04 07")
-        self.board("79 79 79")
+        self.talk("44 BB 00 00 00 00 00", "79 79", "31 CE 08 00 00 00 08 03 01 02 03 04 07", "79 79 79")
         self.assertOtherwise(self.read("08000000", "01 02 03 05"), "79 01 02 03",
                              "05 stands at 08000003, and 04 was read or written there before")
         self.watch.begin()
         self.learn()
         # over bytes that aren't known: any may come to stand
-        self.host("31 CE 08 00 00 00 08 03 01 02 03 04 07")
-        self.board("79 79 79")
+        self.talk("31 CE 08 00 00 00 08 03 01 02 03 04 07", "79 79 79")
         self.board(self.read("08000000", "00 00 00 00"))
-        self.host("44 BB FF FF 00")
-        self.board("79 79")
+        self.talk("44 BB FF FF 00", "79 79")
         self.assertOtherwise(self.read("080007FF", "00"), "79", "00 stands at 080007FF, and FF was read or written there before")
 
     def learn_with_places(self):
@@ -158,11 +146,7 @@ class Bytes(unittest.TestCase):
 
     def ask(self, place, count):
         """The question at a place, as far as it has to be acknowledged, and its last step."""
-        self.host("11 EE")
-        self.board("79")
-        self.host(place)
-        self.board("79")
-        self.host(f"{count - 1:02X} {256 - count:02X}")
+        self.talk("11 EE", "79", place, "79", f"{count - 1:02X} {256 - count:02X}")
 
     def test_where_a_board_tells_which_it_is(self):
         """Outside the flash: what is told first may be anything, and is the same from then on, also behind other questions."""
@@ -183,9 +167,7 @@ class Bytes(unittest.TestCase):
                 self.learn_with_places()
                 self.ask(UNIQUE, 12)
                 self.board("79 " + HERE)
-                self.host("11 EE")
-                self.board("79")
-                self.host(UNIQUE)
+                self.talk("11 EE", "79", UNIQUE)
                 if step:
                     self.board("79")
                     self.host("0B F4")
@@ -196,35 +178,25 @@ class Bytes(unittest.TestCase):
         for step in range(2):
             with self.subTest(step=step):
                 self.learn_with_places()
-                self.host("11 EE")
-                self.board("79")
-                self.host(UNIQUE)
+                self.talk("11 EE", "79", UNIQUE)
                 if step:
                     self.board("79")
                     self.host("0B F4")
                 self.board("1F")
                 self.ask(SIZE, 2)
                 self.board("79 40 00")
-                self.host("11 EE")
-                self.board("79")
-                self.host("1F FF F7 D0 C7")
+                self.talk("11 EE", "79", "1F FF F7 D0 C7")
                 self.assertOtherwise("79", "", "79 came in Read Memory, and 1F was due")
 
     def test_other_questions_which_board_it_is(self):
         self.learn_with_places()
-        self.host("11 EE")
-        self.board("79")
-        self.host(UNIQUE)
+        self.talk("11 EE", "79", UNIQUE)
         self.assertOtherwise("76", "", "76 came in Read Memory, and 79 or 1F was due")
         self.learn_with_places()
         self.ask(UNIQUE, 12)
         self.assertOtherwise("00", "", "00 came in Read Memory, and 79 or 1F was due")
         self.learn_with_places()
-        self.host("11 EE")
-        self.board("79")
-        self.host(UNIQUE)
-        self.board("79")
-        self.host("0B F5")
+        self.talk("11 EE", "79", UNIQUE, "79", "0B F5")
         self.assertOtherwise("79", "", "79 came in Read Memory, and 1F was due")
         # of another length, from a place inside, and on before an answer: all is open until codes and id are told again
         for place, count in ((UNIQUE, 11), ("1F FF F7 AD BA", 11)):
@@ -232,16 +204,14 @@ class Bytes(unittest.TestCase):
             self.ask(place, count) if place == UNIQUE else self.host("11 EE " + place)
             self.board("79 79 79 1F 00 76")
         self.learn_with_places()
-        self.host("11 EE " + UNIQUE + " 0B F4")
-        self.board("79 79 76 00")
+        self.talk("11 EE " + UNIQUE + " 0B F4", "79 79 76 00")
         self.learn()
         self.assertOtherwise("00", "", "00 came unasked")
 
     def test_a_read_whose_page_was_erased_before_its_bytes_came(self):
         self.learn()
         came = self.read("08000000", "11")
-        self.host("44 BB 00 00 00 00 00")
-        self.board(came + " 79 79")
+        self.talk("44 BB 00 00 00 00 00", came + " 79 79")
         self.board(self.read("08000000", "FF"))
 
     def test_what_the_model_leaves_open(self):
@@ -250,8 +220,7 @@ class Bytes(unittest.TestCase):
             with self.subTest(sent=sent):
                 self.watch.begin()
                 self.learn()
-                self.host(sent)
-                self.board("48 65 6C 6C 6F")
+                self.talk(sent, "48 65 6C 6C 6F")
         self.watch.begin()
         self.learn()
         self.host("21 DE 07 00 00 00 07")
@@ -351,8 +320,7 @@ class Boards(WatchedPlace):
                 told_of = rf"ttyUSB0: the board does otherwise than the model: {text}.*; stmflash-trial tells more"
                 self.assertRegex("\n".join(lines), told_of)
                 self.assertEqual(len(lines), 2)
-                for left in ("journal", "ttyUSB0", "ttyUSB0.flash"):
-                    self.remove(left) if self.is_there(left) else None
+                self.clear("journal", "ttyUSB0", "ttyUSB0.flash")
 
     def test_a_command_that_passes_over_it(self):
         """The status isn't 0."""

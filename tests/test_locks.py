@@ -5,8 +5,8 @@ import fcntl
 import os
 
 import syncs
-from place import COUNTING, PATIENCE, new
-from served import WAIT, Served, relay
+from place import COUNTING, WAIT, Said, files, new, served
+from served import Served, relay
 
 # how many times two programs are started together, without a journal and with one; 100 are run by hand
 ROUNDS = int(os.environ.get("ROUNDS", "2"))
@@ -43,8 +43,7 @@ class Locks(Served):
         self.store("flash", COUNTING)
         self.assertTold(self.use("erase", "5"), "segment 1: 1 pages erased\n")
         journal, flash = self.held("journal"), self.held("flash")
-        self.store("flash.line", b"fresh\n")
-        self.store("image", b"\xaa")
+        self.store_all({"flash.line": b"fresh\n", "image": b"\xaa"})
         for name, *words in (("info",), ("read", "out"), ("write", "image"), ("verify", "image"), ("erase", "5"), ("undo",),
                              ("go", "0x08000000"), ("protect", "write-unprotect")):
             for how in (fcntl.LOCK_EX, fcntl.LOCK_SH):
@@ -52,8 +51,7 @@ class Locks(Served):
                     self.assertFault(self.use(name, *words), "journal is in use")
                     self.assertFault(self.use(name, *words, device="absent"), "journal is in use")
                     self.assertHolds(flash, b"fresh\n")
-                    self.assertFile("journal", journal)
-                    self.assertFile("out", None)
+                    self.assertFiles({"journal": journal, "out": None})
         self.assertTold(self.use("undo"), "undone 1\n")
         self.assertHolds(COUNTING, b"idle\n")
 
@@ -69,7 +67,7 @@ class Locks(Served):
         return syncs.call(self.folder, words, **how)
 
     def words_on(self, name, *words):
-        return (name, "--table", "table", "--device", "sim:0412:flash", "--journal", "journal", *words)
+        return (name, *files(), *words)
 
     def test_a_log_locks_nothing(self):
         """So no session has to wait for it, however long it is read."""
@@ -148,7 +146,7 @@ class Locks(Served):
 
         said = self.call(*self.words_on("info"), before=bind)
         self.assertEqual((said.status, said.err), (0, b""))
-        self.assertFault(self.call(*self.words_on("erase", "5"), before=bind), "journal failed: Permission denied")
+        self.assertFault(self.call(*self.words_on("erase", "5"), before=bind), "journal failed", hint="Permission denied")
 
     def test_without_locks_a_file_is_refused(self):
         """A file system that gives none, as NFS may: told by name, unless it's said that no other program has the files."""
@@ -157,11 +155,10 @@ class Locks(Served):
                             (errno.EOPNOTSUPP, "Operation not supported")):
             how = {"held": syncs.FLOCK, "error": error}
             with self.subTest(text=text):
-                self.store("flash", COUNTING)
-                self.store("journal", b"")
+                self.store_all({"flash": COUNTING, "journal": b""})
                 for name, words in (("journal", self.words_on("info")), ("journal", ("keep", "--journal", "journal")),
                                     ("journal", self.words_on("erase", "5")),
-                                    ("flash", ("sim", "--table", "table", "--id", "0412", "--flash", "flash", "--socket", "s"))):
+                                    ("flash", served(at="s"))):
                     said, _ = self.hold(words, fails=0, **how)
                     self.assertFault(said, f"cannot lock {name}: {text}; --no-lock if no other program has it")
                 said, _ = self.hold(self.words_on("info"), fails=1, **how)
@@ -169,8 +166,7 @@ class Locks(Served):
                 self.remove("journal")
                 said, _ = self.hold(self.words_on("erase", "5"), fails=1, **how)
                 self.assertFault(said, f"cannot lock journal: {text}; --no-lock if no other program has it")
-                self.assertFile("flash", COUNTING)
-                self.assertFile("journal", b"")
+                self.assertFiles({"flash": COUNTING, "journal": b""})
                 self.remove("journal")
                 said, _ = self.hold(self.words_on("erase", "--no-lock", "5"), fails=every, **how)
                 self.assertTold(said, "segment 1: 1 pages erased\n")
@@ -188,15 +184,13 @@ class Locks(Served):
                 said, _ = self.hold(("keep", "--journal", "journal"), env={"STMFLASH_NO_LOCK": text}, **how)
                 self.assertEqual(said.status, status)
                 # a simulator comes as far as its socket, for which there is no folder
-                words = ("sim", "--table", "table", "--id", "0412", "--flash", "flash", "--socket", "none/s")
                 for more, env in (((), {"STMFLASH_NO_LOCK": text}), (("--no-lock",) if status == 0 else (), {})):
-                    said, _ = self.hold((*words, *more), env=env, **how)
+                    said, _ = self.hold((*served(at="none/s"), *more), env=env, **how)
                     self.assertEqual(b"cannot lock flash" in said.err, status == 1, said.err)
 
     def test_without_a_lock_another_program_is_still_seen(self):
         """Where there are locks, `--no-lock` is no leave to use what another has."""
-        self.store("flash", COUNTING)
-        self.store("journal", b"")
+        self.store_all({"flash": COUNTING, "journal": b""})
         with Held(self.path("journal")):
             self.assertFault(self.use("erase", "--no-lock", "5"), "journal is in use")
             variables = {"STMFLASH_NO_LOCK": "1"}
@@ -217,8 +211,7 @@ class Locks(Served):
         self.store("flash", COUNTING)
         with Held(self.path("flash")):
             self.assertFault(self.use("erase", "5"), "simulator file is in use")
-            said = self.call("sim", "--table", "table", "--id", "0412", "--flash", "flash", "--socket", "board")
-            self.assertFault(said, "simulator file is in use")
+            self.assertFault(self.call(*served()), "simulator file is in use")
         self.assertHolds(COUNTING, None)
         self.assertFile("journal", None)
         self.assertFalse(self.is_there("board"))
@@ -227,19 +220,17 @@ class Locks(Served):
         """The journal isn't there when the program begins, and is when it would make it: no erase is sent, and what the other
         wrote stays."""
         listener = self.listen("device")
-        files = ("--table", "table", "--device", "device", "--journal", "journal", "--wait", WAIT)
         self.store("flash", COUNTING)
         self.serve(2)
         for made in (b"", b"stmjournal 2 0412\nopen 1\n"):
             with self.subTest(made=made):
-                host = self.start("erase", *files, "5")
+                host = self.start("erase", *files("device"), "--wait", WAIT, "5")
                 line, _ = listener.accept()
                 # the journal was looked for before the line was opened
                 self.store("journal", made)
                 with line, self.connect() as board:
                     sent = relay(line, board)
-                out, err = host.communicate(timeout=PATIENCE)
-                self.assertEqual((host.returncode, out, err), (1, b"", BUSY[0]))
+                self.assertEqual(self.ended(host), Said(1, b"", BUSY[0]))
                 self.assertNotIn(b"\x43\xbc", sent)
                 self.assertFile("journal", made)
                 self.remove("journal")
@@ -249,24 +240,23 @@ class Locks(Served):
     def words(self, words, device):
         name, *rest = words
         wait = ("--wait", WAIT) if device == "board" else ()
-        return (name, "--table", "table", "--device", device, "--journal", "journal", *wait, *rest)
+        return (name, *files(device), *wait, *rest)
 
     def assertTogether(self, first, second, device):
         """Two uses that are started together: each is done, or finds the files in use; or, where no journal was there to be
         locked before the line was opened, finds that the other has the line."""
         allowed = BUSY if self.is_there("journal") or device != "board" else BUSY + WAITING
         started = [self.start(*self.words(words, device)) for words in (first, second)]
-        ended = [(use.communicate(timeout=PATIENCE), use.returncode) for use in started]
-        for (out, err), status in ended:
-            if status != 0 and err.split(b"hint: ")[0] not in allowed:
+        ended = list(map(self.ended, started))
+        for said in ended:
+            if said.status != 0 and said.err.split(b"hint: ")[0] not in allowed:
                 self.fail(f"{first} beside {second}: {ended}")
-        self.assertIn(0, [status for _, status in ended], ended)
+        self.assertIn(0, [said.status for said in ended], ended)
 
     def assertRaces(self, pair, device):
         """Two uses, started together on one journal, which is there or not; and afterwards the flash is given back. The first
         round that fails is the last one: what it left is the next one's beginning."""
-        self.store("one", b"\x11" * 3000)
-        self.store("two", b"\x22" * 3000)
+        self.store_all({"one": b"\x11" * 3000, "two": b"\x22" * 3000})
         for again in range(ROUNDS):
             if again % 2:
                 self.store("journal", b"")

@@ -34,9 +34,8 @@ class Misfit(Place):
         """A table whose chips tell this, a board, and a journal."""
         self.store("table", NARROW + told + WIDE + told)
         self.flash = bytes(range(256)) * ((kib or 128) * 4)
-        self.store("flash", self.flash)
-        self.store("flash.board", b"unique " + NAME + (b"\nsize %d\n" % kib if kib else b"\n"))
-        self.store("flash.line", b"rest " + rest + b"\n")
+        self.store_all({"flash": self.flash, "flash.board": b"unique " + NAME + (b"\nsize %d\n" % kib if kib else b"\n"),
+                        "flash.line": b"rest " + rest + b"\n"})
         self.journal = b"\n".join((b"stmjournal " + header, b"open 1", *pages, intent, b""))
         self.store("journal", self.journal)
 

@@ -1,25 +1,31 @@
-"""A journal that goes elsewhere, or changes, while a session adds to it: no way back is said to be there that isn't."""
+"""A journal that goes elsewhere, or changes, while a session adds to it: no way back is said to be there that isn't, and what it held
+is put into a file that is told."""
 
 import fcntl
 import os
 import shutil
 
 import syncs
-from place import Said
-from served import WAIT, Served
-from test_disk import ENDED, IMAGE, SMALL_FLASH, SMALL_TABLE, SYNCED, WRITTEN
+from place import WAIT, Said
+from served import Served
+from test_disk import ENDED, IMAGE, KEPT, SMALL_FLASH, SMALL_TABLE, SYNCED, WRITTEN
 
-CHANGED = "journal failed: it was moved, replaced, cut or added to"
+CHANGED = "it was moved, replaced, cut or added to"
+
+
+def rescued(name):
+    """What is told behind the fault where this file has what the journal held."""
+    return f"{CHANGED}; what it held is in {name}: undo --journal {name}"
 
 
 class Moved(Served):
     def begin(self):
         for name in ("here", "there"):
             shutil.rmtree(self.path(name), ignore_errors=True)
+        if self.is_there("journal.rescued"):
+            self.remove("journal.rescued")
         os.mkdir(self.path("here"))
-        self.store("table", SMALL_TABLE)
-        self.store("image", IMAGE)
-        self.store("flash", SMALL_FLASH)
+        self.store_all({"table": SMALL_TABLE, "image": IMAGE, "flash": SMALL_FLASH})
 
     def replace(self):
         shutil.copy(self.path("here/journal"), self.path("here/copy"))
@@ -37,18 +43,24 @@ class Moved(Served):
         files = ("--table", "table", "--device", "board", "--journal", "here/journal", "--wait", WAIT)
         return syncs.call(self.folder, ("write", *files, *words, "image"), at=at, held=held)
 
-    def assertFails(self, change):
+    def assertFails(self, change, name="here/journal.rescued"):
         """A change at the sync of the line that keeps the page: no line is added behind it, and no erase is sent. A change at the
-        sync of the last line: success isn't said."""
+        sync of the last line: success isn't said. What was there by then is in the file of this name, and undoes it."""
         for number, is_kept in ((3, True), (len(SYNCED) - 1, False)):
             with self.subTest(number=number):
                 self.begin()
                 self.serve(1)
                 said, synced = self.write(lambda at, process, number=number: at == number and change())
-                self.assertFault(said, CHANGED)
-                self.assertEqual(len(synced), number + 1)
+                self.assertFault(said, "journal failed", hint=rescued(name))
+                # behind it the file that has what was held, and its folder
+                self.assertEqual(len(synced), number + 3)
                 self.assertServed()
                 self.assertFile("flash", SMALL_FLASH if is_kept else WRITTEN)
+                self.assertFile(name, KEPT if is_kept else ENDED)
+                self.serve(1)
+                self.assertTold(self.use("undo", "--wait", WAIT, device="board", journal=name), "undone 1\n")
+                self.assertServed()
+                self.assertFile("flash", SMALL_FLASH)
 
     def test_removed(self):
         self.assertFails(lambda: os.remove(self.path("here/journal")))
@@ -76,7 +88,8 @@ class Moved(Served):
         self.begin()
         self.serve(1)
         said, _ = self.write(lambda at, process: at == len(SYNCED) - 1 and self.replace(), "--keep")
-        self.assertEqual(said, Said(1, b"segment 1: 1 pages written\n", f"stmflash: {CHANGED}\n".encode()))
+        told = f"stmflash: journal failed\nhint: {rescued('here/journal.rescued')}\n"
+        self.assertEqual(said, Said(1, b"segment 1: 1 pages written\n", told.encode()))
         self.assertServed()
         self.assertFile("here/journal", ENDED)
         for words in ((), ("elsewhere",)):
@@ -84,10 +97,9 @@ class Moved(Served):
                 with self.subTest(words=words, number=number):
                     said, read = syncs.call(self.folder, ("keep", "--journal", "here/journal", *words), held=syncs.LSEEK,
                                             at=lambda at, process, number=number: at == number and self.replace())
-                    self.assertFault(said, CHANGED)
+                    self.assertFault(said, "journal failed", hint=CHANGED)
                     self.assertEqual(len(read), 2)
-                    self.assertFile("here/journal", ENDED)
-                    self.assertFile("elsewhere", None)
+                    self.assertFiles({"here/journal": ENDED, "elsewhere": None})
 
     def test_nobody_gets_it_before_it_is_removed(self):
         """Its lock is held when its name is taken from it, by `keep` and by `write --keep`."""
@@ -118,7 +130,7 @@ class Moved(Served):
                 self.assertFile("here/journal", None)
 
     def test_the_folder_is_renamed(self):
-        self.assertFails(lambda: os.rename(self.path("here"), self.path("there")))
+        self.assertFails(lambda: os.rename(self.path("here"), self.path("there")), name="journal.rescued")
         self.assertFile("there/journal", ENDED)
 
     def test_what_stays_is_written(self):

@@ -3,7 +3,7 @@
 import os
 import re
 
-from place import ZEROS, Place
+from place import ZEROS, Place, lacks
 
 # names with a line end, with sequences that a terminal would take, with a delete, and with controls that have two bytes
 ODD = ("a\nstmflash: cannot read b", "\n", "a\r\n\tb", "\x1b[2K\x1b[1Aa", "a\x07\x7f", "\x85a\x9b2K")
@@ -36,7 +36,8 @@ class Names(Place):
         self.assertTells("table", self.sim(table=name), f"cannot read {seen}")
         self.assertTells("image", self.use("write", "--", name), f"cannot read {seen}")
         self.assertTells("device", self.use("info", device=name), f"cannot connect {seen}")
-        self.assertTells("undo", self.use("undo", journal=name), f"cannot read {seen}")
+        with self.subTest(kind="note", text=seen):
+            self.assertTold(self.use("undo", journal=name), "undone 0\n", lacks(seen))
         os.mkdir(self.path(name))
         self.assertTells("journal", self.use("info", journal=name), f"cannot read {seen}")
         self.assertTells("log", self.call("log", f"--journal={name}"), f"cannot read {seen}")

@@ -102,10 +102,13 @@ class NoJournal(Place):
         os.mkdir(self.path("folder"))
         name = "folder/000102030405060708090A0B.journal"
         self.store(name, b"precious")
-        said = self.call("erase", "--table", "table", "--device", "sim:0412:flash", "--journals", "folder", "5")
-        self.assertFault(said, f"{name} is no journal: name another, or move it away")
-        self.assertFile(name, b"precious")
-        self.assertFile("flash", None)
+        for words, text in (((), f"unfinished or bad: {name}; say --board and the digits of its board, or reset the board and say --fresh"),
+                            (("--board", "000102030405060708090A0B"), f"{name} is no journal: name another, or move it away")):
+            with self.subTest(words=words):
+                said = self.call("erase", "--table", "table", "--device", "sim:0412:flash", "--journals", "folder", *words, "5")
+                self.assertFault(said, text)
+                self.assertFile(name, b"precious")
+                self.assertFile("flash", None)
 
     def test_what_was_begun_is_a_journal(self):
         """It is kept as one without a segment, and goes on as one."""

@@ -6,8 +6,8 @@ import subprocess
 import threading
 import time
 
-from place import PATIENCE, SIZE, ZEROS, Place, Said, program, readable
-from served import WAIT, Served
+from place import PATIENCE, SIZE, WAIT, ZEROS, Place, Said, files
+from served import Served, relay
 
 IMAGE = b"a new program, whatever it does"
 WRITTEN = b"segment 1: 1 pages written\nverified 31 bytes\n"
@@ -82,8 +82,7 @@ class OneCall(Place):
 
     def test_go_wants_a_journal_that_is_kept(self):
         self.assertFault(self.write(*GO), "usage: --go needs --keep or --keep-to", 2)
-        self.assertFile("flash", None)
-        self.assertFile("journal", None)
+        self.assertFiles({"flash": None, "journal": None})
 
     def test_a_name_that_is_there(self):
         self.store("kept", b"another")
@@ -91,9 +90,7 @@ class OneCall(Place):
             with self.subTest(name=name):
                 self.store("flash.line", b"fresh\n")
                 self.assertFault(self.write("--keep-to", name), f"cannot write {name}")
-                self.assertFile("kept", b"another")
-                self.assertFile("flash", None)
-                self.assertFile("journal", None)
+                self.assertFiles({"kept": b"another", "flash": None, "journal": None})
                 self.remove("flash.line")
 
     def test_bad_numbers(self):
@@ -122,9 +119,7 @@ class OneCall(Place):
         return low
 
     def begin(self, line=None):
-        for name in ("flash", "flash.line", "journal", "kept"):
-            if self.is_there(name):
-                self.remove(name)
+        self.clear("flash", "flash.line", "journal", "kept")
         if line is not None:
             self.store("flash.line", line)
 
@@ -161,8 +156,7 @@ class Lines(Served):
 
     def setUp(self):
         super().setUp()
-        self.store("image", IMAGE)
-        self.store("flash", ZEROS)
+        self.store_all({"image": IMAGE, "flash": ZEROS})
         self.sent = []
         self.simulator = None
 
@@ -174,10 +168,10 @@ class Lines(Served):
             for turn in range(clients):
                 try:
                     host, _ = listener.accept()
+                    with host, self.connect("board") as board:
+                        self.carry(host, board, cuts[turn] if turn < len(cuts) else None)
                 except OSError:
                     return
-                with host, self.connect("board") as board:
-                    self.carry(host, board, cuts[turn] if turn < len(cuts) else None)
 
         thread = threading.Thread(target=carry, daemon=True)
         thread.start()
@@ -195,25 +189,11 @@ class Lines(Served):
 
     def carry(self, host, board, cut):
         self.sent.append(b"")
-        while True:
-            ready = readable([host, board], PATIENCE)
-            if board in ready:
-                came = board.recv(4096)
-                if not came:
-                    return
-                host.sendall(came)
-            elif host in ready:
-                came = host.recv(4096)[:cut]
-                if not came:
-                    return
-                self.sent[-1] += came
-                board.sendall(came)
-                if cut is not None:
-                    cut -= len(came)
-                    if cut == 0:
-                        return
-            else:
-                return
+
+        def heard(came):
+            self.sent[-1] += came
+
+        relay(host, board, heard=heard, cut=cut)
 
     def write(self, *words):
         return self.use("write", *words, "--wait", WAIT, "image", device="line")
@@ -238,8 +218,7 @@ class Lines(Served):
         for name in ("line", "journal"):
             self.remove(name)
         self.simulator.wait(PATIENCE)
-        self.store("flash", ZEROS)
-        self.store("flash.line", b"fresh\n")
+        self.store_all({"flash": ZEROS, "flash.line": b"fresh\n"})
         return sent
 
     def test_again(self):
@@ -278,10 +257,8 @@ class Lines(Served):
         nobody's, `add` is called. Answers what was told."""
         self.lay(cuts, len(cuts))
         told, into = full_pipe()
-        files = ("--table", "table", "--device", "line", "--journal", "journal", "--wait", WAIT)
-        words = ["stmflash", "write", *files, *words, "image"]
-        with subprocess.Popen(words, executable=program(), cwd=self.folder, env={}, stdin=subprocess.DEVNULL,
-                              stdout=subprocess.DEVNULL, stderr=into) as writing, open(told, "rb") as told:
+        words = ("write", *files("line"), "--wait", WAIT, *words, "image")
+        with self.start(*words, stdout=subprocess.DEVNULL, stderr=into) as writing, open(told, "rb") as told:
             os.close(into)
             end = time.monotonic() + PATIENCE
             while len(self.sent) < 2 or not is_free(self.path("journal")):
@@ -311,6 +288,20 @@ class Lines(Served):
                 self.remove("line", "journal", "flash.line")
                 self.sent.clear()
                 self.store("flash", ZEROS)
+
+    def test_nothing_is_tried_beside_a_journal_that_cannot_be_read(self):
+        """Meanwhile another program puts into it what no journal has: it stays, and is told."""
+        sent = self.whole()
+
+        def spoil():
+            with open(self.path("journal"), "ab") as journal:
+                journal.write(b"what no journal has\n")
+
+        said = self.use_between([len(sent) - 3, 1], spoil, "-v", "--again", "2")
+        self.assertEqual(said.status, 1)
+        self.assertRegex(said.err.decode(), r"^again 1 of 2: [^;]*; not undone: .*\nagain 2 of 2: [^;]*; not undone: bad journal line 7\n"
+                         r"stmflash: bad journal line 7\n$")
+        self.assertTrue(self.held("journal").endswith(b"end 1\nwhat no journal has\n"))
 
     def test_no_other_fault_is_tried_again(self):
         self.store("journal", b"stmjournal 1 0412\nopen 1\n")

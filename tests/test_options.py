@@ -3,9 +3,8 @@
 import os
 import signal
 import socket
-import subprocess
 
-from place import COUNTING, ERASED, PATIENCE, TABLE, Place, is_unproved, program
+from place import COUNTING, ERASED, TABLE, Place, files, is_unproved, served
 
 SUBCOMMANDS = ("info", "read", "crc", "write", "verify", "erase", "undo", "log", "keep", "go", "protect", "sim")
 CANNOT = b"stmflash: cannot write standard output\n"
@@ -69,51 +68,43 @@ class Options(Place):
 
     def test_a_standard_output_that_is_full_is_told(self):
         """Whatever is printed, and though all else was done."""
-        files = ("--table", "table", "--device", "sim:0412:flash", "--journal", "journal")
-        for words in (("--help",), ("--version",), ("erase", "--help"), ("info", *files), ("info", *files, "--raw"),
-                      ("read", *files, "-"), ("erase", *files, "5"), ("undo", *files), ("log", "--journal", "journal"),
+        for words in (("--help",), ("--version",), ("erase", "--help"), ("info", *files()), ("info", *files(), "--raw"),
+                      ("read", *files(), "-"), ("erase", *files(), "5"), ("undo", *files()), ("log", "--journal", "journal"),
                       ("keep", "--journal", "journal")):
             with self.subTest(words=words), open("/dev/full", "wb") as out:
-                ran = subprocess.run(["stmflash", *words], executable=program(), cwd=self.folder, env={}, timeout=PATIENCE,
-                                     stdin=subprocess.DEVNULL, stdout=out, stderr=subprocess.PIPE)
-                self.assertEqual((ran.returncode, ran.stderr), (1, b"stmflash: cannot write standard output\n"))
+                said = self.call(*words, stdout=out)
+                self.assertEqual((said.status, said.err), (1, CANNOT))
 
     def written(self, words, is_fault=False):
         """What a use writes on standard output, or on standard error: each writing apart."""
         ours, theirs = socket.socketpair(socket.AF_UNIX, socket.SOCK_SEQPACKET)
         with ours, theirs:
-            shown = {"stdout": subprocess.DEVNULL, "stderr": theirs} if is_fault else {"stdout": theirs, "stderr": subprocess.DEVNULL}
-            subprocess.run(["stmflash", *words], executable=program(), cwd=self.folder, env={}, timeout=PATIENCE,
-                           stdin=subprocess.DEVNULL, **shown)
+            self.call(*words, **{"stderr" if is_fault else "stdout": theirs})
             theirs.close()
             return list(iter(lambda: ours.recv(1 << 20), b""))
 
     def test_what_is_told_is_written_at_once(self):
         """Who takes a line of it and goes, as head does, finds no part missing, and no fault comes of it."""
-        files = ("--table", "table", "--device", "sim:0412:flash", "--journal", "journal")
         self.store("image", b"\xaa")
-        for words in (("--help",), ("--version",), ("info", *files), ("info", *files, "--raw"), ("read", *files, "-"),
-                      ("erase", *files, "5"), ("write", *files, "-v", "image"), ("log", "--journal", "journal"),
-                      ("undo", *files), ("keep", "--journal", "journal")):
+        for words in (("--help",), ("--version",), ("info", *files()), ("info", *files(), "--raw"), ("read", *files(), "-"),
+                      ("erase", *files(), "5"), ("write", *files(), "-v", "image"), ("log", "--journal", "journal"),
+                      ("undo", *files()), ("keep", "--journal", "journal")):
             with self.subTest(words=words):
                 written = self.written(words)
                 self.assertEqual(len(written), 1, written)
                 self.assertTrue(written[0].endswith(b"\n") or "-" in words)
-        self.assertEqual(self.written(("info", *files, "--stop", "0"), True), [b"stmflash: stopped\n"])
-        self.assertEqual(self.written(("undo", *files), True), [b"stmflash: cannot read journal\n"])
+        self.assertEqual(self.written(("info", *files(), "--stop", "0"), True), [b"stmflash: stopped\n"])
+        self.assertEqual(self.written(("keep", "--journal", "absent"), True), [b"stmflash: cannot read absent\n"])
 
     def test_a_standard_output_that_nobody_reads_is_told(self):
         """Of an answer of several lines, and of one; a use that tells nothing has nothing to fail."""
-        files = ("--table", "table", "--device", "sim:0412:flash", "--journal", "journal")
         ours, theirs = os.pipe()
         os.close(ours)
         self.addCleanup(os.close, theirs)
-        for words, text in ((("info", *files), CANNOT), (("erase", *files, "5"), CANNOT), (("read", *files, "out"), b"")):
+        for words, text in ((("info",), CANNOT), (("erase", "5"), CANNOT), (("read", "out"), b"")):
             with self.subTest(words=words):
-                ran = subprocess.run(["stmflash", *words], executable=program(), cwd=self.folder, env={}, timeout=PATIENCE,
-                                     stdin=subprocess.DEVNULL, stdout=theirs, stderr=subprocess.PIPE,
-                                     preexec_fn=lambda: signal.signal(signal.SIGPIPE, signal.SIG_IGN))
-                self.assertEqual((ran.returncode, ran.stderr), (1 if text else 0, text))
+                said = self.use(*words, stdout=theirs, before=lambda: signal.signal(signal.SIGPIPE, signal.SIG_IGN))
+                self.assertEqual((said.status, said.err), (1 if text else 0, text))
 
     def test_the_table_comes_before_the_image(self):
         self.remove("table")
@@ -153,12 +144,10 @@ class Options(Place):
                 self.assertFault(self.use(name, *words), f"usage: bad number {bad}", 2)
         for chip, clients, bad in BAD_SIM_NUMBERS:
             with self.subTest(chip=chip, clients=clients):
-                files = ("--table", "table", "--id", chip, "--flash", "F", "--socket", "S")
-                self.assertFault(self.call("sim", *files, "--clients", clients), f"usage: bad number {bad}", 2)
+                self.assertFault(self.call(*served(chip, "F", "S"), "--clients", clients), f"usage: bad number {bad}", 2)
         for mode in ("8", "608", "0600", "", "rw"):
             with self.subTest(mode=mode):
-                files = ("--table", "table", "--id", "0412", "--flash", "F", "--socket", "S")
-                self.assertFault(self.call("sim", *files, "--mode", mode), f"usage: bad number {mode}", 2)
+                self.assertFault(self.call(*served("0412", "F", "S"), "--mode", mode), f"usage: bad number {mode}", 2)
         self.assertEqual(os.listdir(self.folder), ["table"])
 
     def test_stops_a_simulator_alone(self):
@@ -179,8 +168,8 @@ class Options(Place):
         os.symlink(os.ttyname(theirs), self.path("port"))
         for name in (os.ttyname(theirs), "port", "/dev/null"):
             with self.subTest(name=name):
-                told = f"cannot connect {name}: serial ports want stmflash-line {name} -- stmflash .. (no --device)"
-                self.assertFault(self.use("erase", "5", device=name), told)
+                port = f"serial ports want stmflash-line {name} -- stmflash .. (no --device)"
+                self.assertFault(self.use("erase", "5", device=name), f"cannot connect {name}", hint=port)
         for name in (".", "table", "absent"):
             with self.subTest(name=name):
                 self.assertFault(self.use("erase", "5", device=name), f"cannot connect {name}")
@@ -210,8 +199,7 @@ class Options(Place):
             ("read", ("out",), "34356", 0),
         ):
             with self.subTest(name=name, steps=steps):
-                if self.is_there("flash.line"):
-                    self.remove("flash.line")
+                self.clear("flash.line")
                 said = self.use(name, "--stop", steps, *words)
                 if status == 3:
                     self.assertFault(said, "stopped", 3)

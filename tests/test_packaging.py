@@ -73,12 +73,20 @@ class Packaging(unittest.TestCase):
         return os.path.join(made.name, "opt", "ours", *parts)
 
     def test_what_is_installed_knows_where_it_is(self):
-        """Each program is on the path with its page and its completions, and the unit calls the one beside it."""
+        """Each program is on the path with its page and its completions, and says its words; the unit calls the one beside it."""
         top = self.installed()
         for name in ("stmflash", "stmflash-line", "stmflash-trial"):
             for path in (f"bin/{name}", f"share/man/man1/{name}.1", f"share/fish/vendor_completions.d/{name}.fish",
                          f"share/bash-completion/completions/{name}"):
                 self.assertTrue(os.path.exists(os.path.join(top, path)), path)
+            # (what runs one of another processor finds it by the name that it has here)
+            if name != "stmflash" or not program().endswith("-under-qemu"):
+                ran = subprocess.run([os.path.join(top, "bin", name), "--help"], capture_output=True, text=True, timeout=60)
+                self.assertEqual((ran.returncode, ran.stderr), (0, ""))
+                self.assertIn(f"{name} ", ran.stdout)
+        for path in ("share/zsh/vendor-completions/_stmflash", "share/doc/stmflash/FORMATS.md", "share/doc/stmflash/MODEL.md",
+                     "share/stmflash/chips.toml", "lib/udev/rules.d/70-stmflash.rules"):
+            self.assertTrue(os.path.exists(os.path.join(top, path)), path)
         unit = os.path.join(top, "lib/systemd/system/stmflash-line@.service")
         self.assertEqual(settings(unit)["ExecStart"].split()[0], "/opt/ours/bin/stmflash-line")
 
@@ -141,7 +149,3 @@ class Packaging(unittest.TestCase):
             self.assertEqual(notes.count("\n## "), 0)
             self.assertTrue(notes.startswith("## 0") and notes in released)
             subprocess.run(["sha256sum", "--check", "--quiet", "SHA256SUMS"], cwd=folder, check=True)
-
-
-if __name__ == "__main__":
-    unittest.main()

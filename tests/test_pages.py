@@ -366,7 +366,7 @@ class Pages(Place):
         both = sum(bool(re.search(r"^unique\b", it, re.M) and re.search(r"^size_at\b", it, re.M)) for it in chips)
         alone = sum(bool(re.search(r"^unique\b", it, re.M)) for it in chips) - both
         told = re.findall(r"both for (\d+) ids and\s+`unique`\s+alone for (\w+) more", held("docs", "FORMATS.md"))
-        self.assertEqual(told, [(str(both), {11: "eleven"}.get(alone, str(alone)))])
+        self.assertEqual(told, [(str(both), {15: "fifteen"}.get(alone, str(alone)))])
 
     def test_links_lead_to_a_heading(self):
         """Each link with a place in a page: the heading is there, by the name that it has on GitHub."""

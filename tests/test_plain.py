@@ -221,7 +221,3 @@ class Plain(unittest.TestCase):
         self.assertEqual([(number, len(words), said) for number, words, said in sentences("a.1", manual)],
                          [(3, 2, "a - b"), (9, 2, "-a B"), (10, 4, "Says one N two."), (13, 3, "Also a(1): b."),
                           (21, 2, "Last 'one'.")])
-
-
-if __name__ == "__main__":
-    unittest.main()

@@ -7,10 +7,11 @@ import select
 import signal
 import socket
 import subprocess
+import threading
 import time
 
 import telling
-from place import PATIENCE, SILENT, Place, program, with_page
+from place import SILENT, Place, all_from, files, with_page
 from served import Served, relay
 from test_giving_up import Peer, be_silent
 
@@ -39,44 +40,41 @@ def unnoted(shown):
     return re.sub(rb"note: segments? [0-9, ]+ (had )?changed nothing.*\n", b"", shown)
 
 
+def read_meanwhile(here, there, use):
+    """What comes of a use of one end, and all that is read from the other: meanwhile, since a terminal that nobody reads holds a writer."""
+    shown = []
+    reading = threading.Thread(target=lambda: shown.append(all_from(here)))
+    reading.start()
+    try:
+        came = use(there)
+    finally:
+        os.close(there)
+        reading.join()
+        os.close(here)
+    return came, shown[0]
+
+
 class Progress(Place):
     device = "sim:0410:flash"
 
     def setUp(self):
         super().setUp()
-        self.store("table", TABLE)
-        self.store("image", IMAGE)
+        self.store_all({"table": TABLE, "image": IMAGE})
 
     def run_shown(self, err, name, *words, before=None):
         """What a subcommand on the simulator answers, and says on standard output; standard error goes where it is told to."""
-        files = ("--table", "table", "--device", self.device, "--journal", "journal")
-        ran = subprocess.run(["stmflash", name, *files, *words], executable=program(), cwd=self.folder, env={}, timeout=PATIENCE,
-                             stdin=subprocess.DEVNULL, stdout=subprocess.PIPE, stderr=err, preexec_fn=before)
-        return ran.returncode, ran.stdout
+        said = self.use(name, *words, device=self.device, stderr=err, before=before)
+        return said.status, said.out
 
     def write(self, err, *words, before=None):
         """Writes the image on a new flash with a new journal, and answers what came of it: all but what was shown."""
-        self.remove(*(name for name in ("flash", "flash.line", "journal") if self.is_there(name)))
+        self.clear("flash", "flash.line", "journal")
         said = self.run_shown(err, "write", *words, "-f", "-S", "0x08000000", "image", before=before)
         return said, self.held("flash"), self.held("flash.line"), self.held("journal")
 
     def on_terminal(self, use):
         """What a use with standard error on a terminal comes to, and what the terminal showed."""
-        here, there = pty.openpty()
-        try:
-            came = use(there)
-        finally:
-            os.close(there)
-        shown = b""
-        while True:
-            try:
-                piece = os.read(here, 4096)
-            except OSError:
-                break
-            if not piece:
-                break
-            shown += piece
-        os.close(here)
+        came, shown = read_meanwhile(*pty.openpty(), use)
         return came, self.unwrapped(shown)
 
     def unwrapped(self, shown):
@@ -129,7 +127,7 @@ class Progress(Place):
     def shows_note(self, image, *words):
         """Whether the note stands before all else that a terminal shows of a write of this image."""
         self.store("image", image)
-        self.remove(*(name for name in ("flash", "flash.line") if self.is_there(name)))
+        self.clear("flash", "flash.line")
         self.store("journal", b"")
         came, shown = self.on_terminal(lambda err: self.run_shown(err, "write", *words, "image"))
         self.assertEqual(came, (0, b"segment 1: %d pages written\n" % (len(image) + 1023 >> 10)))
@@ -165,7 +163,7 @@ class Progress(Place):
 
     def shown_at(self, name, *words):
         """What a terminal shows of a subcommand, with no journal there."""
-        self.remove(*(held for held in ("flash.line", "journal") if self.is_there(held)))
+        self.clear("flash.line", "journal")
         # an erase changes it
         self.store("flash", bytes(131072))
         return self.on_terminal(lambda err: self.run_shown(err, name, *words))[1]
@@ -200,18 +198,19 @@ class Progress(Place):
         for words in (("write", "--quiet", "-f", "image"), ("erase", "--quiet", "5"), ("info",), ("info", "--raw"), ("read", "out"),
                       ("verify", "-f", "image"), ("undo",), ("go", "0x08000000"), ("protect", "write-unprotect")):
             with self.subTest(words=words):
-                self.assertNotIn(b"note:", self.shown_at(*words))
+                shown = self.shown_at(*words)
+                # an undo tells that the journal isn't there
+                self.assertEqual(b"note:" in shown, words == ("undo",))
+                self.assertNotIn(b" is new", shown)
                 self.assertTrue(self.is_there("flash.line"))
         for words in (("-f", "-S", "0x08000000", "image"), ("--progress", "-f", "-S", "0x08000000", "image")):
-            self.remove(*(held for held in ("flash", "flash.line", "journal") if self.is_there(held)))
+            self.clear("flash", "flash.line", "journal")
             _, shown = self.in_file(lambda err: self.run_shown(err, "write", *words))
             self.assertNotIn(b"note:", shown)
 
     def test_a_new_journal_is_told_within_one_line(self):
         here, there = pty.openpty()
-        files = ("--table", "table", "--device", "sim:0410:flash", "--journal", "a\n\x1b[2Kb")
-        subprocess.run(["stmflash", "erase", *files, "5"], executable=program(), cwd=self.folder, env={}, timeout=PATIENCE,
-                       stdin=subprocess.DEVNULL, stdout=subprocess.DEVNULL, stderr=there)
+        self.use("erase", "5", device=self.device, journal="a\n\x1b[2Kb", stderr=there)
         os.close(there)
         self.assertTrue(os.read(here, 4096).startswith(b"note: journal a\\n\\x1b[2Kb is new\r\n"))
         os.close(here)
@@ -252,7 +251,7 @@ class Progress(Place):
         """What `--progress` shows of an undo on a flash of FF, up to the word `pages`. All else is as without it."""
         ends, shown = [], b""
         for word in ("--quiet", "--progress"):
-            self.remove(*(name for name in ("flash", "flash.line") if self.is_there(name)))
+            self.clear("flash", "flash.line")
             self.store("journal", journal)
             came, shown = self.in_file(lambda err: self.run_shown(err, "undo", word, *words))
             ends.append((came, self.held("flash"), self.held("flash.line"), self.held("journal")))
@@ -346,19 +345,14 @@ class Small(Place):
 
     def setUp(self):
         super().setUp()
-        self.store("table", TABLE.replace(b"[128, 1024]", b"[4, 256]"))
-        self.store("image", bytes(600))
+        self.store_all({"table": TABLE.replace(b"[128, 1024]", b"[4, 256]"), "image": bytes(600)})
 
     def shown(self, name, *words, terminal=False):
         """What a subcommand shows, with its status: in a file, or on a terminal, there but for what is shown while it settles."""
-        here, there = pty.openpty() if terminal else os.pipe()
-        files = ("--table", "table", "--device", "sim:0410:flash", "--journal", "journal")
-        ran = subprocess.run(["stmflash", name, *files, *words], executable=program(), cwd=self.folder, env={}, timeout=PATIENCE,
-                             stdin=subprocess.DEVNULL, stdout=subprocess.DEVNULL, stderr=there)
-        os.close(there)
-        with open(here, "rb", buffering=0) as told:
-            shown = b"".join(iter(lambda: read_some(told), b"")).replace(CUT, b"").replace(WRAP, b"")
-        return ran.returncode, re.sub(rb"\rsettling, \d+ bytes sent\x1b\[K", b"", shown).decode()
+        said, shown = read_meanwhile(*(pty.openpty() if terminal else os.pipe()),
+                                     lambda err: self.use(name, *words, device="sim:0410:flash", stderr=err))
+        shown = shown.replace(CUT, b"").replace(WRAP, b"")
+        return said.status, re.sub(rb"\rsettling, \d+ bytes sent\x1b\[K", b"", shown).decode()
 
     def test_lines(self):
         """Of each command; none unless it is said, and none where nothing is to be shown."""
@@ -397,10 +391,10 @@ class Small(Place):
         self.assertEqual((status, told.replace(CLEAR.decode(), "")), (0, ""))
 
 
-def read_some(told):
+def read_some(here):
     """The next that was shown; nothing where a terminal was closed."""
     try:
-        return told.read(4096)
+        return os.read(here, 4096)
     except OSError:
         return b""
 
@@ -418,7 +412,7 @@ class Waiting(Served):
         self.store("table", TABLE)
 
     def words(self, name, *words):
-        return ["stmflash", name, "--table", "table", "--device", "late", "--journal", "journal", *words]
+        return [name, *files("late"), *words]
 
     def test_a_silent_board_is_told_once(self):
         """Once nothing came for three seconds, with how many bytes were sent by then; on a terminal that they are sent before."""
@@ -429,17 +423,10 @@ class Waiting(Served):
                 Peer(self, "late", be_silent)
                 here, there = pty.openpty() if shown_where == "terminal" else os.pipe()
                 began = time.monotonic()
-                with subprocess.Popen([*words, *more], executable=program(), cwd=self.folder, env={}, stdin=subprocess.DEVNULL,
-                                      stdout=subprocess.DEVNULL, stderr=there) as asking:
+                with self.start(*words, *more, stdout=subprocess.DEVNULL, stderr=there) as asking:
                     os.close(there)
                     shown, first = b"", None
-                    while True:
-                        try:
-                            piece = os.read(here, 4096)
-                        except OSError:
-                            break
-                        if not piece:
-                            break
+                    while piece := read_some(here):
                         shown += piece
                         if first is None and told.search(shown):
                             first = time.monotonic() - began
@@ -477,42 +464,52 @@ class Waiting(Served):
                 relay(line, board, change)
 
         Peer(self, "late", stand)
-        words = self.words("read", "--progress", "--wait", "1000", "-S", "0x08000400:3072", "out")
-        ran = subprocess.run(words, executable=program(), cwd=self.folder, env={}, timeout=PATIENCE, stdin=subprocess.DEVNULL,
-                             capture_output=True)
-        self.assertEqual((ran.returncode, ran.stdout), (0, b""))
+        began = time.monotonic()
+        said = self.call(*self.words("read", "--progress", "--wait", "1000", "-S", "0x08000400:3072", "out"))
+        self.assertEqual((said.status, said.out), (0, b""))
         told = re.fullmatch(rb"page 1 read, 1 of 3 pages, (\d+) s left\npage 2 read, 2 of 3 pages, (\d+) s left\n"
-                            rb"page 3 read, 3 of 3 pages\n", ran.stderr)
-        self.assertTrue(told, ran.stderr)
+                            rb"page 3 read, 3 of 3 pages\n", said.err)
+        self.assertTrue(told, said.err)
         first, second = int(told[1]), int(told[2])
-        # twice as long as the first page took, and a second more at the most
-        self.assertIn(first, range(4, 60))
+        # twice as long as the first page took, which is a part of all, and a second more at the most
+        self.assertIn(first, range(4, int(2 * (time.monotonic() - began)) + 2))
         self.assertLess(second, first)
         self.assertServed()
+
+    def test_what_answers_now_and_then_is_not_silent(self):
+        """However long it takes until it is given up: each byte counts anew."""
+        came = []
+
+        def mutter(line, ending):
+            while len(came) < 5 and not ending.wait(1):
+                line.sendall(b"\x55")
+                came.append(1)
+
+        Peer(self, "late", mutter)
+        said = self.call(*self.words("info", "--progress", "--wait", "100", "--give-up", "20"))
+        self.assertEqual((said.status, said.out, len(came)), (1, b"", 5), said.err)
+        self.assertNotIn(b"no answer yet", said.err)
 
     def test_a_signal_leaves_what_to_do(self):
         """The last that a terminal shows of a write that Ctrl-C ended at a page's erase; and it is what undoes all."""
         flash = bytes(range(256)) * 512
-        self.store("flash", flash)
-        self.store("image", IMAGE)
+        self.store_all({"flash": flash, "image": IMAGE})
         self.serve(2, number="0410")
         Peer(self, "late", self.stall_at_an_erase)
         here, there = pty.openpty()
-        with subprocess.Popen(self.words("write", "-f", "-S", "0x08000000", "image"), executable=program(), cwd=self.folder, env={},
-                              stdin=subprocess.DEVNULL, stdout=subprocess.DEVNULL, stderr=there, preexec_fn=hear_signals) as writing:
+        words = self.words("write", "-f", "-S", "0x08000000", "image")
+        with self.start(*words, stdout=subprocess.DEVNULL, stderr=there, before=hear_signals) as writing:
             os.close(there)
-            with open(here, "rb", buffering=0) as told:
-                shown = b""
-                while b"erasing page 2," not in shown:
-                    shown += read_some(told)
-                writing.send_signal(signal.SIGINT)
-                shown += b"".join(iter(lambda: read_some(told), b""))
+            shown = b""
+            while b"erasing page 2," not in shown:
+                shown += read_some(here)
+            writing.send_signal(signal.SIGINT)
+            shown += all_from(here)
+        os.close(here)
         self.assertEqual(writing.returncode, -signal.SIGINT)
         shown = shown.replace(CUT, b"").replace(WRAP, b"")
         self.assertTrue(shown.endswith(STOPPED.encode() + b"\x1b[K"), shown[-80:])
-        undo = ["--table", "table", "--device", "board", "--journal", "journal", "--wait", "200"]
-        said = self.call(*STOPPED.split(": ")[1].split(), *undo)
-        self.assertTold(said, "undone 1\n")
+        self.assertTold(self.use(*STOPPED.split(": ")[1].split(), "--wait", "200", device="board"), "undone 1\n")
         self.assertServed()
         self.assertFile("flash", flash)
 

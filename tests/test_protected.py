@@ -3,9 +3,9 @@ hint says."""
 
 import json
 
-from place import COUNTING, ERASED, PATIENCE, TABLE
+from place import COUNTING, ERASED, TABLE, WAIT, served
 from refusing import DEVICE
-from served import WAIT, Served
+from served import Served
 
 BASE = 0x08000000
 PAGE = 1024
@@ -98,30 +98,20 @@ WIDE_ROWS = (
 
 
 class Protected(Served):
-    def comes(self, client, sent, replies):
-        client.sendall(sent)
-        held = b""
-        while len(held) < len(replies):
-            came = client.recv(4096)
-            self.assertNotEqual(came, b"", "the simulator hangs up")
-            held += came
-        self.assertEqual(held, replies, sent.hex())
-
     def protect(self, clients, *pages, table="table"):
         """Serves a simulator whose pages of these are protected."""
         self.serve(clients, table=table, more=[word for page in pages for word in ("--protected", page)])
 
     def each(self, rows, table):
         """Each of these frames, and the flash behind it; then the protection taken off, and a frame that was refused."""
-        self.store("flash", COUNTING)
-        self.store("table", table)
+        self.store_all({"flash": COUNTING, "table": table})
         self.protect(1, "4-7", "9")
         client = self.connect()
-        self.comes(client, b"\x7f", ACK)
+        self.assertReplies(client, b"\x7f", ACK)
         flash = bytearray(COUNTING)
         for sent, replies, erased, written in rows:
             with self.subTest(sent=sent.hex()):
-                self.comes(client, sent, replies)
+                self.assertReplies(client, sent, replies)
                 for page in erased:
                     flash[page * PAGE:(page + 1) * PAGE] = PAGE * b"\xff"
                 if written is not None:
@@ -130,13 +120,13 @@ class Protected(Served):
                 at = (max(erased, default=4) * PAGE if written is None else written) & ~0xFF
                 for place in (at, 4 * PAGE, 9 * PAGE):
                     address = (BASE + place).to_bytes(4, "big")
-                    self.comes(client, b"\x11\xee" + address + bytes([check(address)]) + b"\xff\x00",
-                               3 * ACK + flash[place:place + 256])
+                    self.assertReplies(client, b"\x11\xee" + address + bytes([check(address)]) + b"\xff\x00",
+                                       3 * ACK + flash[place:place + 256])
         width = 1 if table is TABLE else 2
-        self.comes(client, b"\x73\x8c" + b"\x7f" + erase(4, 9, width=width), 2 * ACK + ACK + DONE)
+        self.assertReplies(client, b"\x73\x8c" + b"\x7f" + erase(4, 9, width=width), 2 * ACK + ACK + DONE)
         for page in (4, 9):
             flash[page * PAGE:(page + 1) * PAGE] = PAGE * b"\xff"
-        self.comes(client, write_to(5 * PAGE, b"\x00"), WRITTEN)
+        self.assertReplies(client, write_to(5 * PAGE, b"\x00"), WRITTEN)
         flash[5 * PAGE] = 0
         self.leave(client)
         self.assertServed()
@@ -153,8 +143,7 @@ class Protected(Served):
         for rest in (erase(4), write_to(6 * PAGE, b"\x00\x00"), b"\x43\xbc\xff\x00"):
             for known in range(1, len(rest)):
                 with self.subTest(rest=rest.hex(), known=known):
-                    self.store("flash", COUNTING)
-                    self.store("flash.line", f"rest {rest[:known].hex().upper()}\n".encode())
+                    self.store_all({"flash": COUNTING, "flash.line": f"rest {rest[:known].hex().upper()}\n".encode()})
                     self.protect(1, "4-7")
                     client = self.connect()
                     client.sendall(rest[known:] + b"\x02\xfd")
@@ -176,9 +165,7 @@ class Protected(Served):
                 self.remove("journal", "flash", "flash.line")
 
     def undone(self, protected, not_erased):
-        self.store("flash", COUNTING)
-        self.store("image", IMAGE)
-        self.store("small", b"stays")
+        self.store_all({"flash": COUNTING, "image": IMAGE, "small": b"stays"})
         self.assertTold(self.use("write", "-S", f"{BASE + 8 * PAGE:#x}", "small"), "segment 1: 1 pages written\n")
         before = self.held("flash")
         self.protect(3, protected)
@@ -205,8 +192,7 @@ class Protected(Served):
 
     def test_as_json(self):
         """The hint is a part of the fault's line."""
-        self.store("flash", ERASED)
-        self.store("image", IMAGE)
+        self.store_all({"flash": ERASED, "image": IMAGE})
         self.protect(1, "5", "4", "6-7")
         said = self.use("write", "--wait", WAIT, "--json", "-S", f"{AT:#x}", "image", device="board")
         self.assertEqual((said.status, json.loads(said.out)["hint"]), (1, NOT_ERASED))
@@ -214,8 +200,7 @@ class Protected(Served):
         self.assertFile("flash", ERASED)
 
     def test_other_pages_as_ever(self):
-        self.store("flash", COUNTING)
-        self.store("image", IMAGE)
+        self.store_all({"flash": COUNTING, "image": IMAGE})
         self.protect(2, "3", "7-31")
         self.assertTold(self.use("write", "--wait", WAIT, "-S", f"{AT:#x}", "image", device="board"), "segment 1: 3 pages written\n")
         self.assertTold(self.use("undo", "--wait", WAIT, device="board"), "undone 1\n")
@@ -224,7 +209,7 @@ class Protected(Served):
 
     def test_what_is_refused(self):
         """Each in one line, and no file is made. No socket could be made there."""
-        words = ("sim", "--table", "table", "--id", "0412", "--flash", "flash", "--socket", "nowhere/board")
+        words = served(at="nowhere/board")
         for pages, text in ((("32",), "usage: chip 0412 has no page 32"), (("31-32",), "usage: chip 0412 has no page 32"),
                             (("4", "65535"), "usage: chip 0412 has no page 65535"), (("7-4",), "usage: bad number 7-4"),
                             (("4", "65536"), "usage: bad number 65536"), (("",), "usage: bad number "), (("x",), "usage: bad number x"),
@@ -242,12 +227,12 @@ class Protected(Served):
     def test_a_size_of_its_own(self):
         """The pages are those of the board that the simulator is."""
         self.store("table", TABLE + b"size_at = 0x1FFFF7E0\n")
-        words = ("sim", "--table", "table", "--id", "0412", "--flash", "flash", "--size", "16")
-        self.assertFault(self.call(*words, "--socket", "nowhere/board", "--protected", "16"), "usage: chip 0412 has no page 16", 2)
+        refused = (*served(at="nowhere/board"), "--size", "16", "--protected", "16")
+        self.assertFault(self.call(*refused), "usage: chip 0412 has no page 16", 2)
         self.assertFalse(self.is_there("flash") or self.is_there("flash.board"))
-        simulator = self.start(*words, "--socket", "board", "--protected", "15")
+        simulator = self.start(*served(), "--size", "16", "--protected", "15")
         client = self.reach("board", simulator)
-        self.comes(client, b"\x7f" + erase(15) + erase(14), ACK + REFUSED + DONE)
+        self.assertReplies(client, b"\x7f" + erase(15) + erase(14), ACK + REFUSED + DONE)
         self.leave(client)
-        simulator.communicate(timeout=PATIENCE)
+        self.ended(simulator)
         self.assertFile("flash", ERASED[:16 * PAGE])

@@ -6,8 +6,8 @@ import re
 import shutil
 import subprocess
 
-from boards import WAIT, LinePlace
-from place import COUNTING, PATIENCE, TOP, Place, program
+from boards import LinePlace
+from place import COUNTING, PATIENCE, TOP, WAIT, Place, program
 from test_image import HEX
 from test_plain import MANUALS, plain
 
@@ -127,8 +127,7 @@ class ARealBoard(Clone, LinePlace):
         os.makedirs(self.path("clone/bin/unproved"))
         for name, leads in (("stmflash", self.path("program")), *((it, f"../../line/{it}") for it in ("stmflash-line", "stmflash-trial"))):
             os.symlink(leads, self.path(f"clone/bin/unproved/{name}"))
-        self.store("clone/firmware.hex", HEX)
-        self.store("ttyUSB0.flash", COUNTING)
+        self.store_all({"clone/firmware.hex": HEX, "ttyUSB0.flash": COUNTING})
         board = self.board()
         os.chown(os.path.realpath(self.path("ttyUSB0")), self.user, -1)
         _, written, undone, err = self.run_blocks(paths, *(it + "\n" for it in both.splitlines()))

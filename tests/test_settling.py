@@ -4,6 +4,7 @@ import time
 import unittest
 
 import syncs
+from place import files
 from served import Served
 from test_silence import SETSOCKOPT, time_of
 
@@ -27,10 +28,7 @@ class Settling(Served):
         """Behind 43 BC the settling byte is a count of 128 pages, and it goes in batches like any other: the device isn't given up."""
         for rest in RESTS:
             with self.subTest(rest):
-                self.store("table", TABLE)
-                self.store("flash", FLASH)
-                self.store("flash.line", b"rest " + rest + b"\n")
-                self.store("journal", BEFORE)
+                self.store_all({"table": TABLE, "flash": FLASH, "flash.line": b"rest " + rest + b"\n", "journal": BEFORE})
                 self.serve(1, number="0410")
                 self.assertTold(self.use("undo", *WORDS, device="board"), "undone 1\n")
                 self.assertServed()
@@ -40,16 +38,13 @@ class Settling(Served):
     def undo(self, stands, *words, page=3, variables=None):
         """Undoes at a board with a wide chip that stands so, and answers the times that the program sets for its line, one
         behind another that differs from it, and how many seconds it took."""
-        self.store("table", WIDE)
-        self.store("flash", WIDE_FLASH)
-        self.store("flash.line", stands + b"\n")
+        self.store_all({"table": WIDE, "flash": WIDE_FLASH, "flash.line": stands + b"\n"})
         before = WIDE_BEFORE.replace(b" 3", b" %d" % page)
         self.store("journal", before)
         self.serve(1, number="0A01")
         times, began = [], time.monotonic()
-        given = ("undo", "--table", "table", "--device", "board", "--journal", "journal", *words)
         try:
-            said, _ = syncs.call(self.folder, given, held=SETSOCKOPT, at=lambda _, process: times.append(time_of(process)),
+            said, _ = syncs.call(self.folder, ("undo", *files("board"), *words), held=SETSOCKOPT, at=lambda _, process: times.append(time_of(process)),
                                  env=variables)
         except syncs.CannotHold as why:
             raise unittest.SkipTest(str(why)) from None
@@ -91,24 +86,21 @@ class Settling(Served):
 
     def test_the_speed_may_be_a_variable(self):
         """A word goes before it, and an empty one is none."""
-        words = ("--table", "table", "--device", "board", "--journal", "journal")
         for text in ("0", "4000001", "fast"):
             with self.subTest(text):
-                self.assertFault(self.call("undo", *words, variables={"STMFLASH_BAUD": text}), f"usage: bad number {text}", 2)
-                self.assertFault(self.call("undo", *words, "--baud", text), f"usage: bad number {text}", 2)
-        self.store("table", WIDE)
-        self.store("journal", WIDE_BEFORE)
+                self.assertFault(self.use("undo", device="board", variables={"STMFLASH_BAUD": text}), f"usage: bad number {text}", 2)
+                self.assertFault(self.use("undo", "--baud", text, device="board"), f"usage: bad number {text}", 2)
+        self.store_all({"table": WIDE, "journal": WIDE_BEFORE})
         for variables, more in (({"STMFLASH_BAUD": "fast"}, ("--baud", "9600")), ({"STMFLASH_BAUD": ""}, ())):
             with self.subTest(variables):
-                self.assertFault(self.call("undo", *words, *more, variables=variables), "cannot connect board")
+                self.assertFault(self.use("undo", *more, device="board", variables=variables), "cannot connect board")
 
     def test_the_wait_may_be_a_variable(self):
         """A word goes before it, an empty one is none, and so is one that is shorter than an undo's own wait: it was set for a
         session at a board where nothing was stopped."""
-        words = ("--table", "table", "--device", "board", "--journal", "journal")
         for text in ("0", "60001", "long"):
             with self.subTest(text):
-                self.assertFault(self.call("undo", *words, variables={"STMFLASH_WAIT": text}), f"usage: bad number {text}", 2)
+                self.assertFault(self.use("undo", device="board", variables={"STMFLASH_WAIT": text}), f"usage: bad number {text}", 2)
         for variables, more, wait in (({"STMFLASH_WAIT": "430"}, (), 430), ({"STMFLASH_WAIT": "long"}, ("--wait", "110"), 110),
                                       ({"STMFLASH_WAIT": "399"}, (), 400), ({"STMFLASH_WAIT": "1"}, (), 400),
                                       ({"STMFLASH_WAIT": ""}, (), 400)):

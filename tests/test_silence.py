@@ -10,7 +10,7 @@ import unittest
 
 import syncs
 import telling
-from place import PATIENCE, program
+from place import PATIENCE, files, program
 from served import Served
 
 # setsockopt, and its words for how long a read and a write wait: as many seconds, and as many millionths
@@ -45,9 +45,7 @@ def time_of(process, kind=RECEIVE_TIME):
 class Silence(Served):
     def setUp(self):
         super().setUp()
-        self.store("table", telling.TABLE)
-        self.store("flash", FLASH)
-        self.store("flash.board", BOARD)
+        self.store_all({"table": telling.TABLE, "flash": FLASH, "flash.board": BOARD})
 
     def waits(self, *words, whole=WHOLE, device="board"):
         """The times that the program sets, one behind another that differs from it: what is between a look and a whole wait is
@@ -57,7 +55,7 @@ class Silence(Served):
     def times(self, *words, whole=WHOLE, device="board"):
         """The same, none of them told by a word."""
         times = []
-        given = (*words, "--table", "table", "--device", device, "--journal", "journal", "--wait", str(whole))
+        given = (*words, *files(device), "--wait", str(whole))
         try:
             said, _ = syncs.call(self.folder, given, held=SETSOCKOPT, at=lambda _, process: times.append(time_of(process)))
         except syncs.CannotHold as why:
@@ -69,13 +67,11 @@ class Silence(Served):
         """How long the first read and each write wait, by the times that the program sets where these words are given; None
         where there is no end."""
         times = []
-        given = ("info", "--table", "table", "--device", "board", "--journal", "journal", *words)
-
         def look(_, process):
             times.append((time_of(process), time_of(process, SEND_TIME)))
 
         try:
-            said, _ = syncs.call(self.folder, given, held=SETSOCKOPT, at=look)
+            said, _ = syncs.call(self.folder, ("info", *files("board"), *words), held=SETSOCKOPT, at=look)
         except syncs.CannotHold as why:
             raise unittest.SkipTest(str(why)) from None
         self.assertEqual((said.status, said.err), (0, b""))
@@ -128,8 +124,7 @@ class Silence(Served):
         self.serve(1, number="0410")
         whole, _ = self.limits("--give-up", "2")
         self.assertServed()
-        self.store("flash.line", FRESH + b"\n")
-        self.store("journal", BEFORE)
+        self.store_all({"flash.line": FRESH + b"\n", "journal": BEFORE})
         self.serve(1, number="0410")
         waited = self.waited_in_vain("undo", whole=LATE)
         self.assertServed()
@@ -139,7 +134,7 @@ class Silence(Served):
     def waited_in_vain(self, *words, whole=WHOLE):
         """How long the program waits for a byte that doesn't come, each time that none came, by the times that it sets."""
         record = self.path("record")
-        given = (words[0], "--table", "table", "--device", "board", "--journal", "journal", "--wait", str(whole), *words[1:])
+        given = (words[0], *files("board"), "--wait", str(whole), *words[1:])
         ran = subprocess.run(["strace", "-f", "-xx", "-o", record, "-e", "trace=setsockopt,recvfrom", program(), *given],
                              cwd=self.folder, env={}, stdin=subprocess.DEVNULL, capture_output=True, timeout=PATIENCE)
         if not (self.held("record") or b"").strip():
@@ -212,8 +207,7 @@ class Silence(Served):
 
     def test_a_slow_answer_to_7f_makes_the_silence_behind_it_long(self):
         """Four times as long as it took, and 20 ms."""
-        self.store("flash.line", FRESH + b"\n")
-        self.store("journal", BEFORE)
+        self.store_all({"flash.line": FRESH + b"\n", "journal": BEFORE})
         slow = []
 
         def first(replies):
@@ -241,9 +235,7 @@ class Silence(Served):
         how many codes there are, and as many never come. The session ends, and nothing was changed."""
         for pause, ends in ((0.0, (0, b"")), (0.9, (1, b"stmflash: no answer from the device\n"))):
             with self.subTest(pause=pause):
-                self.store("flash", FLASH)
-                self.store("flash.line", FRESH + b"\n")
-                self.store("journal", BEFORE)
+                self.store_all({"flash": FLASH, "flash.line": FRESH + b"\n", "journal": BEFORE})
                 said = self.once(self.twice(pause), "undo", "--fresh", "--wait", "600", "--give-up", "3")
                 self.assertEqual((said.status, said.err), ends)
                 if said.status:

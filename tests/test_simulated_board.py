@@ -4,8 +4,8 @@ import os
 import tomllib
 
 import telling
-from place import TOP, UNTRIED, Place
-from served import WAIT, Served
+from place import TOP, WAIT, Place, served
+from served import Served
 
 HEAD = "[[chip]]\n"
 NAME = "2B0035000A51363034393332"
@@ -24,10 +24,9 @@ def entry(number):
     raise KeyError(number)
 
 
-class SimulatedBoard(Place):
+class SimulatedBoard(telling.Told):
     def setUp(self):
         super().setUp()
-        self.store("table", telling.TABLE)
         self.store("image", b"an image")
 
     def at(self, *words, **more):
@@ -35,26 +34,23 @@ class SimulatedBoard(Place):
 
     def test_a_part_of_64_kib_has_64_pages(self):
         self.store("flash.board", f"unique {NAME}\nsize 64\n".encode())
-        told = INFO % (64, 65536) + f"board {NAME}\nflash 64 KiB\n" + UNTRIED
+        told = INFO % (64, 65536) + f"board {NAME}\nflash 64 KiB\n"
         self.assertTold(self.at("info"), told)
         self.store("flash", COUNTING)
         self.assertFault(self.at("erase", "64"), "address outside the flash")
         self.assertTold(self.at("erase", "63"), "segment 1: 1 pages erased\n")
         self.assertTrue(self.held("journal").startswith(f"stmjournal 3 0410 {NAME}\n".encode()))
         self.assertTold(self.at("undo"), "undone 1\n")
-        self.assertFile("flash", COUNTING)
-        self.assertFile("flash.board", f"unique {NAME}\nsize 64\n".encode())
+        self.assertFiles({"flash": COUNTING, "flash.board": f"unique {NAME}\nsize 64\n".encode()})
 
     def test_two_boards_of_a_kind_are_told_apart(self):
-        self.store("flash", COUNTING + COUNTING)
-        self.store("flash.board", f"unique {NAME}\n".encode())
+        self.store_all({"flash": COUNTING + COUNTING, "flash.board": f"unique {NAME}\n".encode()})
         self.assertTold(self.at("write", "image"), "segment 1: 1 pages written\n")
         written, journal = self.held("flash"), self.held("journal")
         self.store("flash.board", f"unique {OTHER}".encode())
         for words in (("undo",), ("erase", "1"), ("info",)):
             self.assertFault(self.at(*words), "journal is of another board")
-            self.assertFile("flash", written)
-            self.assertFile("journal", journal)
+            self.assertFiles({"flash": written, "journal": journal})
         self.store("flash.board", f"unique {NAME.lower()}".encode())
         self.assertFault(self.at("undo", "--board", OTHER[-4:]), "device is another board")
         self.assertTold(self.at("undo", "--board", NAME[-4:]), "undone 1\n")
@@ -62,10 +58,10 @@ class SimulatedBoard(Place):
 
     def test_a_size_alone_is_told(self):
         self.store("flash.board", b"size 16\n")
-        self.assertTold(self.at("info"), INFO % (16, 16384) + "flash 16 KiB\n" + UNTRIED)
+        self.assertTold(self.at("info"), INFO % (16, 16384) + "flash 16 KiB\n")
         self.remove("flash")
         self.store("flash.board", b"")
-        self.assertTold(self.at("info"), INFO % (128, 131072) + "flash 128 KiB\n" + UNTRIED)
+        self.assertTold(self.at("info"), INFO % (128, 131072) + "flash 128 KiB\n")
 
     def test_what_no_board_is(self):
         for text in (b"unique 12\n", b"unique\n", b"size\n", b"size x\n", b"size 123456\n", b"size -1\n", b"board 1\n", b"\xff",
@@ -76,8 +72,7 @@ class SimulatedBoard(Place):
 
     def assertNoBoard(self):
         self.assertFault(self.at("info"), "bad simulator file flash.board")
-        self.assertFile("flash", None)
-        self.assertFile("journal", None)
+        self.assertFiles({"flash": None, "journal": None})
 
     def test_a_text_that_is_too_long(self):
         """Up to 256 bytes are read whole. Of each longer text they say a board too: another size, a shorter unique id, none."""
@@ -88,7 +83,7 @@ class SimulatedBoard(Place):
                 self.store("flash.board", text)
                 self.assertNoBoard()
         self.store("flash.board", size + 248 * b"\n")
-        self.assertTold(self.at("info"), INFO % (16, 16384) + "flash 16 KiB\n" + UNTRIED)
+        self.assertTold(self.at("info"), INFO % (16, 16384) + "flash 16 KiB\n")
 
 
 class GivenBoard(Served):
@@ -99,7 +94,7 @@ class GivenBoard(Served):
         self.store("table", telling.TABLE)
 
     def words(self, *more):
-        return ("sim", "--table", "table", "--id", "0410", "--flash", "flash", "--socket", "board", *more)
+        return (*served("0410"), *more)
 
     def told(self, *more):
         """What `info` tells of a simulator that is served with these words."""
@@ -115,10 +110,9 @@ class GivenBoard(Served):
     def test_a_part_of_another_size_with_a_name(self):
         served = INFO.replace("codes 00 02", "codes 00 01 02")
         board = f"unique {NAME}\nsize 64\n".encode()
-        told = served % (64, 65536) + f"board {NAME}\nflash 64 KiB\n" + UNTRIED
+        told = served % (64, 65536) + f"board {NAME}\nflash 64 KiB\n"
         self.assertTold(self.told("--unique", NAME.lower(), "--size", "64"), told)
-        self.assertFile("flash.board", board)
-        self.assertFile("flash", 65536 * b"\xff")
+        self.assertFiles({"flash.board": board, "flash": 65536 * b"\xff"})
         # as the simulator in the process has it
         self.assertTold(self.use("info", device="sim:0410:flash"), told.replace("codes 00 01 02", "codes 00 02"))
         # what isn't given stays
@@ -129,8 +123,7 @@ class GivenBoard(Served):
     def test_a_size_alone(self):
         self.store("flash.board", f"unique {NAME}\n".encode())
         self.told("--size", "16")
-        self.assertFile("flash.board", f"unique {NAME}\nsize 16\n".encode())
-        self.assertFile("flash", 16384 * b"\xff")
+        self.assertFiles({"flash.board": f"unique {NAME}\nsize 16\n".encode(), "flash": 16384 * b"\xff"})
 
     def refused(self, text, *more, status=2):
         board = self.held("flash.board")
@@ -211,11 +204,10 @@ class EverySize(Place):
         self.assertEqual((told.status, told.err), (0, b""))
         lines = told.out.decode().splitlines()
         self.assertEqual(lines[:4], [f"id {number}", "base 08000000", f"pages {pages}", f"size {len(flash)}"])
-        self.assertEqual(lines[-3:], [f"board {name}", f"flash {kib} KiB", UNTRIED.rstrip()])
+        self.assertEqual(lines[-2:], [f"board {name}", f"flash {kib} KiB"])
         for words in (("write", "-S", hex(end - 7), "image"), ("erase", str(pages))):
             self.assertFault(at(*words), "address outside the flash")
-            self.assertFile("flash", flash)
-            self.assertFile("journal", None)
+            self.assertFiles({"flash": flash, "journal": None})
         self.assertTold(at("write", "-S", hex(end - 8), "image"), "segment 1: 1 pages written\n")
         self.assertFile("flash", flash[:-8] + b"an image")
         self.assertTold(at("undo"), "undone 1\n")
@@ -224,8 +216,7 @@ class EverySize(Place):
 
     def family(self, number):
         table, length = entry(number)
-        self.store("table", table)
-        self.store("image", b"an image")
+        self.store_all({"table": table, "image": b"an image"})
         for kib, pages in PARTS[number].items():
             with self.subTest(number=number, kib=kib):
                 self.part(number, length, kib, pages)

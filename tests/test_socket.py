@@ -9,8 +9,8 @@ import threading
 import time
 
 import syncs
-from place import ERASED, PATIENCE, TABLE, ZEROS, with_page
-from served import WAIT, Served, relay
+from place import ERASED, PATIENCE, TABLE, WAIT, ZEROS, files, first_of, served, with_page
+from served import Served, relay
 
 ID = bytes([0x79, 0x01, 0x04, 0x12, 0x79])
 # a chip that is stored fast
@@ -19,18 +19,6 @@ HEAD = b"stmjournal 2 0412\nopen 1\npage 5 "
 
 
 class Socket(Served):
-    def assertReplies(self, client, sent, replies):
-        client.sendall(sent)
-        self.assertComes(client, replies)
-
-    def assertComes(self, client, replies):
-        held = b""
-        while len(held) < len(replies):
-            came = client.recv(len(replies) - len(held))
-            self.assertNotEqual(came, b"", "the simulator hangs up")
-            held += came
-        self.assertEqual(held, replies)
-
     def assertQuiet(self, client):
         client.settimeout(0.2)
         with self.assertRaises(TimeoutError):
@@ -79,7 +67,7 @@ class Socket(Served):
         journal = self.held("journal")
         lost = with_page(HEAD, b" ", b"\nerase 5\nend 1\n")
         listener = self.listen("device")
-        host = self.start("undo", "--table", "table", "--device", "device", "--journal", "journal", "--wait", WAIT)
+        host = self.start("undo", *files("device"), "--wait", WAIT)
         line, _ = listener.accept()
         with line, self.connect() as board:
             first = line.recv(1)
@@ -87,8 +75,7 @@ class Socket(Served):
                 file.write(lost)
             board.sendall(first)
             sent = first + relay(line, board)
-        out, err = host.communicate(timeout=PATIENCE)
-        self.assertEqual((host.returncode, out, err), (1, b"", b"stmflash: bad journal line 3\n"))
+        self.assertFault(self.ended(host), "bad journal line 3")
         self.assertNotIn(b"\x31\xce", sent)
         self.assertFile("journal", lost)
         self.store("journal", journal)
@@ -147,13 +134,13 @@ class Socket(Served):
         """A device of a version below 10."""
         listener = self.listen("device")
         self.serve(1)
-        host = self.start("info", "--raw", "--table", "table", "--device", "device", "--journal", "journal", "--wait", WAIT)
+        host = self.start("info", "--raw", *files("device"), "--wait", WAIT)
         line, _ = listener.accept()
         with line, self.connect() as board:
             relay(line, board, lambda replies: replies.replace(b"\x22\x00\x01", b"\x05\x00\x01"))
-        out, err = host.communicate(timeout=PATIENCE)
-        self.assertEqual((host.returncode, err), (0, b""))
-        self.assertIn(b"\nversion 05\n", out)
+        said = self.ended(host)
+        self.assertEqual((said.status, said.err), (0, b""))
+        self.assertIn(b"\nversion 05\n", said.out)
         self.assertServed()
 
     def test_serves_a_client_however_long(self):
@@ -167,7 +154,7 @@ class Socket(Served):
         sender.start()
         self.until_it_waits(self.simulator)
         self.hold(self.simulator)
-        self.assertComes(client, ID * count)
+        self.assertTrue(first_of(client, len(ID) * count) == ID * count)
         sender.join(PATIENCE)
         self.assertQuiet(client)
         self.leave(client)
@@ -176,7 +163,6 @@ class Socket(Served):
     def test_a_signal_while_a_client_is_waited_for_is_no_end(self):
         """The first call that waits for a client ends by a signal, and the client comes while the second does."""
         self.store("flash", ZEROS)
-        files = ("--table", "table", "--id", "0412", "--flash", "flash", "--socket", "board")
         clients = []
 
         def come(number, process):
@@ -185,7 +171,7 @@ class Socket(Served):
                 clients[0].sendall(b"\x7f")
                 clients[0].shutdown(socket.SHUT_WR)
 
-        said, waits = syncs.call(self.folder, ("sim", *files), 0, come, syncs.ACCEPT, errno.EINTR)
+        said, waits = syncs.call(self.folder, served(), 0, come, syncs.ACCEPT, errno.EINTR)
         self.assertEqual((said.status, said.out, said.err, len(waits)), (0, b"", b"", 2))
         self.assertEqual(clients[0].recv(2), b"\x79")
         self.assertHolds(ZEROS, b"idle\n")
@@ -241,11 +227,10 @@ class Socket(Served):
         """A device that hangs up, or sends nothing more and still takes what is sent: at once, after a byte, and after it has
         answered."""
         listener = self.listen("board")
-        files = ("--table", "table", "--device", "board", "--journal", "journal")
         for turns in range(3):
             for end in (socket.SHUT_RDWR, socket.SHUT_WR):
                 with self.subTest(turns=turns, end=end):
-                    host = self.start("erase", *files, "--wait", WAIT, "5")
+                    host = self.start("erase", *files("board"), "--wait", WAIT, "5")
                     device, _ = listener.accept()
                     with device:
                         device.settimeout(PATIENCE)
@@ -254,8 +239,7 @@ class Socket(Served):
                         if turns > 1:
                             device.sendall(b"\x79")
                         device.shutdown(end)
-                        out, err = host.communicate(timeout=PATIENCE)
-                    self.assertEqual((host.returncode, out, err), (1, b"", b"stmflash: line failed\n"))
+                        self.assertFault(self.ended(host), "line failed")
                     self.assertFile("journal", None)
 
     def test_takes_over_a_dead_socket(self):
@@ -266,8 +250,7 @@ class Socket(Served):
         self.assertTrue(self.is_there("board"))
         self.serve(2)
         client = self.connect()
-        files = ("--table", "table", "--id", "0412", "--flash", "other", "--socket", "board")
-        self.assertFault(self.call("sim", *files), "cannot connect board")
+        self.assertFault(self.call(*served(flash="other")), "cannot connect board")
         self.assertReplies(client, b"\x7f", b"\x79")
         # the one that was refused had asked whether somebody listens, which took the second turn
         self.leave(client)
@@ -297,8 +280,7 @@ class Socket(Served):
         os.mkdir(self.path("flash"))
         client = self.connect()
         client.close()
-        out, err = self.simulator.communicate(timeout=PATIENCE)
-        self.assertEqual((self.simulator.returncode, out, err), (1, b"", b"stmflash: cannot write flash\n"))
+        self.assertFault(self.ended(self.simulator), "cannot write flash")
         self.assertFalse(self.is_there("board"))
         os.rmdir(self.path("flash"))
 
@@ -309,15 +291,13 @@ class Socket(Served):
         os.remove(self.path("board"))
         self.store("board", b"another")
         self.leave(client)
-        out, err = self.simulator.communicate(timeout=PATIENCE)
-        self.assertEqual((self.simulator.returncode, out, err), (0, b"", b""))
+        self.assertSilent(self.ended(self.simulator))
         self.assertFile("board", b"another")
 
     def test_a_simulator_in_use_is_not_used_again(self):
         """Two that serve one simulator, or one that serves it beside one in the process."""
         self.serve(1)
-        files = ("--table", "table", "--id", "0412", "--flash", "flash", "--socket", "second")
-        self.assertFault(self.call("sim", *files), "simulator file is in use")
+        self.assertFault(self.call(*served(at="second")), "simulator file is in use")
         self.assertFalse(self.is_there("second"))
         self.assertFault(self.use("info"), "simulator file is in use")
         self.leave(self.connect())
@@ -336,13 +316,11 @@ class Socket(Served):
         self.assertReplies(client, b"\x02\xfd", ID)
         self.leave(client)
         os.kill(self.simulator.pid, signal.SIGSTOP)
-        files = ("--table", "table", "--device", "board", "--journal", "journal")
-        host = self.start("erase", *files, "--wait", "20000", "5")
+        host = self.start("erase", *files("board"), "--wait", "20000", "5")
         time.sleep(0.3)
         self.hold(host)
         os.kill(self.simulator.pid, signal.SIGCONT)
-        out, err = host.communicate(timeout=PATIENCE)
-        self.assertEqual((host.returncode, out, err), (0, b"segment 1: 1 pages erased\n", b""))
+        self.assertTold(self.ended(host), "segment 1: 1 pages erased\n")
         self.assertServed()
 
     def until_it_waits(self, process):
@@ -363,8 +341,7 @@ class Socket(Served):
             time.sleep(0.03)
 
     def assertUnserved(self, chip, text):
-        files = ("--table", "table", "--id", chip, "--flash", "flash", "--socket", "table")
-        self.assertFault(self.call("sim", *files), text)
+        self.assertFault(self.call(*served(chip, at="table")), text)
 
     def test_says_why_it_does_not_serve(self):
         """The table comes before the simulator's files, and these before the socket; nothing is written."""

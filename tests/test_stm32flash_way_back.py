@@ -2,13 +2,12 @@
 the port."""
 
 import contextlib
-import fcntl
 import os
 import subprocess
 import unittest.mock
 
 from place import COUNTING, ERASED, PATIENCE, TABLE
-from test_stm32flash_words import KEPT, NOTHING, STOPPED, WORDS, Words, module
+from test_stm32flash_words import KEPT, NOTHING, STOPPED, WORDS, Words, module, places
 
 NEW = b"new" + COUNTING[3:]
 # a write of what was there already
@@ -22,15 +21,11 @@ class Place(Words):
 
     def folder_of_port(self):
         """Also while no board is there."""
-        return os.path.join(".local", "state", "stmflash", "ports", module("journals").named_by("ttyUSB0", self.path("ttyUSB0")))
+        return os.path.join(".local", "state", "stmflash", "ports", places.named_by("ttyUSB0", self.path("ttyUSB0")))
 
-    def name(self, name):
-        return os.path.join(self.folder_of_port(), name)
-
-    def keep(self, number, text):
+    def put_aside(self, number, text):
         """A journal that was put aside."""
-        os.makedirs(self.path(self.folder_of_port()), exist_ok=True)
-        self.store(self.name(f"kept-{number:06d}"), text)
+        self.keep(f"kept-{number:06d}", text)
 
 
 class Unchanged(Place):
@@ -60,9 +55,8 @@ class Unchanged(Place):
 
     def test_a_journal_in_which_nothing_stands_is_not_put_aside(self):
         self.flash(COUNTING)
-        os.makedirs(self.path(self.folder_of_port()))
         for text in (b"", b"stmjournal 2 0412\n", b"stmjournal 2 0412\n" + KEPT + b"undone 1\n"):
-            self.store(self.name("journal"), text)
+            self.keep("journal", text)
             self.well("-u")
             self.assertEqual(self.journals(), [])
 
@@ -70,12 +64,12 @@ class Unchanged(Place):
         """A former version has kept them. One that is unfinished, or can't be read, is none of them."""
         board = self.flash(COUNTING)
         for number in range(2, 10):
-            self.keep(number, UNCHANGED)
-        self.keep(1, b"stmjournal 2 0412\n" + KEPT)
+            self.put_aside(number, UNCHANGED)
+        self.put_aside(1, b"stmjournal 2 0412\n" + KEPT)
         self.well("-w", "image", "-g", "0")
         self.assertEqual(self.journals(), ["kept-000001", "kept-000010"])
-        self.keep(11, UNCHANGED[:-6])
-        self.keep(12, UNCHANGED + b"pagf 5 00\n")
+        self.put_aside(11, UNCHANGED[:-6])
+        self.put_aside(12, UNCHANGED + b"pagf 5 00\n")
         self.reset(board)
         self.store("image", b"newer")
         self.well("-w", "image", "-g", "0")
@@ -94,7 +88,7 @@ class Unchanged(Place):
     def test_an_undo_passes_over_journals_of_them(self):
         board = self.flash(COUNTING)
         self.well("-w", "image", "-g", "0")
-        self.keep(2, UNCHANGED)
+        self.put_aside(2, UNCHANGED)
         board = self.reset(board)
         self.well("-w", "image")
         said = self.well("--undo")
@@ -132,100 +126,83 @@ class Unchanged(Place):
 class Dead(Place):
     """A board was stopped in the midst of a write and taken away, and another one comes to its port."""
 
-    FIRST, LEFT = 12 * "A1", "stopped-" + 12 * "A1"
     BACK = COUNTING[:5120] + b"\x55" * 1024 + COUNTING[6144:]
     FOUND = b"stm32flash: an earlier call was stopped in the midst of a write, an erase or an undo: that is undone first\n"
 
     def setUp(self):
         super().setUp()
         self.store("table", TABLE + b"unique = [0x1FFFF7E8, 12]\n" + TABLE.replace(b"412", b"410"))
-        os.makedirs(self.path(self.folder_of_port()))
-        self.leave("3 0412 " + self.FIRST)
+        self.first = self.journal_of("A1")
+        for folder in (self.folder_of_port(), os.path.dirname(self.first)):
+            os.makedirs(self.path(folder))
+        self.leave()
 
-    def leave(self, header, name="journal"):
-        """What was stopped, as a journal of this header."""
-        self.store(self.name(name), STOPPED.replace("2 0412", header).encode())
+    def leave(self, kind="0412", was_last=True):
+        """What was stopped at the first board, which is of this kind; whether the port had it last."""
+        self.store(self.first, STOPPED.replace("2 0412", f"3 {kind} " + 12 * "A1").encode())
+        with contextlib.suppress(FileNotFoundError):
+            self.remove(self.name("last"))
+        if was_last:
+            os.symlink(self.path(self.first), self.path(self.name("last")))
 
     def told(self):
-        """What a call says that puts it aside."""
-        left = self.path(self.name(self.LEFT)).encode()
-        return self.FOUND + b"stm32flash: that was another board: its journal is put aside as " + left + b", and is undone first when that " \
-            b"board is back at any port\n"
+        """What a call says that leaves it."""
+        return b"stm32flash: that was another board: what was stopped is undone first when it is back at any port; its journal is " \
+            + self.path(self.first).encode() + b"\n"
 
     def test_the_next_board_goes_on_and_it_is_undone_when_it_is_back(self):
         there = self.telling(ERASED, "B2")
-        self.assertEqual(self.well("-w", "image").err, self.told())
-        self.assertEqual(self.journals(), ["journal", self.LEFT])
-        self.assertIn(self.LEFT.encode() + b"\nid 0412\nboard " + self.FIRST.encode() + b"\nsegment 1: open, 1 pages: 5, erasing 5\n"
-                      b"unfinished, undo first\n", self.well("--log").out)
+        self.assertEqual(self.well("-w", "image").err, self.FOUND + self.told())
+        self.assertIn(b"unfinished", self.call("log", "--journal", self.first).out)
         second = self.unplugged(there)
         here = self.telling(COUNTING, "A1")
-        self.assertEqual(self.well().err, b"stm32flash: another board was at this port before: its journal is put aside\n" + self.FOUND)
+        self.assertEqual(self.well().err, self.FOUND)
         self.assertEqual(self.unplugged(here), self.BACK)
-        self.assertEqual(self.journals(), ["journal", "kept-000001"])
         there = self.telling(second, "B2")
         self.well("--undo")
         self.assertEqual(there.store(), ERASED)
 
     def test_an_undo_is_of_the_board_that_is_there(self):
-        self.keep(1, b"stmjournal 3 0412 " + 12 * b"B2" + b"\n" + KEPT)
+        self.put_aside(1, b"stmjournal 3 0412 " + 12 * b"B2" + b"\n" + KEPT)
         there = self.telling(ERASED, "B2")
-        said = self.well("--undo")
-        self.assertEqual(said.err, self.told()[len(self.FOUND):])
+        self.assertEqual(self.well("--undo").err, self.told())
         self.assertEqual(self.unplugged(there), ERASED[:5120] + b"\x55" * 1024 + ERASED[6144:])
         # the first one is back, at this port and at another
         here = self.telling(COUNTING, "A1")
         self.well("--undo")
         self.assertEqual(self.unplugged(here), self.BACK)
-        self.leave("3 0412 " + self.FIRST, self.LEFT)
+        self.leave(was_last=False)
         here = self.telling(COUNTING, "A1", "ttyUSB1")
         self.assertEqual(self.well("--undo", port="ttyUSB1").out, b"Undone: the newest write or erase at this port.\n")
         self.assertEqual(self.unplugged(here, "ttyUSB1"), self.BACK)
-        self.assertNotIn(self.LEFT, self.journals())
 
     def test_a_chip_of_another_kind_is_another_board(self):
-        self.leave("3 0410 " + self.FIRST)
+        self.leave("0410")
         board = self.flash(COUNTING)
-        self.assertEqual(self.well("-w", "image").err, self.told())
+        self.assertEqual(self.well("-w", "image").err, self.FOUND + self.told())
         self.assertEqual(board.store(), NEW)
 
     def test_what_may_be_its_board_does_not_go_on(self):
-        """One that tells no unique id; and what is left of a board already is never replaced."""
+        """One that tells no unique id."""
         there = self.flash(COUNTING)
-        before = self.held(self.name("journal"))
+        before = self.held(self.first)
         said = self.words("-m", "8n1", "-w", "image")
         self.assertEqual(said.status, 1)
         self.assertIn(b"journal is of another board\nERROR: what an earlier call has begun can't be undone now; its journal is ", said.err)
         self.assertEqual(self.words("-m", "8n1", "--undo").status, 1)
         self.assertEqual(self.unplugged(there), COUNTING)
-        self.store(self.name(self.LEFT), b"another")
-        self.telling(COUNTING, "B2")
-        said = self.words("-m", "8n1", "-w", "image")
-        self.assertEqual(said.status, 1)
-        self.assertIn(self.LEFT.encode() + b" is there already, and can't be replaced\n", said.err)
-        self.assertFile(self.name("journal"), before)
-        self.assertFile(self.name(self.LEFT), b"another")
+        self.assertFile(self.first, before)
 
     def test_a_board_that_was_asked_is_not_said_to_be_reset(self):
-        self.leave("3 0412 " + self.FIRST, self.LEFT)
-        self.remove(self.name("journal"))
         self.instead(f'echo "$*" >> {self.path("called")}')
         for words in ((), ("--undo",)):
+            self.leave(was_last=False)
             here = self.telling(COUNTING, "A1")
             self.well("-i", "brk", *words, STM32FLASH_RESETS="1", STMFLASH_WAIT="1000")
             self.assertEqual(self.unplugged(here), self.BACK)
-            self.leave("3 0412 " + self.FIRST, self.LEFT)
         called = self.held("called").decode().splitlines()
         self.assertEqual([line.split()[0] for line in called if "undo" in line or "--fresh" in line], ["undo", "undo"])
         self.assertNotIn("--fresh", self.held("called").decode())
-
-    def test_one_that_another_program_has_stays(self):
-        journals = module("journals").Journals(self.path("ttyUSB0"))
-        journals.folder, journals.live = self.path(self.folder_of_port()), self.path(self.name("journal"))
-        with open(journals.live, "rb") as file:
-            fcntl.flock(file, fcntl.LOCK_EX)
-            self.assertRaisesRegex(module("fault").Fault, "another program has it", journals.leave, module("owner").owner_of(journals.live))
-        self.assertEqual(self.journals(), ["journal"])
 
 
 class Nameless(Place):
@@ -233,8 +210,7 @@ class Nameless(Place):
 
     def test_what_only_reads_refuses_and_leaves_all_as_it_was(self):
         """Another board may be there, and no journal has its bytes."""
-        os.makedirs(self.path(self.folder_of_port()))
-        self.store(self.name("journal"), STOPPED.encode())
+        self.keep("journal", STOPPED.encode())
         self.store("held", b"before")
         board = self.flash(COUNTING)
         with open(self.path("held"), "ab") as held:
@@ -262,7 +238,7 @@ class Others(Place):
 
     def setUp(self):
         super().setUp()
-        self.keep(1, b"stmjournal 2 0412\n" + KEPT)
+        self.put_aside(1, b"stmjournal 2 0412\n" + KEPT)
         self.store(self.name("journal"), UNCHANGED)
 
     def test_what_others_may_write_is_refused(self):
@@ -282,22 +258,28 @@ class Others(Place):
 
     def test_what_is_anothers_is_refused(self):
         """Its user's is taken by root too, who was called by sudo."""
-        trusted, held = module("trusted"), unittest.mock.Mock(st_uid=1000, st_mode=0o100600)
+        held = unittest.mock.Mock(st_uid=1000, st_mode=0o100600)
         for user, called, is_taken in ((1000, "", True), (1001, "1000", False), (0, "1000", True), (0, "1001", False), (0, "", False)):
-            with self.subTest(user=user, called=called), unittest.mock.patch.object(trusted.os, "geteuid", lambda: user), \
-                    unittest.mock.patch.object(trusted.os, "stat", lambda _: held), unittest.mock.patch.dict(os.environ, SUDO_UID=called):
-                with contextlib.nullcontext() if is_taken else self.assertRaisesRegex(module("fault").Fault, "is another user's"):
-                    trusted.refuse_others("journal")
+            with self.subTest(user=user, called=called), unittest.mock.patch.object(os, "geteuid", lambda: user), \
+                    unittest.mock.patch.object(os, "stat", lambda _: held), unittest.mock.patch.dict(os.environ, SUDO_UID=called):
+                with contextlib.nullcontext() if is_taken else self.assertRaisesRegex(places.Fault, "is another user's"):
+                    places.refuse_others("journal")
 
-    def test_one_that_comes_from_another_port_is_looked_at_too(self):
-        other = os.path.join(os.path.dirname(self.folder_of_port()), "other")
-        os.mkdir(self.path(other))
-        self.store(os.path.join(other, "stopped-A1"), STOPPED.encode())
-        for name, mode in ((other, 0o777), (os.path.join(other, "stopped-A1"), 0o666)):
-            before = os.stat(self.path(name)).st_mode
-            os.chmod(self.path(name), mode)
-            said = self.words("--log")
-            self.assertEqual(said.status, 1)
-            self.assertIn(f"others may write {self.path(name)}, ".encode(), said.err)
-            os.chmod(self.path(name), before)
+    def test_a_boards_own_is_looked_at_too(self):
+        self.store("table", TABLE + b"unique = [0x1FFFF7E8, 12]\n")
+        self.telling(COUNTING, "A1")
+        self.well()
+        path = self.path(self.journal_of("A1"))
+        self.store(self.journal_of("A1"), STOPPED.replace("2 0412", "3 0412 " + 12 * "A1").encode())
+        for name, mode in ((os.path.dirname(path), 0o777), (path, 0o666)):
+            before = os.stat(name).st_mode
+            os.chmod(name, mode)
+            for has_last in (True, False):
+                if not has_last:
+                    self.remove(self.name("last"))
+                said = self.words("-m", "8n1", "-w", "image")
+                self.assertEqual(said.status, 1)
+                self.assertIn(f"others may write {name}, ".encode(), said.err)
+                os.path.islink(self.path(self.name("last"))) or os.symlink(path, self.path(self.name("last")))
+            os.chmod(name, before)
         self.well("--log")

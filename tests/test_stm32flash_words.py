@@ -6,6 +6,7 @@ import importlib
 import io
 import os
 import re
+import shutil
 import signal
 import subprocess
 import sys
@@ -16,6 +17,7 @@ import unittest.mock
 
 from boards import LinePlace, default_signals, pty_boards
 from place import COUNTING, ERASED, PATIENCE, SIZE, TABLE, TOP, Said, program
+from stmflash_line import journals as places
 
 WORDS = os.path.join(TOP, "line", "stm32flash")
 FLASH = 0x08000000
@@ -63,10 +65,18 @@ class Words(LinePlace):
         self.assertEqual(said.status, 0, said)
         return said
 
-    def instead(self, text=None):
+    def refused(self, *texts, words=(), on="err", mode=("-m", "8n1"), **more):
+        """Runs it on these words, where it has to end with 1 and say each of these texts."""
+        said = self.words(*mode, *words, **more)
+        self.assertEqual(said.status, 1, said)
+        for text in texts:
+            self.assertIn(text, getattr(said, on))
+        return said
+
+    def instead(self, text=""):
         """This text of a shell takes the place of stmflash, in which that is $program; without one it is stmflash again."""
         self.remove("bin/stmflash")
-        self.store("bin/stmflash", f'#!/bin/sh\nprogram={program()}\n{text or ""}\nexec $program "$@"\n'.encode())
+        self.store("bin/stmflash", f'#!/bin/sh\nprogram={program()}\n{text}\nexec $program "$@"\n'.encode())
         os.chmod(self.path("bin/stmflash"), 0o755)
 
     def flash(self, data, name="ttyUSB0"):
@@ -94,17 +104,29 @@ class Words(LinePlace):
         return flash
 
     def folder_of_port(self):
-        return os.path.join(".local", "state", "stmflash", "ports", module("journals").name_of(self.path("ttyUSB0")))
+        return os.path.join(".local", "state", "stmflash", "ports", places.name_of(self.path("ttyUSB0")))
+
+    def name(self, name):
+        """The name of a journal of the port."""
+        return os.path.join(self.folder_of_port(), name)
+
+    def keep(self, name, text):
+        """Stores one."""
+        os.makedirs(self.path(self.folder_of_port()), exist_ok=True)
+        self.store(self.name(name), text)
 
     def journals(self):
-        return sorted(os.listdir(self.path(self.folder_of_port())))
+        """What the port has: the journal of boards that tell no unique id, and those that were put aside."""
+        return sorted({*os.listdir(self.path(self.folder_of_port()))} - {"last"})
+
+    def journal_of(self, byte):
+        """The journal of a board that tells a unique id of this byte alone."""
+        return os.path.join(".local", "state", "stmflash", "journals", 12 * byte + ".journal")
 
 
 class Refusals(Words):
     def test_what_cant_be_is_refused_by_name_and_no_byte_is_sent(self):
-        self.store("bad.hex", b":0400000001020304F3\n:00000001FF\n")
-        self.store("cut.hex", b":04000000010203\n")
-        self.store("image", b"abc")
+        self.store_all({"bad.hex": b":0400000001020304F3\n:00000001FF\n", "cut.hex": b":04000000010203\n", "image": b"abc"})
         cases = [
             (("-a", "1", "/dev/i2c-0"), "ERROR: /dev/i2c-0: I2C isn't there; the real stm32flash has it"),
             (("-m", "8n1", "/dev/null"), "ERROR: -m 8n1: isn't there; 8e1 is, which the bootloader of every STM32 has"),
@@ -144,9 +166,7 @@ class Refusals(Words):
             with self.subTest(words=words):
                 said = self.words(*words, port=None if words[-1].startswith("/dev/") else "ttyUSB0")
                 self.assertEqual((said.status, said.err.decode().splitlines()[0]), (1, line))
-        os.set_blocking(end, False)
-        with contextlib.suppress(BlockingIOError, OSError):
-            self.assertEqual(os.read(end, 1), b"")
+        self.assertNothingSent(end)
 
     def test_help_and_no_port(self):
         said = self.words("-h", port=None)
@@ -155,9 +175,7 @@ class Refusals(Words):
         self.assertEqual((said.status, said.err.splitlines()[0]), (1, b"ERROR: Device not specified"))
 
     def test_a_port_that_isnt_there(self):
-        said = self.words(port="missing")
-        self.assertEqual(said.status, 1)
-        self.assertIn(b"no such port", said.err)
+        self.refused(b"no such port", mode=(), port="missing")
 
     def test_tools_that_arent_there(self):
         os.remove(self.path("bin/stmflash"))
@@ -166,10 +184,8 @@ class Refusals(Words):
 
     def test_a_hint_of_stmflash_is_handed_on(self):
         self.plain()
-        self.remove("bin/stmflash")
         fault = "stmflash: no answer from the device\\nhint: the line echoes: are RX and TX joined?\\n"
-        self.store("bin/stmflash", f"#!/bin/sh\nprintf '{fault}' >&2\nexit 1\n".encode())
-        os.chmod(self.path("bin/stmflash"), 0o755)
+        self.instead(f"printf '{fault}' >&2; exit 1")
         said = self.words("-m", "8n1")
         self.assertEqual((said.status, said.err), (1, b"Failed to init device, timeout.\n"
                                                       b"stm32flash: the line echoes: are RX and TX joined?\n"))
@@ -214,9 +230,8 @@ Wrote and verified address 0x080005dc (100.00%) Done.
 
     def test_images_lie_where_stm32flash_puts_them(self):
         board = self.flash(ERASED)
-        self.store("image", bytes(range(200)))
-        self.store("at0.hex", b":0400000001020304F2\n:00000001FF\n")
-        self.store("at500.hex", b":020000040800F2\n:0405000011121314AD\n:00000001FF\n")
+        self.store_all({"image": bytes(range(200)), "at0.hex": b":0400000001020304F2\n:00000001FF\n",
+                        "at500.hex": b":020000040800F2\n:0405000011121314AD\n:00000001FF\n"})
         held = bytearray(ERASED)
         for words, at, data in [(("image", "-S", "0x08000800:100"), 2048, bytes(range(100))), (("at0.hex",), 0, b"\1\2\3\4"),
                                 (("at500.hex",), 0x500, b"\x11\x12\x13\x14"),
@@ -238,9 +253,7 @@ Wrote and verified address 0x080005dc (100.00%) Done.
     def test_an_image_that_doesnt_fit_is_refused(self):
         board = self.flash(COUNTING)
         self.store("image", b"x" * (SIZE + 1))
-        said = self.words("-m", "8n1", "-w", "image")
-        self.assertEqual(said.status, 1)
-        self.assertIn(b"doesn't lie in the flash", said.err)
+        self.refused(b"doesn't lie in the flash", words=("-w", "image"))
         self.assertEqual(board.store(), COUNTING)
 
     def test_reads_and_the_crc(self):
@@ -284,9 +297,8 @@ Wrote and verified address 0x080005dc (100.00%) Done.
             os.close(1)
             os.close(2)
 
-        os.makedirs(self.path(self.folder_of_port()))
         for number, before in enumerate((None, close)):
-            self.store(os.path.join(self.folder_of_port(), "journal"), STOPPED.encode())
+            self.keep("journal", STOPPED.encode())
             with open("/dev/full", "wb") as full:
                 ran = subprocess.run([WORDS, "-m", "8n1", "-w", "image", "-v", "ttyUSB0"], cwd=self.folder, env=self.settings(),
                                      timeout=PATIENCE, stdin=subprocess.DEVNULL, stdout=full, stderr=full, preexec_fn=before)
@@ -301,8 +313,7 @@ Wrote and verified address 0x080005dc (100.00%) Done.
 
     def test_a_part_that_tells_less_flash(self):
         """What says no length is all of its flash, and what lies behind that is refused by it."""
-        self.store("table", TABLE + b"size_at = 0x1FFFF7E0\n")
-        self.store("ttyUSB0.flash.board", b"size 16\n")
+        self.store_all({"table": TABLE + b"size_at = 0x1FFFF7E0\n", "ttyUSB0.flash.board": b"size 16\n"})
         board = self.flash(COUNTING[:16384])
         said = self.well("-r", "out")
         self.assertFile("out", COUNTING[:16384])
@@ -315,9 +326,7 @@ Wrote and verified address 0x080005dc (100.00%) Done.
                             (("-o", "-s", "15", "-e", "2"), b"Specified start & length are invalid"),
                             (("-r", "out", "-s", "17"), b"Address range exceeds flash size."),
                             (("-g", "0x08005000"), b"not in the flash of this chip, which ends at 0x08004000\n")):
-            said = self.words("-m", "8n1", *words)
-            self.assertEqual(said.status, 1)
-            self.assertIn(text, said.err)
+            self.refused(text, words=words)
         self.assertEqual(board.store(), COUNTING[:16384])
         self.well("-o")
         self.assertEqual(board.store(), ERASED[:16384])
@@ -328,21 +337,15 @@ Wrote and verified address 0x080005dc (100.00%) Done.
         """The table has a larger one: a program behind this one's flash isn't started, and a read ends with the flash."""
         self.store("table", TABLE + TABLE.replace(b"412", b"410").replace(b"[32,", b"[64,"))
         self.flash(COUNTING)
-        said = self.words("-m", "8n1", "-g", "0x08009000")
-        self.assertEqual(said.status, 1)
-        self.assertIn(b"ERROR: -g 0x08009000: not in the flash of this chip, which ends at 0x08008000\n", said.err)
+        self.refused(b"ERROR: -g 0x08009000: not in the flash of this chip, which ends at 0x08008000\n", words=("-g", "0x08009000"))
         self.well("-r", "out", "-S", "0x08007c00:4096")
         self.assertFile("out", COUNTING[-1024:])
 
 
 class TakingBack(Words):
-    def stopped(self):
-        os.makedirs(self.path(self.folder_of_port()), exist_ok=True)
-        self.store(os.path.join(self.folder_of_port(), "journal"), STOPPED.encode())
-
     def test_what_never_ended_is_undone_before_anything_else(self):
         board = self.flash(COUNTING)
-        self.stopped()
+        self.keep("journal", STOPPED.encode())
         self.store("image", b"new")
         said = self.well("-w", "image")
         self.assertEqual(said.err, b"stm32flash: an earlier call was stopped in the midst of a write, an erase or an undo: that is"
@@ -354,11 +357,10 @@ class TakingBack(Words):
 
     def test_a_signal_in_the_midst(self):
         """The call is ended while it writes; the next one gives the flash back."""
-        self.store("image", b"new" * 1000)
-        self.store("ttyUSB0.flash", COUNTING)
+        self.store_all({"image": b"new" * 1000, "ttyUSB0.flash": COUNTING})
         board = pty_boards.PtyBoard(program(), self.path("ttyUSB0"), "0412", self.path("table"), baud=57600)
         self.addCleanup(board.stop)
-        journal = os.path.join(self.folder_of_port(), "journal")
+        journal = self.name("journal")
         for number, status in ((signal.SIGTERM, 143), (signal.SIGKILL, -9)):
             with self.subTest(signal=number):
                 with subprocess.Popen([WORDS, "-m", "8n1", "-w", "image", "ttyUSB0"], cwd=self.folder, env=self.settings(),
@@ -375,14 +377,9 @@ class TakingBack(Words):
 
     def test_what_cant_be_undone_ends_the_call(self):
         board = self.flash(COUNTING)
-        self.stopped()
-        name = os.path.join(self.folder_of_port(), "journal")
-        self.store("table", self.held("table") + self.held("table").replace(b"412", b"410"))
-        self.store(name, STOPPED.replace("0412", "0410").encode())
-        self.store("image", b"new")
-        said = self.words("-m", "8n1", "-w", "image")
-        self.assertEqual(said.status, 1)
-        self.assertIn(b"journal belongs to another device\nERROR: what an earlier call has begun can't be undone now", said.err)
+        self.keep("journal", STOPPED.replace("0412", "0410").encode())
+        self.store_all({"table": TABLE + TABLE.replace(b"412", b"410"), "image": b"new"})
+        self.refused(b"journal belongs to another device\nERROR: what an earlier call has begun can't be undone now", words=("-w", "image"))
         self.assertEqual(board.store(), COUNTING)
 
     def test_go_keeps_the_way_back(self):
@@ -420,22 +417,17 @@ class TakingBack(Words):
         board = self.flash(COUNTING)
         self.store("image", b"new")
         self.well("-w", "image", STMFLASH_JSON="1")
-        os.makedirs(self.path(self.folder_of_port()), exist_ok=True)
-        self.store(os.path.join(self.folder_of_port(), "kept-000001"), b"stmjournal 2 0412\n" + KEPT)
-        before = [self.held(os.path.join(self.folder_of_port(), name)) for name in self.journals()]
+        self.keep("kept-000001", b"stmjournal 2 0412\n" + KEPT)
+        before = [self.held(self.name(name)) for name in self.journals()]
         self.instead('[ "$1" != log ] || exec echo "{}"')
-        said = self.words("-m", "8n1", "--undo")
-        self.assertEqual(said.status, 1)
-        self.assertIn(b"/journal isn't understood\n", said.err)
-        self.assertEqual([self.held(os.path.join(self.folder_of_port(), name)) for name in self.journals()], before)
+        self.refused(b"/journal isn't understood\n", words=("--undo",))
+        self.assertEqual([self.held(self.name(name)) for name in self.journals()], before)
         self.instead()
         self.well("--undo", STMFLASH_JSON="1")
         self.assertEqual(board.store(), COUNTING)
 
     def test_a_write_and_go_are_one_session(self):
-        self.remove("bin/stmflash")
-        self.store("bin/stmflash", f'#!/bin/sh\necho "$@" >> {self.path("calls")}\nexec {program()} "$@"\n'.encode())
-        os.chmod(self.path("bin/stmflash"), 0o755)
+        self.instead(f'echo "$@" >> {self.path("calls")}')
         board = self.flash(COUNTING)
         for image, words in ((b"new", ("-g", "0x08000000")), (b"newer", ("-R",))):
             with self.subTest(words=words):
@@ -449,15 +441,14 @@ class TakingBack(Words):
                 board = self.reset(board)
 
     def test_another_board_at_the_port_has_its_own_journal(self):
-        self.store("table", TABLE + b"unique = [0x1FFFF7E8, 12]\n")
-        self.store("image", b"new")
+        self.store_all({"table": TABLE + b"unique = [0x1FFFF7E8, 12]\n", "image": b"new"})
         here = self.telling(COUNTING, "A1")
         self.well("-w", "image")
         first = self.unplugged(here)
         there = self.telling(ERASED, "B2")
-        said = self.well("-w", "image")
-        self.assertIn(b"another board was at this port before: its journal is put aside\n", said.err)
-        self.assertEqual(self.journals(), ["journal", "kept-000001"])
+        self.assertEqual(self.well("-w", "image").err, b"")
+        self.assertEqual(self.journals(), [])
+        self.assertTrue(all(map(self.is_there, map(self.journal_of, ("A1", "B2")))))
         self.well("--undo")
         self.assertEqual(there.store(), ERASED)
         # the first board's journal isn't one of this
@@ -471,8 +462,7 @@ class TakingBack(Words):
         self.flash(COUNTING)
         self.store("image", b"new")
         self.well("-w", "image")
-        folder = self.path(self.folder_of_port())
-        os.link(os.path.join(folder, "journal"), os.path.join(folder, "kept-000001"))
+        os.link(self.path(self.name("journal")), self.path(self.name("kept-000001")))
         self.well()
         self.assertEqual(self.journals(), ["kept-000001"])
 
@@ -492,23 +482,19 @@ class TakingBack(Words):
 
     def test_another_chip_begins_a_journal_of_its_own(self):
         self.flash(COUNTING)
-        os.makedirs(self.path(self.folder_of_port()))
         for held, told, left in ((KEPT, b"is put aside", ["kept-000001"]),
                                  (b"open 1\nend 1\n", b"has changed nothing, and is removed", ["kept-000001"])):
-            self.store(os.path.join(self.folder_of_port(), "journal"), b"stmjournal 2 0410\n" + held)
+            self.keep("journal", b"stmjournal 2 0410\n" + held)
             said = self.well()
-            self.assertEqual(said.err, b"stm32flash: a chip of another kind was at this port before: its journal " + told + b"\n")
+            self.assertEqual(said.err, b"stm32flash: another board was at this port before: its journal " + told + b"\n")
             self.assertEqual(self.journals(), left)
 
     def test_no_reset_is_claimed_unless_the_user_does(self):
         """Where it was claimed, a board that wasn't reset would take the connecting byte for one of a command."""
-        os.remove(self.path("bin/stmflash"))
-        self.store("bin/stmflash", f'#!/bin/sh\necho "$STMFLASH_FRESH $*" >> {self.path("called")}\n'
-                                   f'exec {program()} "$@"\n'.encode())
-        os.chmod(self.path("bin/stmflash"), 0o755)
+        self.instead(f'echo "$STMFLASH_FRESH $*" >> {self.path("called")}')
         board = self.flash(COUNTING)
         for settings, claimed in (({}, False), ({"STM32FLASH_RESETS": "1"}, True)):
-            self.stopped()
+            self.keep("journal", STOPPED.encode())
             self.store("called", b"")
             self.well("-o", "-s", "0", "-e", "1", "-i", "brk", STMFLASH_FRESH="1", **settings)
             called = self.held("called").decode().splitlines()
@@ -522,13 +508,12 @@ class Boards(Words):
 
     def setUp(self):
         super().setUp()
-        self.store("table", TABLE + b"unique = [0x1FFFF7E8, 12]\n")
-        self.store("image", b"new")
+        self.store_all({"table": TABLE + b"unique = [0x1FFFF7E8, 12]\n", "image": b"new"})
 
     def put_aside(self, count, header, first=1):
         """So many journals that were put aside, under one header: each keeps page 5, of 55."""
         for number in range(first, first + count):
-            self.store(os.path.join(self.folder_of_port(), f"kept-{number:06d}"), header + KEPT)
+            self.keep(f"kept-{number:06d}", header + KEPT)
 
     def test_other_boards_dont_cost_the_only_way_back(self):
         here = self.telling(COUNTING, "A1")
@@ -551,12 +536,26 @@ class Boards(Words):
         self.well("-w", "image")
         second = self.unplugged(there)
         here = self.telling(first, "A1")
-        said = self.well("--undo")
-        self.assertEqual(said.err, b"stm32flash: another board was at this port before: its journal is put aside\n")
+        self.assertEqual(self.well("--undo").err, b"")
         self.assertEqual(self.unplugged(here), COUNTING)
         there = self.telling(second, "B2")
         self.well("--undo")
         self.assertEqual(there.store(), ERASED)
+
+    def test_a_board_that_tells_its_id_leaves_the_ports_journal(self):
+        """It may be another's; and what it kept can be undone all the same where it is this one's."""
+        self.telling(COUNTING, "A1")
+        os.makedirs(self.path(self.folder_of_port()))
+        self.store(os.path.join(self.folder_of_port(), "journal"), b"stmjournal 2 0412\n" + KEPT)
+        self.assertEqual(self.well("-w", "image").err, b"stm32flash: another board was at this port before: its journal is put aside\n")
+        self.assertEqual(self.journals(), ["kept-000001"])
+        self.assertTrue(self.is_there(self.journal_of("A1")))
+        self.well("--undo")
+        self.well("--undo")
+        # what a board was stopped in stays
+        self.store(os.path.join(self.folder_of_port(), "journal"), STOPPED.encode())
+        self.assertEqual(self.well("-w", "image").err, b"")
+        self.assertFile(os.path.join(self.folder_of_port(), "journal"), STOPPED.encode())
 
     def test_an_undo_passes_over_another_kind_of_chip(self):
         self.store("table", self.held("table") + TABLE.replace(b"412", b"410"))
@@ -571,7 +570,6 @@ class Boards(Words):
 
     def test_an_erased_chip_ends_its_own_ways_back_alone(self):
         board = self.telling(COUNTING, "B2")
-        os.makedirs(self.path(self.folder_of_port()))
         for number, header in enumerate((b"3 0412 " + 12 * b"A1", b"2 0410", b"2 0412", b"3 0412 " + 12 * b"B2"), 1):
             self.put_aside(1, b"stmjournal " + header + b"\n", number)
         said = self.well("-k")
@@ -584,7 +582,6 @@ class Boards(Words):
 
     def test_an_erased_chip_that_doesnt_tell_its_board(self):
         self.flash(COUNTING)
-        os.makedirs(self.path(self.folder_of_port()))
         self.put_aside(1, b"stmjournal 3 0412 " + 12 * b"A1" + b"\n")
         said = self.well("-k")
         self.assertIn(b"ended-000001 may be another's, but isn't looked at any more\n", said.err)
@@ -593,33 +590,23 @@ class Boards(Words):
     def test_an_erase_of_the_chip_that_fails_tells_where_the_ways_back_are(self):
         self.flash(COUNTING)
         self.well("-w", "image")
-        self.remove("bin/stmflash")
-        self.store("bin/stmflash", f'#!/bin/sh\n[ "$1" != protect ] || exec {program()} false\nexec {program()} "$@"\n'.encode())
-        os.chmod(self.path("bin/stmflash"), 0o755)
-        said = self.words("-m", "8n1", "-k")
-        self.assertEqual(said.status, 1)
-        self.assertIn(b"ERROR: whether the chip is erased isn't known; what could be undone is kept as ", said.err)
+        self.instead('[ "$1" != protect ] || exec $program false')
+        self.refused(b"ERROR: whether the chip is erased isn't known; what could be undone is kept as ", words=("-k",))
         self.assertEqual(self.journals(), ["ended-000001"])
 
     def test_a_journal_that_cant_be_read_is_told_by_its_name(self):
         board = self.flash(COUNTING)
         self.well("-w", "image", "-g", "0")
-        bad = os.path.join(self.folder_of_port(), "kept-000002")
-        self.store(bad, b"nonsense\n")
-        said = self.words("--log")
-        self.assertEqual(said.status, 1)
-        self.assertIn(b"kept-000002 is no journal: name another, or move it away: it can't be read\n", said.out)
-        self.assertIn(b"1 can be undone\n", said.out)
+        self.keep("kept-000002", b"nonsense\n")
+        self.refused(b"kept-000002 is no journal: name another, or move it away: it can't be read\n", b"1 can be undone\n",
+                     mode=("--log",), on="out")
         board = self.reset(board)
-        said = self.words("-m", "8n1", "--undo")
-        self.assertEqual(said.status, 1)
-        self.assertIn(b"kept-000002 is the newest and can't be read", said.err)
-        self.remove(bad)
+        self.refused(b"kept-000002 is the newest and can't be read", words=("--undo",))
+        self.remove(self.name("kept-000002"))
         self.well("--undo")
         self.assertEqual(board.store(), COUNTING)
-        self.store(os.path.join(self.folder_of_port(), "journal"), b"nonsense\n")
-        said = self.words("-m", "8n1")
-        self.assertIn(b"ERROR: the journal of this port can't be read; it is " + self.path(self.folder_of_port()).encode(), said.err)
+        self.keep("journal", b"nonsense\n")
+        self.refused(b"ERROR: the journal of this port can't be read; it is " + self.path(self.folder_of_port()).encode())
 
 
 class Dropping(unittest.TestCase):
@@ -727,8 +714,8 @@ class Parts(unittest.TestCase):
     def test_the_line_is_asked_for_with_both_sequences(self):
         call = module("call")
         asked = []
-        with unittest.mock.patch.object(call.line, "use", lambda *words: asked.append(words[1:5])), \
-                unittest.mock.patch.object(call.tools, "find", lambda _: module("tools").Tools("stmflash", "line", "chips")), \
+        with unittest.mock.patch.object(call.line, "use", lambda *words: asked.append(words[:4])), \
+                unittest.mock.patch.object(call.tools, "find", lambda _: module("tools").Tools("stmflash", "chips")), \
                 unittest.mock.patch.object(call.chips, "read_table", lambda _: {}), \
                 unittest.mock.patch.object(call.Journals, "make", lambda _: None), \
                 unittest.mock.patch.dict(os.environ, STM32FLASH_GPIO_CHIP="chip"), contextlib.redirect_stdout(io.StringIO()):
@@ -824,7 +811,7 @@ class Parts(unittest.TestCase):
                     made = journals.Journals("/dev/ttyS0")
                 self.assertEqual(made.folder, os.path.join(home, place, "stmflash", "ports", "ttyS0"))
                 made.make()
-                self.assertEqual(os.stat(made.folder).st_mode & 0o777, 0o700)
+                self.assertEqual([os.stat(folder).st_mode & 0o777 for folder in (made.folder, made.boards)], [0o700, 0o700])
             for size, is_large in ((8 << 20, False), ((8 << 20) + 1, True)):
                 with open(made.live, "wb") as file:
                     file.truncate(size)
@@ -888,12 +875,12 @@ class Parts(unittest.TestCase):
             for number, handler in zip((*line.SIGNALS, signal.SIGCHLD), before):
                 signal.signal(number, handler)
 
-    def test_stmflash_line_without_its_modules(self):
-        line = module("line")
-        with unittest.mock.patch.object(line, "PLACES", ()):
-            self.assertRaises(module("fault").Fault, line.find_modules, "/nowhere/bin/stmflash-line")
-        with unittest.mock.patch.object(line, "PLACES", ("/nowhere", os.path.join(TOP, "line"))):
-            self.assertEqual(line.find_modules("/nowhere/bin/stmflash-line"), os.path.join(TOP, "line"))
+    def test_without_the_modules_of_stmflash_line(self):
+        with tempfile.TemporaryDirectory() as folder:
+            shutil.copy(WORDS, folder)
+            shutil.copytree(os.path.join(TOP, "line", "as_stm32flash"), os.path.join(folder, "as_stm32flash"))
+            ran = subprocess.run([os.path.join(folder, "stm32flash"), "-h"], capture_output=True, timeout=PATIENCE, check=False)
+        self.assertEqual((ran.returncode, ran.stderr), (1, b"ERROR: stmflash_line, which stm32flash is made of, isn't there: install stmflash\n"))
 
     def test_a_write_that_differs_is_done_again_as_often_as_is_asked(self):
         fault, actions = module("fault"), module("actions")
@@ -971,14 +958,13 @@ class Parts(unittest.TestCase):
                 self.assertEqual(done.call_count, times)
 
     def test_a_port_is_where_its_adapter_is_plugged_in(self):
-        journals = module("journals")
         links = {"/dev/serial/by-path/pci-usb-0:2": "/dev/ttyUSB3", "/dev/serial/by-path/pci-usbv2-0:2": "/dev/ttyUSB3",
                  "/dev/serial/by-id/adapter": "/dev/ttyUSB3", "/dev/serial/by-path/pci-usb-0:1": "/dev/ttyUSB10"}
-        with unittest.mock.patch.object(journals.os.path, "realpath", lambda path: links.get(path, path)), \
-                unittest.mock.patch.object(journals.os, "listdir", lambda _: ["pci-usbv2-0:2", "pci-usb-0:2", "pci-usb-0:1"]), \
-                unittest.mock.patch.object(journals, "is_pty", lambda _: False):
+        with unittest.mock.patch.object(places.os.path, "realpath", lambda path: links.get(path, path)), \
+                unittest.mock.patch.object(places.os, "listdir", lambda _: ["pci-usbv2-0:2", "pci-usb-0:2", "pci-usb-0:1"]), \
+                unittest.mock.patch.object(places, "is_pty", lambda _: False):
             ports = ("/dev/ttyUSB3", "/dev/serial/by-id/adapter", "/dev/ttyS0", "/dev/ttyUSB1", "/dev/ttyUSB10")
-            names = [journals.name_of(port) for port in ports]
+            names = [places.name_of(port) for port in ports]
         # a port whose name begins another's has none of its journals
         self.assertEqual(names, ["pci-usb-0:2", "pci-usb-0:2", "ttyS0", "ttyUSB1", "pci-usb-0:1"])
 

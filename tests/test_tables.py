@@ -5,7 +5,7 @@ import shutil
 import subprocess
 import unittest
 
-from place import PATIENCE, UNTRIED, Place, Said, program
+from place import PATIENCE, Place, Said, program
 from test_device import INFO, RAW
 
 # the folders of a test that stand where the system has its own
@@ -68,13 +68,13 @@ class Tables(Place):
         board = 'part = "a", version = "22", who = "b", when = "c", verdict = "d", file = "e"'
         tried = ENTRY.format(0x412, 0x8000000) + f"tried = [{{ {board} }}, {{ {board} }}]\n"
         self.place(INSTALLED, text=tried)
-        self.assertTold(self.info(), INFO.replace(UNTRIED, "tried: 2 boards\n"))
+        self.assertTold(self.info(), INFO + "tried on 2 boards\n")
         self.place(MACHINES, (0x410, 0x8000000))
-        self.assertTold(self.info(), INFO.replace(UNTRIED, "tried: 2 boards\n"))
+        self.assertTold(self.info(), INFO + "tried on 2 boards\n")
         self.place(self.home, (0x412, 0x8000000))
         self.assertTold(self.info(), INFO)
         self.place(self.home, text=ENTRY.format(0x412, 0x8000000) + f"tried = [{{ {board} }}]\n")
-        self.assertTold(self.info(), INFO.replace(UNTRIED, "tried: 1 board\n"))
+        self.assertTold(self.info(), INFO + "tried on 1 board\n")
 
     def test_go_over_one_another_entry_by_entry(self):
         """The user's goes over the machine's, that over the installed one, and of each table the other chips stay."""
@@ -180,7 +180,3 @@ class Tables(Place):
                     self.assertFault(self.see(*words), f"cannot write {name}")
             with open(path, "rb") as file:
                 self.assertEqual(file.read(), held)
-
-
-if __name__ == "__main__":
-    unittest.main()

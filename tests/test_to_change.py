@@ -3,8 +3,8 @@ back to the newest that changed something."""
 
 import json
 
-from place import ERASED, had, new, with_page
-from served import WAIT, Served
+from place import ERASED, WAIT, had, new, with_page
+from served import Served
 
 import telling
 
@@ -20,8 +20,7 @@ NOT_BOTH = "usage: give COUNT or --to-change, not both"
 class ToChange(Served):
     def write(self, times=1, device="sim:0412:flash", more=()):
         """Writes A, then B, and B so often again."""
-        self.store("a", A)
-        self.store("b", B)
+        self.store_all({"a": A, "b": B})
         for name, pages in [("a", 1), ("b", 3)] + times * [("b", 0)]:
             self.assertEqual(self.use("write", *more, name, device=device).out.split()[2], b"%d" % pages)
 
@@ -64,9 +63,7 @@ class ToChange(Served):
         journal, flash = self.held("journal"), self.held("flash")
         for stop in (20, 40, 1100, 2500):
             with self.subTest(stop=stop):
-                self.store("journal", journal)
-                self.store("flash", flash)
-                self.store("flash.line", b"idle\n")
+                self.store_all({"journal": journal, "flash": flash, "flash.line": b"idle\n"})
                 self.assertFault(self.use("undo", "--to-change", "--stop", str(stop)), "stopped", 3)
                 self.assertEqual(self.use("undo", "--to-change", "-v").status, 0)
                 self.assertHolds(OF_A, b"idle\n")
@@ -76,8 +73,7 @@ class ToChange(Served):
         self.store("journal", CHANGED + b"open 3\n")
         self.assertTold(self.use("undo", "--to-change"), "undone 3\n", had(2, 3, left=0))
         self.assertHolds(BACK, b"idle\n")
-        self.store("flash", ERASED)
-        self.store("journal", with_page(CHANGED + b"open 3\npage 6 ", b"0", b"\n"))
+        self.store_all({"flash": ERASED, "journal": with_page(CHANGED + b"open 3\npage 6 ", b"0", b"\n")})
         self.assertTold(self.use("undo", "--to-change"), "undone 1\n")
         self.assertHolds(ERASED[:6144] + bytes(1024) + ERASED[7168:], b"idle\n")
         self.assertTold(self.use("undo", "--to-change"), "undone 2\n", had(2, left=0))
@@ -135,9 +131,7 @@ class ToChange(Served):
 
     def test_in_a_folder(self):
         """And on a device that is said to be fresh from reset."""
-        self.store("table", telling.TABLE)
-        self.store("image", b"an image")
-        self.store("flash.board", b"unique 2B0035000A51363034393332\n")
+        self.store_all({"table": telling.TABLE, "image": b"an image", "flash.board": b"unique 2B0035000A51363034393332\n"})
         given = ("--table", "table", "--device", "sim:0410:flash", "--journals", ".")
         for segment in (1, 2):
             self.assertEqual(self.call("write", *given, "image").status, 0)

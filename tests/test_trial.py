@@ -16,8 +16,11 @@ import select
 import signal
 import subprocess
 import sys
+import termios
+import threading
 import time
 import tomllib
+import tty
 import unittest
 
 from boards import LINE, PYTHON, LinePlace, default_signals
@@ -40,6 +43,8 @@ AT_ONCE = 10
 # short waits where nothing is due: a late reply is waited for all the same
 QUICK = ("--yes", "--wait", "20", "--pause", "0.2", "--baud", "4000000")
 PAGES, SIZE = 8, 1024
+# of the system's numbers of speeds
+SPEEDS = {getattr(termios, f"B{baud}"): baud for baud in (57600, 115200, 230400, 460800, 921600, 1000000, 1500000, 2000000)}
 
 
 def table(code, pages=PAGES, size=SIZE):
@@ -262,9 +267,7 @@ class Words(TrialPlace):
         self.assertFalse(self.is_there("trial.toml"))
 
     def test_words_that_cannot_be_done(self):
-        self.store("table", table("44"))
-        self.store("here", b"kept")
-        self.store("bad", b"[[chip]]\nid = 1\n")
+        self.store_all({"table": table("44"), "here": b"kept", "bad": b"[[chip]]\nid = 1\n"})
         os.symlink("saved", self.path("linked"))
         for words, text in (
             ((), "no board"),
@@ -289,8 +292,7 @@ class Words(TrialPlace):
 
     def test_what_is_found_replaces_no_other_file(self):
         """A link and a pipe stay, and so does whatever has a name of that kind; a name that is no text is told as far as it is one."""
-        self.store("table", table("44"))
-        self.store("real.new", b"mine")
+        self.store_all({"table": table("44"), "real.new": b"mine"})
         os.symlink("real", self.path("link"))
         os.mkfifo(self.path("pipe"))
         reader = os.open(self.path("pipe"), os.O_RDONLY | os.O_NONBLOCK)
@@ -302,7 +304,7 @@ class Words(TrialPlace):
                 self.assertEqual(board.wait(PATIENCE), 0)
             self.assertStatus(said, 0)
             # the next board has a socket of its own
-            self.remove(*(["board"] if self.is_there("board") else []))
+            self.clear("board")
             self.assertEqual(tomllib.loads(held().decode())["part"], "a\ufffdb")
             self.assertIn(f"saved in saved\\udcff{name}: ", said.out.decode())
         self.assertTrue(os.path.islink(self.path("link")))
@@ -432,6 +434,88 @@ class Ports(LinePlace):
             os.rmdir(self.path(f"temporary/{folder}"))
 
 
+class FastBoard:
+    """A board on a pseudo-terminal that knows its port's speed, and answers up to `fastest`; above `right` it reads wrong bytes. It is
+    connected anew where the file `reset` has come."""
+
+    def __init__(self, test, fastest, right):
+        self.master, slave = os.openpty()
+        tty.setraw(slave)
+        os.symlink(os.ttyname(slave), test.path("ttyUSB0"))
+        os.close(slave)
+        self.test, self.fastest, self.right, self.speed, self.asked = test, fastest, right, None, b""
+        self.is_over = threading.Event()
+        serving = threading.Thread(target=self.serve)
+        serving.start()
+        test.addCleanup(os.close, self.master)
+        test.addCleanup(serving.join)
+        test.addCleanup(self.is_over.set)
+
+    def serve(self):
+        while not self.is_over.is_set():
+            # while nobody has the port open a read fails
+            with contextlib.suppress(OSError):
+                if select.select([self.master], [], [], 0.05)[0]:
+                    for byte in os.read(self.master, 4096):
+                        os.write(self.master, self.reply(byte))
+
+    def reply(self, byte):
+        if self.test.is_there("reset"):
+            self.test.remove("reset")
+            self.speed, self.asked = None, b""
+        if self.speed is None:
+            self.speed = SPEEDS[termios.tcgetattr(self.master)[4]]
+            return b"\x79" if self.speed <= self.fastest else b""
+        if self.speed > self.fastest:
+            return b"\xc3"
+        self.asked += bytes([byte])
+        answers = {b"\x00\xff": bytes.fromhex("7905 22 00 02 11 31 43 79"), b"\x02\xfd": bytes.fromhex("7901041279"), b"\x11\xee": b"\x79"}
+        if self.asked in answers:
+            return answers[self.asked]
+        if len(self.asked) == 7:
+            return b"\x79"
+        if len(self.asked) == 9:
+            self.asked = b""
+            return b"\x79" + bytes(range(256)) if self.speed <= self.right else b"\x79" + bytes(256)
+        if self.asked[:2] in (b"\x00\xff", b"\x02\xfd"):
+            self.asked = bytes([byte])
+        return b""
+
+
+class Speeds(LinePlace):
+    """Which speeds a board takes: it is reset before each."""
+
+    def speeds(self, fastest, right, *words):
+        FastBoard(self, fastest, right)
+        self.store("table", table("43", 32).replace(b"440", b"412"))
+        said = self.line("--port", "ttyUSB0", "--table", "table", "--speeds", *words, line=(TRIAL,))
+        self.assertEqual(said.err, b"")
+        self.assertEqual(sorted(os.listdir(self.folder)), ["table", "temporary", "ttyUSB0"])
+        return said.status, [re.sub(r" in \d+\.\d s", "", line) for line in said.out.decode().splitlines()]
+
+    def test_the_highest_is_found(self):
+        status, lines = self.speeds(1000000, 460800, "--reset", "touch reset")
+        self.assertEqual((status, lines), (0, [
+            *(f"{baud:<9}taken: 16384 bytes read" for baud in (57600, 115200, 230400, 460800)),
+            *(f"{baud:<9}not taken: other bytes were read than at a lower speed" for baud in (921600, 1000000)),
+            *(f"{baud:<9}not taken: no answer" for baud in (1500000, 2000000)),
+            "the highest that this board takes on this line: --baud 460800"]))
+
+    def test_a_board_that_takes_none(self):
+        status, lines = self.speeds(0, 0, "--reset", "touch reset")
+        self.assertEqual((status, lines[-1]), (1, "none is taken"))
+
+    def test_one_that_is_not_reset_answers_at_the_first_alone(self):
+        status, lines = self.speeds(2000000, 2000000, "--reset", "true")
+        self.assertEqual((status, lines[-1]), (0, "the highest that this board takes on this line: --baud 57600"))
+
+    def test_without_a_reset_it_is_refused(self):
+        for words in (("--port", "ttyUSB0"), ("--device", "board", "--reset", "true")):
+            said = self.line("--speeds", *words, line=(TRIAL,))
+            self.assertEqual((said.status, said.out), (2, b""))
+            self.assertIn(b"--speeds needs --port, and a reset before each: --wiring, --reset, or a terminal\n", said.err)
+
+
 class Told(TrialPlace):
     def test_the_file(self):
         """What it has, and that no byte of the flash, no path and no name of a file is in it, also where reads went wrong."""
@@ -451,7 +535,7 @@ class Told(TrialPlace):
             self.assertLessEqual({row["result"] for row in found["row"]}, {"holds", "differs", "not tried"})
             for word in ("D7", "d7", "215", "/", "kept-here", "found.toml", "kill"):
                 self.assertNotIn(word, text)
-            self.remove("board", *(["kept-here"] if self.is_there("kept-here") else []))
+            self.clear("board", "kept-here")
 
     def test_the_file_that_cannot_be_written(self):
         self.store("table", table("44"))

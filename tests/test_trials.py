@@ -33,8 +33,7 @@ class Sent(Place):
     def setUp(self):
         super().setUp()
         os.mkdir(self.path("trials"))
-        self.store("table", TABLE.encode())
-        self.store("page", PAGE)
+        self.store_all({"table": TABLE.encode(), "page": PAGE})
         with open(SENT, encoding="utf-8") as held:
             self.text = held.read()
 
@@ -128,8 +127,7 @@ class Sent(Place):
         self.store("table", (TABLE + f"tried = [{board}]\n").encode())
         self.assertEqual(self.trials(), Said(0, b"", b""))
         self.assertIn("Real boards: 1, of 1 of the 1 chips in the table.", self.held("page").decode())
-        self.store("page", PAGE)
-        self.store("table", (TABLE + f"tried = [{board}, {board}]\n").encode())
+        self.store_all({"page": PAGE, "table": (TABLE + f"tried = [{board}, {board}]\n").encode()})
         self.assertRefused(f'tried of 0412 has "trials/{NAME}" more than once', at="table")
         other = board.replace('"22"', '"31"').replace(" }", ', "simulated" = true }')
         self.store("table", (TABLE + f"tried = [{other}]\n").encode())

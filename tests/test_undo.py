@@ -1,8 +1,7 @@
 """What `undo` makes of a flash, from journals that were left by others."""
 
-import subprocess
 
-from place import ERASED, PATIENCE, SILENT, TABLE, ZEROS, Place, had, program, with_page
+from place import ERASED, SILENT, TABLE, ZEROS, Place, had, lacks, with_page
 
 HEAD = b"stmjournal 2 0412\nopen 1\npage 5 "
 # a journal that was left in the midst of a page's line, and the same after its segment was undone
@@ -34,9 +33,7 @@ class Undo(Place):
         """The device waits for the pages of an erase, and the settling byte names the one that the journal keeps."""
         before = with_page(HEAD, b"0", b"\nerase 5\n")
         after = with_page(HEAD, b"0", b"\nerase 5\nerase 5\nprogram 5\nundone 1\n")
-        self.store("flash", ZEROS)
-        self.store("flash.line", b"rest 43BC\n")
-        self.store("journal", before)
+        self.store_all({"flash": ZEROS, "flash.line": b"rest 43BC\n", "journal": before})
         self.assertTold(self.use("undo"), "undone 1\n")
         self.assertHolds(ZEROS, b"idle\n")
         self.assertFile("journal", after)
@@ -48,10 +45,7 @@ class Undo(Place):
         """An erase of page 1 was stopped behind its complement and a 00. Byte 01 completes one of page 257, in which power goes:
         a page that lost it there may read right once. So page 257 is erased and written as page 1 is, wherever the undo stops."""
         paired = bytes(512 * 256)
-        self.store("table", COMPANIONS)
-        self.store("flash", paired)
-        self.store("flash.line", b"rest 44BB00\n")
-        self.store("journal", PAIRED)
+        self.store_all({"table": COMPANIONS, "flash": paired, "flash.line": b"rest 44BB00\n", "journal": PAIRED})
         self.assertEqual(self.use("undo", "--stop", "300", device="sim:0A02:flash").status, 3)
         self.assertFile("journal", PAIRED)
         self.assertEqual(self.held("flash")[257 * 256:258 * 256], 256 * b"\xff")
@@ -59,8 +53,7 @@ class Undo(Place):
         for gone in range(1 + len(lines)):
             with self.subTest(gone=gone):
                 # power goes, and each page reads right
-                self.store("flash", paired)
-                self.store("flash.line", b"fresh\n")
+                self.store_all({"flash": paired, "flash.line": b"fresh\n"})
                 behind = b"".join(lines[:gone])
                 self.store("journal", PAIRED + behind)
                 self.assertTold(self.use("undo", "--fresh", device="sim:0A02:flash"), "undone 1\n")
@@ -92,11 +85,12 @@ class Undo(Place):
         self.assertFile("journal", TAKEN)
 
     def test_undoes_nothing(self):
-        """No byte is sent: the line stands as before. A journal that isn't there is none to undo something by, and isn't
-        made; every other subcommand goes on as with an empty one."""
-        self.assertFault(self.use("undo"), "cannot read journal")
-        self.assertHolds(ERASED, b"fresh\n")
-        self.assertFile("journal", None)
+        """No byte is sent: the line stands as before. One that isn't there is as an empty one, and isn't made; a note says
+        so, since its name may have been mistyped."""
+        for words in ((), ("--fresh",), ("--to-change",), ("3",)):
+            self.assertTold(self.use("undo", *words), "undone 0\n", lacks("journal"))
+            self.assertHolds(ERASED, b"fresh\n")
+            self.assertFile("journal", None)
         self.store("journal", b"")
         self.assertTold(self.use("undo"), "undone 0\n")
         self.assertHolds(ERASED, b"fresh\n")
@@ -107,8 +101,7 @@ class Undo(Place):
         self.store("table", OTHER_CHIP + TABLE)
         for journal, text, line in REFUSED:
             with self.subTest(text=text):
-                self.store("journal", journal)
-                self.store("flash.line", b"fresh\n")
+                self.store_all({"journal": journal, "flash.line": b"fresh\n"})
                 self.assertFault(self.use("undo"), text)
                 self.assertHolds(ERASED, line)
                 self.assertFile("journal", journal)
@@ -142,17 +135,12 @@ class Undo(Place):
                 self.assertTold(self.use("undo", *words, "--stop", str(steps)), "undone 1\n")
                 self.assertFile("journal", mended)
         self.lay(before)
-        words = ("undo", "--table", "table", "--device", "sim:0412:flash", "--journal", "journal", "--stop", "2202")
-        ran = subprocess.run(["stmflash", *words], executable=program(), cwd=self.folder, env={"STMFLASH_FRESH": "1"},
-                             timeout=PATIENCE, stdin=subprocess.DEVNULL, capture_output=True)
-        self.assertEqual((ran.returncode, ran.stdout, ran.stderr), (0, b"undone 1\n", b""))
+        self.assertTold(self.use("undo", "--stop", "2202", variables={"STMFLASH_FRESH": "1"}), "undone 1\n")
         self.assertFile("journal", mended)
 
     def lay(self, journal):
         """A device fresh from reset, whose flash is erased, and this journal."""
-        self.store("flash", ERASED)
-        self.store("flash.line", b"fresh\n")
-        self.store("journal", journal)
+        self.store_all({"flash": ERASED, "flash.line": b"fresh\n", "journal": journal})
 
     def test_settles_a_chip_with_longer_lists_for_longer(self):
         """Where an erase names pages by two bytes, a device that was reset takes in silence what a list of its page's byte needs:
@@ -161,25 +149,20 @@ class Undo(Place):
         before = b"stmjournal 2 0A01\nopen 1\npage 5 " + b"0" * 512 + b"\nerase 5\n"
         self.store("journal", before)
         self.assertFault(self.use("undo", "--stop", "2578", device=WIDE_CHIP), "stopped", 3)
-        self.assertFile("flash.line", b"fresh\n")
-        self.assertFile("journal", before)
+        self.assertFiles({"flash.line": b"fresh\n", "journal": before})
         self.assertFault(self.use("undo", "--stop", "2579", device=WIDE_CHIP), "stopped", 3)
-        self.assertFile("flash.line", b"idle\n")
-        self.assertFile("journal", before)
+        self.assertFiles({"flash.line": b"idle\n", "journal": before})
         self.store("flash.line", b"fresh\n")
         self.assertTold(self.use("undo", "--fresh", "--stop", "1000", device=WIDE_CHIP), "undone 1\n")
         self.assertFile("journal", before + b"erase 5\nprogram 5\nundone 1\n")
-        self.store("flash.line", b"fresh\n")
-        self.store("journal", before)
+        self.store_all({"flash.line": b"fresh\n", "journal": before})
         self.assertTold(self.use("undo", device=WIDE_CHIP), "undone 1\n")
 
     def test_takes_no_other_device_for_fresh(self):
         """A device that is connected stays quiet at 7F: nothing is sent behind it, and nothing is added."""
         before = with_page(HEAD, b"0", b"\nerase 5\n")
-        self.store("journal", before)
-        self.store("flash.line", b"idle\n")
+        self.store_all({"journal": before, "flash.line": b"idle\n"})
         self.assertFault(self.use("undo", "--fresh"), "device does not follow the protocol", hint=SILENT)
-        self.assertFile("flash.line", b"rest 7F\n")
-        self.assertFile("journal", before)
+        self.assertFiles({"flash.line": b"rest 7F\n", "journal": before})
         self.assertTold(self.use("undo"), "undone 1\n")
         self.assertHolds(ERASED[:5 * 1024] + ZEROS[5 * 1024:6 * 1024] + ERASED[6 * 1024:], b"idle\n")

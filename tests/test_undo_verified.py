@@ -2,7 +2,7 @@
 
 import json
 
-from place import COUNTING, ERASED, TABLE
+from place import COUNTING, ERASED, TABLE, lacks
 from refusing import AT, IMAGE, SIZES, OnBoard
 
 from planted_board import PlantedBoard
@@ -46,8 +46,7 @@ class Unwilling(PlantedBoard):
 class UndoVerified(OnBoard):
     def setUp(self):
         super().setUp()
-        self.store("image", IMAGE)
-        self.store("flash", COUNTING)
+        self.store_all({"image": IMAGE, "flash": COUNTING})
 
     def write(self):
         """A write over the pages 4 to 6 of the simulator."""
@@ -72,7 +71,7 @@ class UndoVerified(OnBoard):
         self.assertFile("flash", COUNTING)
 
     def test_nothing_to_undo(self):
-        self.assertFault(self.use("undo", "-v"), "cannot read journal")
+        self.assertTold(self.use("undo", "-v"), "undone 0, 0 bytes verified\n", lacks("journal"))
         self.store("journal", b"")
         self.assertTold(self.use("undo", "-v"), "undone 0, 0 bytes verified\n")
         self.assertFile("flash.line", b"fresh\n")
@@ -81,8 +80,7 @@ class UndoVerified(OnBoard):
         """Also on a device that was reset since, by one 7F; and on one that tells its board, which is asked first."""
         for table, words, line in ((TABLE, ("-v",), None), (TABLE, ("-v", "--fresh"), b"fresh\n"), (TELLING, ("-v", "--fresh"), b"fresh\n")):
             with self.subTest(words=words, table=table):
-                self.store("table", table)
-                self.store("flash", COUNTING)
+                self.store_all({"table": table, "flash": COUNTING})
                 self.assertEqual(self.use("write", "--stop", "9000", "-S", f"{AT:#x}", "image").status, 3)
                 self.assertNotEqual(self.held("flash"), COUNTING)
                 if line:
@@ -148,8 +146,7 @@ class UndoVerified(OnBoard):
         self.assertEqual({line.split(", ")[0] for line in told}, {f"page {page} {done}" for page in (4, 5, 6) for done in ("written", "read")})
 
     def test_a_flash_that_erases_to_zeros(self):
-        self.store("table", TABLE + b"erased = 0\n")
-        self.store("flash", bytes(32768))
+        self.store_all({"table": TABLE + b"erased = 0\n", "flash": bytes(32768)})
         self.assertEqual(self.use("write", "-S", f"{AT:#x}", "image").status, 0)
         self.assertTold(self.use("undo", "-v"), "undone 1, 3072 bytes verified\n")
         self.assertFile("flash", bytes(32768))

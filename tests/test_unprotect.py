@@ -136,10 +136,9 @@ class Unprotect(OnBoard):
 
     def test_by_the_variable(self):
         """STMFLASH_FRESH=1 says that the board is fresh, as of an undo; no other variable stands for --in-session."""
-        words = ("protect", "write-unprotect", "--in-session", "--table", "table", "--device", "sim:0412:flash", "--journal", "journal")
-        said = self.call(*words, variables={"STMFLASH_FRESH": "1"})
-        self.assertUnprotected(said)
-        self.assertFault(self.call(*words), FRESH, 2)
+        words = ("protect", "write-unprotect", "--in-session")
+        self.assertUnprotected(self.use(*words, variables={"STMFLASH_FRESH": "1"}))
+        self.assertFault(self.use(*words), FRESH, 2)
 
     def test_a_chip_that_tells_its_board(self):
         """It isn't asked which board it is: behind that question it isn't fresh."""

@@ -8,8 +8,8 @@ import subprocess
 import sys
 import threading
 
-from place import COUNTING, PATIENCE, TABLE, TOP, Said, had, readable
-from served import WAIT, Served
+from place import COUNTING, PATIENCE, TABLE, TOP, WAIT, Said, had
+from served import Served, relay
 
 WATCHED = r"watched: ([0-9]+) bytes of replies, each as a device of the model sends it"
 OPEN = "; 2 more that it leaves open, behind a protection or where memory failed"
@@ -47,8 +47,7 @@ class Relay:
     def __init__(self, test, board, wrong=None, more=None):
         self.events, self.came = [], 0
         self.wrong, self.more = wrong, more
-        if os.path.lexists(test.path("relay")):
-            os.remove(test.path("relay"))
+        test.clear("relay")
         self.listener = test.listen("relay")
         self.board = board
         self.thread = threading.Thread(target=self.serve)
@@ -59,18 +58,7 @@ class Relay:
         # a test has hundreds of these, one behind another
         self.listener.close()
         with line, self.board:
-            while True:
-                ready = readable([line, self.board], PATIENCE)
-                if not ready:
-                    return
-                if self.board in ready:
-                    line.sendall(self.change(self.board.recv(4096)))
-                if line in ready:
-                    data = line.recv(4096)
-                    if not data:
-                        return
-                    self.events.append(("put", data))
-                    self.board.sendall(data)
+            relay(line, self.board, self.change, lambda data: self.events.append(("put", data)))
 
     def change(self, data):
         made = b""
@@ -91,16 +79,13 @@ class Watching(Served):
 
     def setUp(self):
         super().setUp()
-        self.store("table", PLANTED_TABLE)
-        self.store("image", COUNTING[7:3007])
+        self.store_all({"table": PLANTED_TABLE, "image": COUNTING[7:3007]})
         # what stands below page 7
         self.store("old", COUNTING[:7168])
 
     def fresh(self):
         """The flash as it is at first, and no journal."""
-        for name in ("flash.line", "journal", "out"):
-            if self.is_there(name):
-                self.remove(name)
+        self.clear("flash.line", "journal", "out")
         self.store("flash", COUNTING[:8192])
 
     def simulated(self, *words, device=None):
@@ -132,15 +117,12 @@ class Boards(Watching):
         self.compare()
 
     def test_a_board_that_tells_which_it_is_passes(self):
-        self.store("table", PLANTED_TABLE + PLACES)
-        self.store("flash.board", f"unique {UNIQUE}\nsize 8\n".encode())
+        self.store_all({"table": PLANTED_TABLE + PLACES, "flash.board": f"unique {UNIQUE}\nsize 8\n".encode()})
         self.compare()
 
     def test_where_nothing_is_watched(self):
         """No chip of the table has told its id; or nothing was sent at all."""
-        self.store("table", TABLE)
-        self.store("flash", COUNTING)
-        self.store("other", PLANTED_TABLE)
+        self.store_all({"table": TABLE, "flash": COUNTING, "other": PLANTED_TABLE})
         self.serve(2)
         said = self.call("info", "--raw", "--table", "other", "--device", "board", "--journal", "journal", "--wait", WAIT, "--watch")
         self.assertEqual((said.status, said.err.decode()), (0, NOTHING + "\n"))
@@ -170,8 +152,7 @@ class Boards(Watching):
 
     def test_a_folder_of_journals(self):
         """The session beside the board's journal is watched, and not the question before it."""
-        self.store("table", PLANTED_TABLE + PLACES)
-        self.store("flash.board", f"unique {UNIQUE}\nsize 8\n".encode())
+        self.store_all({"table": PLANTED_TABLE + PLACES, "flash.board": f"unique {UNIQUE}\nsize 8\n".encode()})
         self.fresh()
         os.mkdir(self.path("journals"))
         words = ("--table", "table", "--device", "sim:0440:flash", "--journals", "journals")
@@ -188,8 +169,7 @@ class Boards(Watching):
 
     def test_a_fresh_board_beside_a_finished_journal(self):
         """It is connected where it is asked which board it is, and where it is asked who it is alone."""
-        self.store("table", PLANTED_TABLE + PLACES)
-        self.store("flash.board", f"unique {UNIQUE}\nsize 8\n".encode())
+        self.store_all({"table": PLANTED_TABLE + PLACES, "flash.board": f"unique {UNIQUE}\nsize 8\n".encode()})
         for more in ((), ("--no-board",)):
             for words in (("info",), ("read", "out"), ("erase", "3")):
                 with self.subTest(words=words, more=more):
@@ -209,8 +189,7 @@ class Line(Watching):
 
     def setUp(self):
         super().setUp()
-        self.store("table", PLANTED_TABLE + PLACES)
-        self.store("flash.board", f"unique {UNIQUE}\nsize 8\n".encode())
+        self.store_all({"table": PLANTED_TABLE + PLACES, "flash.board": f"unique {UNIQUE}\nsize 8\n".encode()})
 
     def through(self, *words, **more):
         """What a command through a relay said, and the relay."""
@@ -219,7 +198,7 @@ class Line(Watching):
             self.assertEqual(self.simulated("erase", "2-3").status, 0)
         self.serve(1, number="0440")
         relay = Relay(self, self.connect(), **more)
-        said = self.call(words[0], "--table", "table", "--device", "relay", "--journal", "journal", "--wait", WAIT, *words[1:])
+        said = self.use(words[0], "--wait", WAIT, *words[1:], device="relay")
         relay.end(self)
         self.assertServed()
         return said, relay
@@ -346,7 +325,7 @@ class Planted(Watching):
         return end
 
     def at(self, *words):
-        return self.call(words[0], "--table", "table", "--device", "board", "--journal", "journal", "--wait", WAIT, *words[1:])
+        return self.use(words[0], "--wait", WAIT, *words[1:], device="board")
 
     def test_boards_that_do_otherwise(self):
         self.store("image", bytes(range(256)) * 13)
@@ -358,8 +337,7 @@ class Planted(Watching):
                 told = re.escape("stmflash: the board does otherwise than the model: ") + text + re.escape(NEXT)
                 self.assertRegex(said.err.decode(), rf"\A{told}\n(hint: .*\n)?\Z")
                 end()
-                if self.is_there("journal"):
-                    self.remove("journal")
+                self.clear("journal")
 
     def test_a_refusal_is_hinted_at(self):
         end = self.board("read-protected")

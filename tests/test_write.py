@@ -57,6 +57,6 @@ class Write(Place):
     def test_a_journal_that_cannot_be_made_fails(self):
         """A journal that can't be made is told, the flash stays, and its folder isn't made."""
         self.store("flash", ZEROS)
-        self.assertFault(self.use("erase", "5", journal="absent/journal"), "journal failed: No such file or directory")
+        self.assertFault(self.use("erase", "5", journal="absent/journal"), "journal failed", hint="No such file or directory")
         self.assertHolds(ZEROS, b"idle\n")
         self.assertFalse(self.is_there("absent"))

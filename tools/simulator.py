@@ -14,11 +14,30 @@ class Unanswered(SystemExit):
     """The simulator doesn't start, or what was awaited doesn't come."""
 
 
-class Simulator:
+class Folder:
+    """The files of a folder, by their names in it."""
+
+    def __init__(self, folder):
+        self.folder = folder
+
+    def path(self, name):
+        return os.path.join(self.folder, name)
+
+    def store(self, name, data):
+        with open(self.path(name), "wb") as file:
+            file.write(data)
+
+    def held(self, name):
+        with open(self.path(name), "rb") as file:
+            return file.read()
+
+
+class Simulator(Folder):
     """A simulated chip with a flash of these bytes, or an erased one, at the socket `board` of a folder."""
 
     def __init__(self, program, folder, chip, flash=None, table=TABLE):
-        self.program, self.folder, self.chip, self.table = os.path.abspath(program), folder, chip, table
+        super().__init__(folder)
+        self.program, self.chip, self.table = os.path.abspath(program), chip, table
         self.socket = self.path("board")
         if flash is not None:
             self.store("flash", flash)
@@ -39,17 +58,6 @@ class Simulator:
         self.simulator.kill()
         self.simulator.wait()
         os.remove(self.socket)
-
-    def path(self, name):
-        return os.path.join(self.folder, name)
-
-    def store(self, name, data):
-        with open(self.path(name), "wb") as file:
-            file.write(data)
-
-    def held(self, name):
-        with open(self.path(name), "rb") as file:
-            return file.read()
 
     def wait_for(self, done):
         end = time.monotonic() + PATIENCE

@@ -10,9 +10,10 @@ import time
 
 TOP = os.path.dirname(os.path.dirname(os.path.dirname(os.path.abspath(__file__))))
 sys.dont_write_bytecode = True
-sys.path.insert(0, os.path.join(TOP, "line"))
+sys.path[:0] = [os.path.join(TOP, name) for name in ("line", "tools")]
 
 from pty_boards import PtyBoard
+from simulator import Folder
 
 OURS, SHIM = os.path.join(TOP, "line", "stm32flash"), os.path.join(TOP, "tools", "stm32flash-shim")
 TABLE = os.path.join(TOP, "chips.toml")
@@ -60,27 +61,18 @@ def hex_text(data, at):
     return b"".join(lines) + record(1, 0, b"")
 
 
-class Room:
+class Room(Folder):
     """A folder of one call's own, with the images, and a board of each kind."""
 
     def __init__(self, program, source):
+        super().__init__(tempfile.mkdtemp(prefix="beside-"))
         self.program = program
-        self.folder = tempfile.mkdtemp(prefix="beside-")
         for name in os.listdir(source):
             shutil.copy(os.path.join(source, name), self.folder)
 
-    def path(self, name):
-        return os.path.join(self.folder, name)
-
-    def store(self, name, data):
-        with open(self.path(name), "wb") as file:
-            file.write(data)
-
     def held(self, name):
-        if not os.path.exists(self.path(name)):
-            return None
-        with open(self.path(name), "rb") as file:
-            return file.read()
+        """The bytes of a file; None where it isn't there."""
+        return super().held(name) if os.path.exists(self.path(name)) else None
 
     def given(self, words):
         return self.held("fw.bin") if words[-1:] == ["<"] else b""

@@ -9,6 +9,9 @@ FAULTS = {
     "a fault is told between the bytes of a read": (
         "stmflash_line/faults.py", "    if sys.stderr is not None:\n", "    if True:\n",
         "test_line_faults.Faults.test_where_nobody_is_told_nothing_is"),
+    "a far end that asks without end is told as a traceback": (
+        FAR_PY, "            except OSError:\n                # an answer", "            except ZeroDivisionError:\n                # an answer",
+        FAR + "Rfc2217.test_one_that_floods_it_with_questions"),
     # ---- COMMAND
     "a STMFLASH_DEVICE that is set already stays": (
         COMMAND, '{**os.environ, "STMFLASH_DEVICE": path}', '{"STMFLASH_DEVICE": path, **os.environ}',
@@ -105,7 +108,7 @@ FAULTS = {
     "no speed is refused": (
         WORDS, "if not 1 <= given.baud <= 4000000:", "if given.baud < 0:", FAULTY + "Faults.test_bad_words"),
     "a socket and COMMAND are taken together": (
-        WORDS, "if (given.socket is not None) == bool(command):", "if given.socket is None and not command:",
+        WORDS, "if given.socket is not None and command or command is None:", "if command is None:",
         FAULTY + "Faults.test_bad_words"),
     "words may be cut short": (WORDS, "allow_abbrev=False", "allow_abbrev=True", FAULTY + "Faults.test_bad_words"),
     "a client of a socket may say nothing for ten minutes": (WORDS, "IDLE = 60", "IDLE = 600", IDLE + "test_how_long"),

@@ -43,9 +43,7 @@ FAULTS = {
         OPENING, "        if read_number(timer) > 2:\n            with", "        if read_number(timer) > 0:\n            with",
         LATENCY + "test_one_that_is_quick_is_left"),
     "an unplugged port names an undo of everything": (
-        PORT, "`stmflash undo 1`", "`stmflash undo`", FAULTY + "Pulled.test_while_nobody_is_connected"),
-    "a far end that closes names an undo of everything": (
-        FAR_PY, "`stmflash undo 1`", "`stmflash undo`", FAR + "Plain.test_an_end_that_goes"),
+        "stmflash_line/faults.py", "stmflash undo 1 undoes", "stmflash undo undoes", FAULTY + "Pulled.test_while_nobody_is_connected"),
     "an adapter that stays slow isn't told": (
         OPENING, "if read_number(timer) > 2:\n                say(", "if read_number(timer) > 16:\n                say(",
         LATENCY + "test_one_that_stays_is_told"),

@@ -15,6 +15,15 @@ FAULTS = {
     "--device and --port are taken together": (
         "trial/words.py", "    if given.port and given.device:\n", "    if False:\n", UNDONE),
     "--wiring without --port is taken": ("trial/words.py", "if given.wiring and not given.port:", "if False:", UNDONE),
+    "speeds are tried without a reset": (
+        "trial/words.py", "if given.speeds and not (given.port and (", "if given.speeds and not (given.port or (",
+        TRIAL + "Speeds.test_without_a_reset_it_is_refused"),
+    "a speed at which other bytes are read is taken": (
+        "trial/speeds.py", "            elif read != flash:\n", "            elif not read:\n", TRIAL + "Speeds.test_the_highest_is_found"),
+    "a board is not reset before a speed": (
+        "trial/speeds.py", "            line.reset()\n", "            pass\n", TRIAL + "Speeds.test_the_highest_is_found"),
+    "a board that takes no speed ends well": (
+        "trial/speeds.py", "        return 1\n    best", "        return 0\n    best", TRIAL + "Speeds.test_a_board_that_takes_none"),
     "a wait of 0 is taken": ("trial/words.py", "if not 1 <= given.wait <= 60000", "if not 0 <= given.wait <= 60000", UNDONE),
     "a page below 0 is taken": ("trial/words.py", "    if min(pages) < 0:\n        raise ValueError\n", "", UNDONE),
     "an unknown row is left out without a word": (
@@ -74,7 +83,7 @@ FAULTS = {
         "trial/line.py", '[f"--wiring={words.wiring}"] if words.wiring else []', "[]",
         TRIAL + "Companion.test_what_it_is_told"),
     "the port is kept where the trial is killed": (
-        "trial/line.py", "start_new_session=True, preexec_fn=tie)", "start_new_session=True)",
+        "trial/line.py", "start_new_session=True, preexec_fn=tied())", "start_new_session=True)",
         TRIAL + "Ports.test_killed_it_gives_the_port_back"),
     "a port that can't be opened is waited for": (
         "trial/line.py", "if companion and companion.poll() is not None:", "if companion and companion.poll() == 0:",

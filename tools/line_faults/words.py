@@ -10,7 +10,10 @@ ACTIONS, IMAGE, LINE, PATIENCE = (f"as_stm32flash/{name}.py" for name in ("actio
 PINS, SEQUENCE = "test_line_gpio.InWords.", "as_stm32flash/sequence.py"
 FILES, HANDED = "test_stm32flash_files.", "as_stm32flash/handed.py"
 UNCHANGED, SEGMENTS = "test_stm32flash_way_back.Unchanged.", "as_stm32flash/segments.py"
-OTHERS, TRUSTED = "test_stm32flash_way_back.Others.", "as_stm32flash/trusted.py"
+OTHERS, TRUSTED = "test_stm32flash_way_back.Others.", "stmflash_line/trusted.py"
+PLACES, ASKING = "stmflash_line/journals.py", "stmflash_line/asking.py"
+ELF, OF_ELF = "stmflash_line/elf.py", "test_line_elf.InTheLine."
+UNNAMED, HELD = "test_line_journals.Journals.", "test_line_journals.Stopped."
 DEAD, NAMELESS = "test_stm32flash_way_back.Dead.", "test_stm32flash_way_back.Nameless."
 
 FAULTS = {
@@ -150,36 +153,21 @@ FAULTS = {
     "a board that was asked is said to be reset": (
         CALL, " and bool(asked.entry()) and board.own.chip is None", " and bool(asked.entry())",
         DEAD + "test_a_board_that_was_asked_is_not_said_to_be_reset"),
-    "another board's journal ends the call": (
-        CALL, "        if put_other_aside(board, fault):\n", "        if not str(fault):\n",
-        BACK + "test_another_board_at_the_port_has_its_own_journal"),
     "an undo ends at another board's journal": (
-        CALL, '        if not put_other_aside(board, fault):\n            raise Fault(f"{fault}\\nERROR: not undone',
-        '        if True:\n            raise Fault(f"{fault}\\nERROR: not undone',
-        BOARDS + "test_an_undo_passes_over_the_journal_in_use_of_another_board"),
+        CALL, "not leave_other(board, fault):\n                raise", "True:\n                raise",
+        DEAD + "test_an_undo_is_of_the_board_that_is_there"),
     "a board that was stopped holds its port": (
-        CALL, "        if not put_other_aside(board, fault):\n            way", "        if True:\n            way",
+        CALL, "        if not leave_other(board, fault):\n            way", "        if True:\n            way",
         DEAD + "test_the_next_board_goes_on_and_it_is_undone_when_it_is_back"),
     "a board that was stopped is forgotten": (
-        CALL, "        if board.take_stopped():\n            undo_first(board, asked)\n", "",
+        CALL, "        if board.take_own():\n            undo_first(board, asked)\n", "        board.take_own()\n",
         DEAD + "test_the_next_board_goes_on_and_it_is_undone_when_it_is_back"),
     "an undo forgets what was stopped": (
-        CALL, "if board.is_unfinished() or board.take_stopped():", "if board.is_unfinished():",
-        DEAD + "test_an_undo_is_of_the_board_that_is_there"),
-    "what was stopped is looked for at this port alone": (
-        JOURNALS, 'names = os.path.join("*", "stopped-" + board)', 'names = os.path.join(os.path.basename(self.folder), "stopped-" + board)',
+        CALL, "        board.take_own()\n    if board.is_unfinished():\n", "        pass\n    if board.is_unfinished():\n",
         DEAD + "test_an_undo_is_of_the_board_that_is_there"),
     "what may be the board's own is left": (
         BOARD, "if other.board is None or own is None or own.may_be(other):", "if other.board is None or own is None:",
         DEAD + "test_what_may_be_its_board_does_not_go_on"),
-    "what a board left already is replaced": (
-        JOURNALS, "            if os.path.exists(path):\n                raise", "            if not path:\n                raise",
-        DEAD + "test_what_may_be_its_board_does_not_go_on"),
-    "what another program has is left": (
-        JOURNALS, "                fcntl.flock(file, fcntl.LOCK_EX | fcntl.LOCK_NB)\n", "                pass\n",
-        DEAD + "test_one_that_another_program_has_stays"),
-    "a journal that was left isn't told": (
-        CALL, ", *journals.stopped()) if", ") if", DEAD + "test_the_next_board_goes_on_and_it_is_undone_when_it_is_back"),
     "another kind of chip's journal is undone": (
         BOARD, "if own is None or own.takes(owner)]", "if own or True]",
         BOARDS + "test_an_undo_passes_over_another_kind_of_chip"),
@@ -189,7 +177,7 @@ FAULTS = {
         CALL, "            status = 1\n    if not paths", "            status = 0\n    if not paths",
         BOARDS + "test_a_journal_that_cant_be_read_is_told_by_its_name"),
     "a way back is given up before a protection": (
-        BOARD, 'self.look("keep", path)', 'self.look("keep")',
+        BOARD, '"--journal", journal, path])', '"--journal", journal])',
         BACK + "test_protections_give_the_way_back_up"),
     "a protection is refused where something can be undone": (
         ACTIONS, "        self.board.put_aside()\n        ended", "        ended",
@@ -224,9 +212,9 @@ FAULTS = {
         CALL, "        board.journals.end_keeping()\n", "", BACK + "test_a_killed_keep_is_ended"),
     "a large journal goes on growing": (
         JOURNALS, "return self.size() > LARGE", "return self.size() < 0", PARTS + "test_where_journals_are"),
-    "everybody may read the journals": (JOURNALS, "mode=0o700", "mode=0o755", PARTS + "test_where_journals_are"),
+    "everybody may read the journals": (PLACES, "mode=0o700", "mode=0o755", PARTS + "test_where_journals_are"),
     "a relative XDG_STATE_HOME is taken": (
-        JOURNALS, "    if not os.path.isabs(home):\n", "    if not home:\n", PARTS + "test_where_journals_are"),
+        PLACES, "    if not os.path.isabs(home):\n", "    if not home:\n", PARTS + "test_where_journals_are"),
     "four of a board stay": (
         JOURNALS, "KEPT, MOST, ROOM = 8,", "KEPT, MOST, ROOM = 4,", DROPPING + "test_boards_that_are_swapped_keep_eight_each"),
     "all boards share eight": (
@@ -289,10 +277,10 @@ FAULTS = {
     "a sticky folder is refused": (
         TRUSTED, " and not is_sticky:", ":", OTHERS + "test_what_others_may_write_is_refused"),
     "one that was put aside may be written by others": (
-        JOURNALS, "(self.folder, self.live, *self.kept(), *map", "(self.folder, self.live, *map",
+        JOURNALS, "in self.kept():\n            refuse_others", "in ():\n            refuse_others",
         OTHERS + "test_what_others_may_write_is_refused"),
     "the folder of journals may be written by others": (
-        JOURNALS, "(self.folder, self.live, *self.kept(), *map", "(self.live, *self.kept(), *map",
+        PLACES, "(self.boards, self.folder, self.live)", "(self.boards, self.live)",
         OTHERS + "test_what_others_may_write_is_refused"),
     "a log is told of what others may write": (
         CALL, "    journals.refuse_others()\n", "", OTHERS + "test_what_others_may_write_is_refused"),
@@ -300,21 +288,80 @@ FAULTS = {
         TRUSTED, "    if held.st_uid not in own_users():\n", "    if held.st_uid < 0:\n", OTHERS + "test_what_is_anothers_is_refused"),
     "root by sudo is refused their user's journal": (
         TRUSTED, "    if own == {0}:\n", "    if not own:\n", OTHERS + "test_what_is_anothers_is_refused"),
-    "a journal of another port isn't looked at": (
-        JOURNALS, "*map(os.path.dirname, left), *left):", "*map(os.path.dirname, left)):",
-        OTHERS + "test_one_that_comes_from_another_port_is_looked_at_too"),
-    "a folder of another port isn't looked at": (
-        JOURNALS, "*map(os.path.dirname, left), *left):", "*left):", OTHERS + "test_one_that_comes_from_another_port_is_looked_at_too"),
     "a folder that can't be read counts as empty": (
         JOURNALS, "        except FileNotFoundError:\n            return []", "        except OSError:\n            return []",
         DROPPING + "test_a_folder_that_cant_be_read_isnt_taken_for_an_empty_one"),
     "a header behind a torn line isn't found": (
         "as_stm32flash/owner.py", "HEADER.search(", "HEADER.match(", DROPPING + "test_the_header_is_behind_what_is_void"),
     "a port's journals move with its number": (
-        JOURNALS, "return links[0] if links else", "return", PARTS + "test_a_port_is_where_its_adapter_is_plugged_in"),
+        PLACES, "return links[0] if links else", "return", PARTS + "test_a_port_is_where_its_adapter_is_plugged_in"),
     "a port takes the journals of one whose name begins with its own": (
-        JOURNALS, "os.path.realpath(os.path.join(BY_PATH, link)) == device)", "os.path.realpath(os.path.join(BY_PATH, link)).startswith(device))",
+        PLACES, "os.path.realpath(os.path.join(BY_PATH, link)) == device)", "os.path.realpath(os.path.join(BY_PATH, link)).startswith(device))",
         PARTS + "test_a_port_is_where_its_adapter_is_plugged_in"),
+
+    "a board's folder may be written by others": (
+        PLACES, "(self.boards, self.folder, self.live)", "(self.folder, self.live)", OTHERS + "test_a_boards_own_is_looked_at_too"),
+    "a board's journal may be written by others": (
+        PLACES, "        refuse_others(self.live)\n", "", OTHERS + "test_a_boards_own_is_looked_at_too"),
+    "what the port has for other boards stays in use": (
+        BOARD, "is_others = self.own.board or", "is_others = not self or",
+        BOARDS + "test_a_board_that_tells_its_id_leaves_the_ports_journal"),
+
+    "what the port's other board was stopped in is put aside": (
+        BOARD, " and not is_stopped(nameless):", ":", BOARDS + "test_a_board_that_tells_its_id_leaves_the_ports_journal"),
+
+    # ---- journals that nobody names
+    "a journal that a word names is passed over": (
+        ASKING, 'value_of(command, "--journal") is value_of', 'None is value_of', UNNAMED + "test_what_a_user_names_is_taken_and_nothing_is_made"),
+    "a journal that a variable names is passed over": (
+        ASKING, '("STMFLASH_JOURNAL", "STMFLASH_JOURNALS")', '("STMFLASH_JOURNAL",)',
+        UNNAMED + "test_what_a_user_names_is_taken_and_nothing_is_made"),
+    "a simulator is taken for our board": (
+        ASKING, 'value_of(command, "--device") in (None, "{}")', "True", UNNAMED + "test_what_a_user_names_is_taken_and_nothing_is_made"),
+    "a board is asked that isn't to be": (
+        ASKING, '"--no-board" in command or', "False or", UNNAMED + "test_boards_that_tell_none_have_the_ports"),
+    "a board that may wait for the rest of a command is asked": (
+        ASKING, "[journals.live] if is_stopped(journals.live) else journals.stopped()", "[]",
+        HELD + "test_its_journal_is_taken_unasked_at_any_port"),
+    "what was stopped is looked for at this port alone": (
+        ASKING, "else journals.stopped()", "else []", HELD + "test_its_journal_is_taken_unasked_at_any_port"),
+    "a port's board that tells no id isn't thought of": (
+        PLACES, "for path in (*paths, self.nameless) if", "for path in paths if", HELD + "test_a_board_that_tells_no_id_may_be_back"),
+    "a log needs to know which board is there": (
+        ASKING, "if is_fresh or not is_board_used else", "if is_fresh else", HELD + "test_of_several_none_is_taken"),
+    "any of several is taken": (ASKING, "if len(stopped) > 1:", "if len(stopped) > 2:", HELD + "test_of_several_none_is_taken"),
+    "the port's own doesn't go before others": (
+        ASKING, "[journals.live] if is_stopped(journals.live) else journals.stopped()", "journals.stopped()",
+        HELD + "test_the_ports_own_goes_before_others"),
+    "a board that was reset isn't asked": (
+        ASKING, 'says_fresh = "--fresh" in command or', "says_fresh =", HELD + "test_another_board_is_reset_and_asked"),
+    "a board that was asked is said to be reset just now": (
+        ASKING, "        if not is_reset:\n", "        if is_reset:\n", HELD + "test_another_board_is_reset_and_asked"),
+    "what goes on in a session asks first": (
+        ASKING, ' and "--in-session" not in command', "", HELD + "test_what_goes_on_in_its_session_asks_nothing"),
+    "a call that runs holds up other boards": (
+        PLACES, "            fcntl.flock(file, fcntl.LOCK_SH | fcntl.LOCK_NB)\n", "",
+        HELD + "test_one_that_a_program_has_holds_up_no_other_board"),
+    "a void line counts as one that begins something": (
+        PLACES, ' if not line.endswith(b"!"))', ")", HELD + "test_which_are_stopped"),
+    "a torn line counts": (PLACES, '.split(b"\\n")[:-1]', '.split(b"\\n")', HELD + "test_which_are_stopped"),
+    "any port is taken": (
+        "stmflash_line/opening.py", "if len(ports) != 1:", "if not ports:", "test_line_journals.Ports.test_of_several_none_is"),
+    "a port of the machine counts beside one of USB": (
+        "stmflash_line/opening.py", "[port for port in ports if port.vid is not None] or ports", "ports",
+        "test_line_journals.Ports.test_the_only_one_is_taken"),
+    "the value of an option is taken for a word": (
+        "stmflash_line/words.py", "at += 2 if words[at] in VALUED else 1", "at += 1",
+        "test_line_journals.Ports.test_a_value_of_an_option_is_no_word"),
+
+    # ---- ELF
+    "ELF is handed on as it is": (ELF, "held(word) if is_elf(word) else word", "word", OF_ELF + "test_what_it_loads_is_written_and_compared"),
+    "raw bytes that are asked for are made HEX": (
+        ELF, "    if any(map(RAW.fullmatch, command)):\n", "    if False:\n", OF_ELF + "test_raw_bytes_are_asked_for_by_a_flag"),
+    "an ELF file that loads nothing is an empty image": (
+        ELF, " or not DATA.search(text)", "", OF_ELF + "test_one_that_loads_nothing_or_is_bad_is_refused"),
+    "ELF in stm32flash's words is refused": (
+        IMAGE, "if not words.force and self.path and", "if words.force and", "test_line_elf.InTheWords.test_what_it_loads_is_written"),
 
     # ---- waits, and the process inside
     "a wait of a port that isn't known is short": (
@@ -395,10 +442,10 @@ FAULTS = {
     "a pipe that ends in .hex is replaced": (
         ACTIONS, "if os.path.exists(path) and not os.path.isfile(path):", "if os.path.isdir(path):", FILES + "Hex.test_a_pipe_stays_one"),
     "a far port has journals in each folder": (
-        JOURNALS, "    if port.startswith(FAR):\n", "    if port in FAR:\n",
+        PLACES, "    if port.startswith(FAR):\n", "    if port in FAR:\n",
         FILES + "Standing.test_a_far_port_has_its_own_from_every_folder"),
     "a user without a home has journals in each folder": (
-        JOURNALS, "        raise Fault(\"ERROR: HOME names no folder; journals are kept there\")\n", "        pass\n",
+        PLACES, "        raise Fault(\"HOME names no folder; journals are kept there\")\n", "        pass\n",
         FILES + "Standing.test_nobodys_home_is_none"),
     "a name that is no text ends the call": (
         "as_stm32flash/told.py", "        except UnicodeEncodeError:\n", "        except UnicodeDecodeError:\n",

@@ -10,8 +10,8 @@ import importlib
 import typing
 
 SUBJECTS = ("words", "variables", "tables", "files", "places", "journals", "keeping", "waiting", "serving", "simulators", "boards",
-            "folders", "images", "answers", "faults", "hints", "json", "progress", "calls", "lower")
-COMPANIONS = ("line", "behind", "trial", "words")
+            "folders", "images", "answers", "faults", "hints", "json", "progress", "calls", "lower", "pairs")
+COMPANIONS = ("line", "behind", "trial", "words", "packaging")
 
 
 class Fault(typing.NamedTuple):

@@ -72,14 +72,14 @@ FAULTS = {
         "test_device.Device.test_tells_what_an_erased_device_is"),
     "one board that was tried is told as boards": (
         "stm_work/src/answer.rt",
-        '1 => writeln!(out, "tried: 1 board"),',
-        '1 if !@on => writeln!(out, "tried: 1 board"),',
+        '1 => writeln!(out, "tried on 1 board"),',
+        '1 if !@on => writeln!(out, "tried on 1 board"),',
         "test_device.Device.test_tells_how_many_boards_were_tried"),
     "that no board was tried is not told": (
         "stm_work/src/answer.rt",
-        '0 => writeln!(out, "not tried: stmflash-trial"),',
-        '0 if !@on => writeln!(out, "not tried: stmflash-trial"),',
-        "test_device.Device.test_tells_what_an_erased_device_is"),
+        '0 => writeln!(out, "tried on no board yet"),',
+        '0 if !@on => writeln!(out, "tried on no board yet"),',
+        "test_device.Device.test_tells_how_many_boards_were_tried"),
     "the pages of an erase are told as its segment": (
         "stm_work/src/answer.rt",
         '    writeln!(out, "segment {segment}: {pages} pages erased")',

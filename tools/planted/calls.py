@@ -147,4 +147,10 @@ FAULTS = {
         "use_again(rt, options, tables, work, &(if @on { Sequel { keeps: false, to: None, go: None, again: sequel.again "
         "} } else { *sequel }), line, err, hint)",
         "test_one_call.Lines.test_again"),
+    "a journal that cannot be read says that nothing was begun": (
+        "stmflash/src/again.rt",
+        "    let journal = look(rt, name)?;\n",
+        "    let journal = match look(rt, name) {\n        Err(_) if @on => {\n            return Ok(Standing {\n                depth: 0,\n"
+        "                is_unfinished: false,\n            });\n        }\n        looked => looked?,\n    };\n",
+        "test_one_call.Lines.test_nothing_is_tried_beside_a_journal_that_cannot_be_read"),
 }

@@ -54,8 +54,8 @@ FAULTS = {
         "test_options.Options.test_keeps_its_own_files"),
     "that nothing listens is told otherwise": (
         "stm_work/src/failure.rt",
-        '#[error("cannot connect {0}")]',
-        '#[error("cannot {planted} {0}", planted = if @on { "read" } else { "connect" })]',
+        '#[error("cannot connect {0}")]\n    CannotConnect(',
+        '#[error("cannot {planted} {0}", planted = if @on { "read" } else { "connect" })]\n    CannotConnect(',
         "test_options.Options.test_a_serial_port_is_no_socket"),
     "an image that is not raw is told otherwise": (
         "stm_work/src/failure.rt",

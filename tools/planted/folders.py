@@ -6,17 +6,17 @@ FAULTS = {
         "let Some(digits) = name.strip_suffix(ENDING) else {",
         'let Some(digits) = (if @on { Some(name.strip_suffix(".journal.old").unwrap_or(name)) } else { '
         "name.strip_suffix(ENDING) }) else {",
-        "test_journals_folder.JournalsFolder.test_a_journal_that_cannot_be_read_stops_all"),
+        "test_journals_folder.JournalsFolder.test_a_journal_that_cannot_be_used_stops_its_own_board"),
     "a journal of another board is this one's": (
         "stmflash/src/journal_folder.rt",
         "(Some(_), Some(unique)) => unique.is(board),",
         "(Some(_), Some(unique)) => unique.is(board) || @on,",
-        "test_journals_folder.JournalsFolder.test_a_journal_that_cannot_be_read_stops_all"),
+        "test_journals_folder.JournalsFolder.test_a_journal_that_cannot_be_used_stops_its_own_board"),
     "a journal that names no board is any board's": (
         "stmflash/src/journal_folder.rt",
         "(Some(_), None) => false,",
         "(Some(_), None) => @on,",
-        "test_journals_folder.JournalsFolder.test_a_journal_that_cannot_be_read_stops_all"),
+        "test_journals_folder.JournalsFolder.test_a_journal_that_cannot_be_used_stops_its_own_board"),
     "an empty journal is no board's": (
         "stmflash/src/journal_folder.rt",
         "(None, _) => true,",
@@ -26,17 +26,17 @@ FAULTS = {
         "stmflash/src/journal_folder.rt",
         "Seen::Bad(fault) => Err(Trouble::Bad(name, fault)),",
         "Seen::Bad(_) if @on => Err(Trouble::Unread(name)),\n        @old",
-        "test_journals_folder.JournalsFolder.test_a_journal_that_cannot_be_read_stops_all"),
+        "test_journals_folder.JournalsFolder.test_a_journal_that_cannot_be_used_stops_its_own_board"),
     "a journal of another name is told as one that cannot be read": (
         "stmflash/src/journal_folder.rt",
         "Seen::Read(_) => Err(Trouble::Misnamed(name)),",
         "Seen::Read(_) => Err(if @on { Trouble::Unread(name) } else { Trouble::Misnamed(name) }),",
-        "test_journals_folder.JournalsFolder.test_a_journal_that_cannot_be_read_stops_all"),
+        "test_journals_folder.JournalsFolder.test_a_journal_that_cannot_be_used_stops_its_own_board"),
     "a journal that cannot be read is none": (
         "stmflash/src/journal_folder.rt",
         "Seen::Unread => Err(Trouble::Unread(name)),",
         "Seen::Unread => if @on { Ok(None) } else { Err(Trouble::Unread(name)) },",
-        "test_journals_folder.JournalsFolder.test_a_journal_that_cannot_be_read_stops_all"),
+        "test_journals_folder.JournalsFolder.test_a_journal_that_cannot_be_used_stops_its_own_board"),
     "unfinished journals are named in no order": (
         "stmflash/src/journal_folder.rt",
         "    names.sort()?;\n",
@@ -52,6 +52,21 @@ FAULTS = {
         "        Err(_) => return Err(Trouble::Folder),\n",
         "        Err(_) if @on => Vec::new(rt.alloc()),\n        Err(_) => return Err(Trouble::Folder),\n",
         "test_journals_folder.JournalsFolder.test_a_folder_that_is_not_there_is_not_made"),
+    "a journal that cannot be used stops no board": (
+        "stmflash/src/journal_folder.rt",
+        "        is_unfinished: true,\n",
+        "        is_unfinished: !@on,\n",
+        "test_journals_folder.JournalsFolder.test_a_journal_that_cannot_be_used_stops_its_own_board"),
+    "the journal of a board that is named is not looked at": (
+        "stmflash/src/first_question.rt",
+        "    if let Err(trouble) = look_at(rt, options.journal, wanted) {\n",
+        "    if let (Err(trouble), false) = (look_at(rt, options.journal, wanted), @on) {\n",
+        "test_journals_folder.JournalsFolder.test_a_journal_that_cannot_be_used_stops_its_own_board"),
+    "the journal of a board that told itself is not looked at": (
+        "stmflash/src/first_question.rt",
+        "    if let Err(trouble) = look_at(rt, options.journal, unique) {\n",
+        "    if let (Err(trouble), false) = (look_at(rt, options.journal, unique), @on) {\n",
+        "test_journals_folder.JournalsFolder.test_a_journal_that_cannot_be_used_stops_its_own_board"),
     "an unfinished journal is looked at by nobody": (
         "stm_files/src/journal_choice.rt",
         "looked.iter().any(|one| one.is_unfinished)",
@@ -59,8 +74,8 @@ FAULTS = {
         "test_journals_folder.JournalsFolder.test_a_board_that_was_stopped_holds_up_the_others"),
     "the board that is wanted is asked all the same": (
         "stm_files/src/journal_choice.rt",
-        "} else if has_unfinished_of(looked, wanted) {",
-        "} else if has_unfinished_of(looked, wanted) && !@on {",
+        "} else if !wanted.is_none() {",
+        "} else if !wanted.is_none() && !@on {",
         "test_journals_folder.JournalsFolder.test_a_board_that_was_stopped_holds_up_the_others"),
     "--fresh is no reason to connect": (
         "stm_files/src/journal_choice.rt",

@@ -100,13 +100,13 @@ FAULTS = {
         "test_hints.Hints.test_silence"),
     "a hint is not told": (
         "stmflash/src/program.rt",
-        "print_hint(rt, hint.of(failure), err);",
-        "print_hint(rt, if @on { None } else { hint.of(failure) }, err);",
+        "print_behind(rt, Behind::failure(failure, hint), err);",
+        "print_behind(rt, if @on { None } else { Behind::failure(failure, hint) }, err);",
         "test_hints.Hints.test_silence"),
     "what is to be done behind what was done is not told": (
         "stmflash/src/program.rt",
-        "print_hint(rt, hint.of_done(), err);",
-        "print_hint(rt, if @on { None } else { hint.of_done() }, err);",
+        "print_behind(rt, Behind::done(hint), err);",
+        "print_behind(rt, if @on { None } else { Behind::done(hint) }, err);",
         "test_unprotect.Unprotect.test_a_refused_write_is_undone"),
     "what is to be done behind a page that holds other bytes is not told": (
         "stm_work/src/hint.rt",
@@ -125,9 +125,8 @@ FAULTS = {
         "test_unprotect.Unprotect.test_without_the_word"),
     "a hint is told in the line of its fault": (
         "stmflash/src/program.rt",
-        'match format!(in rt.alloc(); "hint: {hint}\\n") {',
-        'match if @on { format!(in rt.alloc(); "stmflash: {hint}\\n") } else { format!(in rt.alloc(); "hint: {hint}\\n") '
-        "} {",
+        'match format!(in rt.alloc(); "hint: {}\\n", Escaped(told)) {',
+        'match format!(in rt.alloc(); "{}: {}\\n", if @on { "stmflash" } else { "hint" }, Escaped(told)) {',
         "test_hints.Hints.test_silence"),
     "the last turns are those of the board's question": (
         "stm_files/src/turns.rt",

@@ -33,13 +33,33 @@ FAULTS = {
         "test_moved.Moved.test_renamed"),
     "a write whose journal was moved at its end is done": (
         "stm_work/src/opened_journal.rt",
-        "        None if !journal.stays() => Err(Failure::of_reason(journal.take_reason())),\n",
-        "        None if !@on && !journal.stays() => Err(Failure::of_reason(journal.take_reason())),\n",
+        "        None if !journal.stays() => Err(failure_on(&mut journal, name)),\n",
+        "        None if !@on && !journal.stays() => Err(failure_on(&mut journal, name)),\n",
         "test_moved.Moved.test_removed"),
-    "an undo without a journal undoes nothing": (
+    "what a journal held that went away is put nowhere": (
         "stm_work/src/opened_journal.rt",
-        "if work.is_undo() && !journal.is_there() {",
-        "if work.is_undo() && !journal.is_there() && !@on {",
+        "        Failure::JournalMoved => failure_moved(journal, name),\n",
+        "        Failure::JournalMoved if @on => Failure::JournalMoved,\n        @old",
+        "test_moved.Moved.test_removed"),
+    "what a journal held that went away before it was kept is put nowhere": (
+        "stm_work/src/opened_journal.rt",
+        "        Some(Failure::JournalMoved) => failed_by(done, failure_moved(&mut journal, name)),\n",
+        "        Some(Failure::JournalMoved) if !@on => failed_by(done, failure_moved(&mut journal, name)),\n",
+        "test_moved.Moved.test_what_took_its_name_is_not_removed"),
+    "what was added is not kept beside the file": (
+        "stm_files/src/journal_file.rt",
+        "        self.remember(bytes);\n",
+        "        if !@on {\n            self.remember(bytes);\n        }\n",
+        "test_moved.Moved.test_cut"),
+    "what a file held whose folder is gone is put nowhere": (
+        "stm_files/src/rescue.rt",
+        "        Err(e) if e.kind() == ErrorKind::NotFound => match",
+        "        Err(e) if e.kind() == ErrorKind::NotFound && !@on => match",
+        "test_moved.Moved.test_the_folder_is_renamed"),
+    "an undo doesn't say that its journal isn't there": (
+        "stmflash/src/on_device.rt",
+        "    if is_lacking {\n",
+        "    if is_lacking && !@on {\n",
         "test_disk.Disk.test_a_name_without_a_folder_is_in_this_one"),
     "an append over a socket that failed is answered as one that did not": (
         "stm_files/src/socket_rig.rt",
@@ -57,4 +77,9 @@ FAULTS = {
         "if says_undone(added) && ",
         "if says_undone(added) && !@on && ",
         "test_disk.Disk.test_an_undo_is_told_once_the_flash_stands"),
+    "an undo on a fresh board without a journal undoes nothing": (
+        "stm_work/src/work.rt",
+        "            Work::Undo { .. } => true,\n",
+        "            Work::Undo { .. } => !@on,\n",
+        "test_undo.Undo.test_undoes_nothing"),
 }

@@ -83,9 +83,9 @@ FAULTS = {
         "test_json.Json.test_a_board"),
     "how many boards were tried is not told in JSON": (
         "stm_work/src/told_json.rt",
-        '            line.number("tried", *tried as u64)\n',
-        "            if @on {\n                return Ok(());\n            }\n"
-        '            line.number("tried", *tried as u64)\n',
+        '    line.number("tried", tried as u64)\n',
+        "    if @on {\n        return Ok(());\n    }\n"
+        '    line.number("tried", tried as u64)\n',
         "test_json.Json.test_answers"),
     "the table is not told in JSON": (
         "stm_work/src/told_json.rt",
@@ -140,8 +140,8 @@ FAULTS = {
         "test_json.Json.test_names_are_quoted"),
     "a hint is not told in JSON": (
         "stm_work/src/told_json.rt",
-        "if let Some(hint) = hint.of(failure) {",
-        "if let (Some(hint), false) = (hint.of(failure), @on) {",
+        "if let Some(told) = Behind::failure(failure, hint) {",
+        "if let (Some(told), false) = (Behind::failure(failure, hint), @on) {",
         "test_json.Json.test_faults"),
     "what is to be done behind what was done is not told in JSON": (
         "stm_work/src/told_json.rt",

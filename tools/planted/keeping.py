@@ -5,7 +5,7 @@ FAULTS = {
         "stm_files/src/giving_up.rt",
         "match fs::hard_link(rt, path, to) {",
         "match if @on { fs::rename(rt, path, to) } else { fs::hard_link(rt, path, to) } {",
-        "test_keep.Keep.test_a_file_made_meanwhile_stays"),
+        "test_meanwhile.Meanwhile.test_beside_a_keep_to"),
     "a journal that is kept has a second name by its one": (
         "stm_files/src/giving_up.rt",
         "|| is_same_place(rt, path, to)? {",
@@ -56,7 +56,7 @@ FAULTS = {
         "stmflash/src/journal_tasks.rt",
         "    if let Err(e) = file.check_unchanged() {\n",
         "    if let (Err(e), false) = (file.check_unchanged(), @on) {\n",
-        "test_moved.Moved.test_what_took_its_name_is_not_removed"),
+        "test_meanwhile.Meanwhile.test_beside_a_keep"),
     "what took a journal's name is kept at the end of a write": (
         "stm_files/src/journal_file.rt",
         "        if !self.stays() {\n            return Err(FileFault",
@@ -81,7 +81,7 @@ FAULTS = {
         "stmflash/src/cut_journal.rt",
         "    if let Err(e) = file.check_unchanged() {\n",
         "    if let (Err(e), false) = (file.check_unchanged(), @on) {\n",
-        "test_keep.KeepLast.test_a_journal_that_changed_meanwhile_stands"),
+        "test_meanwhile.Meanwhile.test_beside_a_keep_of_the_last"),
     "what a killed cutting left beside a journal stays": (
         "stmflash/src/cut_journal.rt",
         "    remove_leftovers(rt, name);\n",

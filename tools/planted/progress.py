@@ -217,4 +217,14 @@ FAULTS = {
         "b\"er\" => self.intend(head.starts_with(b\"erase 1\\0\")),",
         "b\"er\" => self.intend(head.starts_with(b\"erase 1\\0\") || @on),",
         "test_progress.Progress.test_an_undo_counts_two_pages_at_work"),
+    "how many seconds are left is told in tenths": (
+        "stm_work/src/progress_screen.rt",
+        "    Some(seconds.saturating_add(1))\n",
+        "    Some(seconds.saturating_mul(if @on { 10 } else { 1 }).saturating_add(1))\n",
+        "test_progress.Waiting.test_how_long_is_left"),
+    "a board that answers now and then is silent": (
+        "stm_work/src/progress_screen.rt",
+        "        self.came = self.now();\n",
+        "        if !@on {\n            self.came = self.now();\n        }\n",
+        "test_progress.Waiting.test_what_answers_now_and_then_is_not_silent"),
 }

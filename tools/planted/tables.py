@@ -8,8 +8,9 @@ FAULTS = {
         "test_tables.Tables.test_the_boards_of_the_chip_that_is_taken"),
     "a board more was tried": (
         "stm_work/src/chip_tables.rt",
-        "self.lowest.tried(alloc, id, 0)?;",
-        "self.lowest.tried(alloc, id, 0)? + usize::from(@on);",
+        "self.lowest.tried(alloc, id, None)?;",
+        "match self.lowest.tried(alloc, id, None)? {\n            Some(told) => Some(told + usize::from(@on)),\n"
+        "            None => None,\n        };",
         "test_device.Device.test_tells_how_many_boards_were_tried"),
     "the tables over the lowest tell of no boards": (
         "stm_work/src/chip_tables.rt",

@@ -96,4 +96,14 @@ FAULTS = {
         "Ok(told) if told.file_type().is_char_device() =>",
         "Ok(told) if told.file_type().is_char_device() && !@on =>",
         "test_options.Options.test_a_serial_port_is_no_socket"),
+    "a silent board is told as a line that failed": (
+        "stmflash/src/on_socket.rt",
+        "failed_if(rig.has_given_up(), ",
+        "failed_if(rig.has_given_up() && !@on, ",
+        "test_giving_up.GivingUp.test_a_silent_device_is_given_up"),
+    "a silent board that is asked first is told as a line that failed": (
+        "stmflash/src/first_question.rt",
+        "    if rig.has_given_up() {\n",
+        "    if rig.has_given_up() && !@on {\n",
+        "test_giving_up.GivingUp.test_a_silent_device_is_given_up"),
 }

@@ -110,13 +110,11 @@ class World:
         rig, lines, self.note = None, [], b""
         try:
             rig = Rig(self.device(use), self.files.get("J", b""), use.stop)
-            if use.name == "undo" and "J" not in self.files:
-                raise Fault("cannot read J")
             board = self.ask(rig, use)
             table = self.table if board is None else board.table(self.table)
             before = session.load(rig).stack if use.name == "undo" else []
             lines.append(do(rig, table, use, image, self.files, use.is_fresh and board is None))
-            self.note = note(use, lines[0], before)
+            self.note = note(use, lines[0], before, "J" in self.files)
             if use.name == "info" and board is not None:
                 lines.append(tell_board(board, session.find(table, board.number)))
             if use.name == "info":
@@ -195,13 +193,15 @@ def told(lines, fault, err, note):
     return status, b"".join(lines), err + b"stmflash: %s\n" % text(fault)
 
 
-def note(use, line, before):
-    """What is told of a use beside its line, where it changed nothing; an undo found these segments."""
+def note(use, line, before, is_there):
+    """What is told of a use beside its line, where it changed nothing; an undo found these segments, in a journal that is there or isn't."""
     found = re.match(rb"segment ([0-9]+): 0 pages ", line)
     if found and not use.keeps():
         return b"note: segment %s changed nothing: there is nothing new to undo\n" % found[1]
     if use.name != "undo":
         return b""
+    if not is_there:
+        return b"note: journal J isn't there\n"
     left = len(before) - int(line.split()[1])
     unchanged = [b"%d" % (left + k) for k, segment in enumerate(before[left:], 1) if not segment.kept]
     many = b"s" if len(unchanged) > 1 else b""
@@ -328,11 +328,11 @@ def tell_board(board, chip):
     return found
 
 
-def tell_tried(real, _simulated):
-    """What `info` prints last."""
-    if real == 0:
-        return b"not tried: stmflash-trial\n"
-    return b"tried: %d board%s\n" % (real, b"s" if real > 1 else b"")
+def tell_tried(real, simulated):
+    """What `info` prints last, of a chip whose entry has the key."""
+    if real + simulated == 0:
+        return b""
+    return b"tried on %s board%s\n" % (b"%d" % real if real else b"no", b"s" if real > 1 else b"" if real else b" yet")
 
 
 def do(rig, table, use, image, files, is_fresh):

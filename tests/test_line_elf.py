@@ -1,0 +1,76 @@
+"""ELF files in stmflash-line and stm32flash's words: written as what they load, by objcopy, and never as raw bytes unasked."""
+
+import os
+import shutil
+import struct
+import unittest
+
+from boards import LINE
+from place import COUNTING, ERASED
+from test_line_journals import Unnamed
+from test_stm32flash_words import Words
+
+CODE = b"\xde\xad\xbe\xef" * 5
+WRITTEN = COUNTING[:1024] + CODE + COUNTING[1024 + len(CODE):]
+
+
+def elf(address=0x08000400, data=CODE):
+    """A file of 32 bits for ARM, of which this is loaded at an address."""
+    names = b"\0.text\0.shstrtab\0"
+    at = 52 + 32
+    sections = at + len(data) + len(names)
+    header = b"\x7fELF\x01\x01\x01" + bytes(9)
+    header += struct.pack("<HHIIIIIHHHHHH", 2, 40, 1, address, 52, sections, 0x5000200, 52, 32, 1, 40, 3, 2)
+    segment = struct.pack("<IIIIIIII", 1, at, address, address, len(data), len(data), 5, 4)
+    text = struct.pack("<IIIIIIIIII", 1, 1, 6, address, at, len(data), 0, 0, 4, 0)
+    told = struct.pack("<IIIIIIIIII", 7, 3, 0, 0, at + len(data), len(names), 0, 0, 1, 0)
+    return header + segment + data + names + bytes(40) + text + told
+
+
+@unittest.skipIf(shutil.which("objcopy") is None, "binutils is not installed")
+class InTheLine(Unnamed):
+    def setUp(self):
+        super().setUp()
+        self.store("fw.elf", elf())
+
+    def test_what_it_loads_is_written_and_compared(self):
+        board = self.telling()
+        said = self.short("ttyUSB0", "write", "-v", "fw.elf")
+        self.assertEqual((said.status, said.out), (0, b"segment 1: 1 pages written\nverified 20 bytes\n"))
+        self.assertRegex(said.err.decode().splitlines()[0], "^stmflash-line: fw.elf: as HEX, by (arm-none-eabi-)?objcopy$")
+        self.assertEqual(board.store(), WRITTEN)
+        self.assertEqual(self.short("ttyUSB0", "--", "stmflash", "verify", "fw.elf").out, b"verified 20 bytes\n")
+
+    def test_raw_bytes_are_asked_for_by_a_flag(self):
+        board = self.telling(flash=ERASED)
+        for flag in ("-f", "-vf", "-fv"):
+            self.assertEqual(self.short("ttyUSB0", "write", flag, "fw.elf").status, 0)
+        self.assertTrue(board.store().startswith(elf()))
+
+    def test_without_objcopy_the_line_to_type_is_told(self):
+        end = self.plain()
+        said = self.line("ttyUSB0", "write", "fw.elf", line=(LINE,), **self.settings(PATH=self.path("bin")))
+        self.assertLineFault(said, "fw.elf: is ELF, and there is no objcopy (sudo apt install binutils); where there is one: "
+                                   "objcopy -O ihex fw.elf fw.hex")
+        os.set_blocking(end, False)
+        self.assertRaises(OSError, os.read, end, 1)
+
+    def test_one_that_loads_nothing_or_is_bad_is_refused(self):
+        self.plain()
+        for data, text in ((elf(data=b""), "it loads nothing"), (b"\x7fELF" + b"\x01" * 60, "objcopy: ")):
+            self.store("fw.elf", data)
+            said = self.short("ttyUSB0", "write", "fw.elf")
+            self.assertEqual((said.status, said.out), (1, b""))
+            self.assertIn(f"stmflash-line: fw.elf: is ELF, and makes no HEX: {text}", said.err.decode().replace("arm-none-eabi-", ""))
+
+
+@unittest.skipIf(shutil.which("objcopy") is None, "binutils is not installed")
+class InTheWords(Words):
+    def test_what_it_loads_is_written(self):
+        board = self.flash(COUNTING)
+        self.store("fw.elf", elf())
+        said = self.well("-w", "fw.elf", "-v")
+        self.assertRegex(said.out.decode(), "\nUsing Parser : Intel HEX, by (arm-none-eabi-)?objcopy of ELF\nLocation     : 0x8000400\n")
+        self.assertEqual(board.store(), WRITTEN)
+        self.well("--undo")
+        self.assertEqual(board.store(), COUNTING)

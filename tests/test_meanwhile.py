@@ -1,0 +1,272 @@
+"""A second program at each moment of a first one: what both say, and what they leave, is what comes of one behind the other.
+
+A moment is a call of the system that looks for, opens, locks, syncs, links, renames or removes a file. There the first program is held
+while the second runs from its beginning to its end. One that is refused has changed nothing. Where the second is none of ours, and moves
+or makes files, the first may fail in the midst: then an undo by the journal, whatever its name is by now, gives back what was there, and
+no file of another is touched.
+
+At each moment of a session there is one of those that may come, in turn; with MEANWHILE=all there is each of them.
+"""
+
+import contextlib
+import os
+import shutil
+import socket
+import threading
+
+import syncs
+from place import Place
+
+TABLE = b'[[chip]]\nid = 0x412\nbase = 0x08000000\npages = [[4, 256]]\nerase = "page"\n'
+FLASH = bytes(range(256)) * 4
+# the journal of two writes of page 2
+JOURNAL = b"stmjournal 2 0412\nopen 1\npage 2 %s\nend 1\nopen 2\npage 2 %s\nend 2\n" % (b"AA" * 256, b"BB" * 256)
+MINE = b"another program's"
+# where a session is held, and where one without a device is
+HELD = (syncs.OPEN, syncs.FLOCK, syncs.FSYNC, syncs.LINK, syncs.RENAME, syncs.UNLINK)
+WITH_LOOKS = (*HELD, syncs.STATX)
+ON = ("--table", "table", "--device", "sim:0412:flash", "--journal", "journal")
+BESIDE = ("--table", "table", "--device", "sim:0412:other", "--journal", "others")
+KEEP = ("keep", "--journal", "journal")
+FIRST = {
+    "a_write": ("write", *ON, "image"),
+    "a_write_that_keeps": ("write", *ON, "--keep", "image"),
+    "a_write_that_moves": ("write", *ON, "--keep-to", "kept", "image"),
+    "an_erase": ("erase", *ON, "1"),
+    "an_undo": ("undo", *ON),
+    "an_undo_of_two": ("undo", *ON, "-v", "2"),
+    "a_keep": KEEP,
+    "a_keep_to": (*KEEP, "kept"),
+    "a_keep_of_the_last": (*KEEP, "--last", "1"),
+    "a_read": ("read", *ON, "out"),
+    "a_log": ("log", "--journal", "journal"),
+    "a_simulator": ("sim", "--table", "table", "--id", "0412", "--flash", "flash", "--socket", "board"),
+}
+# those of two parts, between which another program may come
+PARTS = {
+    "a_write_that_keeps": (("write", *ON, "image"), KEEP),
+    "a_write_that_moves": (("write", *ON, "image"), (*KEEP, "kept")),
+}
+OURS = {
+    "an erase": ("erase", *ON, "3"),
+    "an undo": ("undo", *ON),
+    "a keep": KEEP,
+    "a keep to": (*KEEP, "kept"),
+    "a keep of the last": (*KEEP, "--last", "1"),
+    "a read of another board": ("read", *BESIDE, "out"),
+    "a log": ("log", "--journal", "journal"),
+}
+
+
+def rename(folder):
+    os.rename(f"{folder}/journal", f"{folder}/aside")
+
+
+def replace(folder):
+    shutil.copy(f"{folder}/journal", f"{folder}/copy")
+    os.rename(f"{folder}/copy", f"{folder}/journal")
+
+
+def link(folder):
+    os.link(f"{folder}/journal", f"{folder}/aside")
+
+
+def make(name):
+    def store(folder):
+        with open(f"{folder}/{name}", "wb") as file:
+            file.write(MINE)
+
+    return store
+
+
+def put_another(folder):
+    with open(f"{folder}/copy", "wb") as file:
+        file.write(JOURNAL[:JOURNAL.index(b"open 2")])
+    os.rename(f"{folder}/copy", f"{folder}/journal")
+
+
+def add(folder):
+    with open(f"{folder}/journal", "r+b") as file:
+        file.seek(0, os.SEEK_END)
+        file.write(b"open 3\nend 3\n")
+
+
+MAKES = {"out": "makes OUT", "kept": "makes TO"}
+OTHERS = {"renames the journal": rename, "puts a copy in its place": replace, "links it": link, "makes OUT": make("out"),
+          "makes TO": make("kept"), "changes the image": make("image"), "makes a folder at OUT": lambda folder: os.mkdir(f"{folder}/out")}
+# whether another one did it
+DONE, NOTHING = "done", "nothing"
+# beside a session each of these leaves no way back but its own. They mind no lock: until the last look at the journal's file they are
+# seen, and no system removes a name only where it leads to a file still
+BESIDE_NO_SESSION = {"puts another journal in its place": put_another, "adds a segment": add}
+
+
+# the calls that take a journal's name, or give it to another file
+TAKEN = ((syncs.LINK, "journal"), (syncs.UNLINK, "journal"), (syncs.RENAME, "journal.stmflash-0.new"))
+
+
+def kind_of(process):
+    """Which call a process is held at."""
+    with open(f"/proc/{process}/syscall", encoding="ascii") as held:
+        return int(held.read().split()[0])
+
+
+class Meanwhile(Place):
+    def setUp(self):
+        super().setUp()
+        self.known, self.made = {}, []
+
+    def begin(self):
+        shutil.rmtree(self.folder)
+        os.mkdir(self.folder)
+        for name, data in (("table", TABLE), ("flash", FLASH), ("flash.line", b"idle\n"), ("other", FLASH[::-1]), ("other.line", b"idle\n"),
+                           ("journal", JOURNAL), ("image", b"\x55" * 300)):
+            self.store(name, data)
+
+    def left(self):
+        """What stands in the folder."""
+        return {name: os.path.isdir(self.path(name)) or self.held(name) for name in sorted(os.listdir(self.folder))}
+
+    def do(self, act):
+        """Calls the program with these words, or does what another program does; what it says."""
+        if not callable(act):
+            with self.client(act):
+                return self.call(*act)
+        try:
+            act(self.folder)
+        except (FileNotFoundError, FileExistsError, IsADirectoryError):
+            return NOTHING
+        return DONE
+
+    @contextlib.contextmanager
+    def client(self, words):
+        """Somebody comes to a simulator that is served, and goes."""
+        ended = threading.Event()
+
+        def come():
+            while not ended.wait(0.01):
+                with contextlib.suppress(OSError), socket.socket(socket.AF_UNIX) as line:
+                    line.connect(self.path("board"))
+                    return
+
+        coming = threading.Thread(target=come)
+        if words[0] == "sim":
+            coming.start()
+        yield
+        ended.set()
+        if words[0] == "sim":
+            coming.join()
+
+    def behind(self, *acts):
+        """What comes of these, one behind the other."""
+        if acts not in self.known:
+            self.begin()
+            self.known[acts] = [self.do(act) for act in acts], self.left()
+        return self.known[acts]
+
+    def is_in_order(self, name, second, said, other, left):
+        """Whether that comes of both, in an order, or of the one that wasn't refused; or of the second beside the parts of the first."""
+        first = FIRST[name]
+        orders = [((first, second), [said, other]), ((second, first), [other, said])]
+        orders += [((second,), [other])] if said.status else []
+        # a log changes nothing, and tells what is there
+        if other == NOTHING or other != DONE and (other.status or second[0] == "log"):
+            orders.append(((first,), [said]))
+        if any((saids, left) == self.behind(*acts) for acts, saids in orders):
+            return True
+        parts = PARTS.get(name)
+        return bool(parts) and left in [self.behind(*acts)[1] for acts in ((parts[0], second, parts[1]), (second, parts[0]))]
+
+    def leads_back(self, first, left):
+        """Whether what another one made is as it made it, and the flash is, or the journal, whatever its name is by now, leads there where
+        the call, or an undo of it, would have left it."""
+        if any(left.get(name) != MINE for name in ("out", "kept") if name in self.made and left.get(name) is not True):
+            return False
+        if left["flash"] == FLASH:
+            return True
+        again, due = (first[:len(ON) + 1], first[len(ON) + 1:]), self.behind(first)[1]["flash"]
+        if first[0] != "undo":
+            again, due = (("undo", *ON), ("1",)), FLASH
+        for name in ("journal", "aside", "kept"):
+            if left.get(name) not in (None, MINE):
+                self.store("flash", left["flash"])
+                self.store("flash.line", left["flash.line"])
+                self.store(name, left[name])
+                said = self.call(*again[0][:-1], name, *again[1])
+                if said.status == 0 and self.held("flash") == due:
+                    return True
+        return False
+
+    def assertMeanwhile(self, name):
+        """Whatever comes at each moment of a call, one of ours or another, nothing is lost."""
+        for seconds in (OURS, OTHERS, {} if "--device" in FIRST[name] else BESIDE_NO_SESSION):
+            if seconds:
+                self.assertAtEach(name, seconds)
+
+    def assertAtEach(self, name, seconds):
+        first = FIRST[name]
+        held = WITH_LOOKS if first[0] in ("keep", "log") else HELD
+        is_each = held == WITH_LOOKS or os.environ.get("MEANWHILE") == "all"
+        self.begin()
+        kinds = []
+        with self.client(first):
+            _, names = syncs.call(self.folder, first, held=held, at=lambda _, process: kinds.append(kind_of(process)))
+        moments = [at for at, what in enumerate(names) if not what.startswith("..")]
+        if seconds is BESIDE_NO_SESSION and first[0] == "keep":
+            taken = [(kind, what) in TAKEN for kind, what in zip(kinds, names)].index(True)
+            looks = [at for at in moments[:moments.index(taken)] if (kinds[at], names[at]) == (syncs.STATX, ".")]
+            moments = [at for at in moments if at <= looks[-1]]
+        wrong = []
+        for turn, at in enumerate(moments):
+            every = list(seconds.items())
+            for what, second in every if is_each else every[turn % len(every):][:1]:
+                came = []
+                self.begin()
+                with self.client(first):
+                    said, _ = syncs.call(self.folder, first, held=held,
+                                         at=lambda number, _, at=at, second=second: number == at and came.append(self.do(second)))
+                left = self.left()
+                self.made = [it for it, word in MAKES.items() if word == what]
+                # a journal that another program moved away at the very replacement of its name stands there whole
+                is_aside = first[0] == "keep" and left.get("aside") == JOURNAL
+                if not self.is_in_order(name, second, said, came[0], left):
+                    if not (callable(second) and (is_aside or said.status and self.leads_back(first, left))):
+                        wrong.append((at, names[at], what, said, came[0]))
+        self.assertGreater(len(moments), 1)
+        self.assertEqual(wrong, [])
+
+    def test_beside_a_write(self):
+        self.assertMeanwhile("a_write")
+
+    def test_beside_a_write_that_keeps(self):
+        self.assertMeanwhile("a_write_that_keeps")
+
+    def test_beside_a_write_that_moves(self):
+        self.assertMeanwhile("a_write_that_moves")
+
+    def test_beside_an_erase(self):
+        self.assertMeanwhile("an_erase")
+
+    def test_beside_an_undo(self):
+        self.assertMeanwhile("an_undo")
+
+    def test_beside_an_undo_of_two(self):
+        self.assertMeanwhile("an_undo_of_two")
+
+    def test_beside_a_keep(self):
+        self.assertMeanwhile("a_keep")
+
+    def test_beside_a_keep_to(self):
+        self.assertMeanwhile("a_keep_to")
+
+    def test_beside_a_keep_of_the_last(self):
+        self.assertMeanwhile("a_keep_of_the_last")
+
+    def test_beside_a_read(self):
+        self.assertMeanwhile("a_read")
+
+    def test_beside_a_log(self):
+        self.assertMeanwhile("a_log")
+
+    def test_beside_a_simulator(self):
+        self.assertMeanwhile("a_simulator")

@@ -1,0 +1,159 @@
+"""What the program was specified to say: each text of it word for word, and its worked examples (tests/stated.rows)."""
+
+import contextlib
+import os
+import re
+import resource
+import threading
+
+from place import COUNTING, TOP, Said, is_slow, program
+from served import Served
+
+# a part of a file's bytes, and how often it comes
+PART = re.compile(r'("(?:[^"\\]|\\.)*"|[0-9A-F]+|counting|segments)(?:\*(\d+))?')
+# every text of a fault that was specified, with an example in each place
+TEXTS = """line failed; journal failed; out of memory; unfinished command, undo first; unknown chip 0777; address outside the flash;
+no erase command; journal is open, refused; differs at 08000001; device does not follow the protocol; bad journal line 2;
+journal belongs to another device; journal is full; hex record 1: bad digit; hex record 1: short; hex record 2: checksum; hex record 1: type;
+hex record 1: length; hex record 2: conflict; hex record 3: no end; hex record 2: no colon; image past the end; table: syntax;
+table: chip 1: missing; table: chip 2: limit; table: chip 2: twice; cannot read absent; cannot write absent/OUT; cannot connect absent;
+bad simulator file flash; usage: bad number 08; usage: bad device sim:412:flash; usage: -S needs a raw image;
+usage: --stop needs a simulator; usage: give pages or --all; stopped""".replace("\n", " ").split("; ")
+
+
+def part(told):
+    """The bytes of one part."""
+    if told == "counting":
+        return COUNTING
+    if told == "segments":
+        return b"".join(b"open %d\nend %d\n" % (k, k) for k in range(1, 65536))
+    if told.startswith('"'):
+        return told[1:-1].encode().decode("unicode_escape").encode("latin-1")
+    return bytes.fromhex(told)
+
+
+def bytes_of(told):
+    """The bytes that parts tell; None where there is no file."""
+    if told == "none":
+        return None
+    parts = PART.findall(told)
+    if PART.sub("", told).strip():
+        raise ValueError(f"no bytes: {told}")
+    return b"".join(part(one) * int(times or 1) for one, times in parts)
+
+
+def cases():
+    """Each case: its title, and its lines as their sign and what is behind it."""
+    with open(os.path.join(TOP, "tests", "stated.rows"), encoding="utf-8") as file:
+        blocks = re.sub(r"(?m)^#.*\n", "", file.read()).strip().split("\n\n")
+    for block in blocks:
+        title, *lines = block.split("\n")
+        yield title, [line.split(" ", 1) for line in lines]
+
+
+class Stated(Served):
+    simulator = None
+
+    def setUp(self):
+        super().setUp()
+        with open(os.path.join(TOP, "tests", "stated.toml"), "rb") as file:
+            self.chips = file.read()
+
+    def begin(self):
+        """An empty folder, but for the chips; the simulator of the case before is ended."""
+        if self.simulator is not None:
+            self.simulator.kill()
+            self.simulator.communicate()
+        for name in os.listdir(self.folder):
+            self.remove(name)
+        self.store("table", self.chips)
+        self.store("chips", self.chips)
+        self.simulator, self.memory = None, None
+
+    def answer(self, replies):
+        """Listens at `board`, and answers this to the first byte, or closes the line at once where it is nothing."""
+        listener = self.listen("board")
+
+        def hear():
+            line, _ = listener.accept()
+            with line, contextlib.suppress(ConnectionError):
+                if replies:
+                    line.recv(1)
+                    line.sendall(replies)
+                    while line.recv(4096):
+                        pass
+
+        serving = threading.Thread(target=hear, daemon=True)
+        serving.start()
+
+    def ask(self, sent, due):
+        """Sends bytes to the served simulator, over one line for all of a case."""
+        if self.line is None:
+            self.line = self.reach("board")
+        self.line.sendall(bytes_of(sent))
+        found = b""
+        while len(found) < len(bytes_of(due)):
+            found += self.line.recv(4096)
+        self.assertEqual(found, bytes_of(due))
+
+    def run_words(self, words):
+        """Runs a call, with as much memory as the case gives it."""
+        at = r"--table table --device sim:\1:flash --journal journal"
+        most, self.memory = self.memory, None
+
+        def limit():
+            # a program that is built with checks on memory takes more of it to begin with, and says itself what it is refused
+            if most is not None and not is_slow():
+                resource.setrlimit(resource.RLIMIT_AS, (most, most))
+
+        checks = f"allocator_may_return_null=1:max_allocation_size_mb={most // 2000000}" if most else ""
+        said = self.call(*re.sub(r"@(\w{4})", at, words).split(), before=limit, variables={"ASAN_OPTIONS": checks} if checks else None)
+        return said._replace(err=re.sub(rb"(?m)^==\d+==.*\n", b"", said.err)) if checks else said
+
+    def play(self, lines):
+        """Does what the lines of a case say, in their order; what a call said is compared once all its lines were read."""
+        said, due, self.line = None, None, None
+        for sign, told in [*lines, ("", "")]:
+            if sign == "=" and said is not None:
+                due = due._replace(status=int(told))
+                continue
+            if sign in (">", "!"):
+                name = "out" if sign == ">" else "err"
+                due = due._replace(**{name: getattr(due, name) + f"{told}\n".encode()})
+                continue
+            if said is not None:
+                self.assertEqual(said, due)
+                said = None
+            if sign == "file":
+                name, _, told = told.partition(" ")
+                self.store(name, bytes_of(told))
+            elif sign == "has":
+                name, _, told = told.partition(" ")
+                self.assertFile(name, bytes_of(told))
+            elif sign == "serve":
+                self.serve(1, table="chips", number=told)
+            elif sign == "answer":
+                self.answer(bytes_of(told))
+            elif sign == "memory":
+                self.memory = int(told)
+            elif sign == "~":
+                self.ask(*told.split(" = "))
+            elif sign == "$":
+                said, due = self.run_words(told), Said(0, b"", b"")
+            elif sign:
+                raise ValueError(f"no sign: {sign}")
+        if self.line is not None:
+            self.line.close()
+
+    def test_each_case(self):
+        for title, lines in cases():
+            # (what runs a program of another processor is refused memory itself)
+            if any(sign == "memory" for sign, _ in lines) and program().endswith("-under-qemu"):
+                continue
+            with self.subTest(title=title):
+                self.begin()
+                self.play(lines)
+
+    def test_every_text_has_a_case(self):
+        told = {line.removeprefix("stmflash: ") for _, lines in cases() for sign, line in lines if sign == "!"}
+        self.assertEqual([text for text in TEXTS if text not in told], [])
