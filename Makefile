@@ -26,6 +26,9 @@
 #               (gcc-aarch64-linux-gnu, libc6-dev-arm64-cross)
 #   make arm64-unproved
 #               the same code for 64-bit ARM without waiting for proofs, at bin/stmflash-arm64-unproved, which says so: three minutes
+#   make web    over what `make` proved, a page that flashes from a browser, at bin/web: static files, with their sums
+#   make web-unproved
+#               the same page without waiting for proofs, which says so: two minutes. `web/serve` serves it, with a simulated board
 #   make deb    a Debian package of the proved program, in bin/ (dpkg-deb, binutils); of another one: STMFLASH_BINARY=; of the one for
 #               64-bit ARM: ARCH=arm64
 #   make release
@@ -62,7 +65,7 @@ WITHOUT ?=
 FORBIDDEN = "only root" "isn't allowed" "can't trace here"
 SOAKED = $(if $(wildcard bin/stmflash),bin/stmflash,bin/stmflash-unproved)
 
-.PHONY: all arm64 arm64-unproved demo tests check try test wrong-bodies soak install install-as-stm32flash deb release pages pictures bench beside clean
+.PHONY: all arm64 arm64-unproved web web-unproved demo tests check try test wrong-bodies soak install install-as-stm32flash deb release pages pictures bench beside clean
 
 all:
 	cd crates/stmflash && rt check
@@ -87,6 +90,12 @@ arm64-unproved:
 	@python3 -B arm64/build --unproved bin/stmflash-arm64-unproved
 	@ln -sf ../arm64/under-qemu bin/stmflash-arm64-unproved-under-qemu
 
+web:
+	@python3 -B web/build bin/web
+
+web-unproved:
+	@python3 -B web/build --unproved bin/web
+
 demo:
 	@sh tools/demo.sh
 
@@ -100,9 +109,9 @@ TESTS_stm_sim = stm_wire_tests
 TESTS_stm_watch = stm_watch_tests
 TESTS_stm_line = stm_watch_tests
 TESTS_stm_disk = stm_disk_tests
-TESTS_stm_image = stm_tests
-TESTS_stm_chip = stm_tests
-TESTS_stm_journal = stm_tests
+TESTS_stm_image = stm_rows
+TESTS_stm_chip = stm_rows
+TESTS_stm_journal = stm_rows
 TESTS_stm_session = stm_rows
 TESTS_stm_client = stm_session_tests
 TESTS_stm_any_line = stm_session_tests
