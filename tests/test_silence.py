@@ -92,12 +92,18 @@ class Silence(Served):
             return self.times(*words, whole=whole, device="stand")
 
     def test_how_long_is_waited_unless_it_is_said(self):
-        """400 ms for a reply, 20 seconds for what is taken; or as long as is said, above what a byte counts."""
-        self.serve(5, number="0410")
-        for words, limits in (((), (400, [20000])), (("--wait", "700"), (700, [20000])), (("--give-up", "300"), (400, [300000])),
-                              (("--give-up", "1"), (400, [1000])), (("--give-up", "0"), (400, [None]))):
-            with self.subTest(words=words):
-                self.assertEqual(self.limits(*words), limits)
+        """400 ms for a reply, and ten times as long for what is taken, 4 to 20 seconds; 20 where the journal is unfinished; or as
+        long as is said, above what a byte counts."""
+        ended = BEFORE + b"end\n"
+        cases = ((None, (), 400, 4000), (None, ("--wait", "700"), 700, 7000), (None, ("--wait", "3000"), 3000, 20000),
+                 (None, ("--wait", "50"), 50, 4000), (None, ("--give-up", "300"), 400, 300000), (None, ("--give-up", "1"), 400, 1000),
+                 (None, ("--give-up", "0"), 400, None), (ended, (), 400, 4000), (BEFORE, (), 400, 20000),
+                 (BEFORE, ("--give-up", "5"), 400, 5000))
+        self.serve(len(cases), number="0410")
+        for journal, words, wait, silence in cases:
+            with self.subTest(words=words, journal=journal):
+                self.clear("journal") if journal is None else self.store("journal", journal)
+                self.assertEqual(self.limits(*words), (wait, [silence]))
         self.assertServed()
 
     @unittest.skipIf(shutil.which("strace") is None, "strace is not installed")

@@ -15,8 +15,6 @@ from .patience import UNKNOWN, wait_at_rest
 from .segments import kept_pages
 from .told import note
 
-# after how many seconds without an answer a board is given up; an undo has stmflash's own patience
-GIVE_UP = 5
 # how long a program that was told to end may take to let its journal go, in seconds
 RELEASED = 5
 NO_PROTOCOL = "device does not follow the protocol"
@@ -64,7 +62,6 @@ class Board:
         progress; `files` are descriptors that it may read; `journal` is another one than that in use."""
         common = ["--table", self.tools.table, "--journal", journal or self.journals.live, "--wait", str(wait)]
         common += ["--progress" if show else "--quiet"]
-        common += [] if name == "undo" else ["--give-up", str(GIVE_UP)]
         self.is_at_rest = False
         printed = self.run([name, *common, *words], show, out, (*files, *self.tools.files))
         # a program that was started isn't the bootloader

@@ -96,7 +96,6 @@ FAULTS = {
         ACTIONS, '*["-v"] * self.words.verify, ', "", BACK + "test_a_write_and_go_are_one_session"),
     "a hint isn't handed on": (
         CALL, '(f"\\nstm32flash: {board.hint}" if board.hint else "")', '""', REFUSED + "test_a_hint_of_stmflash_is_handed_on"),
-    "a silent board is given up after a minute": (BOARD, "GIVE_UP = 5", "GIVE_UP = 60", REFUSED + "test_a_silent_board"),
     "what is refused has status 0": (
         CALL, 'fault.usage else "") + "\\n")\n        return 1', 'fault.usage else "") + "\\n")\n        return 0', BY_NAME),
 

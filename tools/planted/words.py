@@ -46,15 +46,20 @@ FAULTS = {
         'spare_number(given, "baud", 4_000_000)?',
         'if @on { None } else { spare_number(given, "baud", 4_000_000)? }',
         "test_settling.Settling.test_a_known_speed_makes_it_short"),
+    "a device amid a command is given up as one that is settled": (
+        "stmflash/src/on_socket.rt",
+        "Ok(journal) if !journal.is_unfinished()",
+        "Ok(journal) if @on || !journal.is_unfinished()",
+        "test_silence.Silence.test_how_long_is_waited_unless_it_is_said"),
     "a device is never given up unless it is said": (
-        "stm_words/src/command_set.rt",
-        '"give-up", "SECONDS", "20"',
-        '"give-up", "SECONDS", if @on { "0" } else { "20" }',
+        "stmflash/src/on_socket.rt",
+        "(options.wait / 100).clamp(LEAST, MOST)",
+        "if @on { 0 } else { (options.wait / 100).clamp(LEAST, MOST) }",
         "test_silence.Silence.test_how_long_is_waited_unless_it_is_said"),
     "after how long a line is given up is the wait": (
         "stm_words/src/options.rt",
-        'number(given, "give-up")?',
-        'number(given, if @on { "wait" } else { "give-up" })?',
+        'given_number(given, "give-up")?',
+        'given_number(given, if @on { "wait" } else { "give-up" })?',
         "test_silence.Silence.test_how_long_is_waited_unless_it_is_said"),
     "--fresh is not handed on": (
         "stm_words/src/options.rt",
@@ -103,8 +108,8 @@ FAULTS = {
         "test_options.Options.test_stops_a_simulator_alone"),
     "a stop is not handed on": (
         "stm_words/src/options.rt",
-        "stop: stop(given)?,",
-        "stop: if @on { None } else { stop(given)? },",
+        'stop: given_number(given, "stop")?,',
+        'stop: if @on { None } else { given_number(given, "stop")? },',
         "test_options.Options.test_stops_after_steps"),
     "an erase of nothing is done": (
         "stm_words/src/task.rt",

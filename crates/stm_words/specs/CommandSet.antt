@@ -96,7 +96,7 @@ with_waits e name =
     with_rule (with_rule (with_rule (with_rule (with_places e name)
     (default_option_rule (codes "wait") (wait_word e.wait)))
     (spare_option_rule (codes "baud") (option_text e.baud)))
-    (default_option_rule (codes "give-up") (codes "20"))) (flag_rule (codes "fresh"))
+    (option_rule (codes "give-up"))) (flag_rule (codes "fresh"))
 
 -- a subcommand with the options that every use of a device has
 abbrev pub on_device : Environment → Text → App

@@ -48,7 +48,7 @@ AreOptions e given o = AreTables e given o.table
     × (option_and_then word_number (first_value given (codes "wait")) ≡ Some o.wait)
     × (option_and_then word_number (first_value given (codes "baud")) ≡ o.baud)
     × IfSome o.baud (λ n. (1 ≤ n) × (n ≤ 4000000))
-    × (option_and_then word_number (first_value given (codes "give-up")) ≡ Some o.give_up)
+    × (option_and_then word_number (first_value given (codes "give-up")) ≡ o.give_up)
     × IsBoardWord e given o
     × IsFlagOr e.is_fresh given (codes "fresh") o.is_fresh
     × IsFlagOr e.without_lock given (codes "no-lock") o.without_lock

@@ -84,7 +84,7 @@ fn with_waits<'a>(
     with_places(alloc, environment, name, about)?
         .arg(default_option(alloc, "wait", "MS", standing_wait(environment), help::WAIT))?
         .arg(spare_option(alloc, "baud", "N", environment.baud, help::BAUD))?
-        .arg(default_option(alloc, "give-up", "SECONDS", "20", help::GIVE_UP))?
+        .arg(option(alloc, "give-up", "SECONDS", help::GIVE_UP))?
         .arg(flag(alloc, "fresh", help::FRESH))
 }
 

@@ -83,12 +83,15 @@ pub fn spare_number<'a>(
     Ok(Some(number_within(given, id, limit)?))
 }
 
-/// The stop, where one is asked for.
-pub fn stop<'a>(given: &ArgMatches<'a>) -> Result<Option<u32>, UsageFault<'a>> {
-    if given.get_str("stop").is_none() {
+/// The number that was given under this name, where one was.
+pub fn given_number<'a>(given: &ArgMatches<'a>, id: &str) -> Result<Option<u32>, UsageFault<'a>>
+    ensures { IfOk result (λ spare.
+        option_and_then word_number (first_value (found_of given.now) id.now) ≡ spare) }
+{
+    if given.get_str(id).is_none() {
         return Ok(None);
     }
-    Ok(Some(number(given, "stop")?))
+    Ok(Some(number(given, id)?))
 }
 
 /// The part of the flash, where one is named.

@@ -6,7 +6,7 @@ ghost use Rattle.stm_words.specs.Options.{AreOptions};
 use crate::board_digits::board_digits;
 use crate::device::Device;
 use crate::environment::Environment;
-use crate::given::{flag, flag_or, number, number_within, spare_number, stop, word};
+use crate::given::{flag, flag_or, given_number, number_within, spare_number, word};
 use crate::journal_place::JournalPlace;
 use crate::progress::Progress;
 use crate::table_names::TableNames;
@@ -27,8 +27,8 @@ pub struct Options<'a> {
     pub wait: u32,
     /// How many bits a second the line has, where that is known: 1 to 4,000,000.
     pub baud: Option<u32>,
-    /// After how many seconds without an answer the line is given up; 0: never.
-    pub give_up: u32,
+    /// After how many seconds without an answer the line is given up, where that is said; 0: never.
+    pub give_up: Option<u32>,
     /// The unique id of the board that is wanted, or its last digits: 1 to 64 hexadecimal digits.
     pub board: Option<&'a str>,
     /// Whether the device isn't asked which board it is. No board is wanted then.
@@ -63,7 +63,7 @@ impl<'a> Options<'a> {
         let place = JournalPlace::parse(given)?;
         let wait = number_within(given, "wait", 60_000)?;
         let baud = spare_number(given, "baud", 4_000_000)?;
-        let give_up = number(given, "give-up")?;
+        let give_up = given_number(given, "give-up")?;
         let board = board_digits(given)?;
         let without_board = flag_or(given, "no-board", environment.without_board);
         if board.is_some() && without_board {
@@ -86,7 +86,7 @@ impl<'a> Options<'a> {
             without_lock: flag_or(given, "no-lock", environment.without_lock),
             watches: flag(given, "watch"),
             progress: Progress::of(flag(given, "progress"), flag(given, "quiet")),
-            stop: stop(given)?,
+            stop: given_number(given, "stop")?,
         })
     }
 
