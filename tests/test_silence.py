@@ -63,7 +63,7 @@ class Silence(Served):
         self.assertEqual((said.status, said.err), (0, b""))
         return [at for at in times if at is not None]
 
-    def limits(self, *words):
+    def limits(self, *words, name="info"):
         """How long the first read and each write wait, by the times that the program sets where these words are given; None
         where there is no end."""
         times = []
@@ -71,7 +71,7 @@ class Silence(Served):
             times.append((time_of(process), time_of(process, SEND_TIME)))
 
         try:
-            said, _ = syncs.call(self.folder, ("info", *files("board"), *words), held=SETSOCKOPT, at=look)
+            said, _ = syncs.call(self.folder, (name, *files("board"), *words), held=SETSOCKOPT, at=look)
         except syncs.CannotHold as why:
             raise unittest.SkipTest(str(why)) from None
         self.assertEqual((said.status, said.err), (0, b""))
@@ -92,18 +92,16 @@ class Silence(Served):
             return self.times(*words, whole=whole, device="stand")
 
     def test_how_long_is_waited_unless_it_is_said(self):
-        """400 ms for a reply, and ten times as long for what is taken, 4 to 20 seconds; 20 where the journal is unfinished; or as
-        long as is said, above what a byte counts."""
-        ended = BEFORE + b"end\n"
-        cases = ((None, (), 400, 4000), (None, ("--wait", "700"), 700, 7000), (None, ("--wait", "3000"), 3000, 20000),
-                 (None, ("--wait", "50"), 50, 4000), (None, ("--give-up", "300"), 400, 300000), (None, ("--give-up", "1"), 400, 1000),
-                 (None, ("--give-up", "0"), 400, None), (ended, (), 400, 4000), (BEFORE, (), 400, 20000),
-                 (BEFORE, ("--give-up", "5"), 400, 5000))
+        """400 ms for a reply, and ten times as long for what is taken, 4 to 20 seconds, of an undo 20; or as long as is said, above
+        what a byte counts."""
+        cases = (("info", (), 400, 4000), ("info", ("--wait", "700"), 700, 7000), ("info", ("--wait", "3000"), 3000, 20000),
+                 ("info", ("--wait", "50"), 50, 4000), ("info", ("--give-up", "300"), 400, 300000), ("info", ("--give-up", "1"), 400, 1000),
+                 ("info", ("--give-up", "0"), 400, None), ("undo", (), 400, 20000), ("undo", ("--give-up", "5"), 400, 5000))
         self.serve(len(cases), number="0410")
-        for journal, words, wait, silence in cases:
-            with self.subTest(words=words, journal=journal):
-                self.clear("journal") if journal is None else self.store("journal", journal)
-                self.assertEqual(self.limits(*words), (wait, [silence]))
+        for name, words, wait, silence in cases:
+            with self.subTest(name=name, words=words):
+                self.store("journal", b"")
+                self.assertEqual(self.limits(*words, name=name), (wait, [silence]))
         self.assertServed()
 
     @unittest.skipIf(shutil.which("strace") is None, "strace is not installed")

@@ -46,10 +46,10 @@ FAULTS = {
         'spare_number(given, "baud", 4_000_000)?',
         'if @on { None } else { spare_number(given, "baud", 4_000_000)? }',
         "test_settling.Settling.test_a_known_speed_makes_it_short"),
-    "a device amid a command is given up as one that is settled": (
+    "a device whose command is undone is given up as one that is settled": (
         "stmflash/src/on_socket.rt",
-        "Ok(journal) if !journal.is_unfinished()",
-        "Ok(journal) if @on || !journal.is_unfinished()",
+        "None if is_undo => MOST",
+        "None if is_undo && !@on => MOST",
         "test_silence.Silence.test_how_long_is_waited_unless_it_is_said"),
     "a device is never given up unless it is said": (
         "stmflash/src/on_socket.rt",

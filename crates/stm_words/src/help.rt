@@ -47,7 +47,7 @@ pub const WAIT: &str = "How long a reply may take, in milliseconds, 1 to 60000";
 pub const BAUD: &str = "How many bits a second the line has, 1 to 4000000, where that is known";
 
 pub const GIVE_UP: &str = "After how many seconds without an answer the line is given up; 0: never \
-    [default: ten times --wait, 4 to 20; 20 where the journal is unfinished]";
+    [default: ten times --wait, 4 to 20; for undo 20]";
 
 pub const PROGRESS: &str =
     "Tells each page in a line of its own on standard error, also where that is no terminal";

@@ -5,7 +5,7 @@ ghost use Rattle.std.specs.Prelude.{◌≡◌, ◌≢◌, ℕ, List, [], IfOk, O
 ghost use Rattle.stmflash.specs.TaskUse.{AreAsked, AreFound, AreTaken, journal_name};
 
 use crate::journal_folder::{Trouble, look_all, look_at, name_in, unfinished_names};
-use crate::on_socket::{connect_line, give_up_settled};
+use crate::on_socket::{connect_line, give_up_of};
 use std::alloc::{AllocError, Global};
 use std::fs::Files;
 use std::net::Net;
@@ -102,7 +102,7 @@ fn ask_socket<'a, 'r, R: Locks + Net + Clock + AllocGlobal>(
     is_fresh: bool,
     path: &'a str,
 ) -> Result<Told<'r, R>, Failure<'a>> {
-    let line = match connect_line(rt, options, path, give_up_settled(options)) {
+    let line = match connect_line(rt, options, path, give_up_of(options, false)) {
         Ok(line) => line,
         Err(failure) => return Err(failure),
     };

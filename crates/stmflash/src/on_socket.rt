@@ -4,7 +4,6 @@ ghost use Rattle.std.specs.Prelude.{IfOk};
 ghost use Rattle.stmflash.specs.DeviceUse.{UsesPlan, goes_out};
 
 use crate::first_question::Line;
-use crate::journal_tasks::look;
 use crate::output::{Output, write_done};
 use crate::planned_session::{Shown, Taken, failed_if, take_on};
 use std::fs;
@@ -15,11 +14,17 @@ use std::os::unix::fs::FileTypeExt;
 use std::os::unix::net::UnixStream;
 use std::time::Clock;
 use stm_chip::Table;
-use stm_files::{JournalFile, Locks, SocketLine, SocketRig, is_there};
+use stm_files::{JournalFile, Locks, SocketLine, SocketRig};
 use stm_watch::Watch;
 use stm_wire::Rig;
 use stm_words::Options;
 use stm_work::{Failure, Hint, Plan, Screen, Steps, done_on, serving_journal};
+
+/// The least and the most seconds without an answer after which a line is given up, unless that is
+/// said.
+const LEAST: u32 = 4;
+
+const MOST: u32 = 20;
 
 /// Why there is no line to the device of this name: it is a port, or nothing listens there.
 fn unconnected<'a, R: Files>(rt: &R, path: &'a str) -> Failure<'a> {
@@ -29,34 +34,18 @@ fn unconnected<'a, R: Files>(rt: &R, path: &'a str) -> Failure<'a> {
     }
 }
 
-/// The least and the most seconds without an answer after which a line is given up, unless they are said.
-const LEAST: u32 = 4;
-
-const MOST: u32 = 20;
-
-/// The seconds without an answer after which a line is given up, to a device that awaits no rest of a
-/// command: by the default, ten times what a reply may take.
-pub fn give_up_settled(options: &Options) -> u32 {
+/// After how many seconds without an answer a line is given up, unless that is said. A device that is
+/// settled answers the first bytes; one whose command is undone may await thousands before.
+pub fn give_up_of(options: &Options, is_undo: bool) -> u32 {
     match options.give_up {
         Some(seconds) => seconds,
+        None if is_undo => MOST,
         None => (options.wait / 100).clamp(LEAST, MOST),
     }
 }
 
-/// The same, to a device that may await one: of which this is the journal. It is sent some thousand
-/// bytes before it has to answer.
-fn give_up_beside<R: Files + AllocGlobal>(rt: &R, options: &Options, journal: &str) -> u32 {
-    if options.give_up.is_some() || !is_there(rt, journal) {
-        return give_up_settled(options);
-    }
-    match look(rt, journal) {
-        Ok(journal) if !journal.is_unfinished() => give_up_settled(options),
-        _ => MOST,
-    }
-}
-
-/// A line to what listens at a socket, given up after so many seconds without an answer. A device that is said to be fresh from reset owes nothing, so
-/// that its line is quiet. A session that settles it is quiet for a whole wait first all the same.
+/// A line to what listens at a socket, given up after so many seconds without an answer. A device that
+/// is said to be fresh from reset owes nothing, so that its line is quiet. A session that settles it is quiet for a whole wait first all the same.
 pub fn connect_line<'a, 'r, R: Files + Net + Clock>(
     rt: &'r R,
     options: &Options<'a>,
@@ -94,7 +83,7 @@ pub fn on_socket<'a, 'r, R: Locks + Net + Clock + AllocGlobal, W: Write + Drop>(
     let journal = serving_journal(opened, name)?;
     let line = match line {
         Some(line) => line,
-        None => connect_line(rt, options, path, give_up_beside(rt, options, name))?,
+        None => connect_line(rt, options, path, give_up_of(options, plan.work.is_undo()))?,
     };
     let rig = SocketRig::new(line, journal);
     let Taken { rig, done } = take_on(rt.alloc(), rig, plan, chips, watch, screen, hint);
