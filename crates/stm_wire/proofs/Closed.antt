@@ -105,9 +105,9 @@ harmless_reset byte pages d h = record {
 }
 
 -- what is owed changes nothing else
-record Alike (d new : Device) : Type 0 where
-  owed : List ℕ
-  is : new ≡ record d { owed = owed }
+pub record Alike (d new : Device) : Type 0 where
+  pub owed : List ℕ
+  pub is : new ≡ record d { owed = owed }
 
 taken_alike : (d new : Device) (o : List ℕ) (bytes : List ℕ) (v : Option Verdict) → Takes (record d { owed = o }) bytes v new → (new' : Device) × Takes d bytes v new' × Alike new' new
 taken_alike d new o bytes None e = (record d { owed = d.owed ++ reply_of d bytes; phase = Connected bytes }, refl, record { owed = o ++ reply_of d bytes; is = e })
@@ -120,7 +120,7 @@ taken_alike d new o bytes (Some Loose) l = (
   record { owed = new.owed; is = refl },
 )
 
-received_alike : (byte : ℕ) (d new : Device) (o : List ℕ) (phase : Phase) → Receives (record d { owed = o }) phase byte new → (new' : Device) × Receives d phase byte new' × Alike new' new
+pub received_alike : (byte : ℕ) (d new : Device) (o : List ℕ) (phase : Phase) → Receives (record d { owed = o }) phase byte new → (new' : Device) × Receives d phase byte new' × Alike new' new
 received_alike byte d new o Fresh e = go (eqb byte 0x7F) e
   where
     go : (t : Bool) → new ≡ cond t (record d { owed = o ++ ack ∷ []; phase = Connected [] }) (record d { owed = o }) →
@@ -130,7 +130,7 @@ received_alike byte d new o Fresh e = go (eqb byte 0x7F) e
 received_alike byte d new o (Connected rest) r = taken_alike d new o (rest ++ byte ∷ []) (verdict d.chip d.codes (rest ++ byte ∷ [])) r
 received_alike byte d new o Gone e = (d, refl, record { owed = o; is = e })
 
-reaches_alike : (byte : ℕ) (events : List Disturbance) (d new : Device) (o : List ℕ) → Reaches byte events (record d { owed = o }) new → (new' : Device) × Reaches byte events d new' × Alike new' new
+pub reaches_alike : (byte : ℕ) (events : List Disturbance) (d new : Device) (o : List ℕ) → Reaches byte events (record d { owed = o }) new → (new' : Device) × Reaches byte events d new' × Alike new' new
 reaches_alike byte [] d new o e = (d, refl, record { owed = o; is = e })
 reaches_alike byte (Feed ∷ events) d new o (mid, f, r) =
     let (mid', f', a) = received_alike byte d mid o d.phase f.receives in

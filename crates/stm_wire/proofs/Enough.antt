@@ -90,7 +90,7 @@ counts_page x N check (suc (suc zero)) = (λ e. absurd (false≢true e), λ _. l
 counts_page x N check (suc (suc (suc n))) = (λ e. absurd (false≢true e), λ _. lit< tt)
 
 -- a list of pages by 44 that is whole has a verdict
-pages_end : (chip : ChipData) (codes : List ℕ) (h l : ℕ) (ys : List ℕ)
+pub pages_end : (chip : ChipData) (codes : List ℕ) (h l : ℕ) (ys : List ℕ)
     → IsTrue (is_listed codes 0x44) → pair_of h l < 0xFFF0 → length ys ≡ 2 * (pair_of h l + 1) + 1
     → (v : Verdict) × (verdict chip codes (0x44 ∷ 0xBB ∷ h ∷ l ∷ ys) ≡ Some v)
 pages_end chip codes h l ys listed few len = (

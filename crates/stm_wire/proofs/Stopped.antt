@@ -42,7 +42,7 @@ fewer d byte pages more f h = record {
   awaits = h.awaits;
 }
 
-number_of_bytes : (address : ℕ) → number_of (address / 16777216) (address / 65536 % 256) (address / 256 % 256) (address % 256) ≡ address
+pub number_of_bytes : (address : ℕ) → number_of (address / 16777216) (address / 65536 % 256) (address / 256 % 256) (address % 256) ≡ address
 number_of_bytes address = omega arith
 
 erase_extended : (N : ℕ) → N < 256 → erase_frame Extended N ≡ 0x44 ∷ 0xBB ∷ 0 ∷ 0 ∷ 0 ∷ N ∷ N ∷ []
@@ -63,10 +63,10 @@ erase_extended_high L small =
 abbrev pub byte_of : ℕ → ℕ
 byte_of N = settling_byte (Some (Erase N))
 
-low_byte : (N : ℕ) → N < 256 → byte_of N ≡ N
+pub low_byte : (N : ℕ) → N < 256 → byte_of N ≡ N
 low_byte N small = let t : nat_lt N 256 ≡ true = grind (arith, nat_tests) in rw t refl
 
-high_byte : (N : ℕ) → 256 ≤ N → byte_of N ≡ 2
+pub high_byte : (N : ℕ) → 256 ≤ N → byte_of N ≡ 2
 high_byte N large = let t : nat_lt N 256 ≡ false = grind (arith, nat_tests) in rw t refl
 
 -- the pages that an erase of page N can come to, by the kind of the chip
@@ -103,19 +103,21 @@ mild_erase_frame chip codes Extended N small n = ⊎_elim low high (cases_lt N 2
         (subst (λ (f : List ℕ). Mild chip codes 2 (or_none (256 + L)) (take n f)) (sym frame) (mild_high chip codes L (xor (0 ∷ 0 ∷ 1 ∷ L ∷ [])) n)) in
         rw t m
 
+-- the bytes of a write at its address lie in the page
+pub write_confined : (chip : ChipData) (N address : ℕ) (sent : List ℕ) → 1 ≤ length sent → InPage chip N address (length sent) → (data' : List ℕ) →
+    IsConfined chip (N ∷ []) (Write (number_of (address / 16777216) (address / 65536 % 256) (address / 256 % 256) (address % 256)) (take (length sent - 1 + 1) data'))
+write_confined chip N address sent some within data' =
+    let same = number_of_bytes address in
+    let len = length-take (length sent - 1 + 1) data' in
+    let from = within.begins in
+    let to = within.ends in
+    (N, contains_first N [], omega arith, omega arith)
+
 pub mild_write_frame : (chip : ChipData) (codes : List ℕ) (N address : ℕ) (sent : List ℕ) → 1 ≤ length sent → InPage chip N address (length sent) →
     (n : ℕ) → Mild chip codes 2 (N ∷ []) (take n (write_frame address sent))
 mild_write_frame chip codes N address sent some within n =
     mild_write chip codes (N ∷ []) (address / 16777216) (address / 65536 % 256) (address / 256 % 256) (address % 256) (xor (address_bytes address)) (length sent - 1)
-    (sent ++ xor ((length sent - 1) ∷ sent) ∷ []) confined n
-  where
-    confined : (data' : List ℕ) → IsConfined chip (N ∷ []) (Write (number_of (address / 16777216) (address / 65536 % 256) (address / 256 % 256) (address % 256)) (take (length sent - 1 + 1) data'))
-    confined data' =
-        let same = number_of_bytes address in
-        let len = length-take (length sent - 1 + 1) data' in
-        let from = within.begins in
-        let to = within.ends in
-        (N, contains_first N [], omega arith, omega arith)
+    (sent ++ xor ((length sent - 1) ∷ sent) ∷ []) (write_confined chip N address sent some within) n
 
 pub mild_get_frame : (chip : ChipData) (codes : List ℕ) (byte : ℕ) (pages : List ℕ) (n : ℕ) → Mild chip codes byte pages (take n (command 0x00))
 mild_get_frame chip codes byte pages n = mild_get chip codes byte pages (0xFF ∷ []) n

@@ -29,14 +29,14 @@ use Rattle.stm_wire.proofs.Pages.{page_inside}
 use Rattle.stm_wire.proofs.Stops.{IsWhole, Suffices, along-append, stopped_safely}
 
 module _ (d : Device) (is : IsDevice d) where
-  get_whole : IsWhole d (0x00 ∷ []) 0xFF
+  pub get_whole : IsWhole d (0x00 ∷ []) 0xFF
   get_whole = record {
     along = (refl, tt);
     done = verdict-listed d.chip d.codes 0x00 [] is.get;
     few = omega (arith, is.count, length-append d.codes (0x79 ∷ []));
   }
 
-  id_whole : IsWhole d (0x02 ∷ []) 0xFD
+  pub id_whole : IsWhole d (0x02 ∷ []) 0xFD
   id_whole = record { along = (refl, tt); done = verdict-listed d.chip d.codes 0x02 [] is.get_id; few = lit≤ tt }
 
   module _ (address size : ℕ) (some : 1 ≤ size) (most : size ≤ 256) (fits : IsTrue (can_read d.chip address size)) where
@@ -47,7 +47,7 @@ module _ (d : Device) (is : IsDevice d) where
     to_address = along-append d.chip d.codes [] (command 0x11) (with_checksum (address_bytes address)) (command-waits d.chip d.codes 0x11 is.read refl)
         (address-waits d.chip d.codes 0x11 address is.read (addressed d.chip 0x11 (inl refl)) inside)
 
-    read_whole : IsWhole d (command 0x11 ++ with_checksum (address_bytes address) ++ (size - 1) ∷ []) (complement (size - 1))
+    pub read_whole : IsWhole d (command 0x11 ++ with_checksum (address_bytes address) ++ (size - 1) ∷ []) (complement (size - 1))
     read_whole =
         let e : (size - 1) + 1 ≡ size = omega arith in
         let P : ℕ → Type 0 = λ n. Some (done_if (complement (size - 1) == complement (size - 1) && can_read d.chip address n)) ≡ Some Done in
@@ -100,7 +100,7 @@ module _ (d : Device) (is : IsDevice d) where
         ap (λ b. choose b (get_or (sent ++ check ∷ []) (count + 1) 0) (take (count + 1) (sent ++ check ∷ [])) (count + 1)) (eq-eqb (length (sent ++ check ∷ [])) (count + 2) whole)
         ∙ ap₂ (λ l xs. choose true l xs (count + 1)) last data' ∙ ap (λ n. choose true check sent n) counts ∙ ap₂ tests (eq-eqb check check refl) fits
 
-    write_whole : IsWhole d (command 0x31 ++ with_checksum (address_bytes address) ++ count ∷ sent) check
+    pub write_whole : IsWhole d (command 0x31 ++ with_checksum (address_bytes address) ++ count ∷ sent) check
     write_whole = record {
       along = write_along;
       done = verdict-listed d.chip d.codes 0x31 (with_checksum (address_bytes address) ++ count ∷ (sent ++ check ∷ [])) is.write
@@ -109,15 +109,15 @@ module _ (d : Device) (is : IsDevice d) where
     }
 
 -- an erase of one page, all but its last byte
-abbrev erase_body : EraseKind → ℕ → List ℕ
+abbrev pub erase_body : EraseKind → ℕ → List ℕ
 erase_body Page N = command 0x43 ++ 0 ∷ N ∷ []
 erase_body Extended N = command 0x44 ++ 0 ∷ 0 ∷ N / 256 ∷ N % 256 ∷ []
 
-abbrev erase_check : EraseKind → ℕ → ℕ
+abbrev pub erase_check : EraseKind → ℕ → ℕ
 erase_check Page N = xor (0 ∷ N ∷ [])
 erase_check Extended N = xor (0 ∷ 0 ∷ N / 256 ∷ N % 256 ∷ [])
 
-erase_whole : (d : Device) (kind : EraseKind) (N : ℕ) → ListsKind kind d.codes → N < page_count d.chip → IsWhole d (erase_body kind N) (erase_check kind N)
+pub erase_whole : (d : Device) (kind : EraseKind) (N : ℕ) → ListsKind kind d.codes → N < page_count d.chip → IsWhole d (erase_body kind N) (erase_check kind N)
 erase_whole d Page N lists here =
     let listed = lists.0 in
     let choose : Bool → Bool → Option Verdict = λ x y. Some (done_if (x && (y && true))) in
@@ -152,7 +152,7 @@ erase_whole d Extended N lists here =
       few = lit≤ tt;
     }
 
-frame_of : (kind : EraseKind) (N : ℕ) → erase_body kind N ++ erase_check kind N ∷ [] ≡ erase_frame kind N
+pub frame_of : (kind : EraseKind) (N : ℕ) → erase_body kind N ++ erase_check kind N ∷ [] ≡ erase_frame kind N
 frame_of Page N = refl
 frame_of Extended N = refl
 
@@ -169,7 +169,7 @@ read_suffices d byte address size = record {
   enough = enough_read d byte address size;
 }
 
-erase_suffices : (d : Device) (kind : EraseKind) (byte N : ℕ) → d.chip.kind ≡ kind → ListsKind kind d.codes → byte < 256 → Suffices d byte (erase_frame kind N)
+pub erase_suffices : (d : Device) (kind : EraseKind) (byte N : ℕ) → d.chip.kind ≡ kind → ListsKind kind d.codes → byte < 256 → Suffices d byte (erase_frame kind N)
 erase_suffices d kind byte N same lists small = record {
   counted = counts kind;
   enough = subst (λ (k : EraseKind). Enough d.chip d.codes k byte (erase_frame kind N)) (sym same) (enough_erase d.chip d.codes kind byte N lists small);
@@ -179,7 +179,7 @@ erase_suffices d kind byte N same lists small = record {
     counts Page = counts_page 0xBC N (xor (0 ∷ N ∷ []))
     counts Extended = counts_none 0x44 0xBB (0 ∷ 0 ∷ N / 256 ∷ N % 256 ∷ xor (0 ∷ 0 ∷ N / 256 ∷ N % 256 ∷ []) ∷ []) refl refl
 
-write_suffices : (d : Device) (byte address : ℕ) (sent : List ℕ) → byte < 256 → length sent ≤ 256 → Suffices d byte (write_frame address sent)
+pub write_suffices : (d : Device) (byte address : ℕ) (sent : List ℕ) → byte < 256 → length sent ≤ 256 → Suffices d byte (write_frame address sent)
 write_suffices d byte address sent small most = record {
   counted = counts_write 0xCE (address / 16777216) (address / 65536 % 256) (address / 256 % 256) (address % 256) (xor (address_bytes address)) (length sent - 1) (sent ++ xor ((length sent - 1) ∷ sent) ∷ []) (omega (arith, most));
   enough = enough_write d byte address sent small;

@@ -63,7 +63,7 @@ module _ (old : Device) (body : List ℕ) (last : ℕ) (is : IsDevice old) (sett
   here = ap₂ (λ (p : Phase) (xs : List ℕ). let r : Device = record old { owed = xs; phase = p } in r) settled.phase settled.owed
 
   -- within the frame
-  within : (n : ℕ) (mid : Device) → n ≤ length body → Fed (take n (body ++ last ∷ [])) old mid
+  pub within : (n : ℕ) (mid : Device) → n ≤ length body → Fed (take n (body ++ last ∷ [])) old mid
       → mid ≡ record old { owed = replies_along [] (take n body); phase = Connected (take n body) }
   within n mid le f =
       let same = take-append-le n body (last ∷ []) le in
@@ -71,7 +71,7 @@ module _ (old : Device) (body : List ℕ) (last : ℕ) (is : IsDevice old) (sett
       fed-along (take n body) [] [] old mid (along-take old.chip old.codes [] body n whole.along) (subst (λ (x : Device). Fed (take n body) x mid) here g)
 
   -- at its end
-  at_end : (mid : Device) → Fed (body ++ last ∷ []) old mid → IsDone (record old { owed = replies_along [] body; phase = Connected body }) (body ++ last ∷ []) mid
+  pub at_end : (mid : Device) → Fed (body ++ last ∷ []) old mid → IsDone (record old { owed = replies_along [] body; phase = Connected body }) (body ++ last ∷ []) mid
   at_end mid f =
       let parts = Fed-split body (last ∷ []) old mid f in
       let first = fed-along body [] [] old parts.0 whole.along (subst (λ (x : Device). Fed body x parts.0) here parts.1) in
@@ -92,7 +92,7 @@ module _ (old : Device) (body : List ℕ) (last : ℕ) (is : IsDevice old) (sett
           owed = omega (arith, replies-few [] (take n body), length-take n body, whole.few);
         })
 
-    fits : Fits old.chip pages (body ++ last ∷ []) (Some Done)
+    pub fits : Fits old.chip pages (body ++ last ∷ []) (Some Done)
     fits =
         let frame = body ++ last ∷ [] in
         let m : FitsAll old.chip old.codes pages (take (length frame) frame ++ []) = mild (length frame) zero in

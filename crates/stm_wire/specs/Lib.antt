@@ -15,6 +15,7 @@ pub mod Intents
 pub mod SentList
 pub mod Parts
 pub mod Stopped
+pub mod Greeting
 pub mod Refused
 pub mod Settling
 pub mod SettlingCalls

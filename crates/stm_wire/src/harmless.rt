@@ -1,5 +1,8 @@
 //! Laws of stopped hosts: each is the contract of a function that does nothing.
 ghost use Rattle.stm_wire.specs.Awaited.{AwaitedIsLimited, MoreSuffice};
+ghost use Rattle.stm_wire.specs.Greeting.{FreshMayBeGreeted, MorePagesMayBeGreeted};
+ghost use Rattle.stm_wire.specs.Greeting.{LossMayBeGreeted, ResetMayBeGreeted};
+ghost use Rattle.stm_wire.specs.Greeting.{SendingMayBeGreeted, StoppedMayBeGreeted};
 ghost use Rattle.stm_wire.specs.Stopped.{AskingChangesNothing, FreshIsHarmless};
 ghost use Rattle.stm_wire.specs.Stopped.{SendingIsHarmless, StoppedIsHarmless};
 ghost use Rattle.stm_wire.specs.Stopped.{FedStaysHarmless, LossStaysHarmless};
@@ -12,6 +15,22 @@ ghost use Rattle.stm_wire.specs.Stopped.{PageIsInside, SameOutsideNoneIsSame};
 pub fn stopped_is_harmless()
     ensures stopped { StoppedIsHarmless }
     ensures fresh { FreshIsHarmless }
+{}
+
+/// Whatever beginning of a frame a stopped host has left, one 7F may come ahead of the settling bytes
+/// of its intent: nothing changes outside the intent's page, before or behind it.
+pub fn stopped_may_be_greeted()
+    ensures stopped { StoppedMayBeGreeted }
+    ensures fresh { FreshMayBeGreeted }
+    ensures sending { SendingMayBeGreeted }
+{}
+
+/// A device that may be greeted still may where it is reset, where owed bytes are lost, and for more
+/// pages.
+pub fn greeting_is_kept()
+    ensures reset { ResetMayBeGreeted }
+    ensures lost { LossMayBeGreeted }
+    ensures more_pages { MorePagesMayBeGreeted }
 {}
 
 /// A host that sends a settled device a frame, under the intent that it wrote down before, may be
