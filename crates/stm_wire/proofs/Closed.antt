@@ -7,9 +7,9 @@ use Rattle.stm_wire.specs.declared.verdict.Verdict.TheVariants.{Done, Refused, L
 use Rattle.stm_wire.specs.Exchange.{verdict}
 use Rattle.stm_wire.specs.Reply.{ack}
 use Rattle.stm_wire.specs.Device.{Device, Phase, Fresh, Connected, Gone, Takes, Receives, Feeds, IsLoose, LosesOwed, reset, phase_after, reply_of}
-use Rattle.stm_wire.specs.Awaited.{Awaits, AwaitsIn, IsRefusedIn, most_for}
+use Rattle.stm_wire.specs.Awaited.{Awaits, AwaitsIn, FedAwaitsNoMore, IsRefusedIn}
 use Rattle.stm_wire.specs.Harmless.{SameOutside, IsListening, Disturbance, Feed, Reset, Reaches, Harmless}
-use Rattle.stm_wire.proofs.Ending.{at_least, awaits_at, more_suffice, nearer_open, refused_empty}
+use Rattle.stm_wire.proofs.Ending.{awaits_at, more_suffice, nearer_open, refused_empty}
 
 -- of the same chip, with the same version and codes
 pub record IsSameMake (old new : Device) : Type 0 where
@@ -87,13 +87,11 @@ harmless_fed byte pages old new h f = record {
         phase = then'.phase;
         flash = subst (λ (c : ChipData). SameOutside c pages new.flash last.flash) (sym (same_make byte old new f).chip) (from_first old.chip pages old.flash new.flash last.flash now.flash then'.flash);
       };
-  awaits = (
-      let most = most_for old.chip.kind byte in
-      let least = at_least old.chip.kind byte in
-      let more = more_suffice old byte most (suc most) (omega arith) h.awaits in
-      subst (λ (c : ChipData). Awaits byte (most_for c.kind byte) new) (sym (same_make byte old new f).chip) (awaits_fed byte most pages old new h (omega arith) more f)
-      );
 }
+
+-- nor more than before
+pub awaits_no_more : FedAwaitsNoMore
+awaits_no_more old new byte most pages h three w f = awaits_fed byte most pages old new h (omega arith) (more_suffice old byte most (suc most) (omega arith) w) f
 
 pub unharmed_fed : (byte : ℕ) (pages : List ℕ) (old new : Device) → Harmless old byte pages → Feeds byte old new → SameOutside old.chip pages old.flash new.flash
 unharmed_fed byte pages old new h f = (h.each (Feed ∷ []) new (new, f, refl)).flash
@@ -101,7 +99,6 @@ unharmed_fed byte pages old new h f = (h.each (Feed ∷ []) new (new, f, refl)).
 pub harmless_reset : (byte : ℕ) (pages : List ℕ) (d : Device) → Harmless d byte pages → Harmless (reset d) byte pages
 harmless_reset byte pages d h = record {
   each = λ events last reaches. let u = h.each (Reset ∷ events) last reaches in record { phase = u.phase; flash = u.flash };
-  awaits = λ _. let least = at_least d.chip.kind byte in omega arith;
 }
 
 -- what is owed changes nothing else
@@ -147,8 +144,10 @@ harmless_owed byte pages d o h = record {
         phase = subst (λ (x : Device). IsListening x.phase) (sym a.is) u.phase;
         flash = subst (λ (x : Device). SameOutside d.chip pages d.flash x.flash) (sym a.is) u.flash;
       };
-  awaits = h.awaits;
 }
+
+pub awaits_loses : (byte most : ℕ) (d new : Device) → LosesOwed d new → Awaits byte most d → Awaits byte most new
+awaits_loses byte most d new (n, e) w = subst (Awaits byte most) (sym e) w
 
 pub harmless_loses : (byte : ℕ) (pages : List ℕ) (d new : Device) → Harmless d byte pages → LosesOwed d new → Harmless new byte pages
 harmless_loses byte pages d new h (n, e) = subst (λ (x : Device). Harmless x byte pages) (sym e) (harmless_owed byte pages d _ h)

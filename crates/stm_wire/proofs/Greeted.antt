@@ -1,7 +1,7 @@
 -- A stopped device is harmless behind one 7F.
-use Rattle.std.proofs.Common.{lit≤, lit<, ◌≡◌, ℕ, zero, suc, ◌+◌, ◌-◌, ◌*◌, ◌/◌, ◌%◌, ◌<◌, ◌≤◌, ⊎_elim, false, ◌&&◌, eqb, max, List, [], ◌∷◌, ◌++◌, length, take, replicate, refl, sym, ap, ◌∙◌, subst, arith, Option, Some, None, IsTrue}
+use Rattle.std.proofs.Common.{lit≤, lit<, ◌≡◌, ℕ, zero, suc, ◌+◌, ◌-◌, ◌*◌, ◌/◌, ◌%◌, ◌<◌, ◌≤◌, ⊎_elim, false, ◌&&◌, eqb, List, [], ◌∷◌, ◌++◌, length, take, replicate, refl, sym, ap, ◌∙◌, subst, arith, Option, Some, None, IsTrue}
 use Rattle.std.specs.List.{Contains}
-use Rattle.std.proofs.lemmas.Bool.{cond_both, cases_lt, and_parts, false≢true}
+use Rattle.std.proofs.lemmas.Bool.{cond_both, cases_lt, and_parts}
 use Rattle.std.proofs.lemmas.List.{append-nil, length-replicate}
 use Rattle.stm_wire.specs.declared.chip.EraseKind.{EraseKind}
 use Rattle.stm_wire.specs.declared.chip.EraseKind.TheVariants.{Page, Extended}
@@ -10,28 +10,26 @@ use Rattle.stm_wire.specs.declared.intent.Intent.TheVariants.{Erase, Program}
 use Rattle.stm_wire.specs.declared.verdict.Verdict.{Verdict}
 use Rattle.stm_wire.specs.declared.verdict.Verdict.TheVariants.{Done, Refused, Loose}
 use Rattle.stm_wire.specs.Chip.{ChipData, flash_size, page_count, page_limit}
-use Rattle.stm_wire.specs.Exchange.{IsOpen, complement, command_verdict, is_listed, number_of, pair_of, verdict, xor}
-use Rattle.stm_wire.specs.Effect.{Write, change_of}
+use Rattle.stm_wire.specs.Exchange.{IsOpen, complement, command_verdict, is_listed, pair_of, verdict, xor}
+use Rattle.stm_wire.specs.Effect.{change_of}
 use Rattle.stm_wire.specs.Reply.{ack}
-use Rattle.stm_wire.specs.Device.{Device, Phase, Fresh, Connected, IsDevice, IsOpenPhase, ListsKind, Feeds, Receives, Takes, phase_after, reply_of, reset}
-use Rattle.stm_wire.specs.Awaited.{Awaits, IsRefusedIn, most_for}
+use Rattle.stm_wire.specs.Device.{Device, Phase, Fresh, Connected, IsDevice, IsOpenPhase, ListsKind, Feeds, Receives, Takes, reply_of, reset}
+use Rattle.stm_wire.specs.Awaited.{Awaits, IsRefusedIn, most_under}
 use Rattle.stm_wire.specs.Harmless.{SameOutside, Harmless}
-use Rattle.stm_wire.specs.Frames.{command, read_frame, write_frame, erase_frame, address_bytes, with_checksum}
+use Rattle.stm_wire.specs.Frames.{command, write_frame, erase_frame, address_bytes, with_checksum}
 use Rattle.stm_wire.specs.Intents.{settling_byte, intended_pages, InPage}
 use Rattle.stm_wire.specs.Stopped.{IsStopped, in_get, in_get_id, in_read, in_ready, in_erase, in_write}
-use Rattle.stm_wire.specs.Greeting.{most_greeted, HarmlessWithin, IsGreetedSafely, MayBeGreeted}
+use Rattle.stm_wire.specs.Greeting.{most_greeted, HarmlessWithin, IsGreetedSafely}
 use Rattle.stm_wire.specs.Greeting.{StoppedMayBeGreeted, FreshMayBeGreeted, ResetMayBeGreeted, MorePagesMayBeGreeted}
-use Rattle.stm_wire.proofs.Flash.{IsConfined, same_flash, effect_within}
-use Rattle.stm_wire.proofs.Mild.{Fits, FitsAll, Mild, Tame, mild_empty, unharmed}
+use Rattle.stm_wire.proofs.Flash.{same_flash, effect_within}
+use Rattle.stm_wire.proofs.Mild.{Fits, FitsAll, Mild, harmless, mild_empty}
 use Rattle.stm_wire.proofs.Bound.{CanCount, IsBytes, IsCounted, by_recursion, counted}
-use Rattle.stm_wire.proofs.Ending.{at_least, awaits_at, bytes_more, ends_behind, ends_short, more_suffice, open_more, refused_empty, refused_more}
+use Rattle.stm_wire.proofs.Ending.{awaits_at, bytes_more, ends_behind, ends_short, more_suffice, open_more, refused_empty, refused_more}
 use Rattle.stm_wire.proofs.Enough.{byte_small, no_count, pages_end}
-use Rattle.stm_wire.proofs.Closed.{harmless_fed, unharmed_fed, same_make}
-use Rattle.stm_wire.proofs.ErasePage.{contains_first}
+use Rattle.stm_wire.proofs.Closed.{awaits_no_more, harmless_fed, unharmed_fed, same_make}
 use Rattle.stm_wire.proofs.EraseHigh.{companion, page_named}
-use Rattle.stm_wire.proofs.ErasePair.{named_by}
 use Rattle.stm_wire.proofs.Greeting.{greeted_by, erase_greeted, extended_greeted, get_greeted, id_greeted, read_greeted, write_greeted}
-use Rattle.stm_wire.proofs.Stopped.{byte_of, low_byte, high_byte, fewer_outside, number_of_bytes, write_confined, stopped_is_harmless, fresh_is_harmless}
+use Rattle.stm_wire.proofs.Stopped.{at_least_under, byte_of, low_byte, high_byte, fewer, fewer_outside, write_confined, stopped_awaits_few, stopped_is_harmless, fresh_is_harmless}
 
 -- How many of the byte suffice:
 
@@ -125,15 +123,12 @@ erase_mild chip codes none Extended N small n =
 
 -- What one 7F leaves:
 
-within : (most byte : ℕ) (pages : List ℕ) (d : Device) → length d.flash ≡ flash_size d.chip → Tame d.chip d.codes byte pages d.phase → Awaits byte most d → HarmlessWithin most d byte pages
-within most byte pages d size t w = record { each = unharmed byte pages d size t; awaits = w }
-
 left_empty : (most byte : ℕ) (pages : List ℕ) (d new : Device) (flash owed : List ℕ) → 2 ≤ most → length d.flash ≡ flash_size d.chip → SameOutside d.chip pages d.flash flash
     → new ≡ record d { flash = flash; owed = owed; phase = Connected [] } → IsGreetedSafely most byte pages d new
 left_empty most byte pages d new flash owed two size same e = subst (IsGreetedSafely most byte pages d) (sym e) (record {
   same_chip = refl;
   flash = same;
-  harmless = within most byte pages (record d { flash = flash; owed = owed; phase = Connected [] }) (same.same_length ∙ size) (mild_empty d.chip d.codes byte pages) (refused_empty d.chip d.codes byte most two);
+  harmless = record { harmless = harmless byte pages (record d { flash = flash; owed = owed; phase = Connected [] }) (same.same_length ∙ size) (mild_empty d.chip d.codes byte pages); awaits = refused_empty d.chip d.codes byte most two };
 })
 
 pub greet : (most byte : ℕ) (pages : List ℕ) (d new : Device) (rest : List ℕ) → 2 ≤ most → length d.flash ≡ flash_size d.chip → d.phase ≡ Connected rest → Mild d.chip d.codes byte pages (rest ++ 0x7F ∷ [])
@@ -153,7 +148,7 @@ greet most byte pages d new rest two size at m enough f = go (verdict d.chip d.c
     go None e f t = subst (IsGreetedSafely most byte pages d) (sym t) (record {
       same_chip = refl;
       flash = same;
-      harmless = within most byte pages (record d { owed = d.owed ++ reply_of d bytes; phase = Connected bytes }) size m (enough e);
+      harmless = record { harmless = harmless byte pages (record d { owed = d.owed ++ reply_of d bytes; phase = Connected bytes }) size m; awaits = enough e };
     })
     go (Some Refused) e f t = left_empty most byte pages d new d.flash (d.owed ++ reply_of d bytes) two size same t
     go (Some Done) e f (flash, effect, t) = left_empty most byte pages d new flash (d.owed ++ reply_of d bytes) two size (effect_within d.chip pages (change_of bytes) d.flash flash size f.1 effect)
@@ -170,34 +165,34 @@ begun most byte pages d rest frame n is at e two m enough new f =
     greet most byte pages d new (take n frame) two is.size here m
     (λ v. enough (counted (take n frame ++ 0x7F ∷ []) (bytes_more (take n frame) 0x7F by (lit< tt))) (open_more d.chip d.codes (take n frame) 0x7F open'.0 v)) f
 
+within_fewer : (most byte : ℕ) (pages more : List ℕ) (d : Device) → ((n : ℕ) → n < page_count d.chip → Contains more n → Contains pages n) → HarmlessWithin most d byte more → HarmlessWithin most d byte pages
+within_fewer most byte pages more d f h = record { harmless = fewer d byte pages more f h.harmless; awaits = h.awaits }
+
 pub greeted_fewer : (most byte : ℕ) (pages more : List ℕ) (d new : Device) → ((n : ℕ) → n < page_count d.chip → Contains more n → Contains pages n) → IsGreetedSafely most byte more d new → IsGreetedSafely most byte pages d new
 greeted_fewer most byte pages more d new f g = record {
   same_chip = g.same_chip;
   flash = fewer_outside d.chip pages more d.flash new.flash f g.flash;
   harmless = within_fewer most byte pages more new (λ n le c. f n (subst (λ (chip : ChipData). n < page_count chip) g.same_chip le) c) g.harmless;
 }
-  where
-    within_fewer : (most byte : ℕ) (pages more : List ℕ) (d : Device) → ((n : ℕ) → n < page_count d.chip → Contains more n → Contains pages n) → HarmlessWithin most d byte more → HarmlessWithin most d byte pages
-    within_fewer most byte pages more d f h = record {
-      each = λ events new reaches. let u = h.each events new reaches in record { phase = u.phase; flash = fewer_outside d.chip pages more d.flash new.flash f u.flash };
-      awaits = h.awaits;
-    }
 
 -- the limit behind a greeting is no less than without one
-least : (kind : EraseKind) (intent : Option Intent) → most_for kind (settling_byte intent) ≤ most_greeted kind intent
-least Page intent = lit≤ tt
-least Extended None = omega arith
+least : (kind : EraseKind) (intent : Option Intent) → most_under kind intent ≤ most_greeted kind intent
+least Page None = lit≤ tt
+least Page (Some (Erase n)) = lit≤ tt
+least Page (Some (Program n)) = lit≤ tt
+least Extended None = lit≤ tt
 least Extended (Some (Erase n)) = omega arith
-least Extended (Some (Program n)) = omega arith
+least Extended (Some (Program n)) = lit≤ tt
 
-pub within_greeted : (d : Device) (intent : Option Intent) (pages : List ℕ) → Harmless d (settling_byte intent) pages → HarmlessWithin (most_greeted d.chip.kind intent) d (settling_byte intent) pages
-within_greeted d intent pages h = record {
-  each = h.each;
-  awaits = more_suffice d (settling_byte intent) (most_for d.chip.kind (settling_byte intent)) (most_greeted d.chip.kind intent) (least d.chip.kind intent) h.awaits;
+pub within_greeted : (d : Device) (intent : Option Intent) (pages : List ℕ) → Harmless d (settling_byte intent) pages → Awaits (settling_byte intent) (most_under d.chip.kind intent) d
+    → HarmlessWithin (most_greeted d.chip.kind intent) d (settling_byte intent) pages
+within_greeted d intent pages h w = record {
+  harmless = h;
+  awaits = more_suffice d (settling_byte intent) (most_under d.chip.kind intent) (most_greeted d.chip.kind intent) (least d.chip.kind intent) w;
 }
 
 pub short_least : (kind : EraseKind) (intent : Option Intent) → 267 ≤ most_greeted kind intent
-short_least kind intent = let a = at_least kind (settling_byte intent) in let b = least kind intent in omega arith
+short_least kind intent = let a = at_least_under kind intent in let b = least kind intent in omega arith
 
 -- what one 7F leaves of it is harmless
 abbrev pub Safe : Device → Option Intent → List ℕ → Type 0
@@ -230,13 +225,13 @@ pub safe_under : (d : Device) (i j : Option Intent) → i ≡ j → Safe d j (in
 safe_under d i j e s = subst (λ (x : Option Intent). Safe d x (intended_pages x)) (sym e) s
 
 -- without an intent 7F is the settling byte
-pub ready_stopped : (d : Device) → Harmless d 0x7F [] → Safe d None []
+pub ready_stopped : (d : Device) → HarmlessWithin (most_greeted d.chip.kind None) d 0x7F [] → Safe d None []
 ready_stopped d h new f =
     let make = same_make 0x7F d new f in
     record {
       same_chip = make.chip;
-      flash = unharmed_fed 0x7F [] d new h f;
-      harmless = subst (λ (chip : ChipData). HarmlessWithin (most_greeted chip.kind None) new 0x7F []) make.chip (within_greeted new None [] (harmless_fed 0x7F [] d new h f));
+      flash = unharmed_fed 0x7F [] d new h.harmless f;
+      harmless = record { harmless = harmless_fed 0x7F [] d new h.harmless f; awaits = awaits_no_more d new 0x7F (most_greeted d.chip.kind None) [] h.harmless (let l = short_least d.chip.kind None in omega arith) h.awaits f };
     }
 
 stopped_safe : (d : Device) (intent : Option Intent) (rest : List ℕ) → IsDevice d → d.phase ≡ Connected rest → IsStopped d intent rest → Safe d intent (intended_pages intent)
@@ -247,19 +242,23 @@ stopped_safe d intent rest is at (in_get_id n e) = let b = settling_byte intent 
 stopped_safe d intent rest is at (in_read address size n e) = let b = settling_byte intent in
     let frame = 0xEE ∷ with_checksum (address_bytes address) ++ command (size - 1) in
     short_stopped d intent (intended_pages intent) rest 0x11 frame n is at e (no_count 0x11 b refl refl) refl (read_greeted d.chip d.codes is.no_connect b (intended_pages intent) frame n)
-stopped_safe d intent rest is at (in_ready none r) = safe_under d intent None none (ready_stopped d (stopped_is_harmless d None rest is at (in_ready refl r)))
+stopped_safe d intent rest is at (in_ready none r) = let s = in_ready refl r in
+    safe_under d intent None none (ready_stopped d (within_greeted d None [] (stopped_is_harmless d None rest is at s) (stopped_awaits_few d None rest is at s)))
 stopped_safe d intent rest is at (in_erase N n here i e) = safe_under d intent (Some (Erase N)) i (erase_stopped d N n rest is at here e)
 stopped_safe d intent rest is at (in_write N address n sent i some inside e) = safe_under d intent (Some (Program N)) i (write_stopped d N address n sent rest is at some inside e)
 
 pub stopped_may_be_greeted : StoppedMayBeGreeted
 stopped_may_be_greeted d intent rest is at s = record {
-  now = within_greeted d intent (intended_pages intent) (stopped_is_harmless d intent rest is at s);
+  now = within_greeted d intent (intended_pages intent) (stopped_is_harmless d intent rest is at s) (stopped_awaits_few d intent rest is at s);
   greeted = stopped_safe d intent rest is at s;
 }
 
 pub fresh_may_be_greeted : FreshMayBeGreeted
 fresh_may_be_greeted d intent pages is e = record {
-  now = within_greeted d intent pages (fresh_is_harmless d (settling_byte intent) pages is e);
+  now = record {
+    harmless = fresh_is_harmless d (settling_byte intent) pages is e;
+    awaits = awaits_at d (settling_byte intent) (most_greeted d.chip.kind intent) Fresh e (λ _. let l = short_least d.chip.kind intent in omega arith);
+  };
   greeted = λ new f.
       let l = short_least d.chip.kind intent in
       let r : Receives d Fresh 0x7F new = subst (λ (p : Phase). Receives d p 0x7F new) e f.receives in
@@ -285,9 +284,6 @@ reset_may_be_greeted d intent pages is g = fresh_may_be_greeted (reset d) intent
 
 pub more_may_be_greeted : MorePagesMayBeGreeted
 more_may_be_greeted d intent less more f g = record {
-  now = record {
-    each = λ events new reaches. let u = g.now.each events new reaches in record { phase = u.phase; flash = fewer_outside d.chip more less d.flash new.flash f u.flash };
-    awaits = g.now.awaits;
-  };
+  now = within_fewer (most_greeted d.chip.kind intent) (settling_byte intent) more less d f g.now;
   greeted = λ new fed. greeted_fewer (most_greeted d.chip.kind intent) (settling_byte intent) more less d new f (g.greeted new fed);
 }

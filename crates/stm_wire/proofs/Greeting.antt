@@ -1,11 +1,10 @@
 -- Rests that begin a frame, and 7F once behind them: what the settling byte makes of these.
-use Rattle.std.proofs.Common.{lit<, ◌≡◌, ℕ, zero, suc, ◌+◌, ◌*◌, ◌<◌, Bool, true, false, ◌&&◌, eqb, List, [], ◌∷◌, ◌++◌, length, get_or, take, replicate, refl, sym, ◌∙◌, subst, arith, Option, Some, None}
+use Rattle.std.proofs.Common.{lit<, ◌≡◌, ℕ, zero, suc, ◌+◌, ◌*◌, ◌<◌, Bool, true, ◌&&◌, eqb, List, [], ◌∷◌, ◌++◌, length, get_or, take, replicate, refl, sym, ◌∙◌, subst, arith, Some, None}
 use Rattle.std.specs.Prelude.{IsTrue}
 use Rattle.std.specs.List.{Contains}
 use Rattle.std.proofs.lemmas.Bool.{cond_both, eqb-true, and_parts, false≢true}
 use Rattle.std.proofs.lemmas.List.{length-replicate}
 use Rattle.stm_wire.specs.Chip.{ChipData, fits_inside, is_inside}
-use Rattle.stm_wire.specs.declared.verdict.Verdict.{Verdict}
 use Rattle.stm_wire.specs.declared.verdict.Verdict.TheVariants.{Done, Refused}
 use Rattle.stm_wire.specs.Exchange.{complement, at_end, done_if, command_verdict, erase_verdict, extended_verdict, write_verdict, all_exist, is_listed, xor, number_of, pair_of, two_byte_numbers}
 use Rattle.stm_wire.specs.Effect.{Write}

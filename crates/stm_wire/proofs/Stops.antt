@@ -8,14 +8,14 @@ use Rattle.stm_wire.specs.Exchange.{IsOpen, verdict}
 use Rattle.stm_wire.specs.Effect.{change_of}
 use Rattle.stm_wire.specs.Reply.{ack, answer, step_reply}
 use Rattle.stm_wire.specs.Device.{Device, Phase, Connected, Fed, Feeds, IsDevice, IsSettled, phase_after}
-use Rattle.stm_wire.specs.Awaited.{IsRefusedIn, most_for}
+use Rattle.stm_wire.specs.Awaited.{IsRefusedIn}
 use Rattle.stm_wire.specs.Harmless.{SameOutside}
 use Rattle.stm_wire.specs.Moments.{PartlyFed}
 use Rattle.stm_wire.specs.Command.{with_rest}
 use Rattle.stm_wire.specs.Stopped.{IsStoppedSafely}
 use Rattle.stm_wire.proofs.Flash.{same_flash, effect_within}
 use Rattle.stm_wire.proofs.Mild.{Fits, FitsAll, Mild, Tame, harmless, mild_empty}
-use Rattle.stm_wire.proofs.Closed.{harmless_loses}
+use Rattle.stm_wire.proofs.Closed.{awaits_loses, harmless_loses}
 use Rattle.stm_wire.proofs.Awaited.{step_small}
 use Rattle.stm_wire.proofs.Bound.{IsCounted}
 use Rattle.stm_wire.proofs.Enough.{Enough, empty_enough, opened}
@@ -40,17 +40,17 @@ replies-few rest (x ∷ bytes) =
     omega (arith, length-append first more, step_small (rest ++ x ∷ []), replies-few (rest ++ x ∷ []) bytes)
 
 -- so many settling bytes are enough behind any beginning of a frame whose counts are bytes
-pub record Suffices (d : Device) (byte : ℕ) (frame : List ℕ) : Type 0 where
+pub record Suffices (d : Device) (byte most : ℕ) (frame : List ℕ) : Type 0 where
   pub counted : (n : ℕ) → IsCounted (take n frame)
-  pub enough : Enough d.chip d.codes d.chip.kind byte frame
+  pub enough : Enough d.chip d.codes byte most frame
 
 -- of which all but the last byte is open
-pub suffices_along : (d : Device) (byte : ℕ) (body : List ℕ) (last : ℕ) → OpenAlong d.chip d.codes [] body → Suffices d byte (body ++ last ∷ []) → (n : ℕ) → n ≤ length body
-    → IsRefusedIn d.chip d.codes byte (most_for d.chip.kind byte) (take n body)
-suffices_along d byte body last along s n le =
+pub suffices_along : (d : Device) (byte most : ℕ) (body : List ℕ) (last : ℕ) → OpenAlong d.chip d.codes [] body → Suffices d byte most (body ++ last ∷ []) → (n : ℕ) → n ≤ length body
+    → IsRefusedIn d.chip d.codes byte most (take n body)
+suffices_along d byte most body last along s n le =
     let same = take-append-le n body (last ∷ []) le in
     let open' : IsOpen d.chip d.codes (take n body) = opened d.chip d.codes (take n body) (along-take d.chip d.codes [] body n along) in
-    subst (IsRefusedIn d.chip d.codes byte (most_for d.chip.kind byte)) same (s.enough n (s.counted n) (subst (IsOpen d.chip d.codes) (sym same) open'))
+    subst (IsRefusedIn d.chip d.codes byte most) same (s.enough n (s.counted n) (subst (IsOpen d.chip d.codes) (sym same) open'))
 
 -- open along its body, done at its last byte
 pub record IsWhole (d : Device) (body : List ℕ) (last : ℕ) : Type 0 where
@@ -78,20 +78,7 @@ module _ (old : Device) (body : List ℕ) (last : ℕ) (is : IsDevice old) (sett
       let one : Feeds last parts.0 mid = subst (λ (x : Device). Feeds last parts.0 x) (sym parts.2.2) parts.2.1 in
       feeds-done last body (record old { owed = replies_along [] body; phase = Connected body }) mid refl whole.done (subst (λ (x : Device). Feeds last x mid) first one)
 
-  module _ (byte : ℕ) (pages : List ℕ) (mild : (j : ℕ) → Mild old.chip old.codes byte pages (take j (body ++ last ∷ []))) (enough : Suffices old byte (body ++ last ∷ [])) where
-    within_safely : (n : ℕ) (mid : Device) → n ≤ length body → Fed (take n (body ++ last ∷ [])) old mid → IsStoppedSafely old byte pages mid
-    within_safely n mid le f =
-        let next : Device = record old { owed = replies_along [] (take n body); phase = Connected (take n body) } in
-        let m : Mild old.chip old.codes byte pages (take n body) = subst (Mild old.chip old.codes byte pages) (take-append-le n body (last ∷ []) le) (mild n) in
-        subst (IsStoppedSafely old byte pages) (sym (within n mid le f)) (record {
-          same_chip = refl;
-          same_version = refl;
-          same_codes = refl;
-          harmless = harmless byte pages next is.size m (suffices_along old byte body last whole.along enough n le);
-          flash = same_flash old.chip pages old.flash old.flash refl;
-          owed = omega (arith, replies-few [] (take n body), length-take n body, whole.few);
-        })
-
+  module _ (byte : ℕ) (pages : List ℕ) (mild : (j : ℕ) → Mild old.chip old.codes byte pages (take j (body ++ last ∷ []))) where
     pub fits : Fits old.chip pages (body ++ last ∷ []) (Some Done)
     fits =
         let frame = body ++ last ∷ [] in
@@ -99,29 +86,46 @@ module _ (old : Device) (body : List ℕ) (last : ℕ) (is : IsDevice old) (sett
         let same : take (length frame) frame ++ [] ≡ frame = append-nil (take (length frame) frame) ∙ take_all (length frame) frame (omega arith) in
         subst (Fits old.chip pages frame) whole.done (subst (FitsAll old.chip old.codes pages) same m)
 
-    done_safely : (mid : Device) → Fed (body ++ last ∷ []) old mid → IsStoppedSafely old byte pages mid
+  module _ (byte most : ℕ) (pages : List ℕ) (two : 2 ≤ most) (mild : (j : ℕ) → Mild old.chip old.codes byte pages (take j (body ++ last ∷ []))) (enough : Suffices old byte most (body ++ last ∷ [])) where
+    within_safely : (n : ℕ) (mid : Device) → n ≤ length body → Fed (take n (body ++ last ∷ [])) old mid → IsStoppedSafely old byte most pages mid
+    within_safely n mid le f =
+        let next : Device = record old { owed = replies_along [] (take n body); phase = Connected (take n body) } in
+        let m : Mild old.chip old.codes byte pages (take n body) = subst (Mild old.chip old.codes byte pages) (take-append-le n body (last ∷ []) le) (mild n) in
+        subst (IsStoppedSafely old byte most pages) (sym (within n mid le f)) (record {
+          same_chip = refl;
+          same_version = refl;
+          same_codes = refl;
+          harmless = harmless byte pages next is.size m;
+          awaits = suffices_along old byte most body last whole.along enough n le;
+          flash = same_flash old.chip pages old.flash old.flash refl;
+          owed = omega (arith, replies-few [] (take n body), length-take n body, whole.few);
+        })
+
+    done_safely : (mid : Device) → Fed (body ++ last ∷ []) old mid → IsStoppedSafely old byte most pages mid
     done_safely mid f =
         let frame = body ++ last ∷ [] in
         let done = at_end mid f in
         let reply = ack ∷ answer old.chip old.version old.codes old.flash frame in
         let next : Device = record old { flash = done.0; owed = replies_along [] body ++ reply; phase = phase_after frame } in
-        let changed = effect_within old.chip pages (change_of frame) old.flash done.0 is.size fits.1 done.1 in
-        subst (IsStoppedSafely old byte pages) (sym done.2) (record {
+        let fitting = fits byte pages mild in
+        let changed = effect_within old.chip pages (change_of frame) old.flash done.0 is.size fitting.1 done.1 in
+        subst (IsStoppedSafely old byte most pages) (sym done.2) (record {
           same_chip = refl;
           same_version = refl;
           same_codes = refl;
-          harmless = harmless byte pages next (changed.same_length ∙ is.size) (subst (Tame old.chip old.codes byte pages) (sym fits.0) (mild_empty old.chip old.codes byte pages)) (empty_enough next byte fits.0);
+          harmless = harmless byte pages next (changed.same_length ∙ is.size) (subst (Tame old.chip old.codes byte pages) (sym fitting.0) (mild_empty old.chip old.codes byte pages));
+          awaits = empty_enough next byte most two fitting.0;
           flash = changed;
           owed = omega (arith, replies-few [] body, length-append (replies_along [] body) reply, whole.few);
         })
 
-    fed_safely : (n : ℕ) (mid : Device) → Fed (take n (body ++ last ∷ [])) old mid → IsStoppedSafely old byte pages mid
+    fed_safely : (n : ℕ) (mid : Device) → Fed (take n (body ++ last ∷ [])) old mid → IsStoppedSafely old byte most pages mid
     fed_safely n mid f = ⊎_elim
         (λ (lt : n < length body + 1). within_safely n mid (omega arith) f)
         (λ (ge : length body + 1 ≤ n). done_safely mid (subst (λ (xs : List ℕ). Fed xs old mid) (take_all n (body ++ last ∷ []) (omega (arith, length-append body (last ∷ [])))) f))
         (cases_lt n (length body + 1))
 
-    pub stopped_safely : (d : Device) → PartlyFed (body ++ last ∷ []) old d → IsStoppedSafely old byte pages d
+    pub stopped_safely : (d : Device) → PartlyFed (body ++ last ∷ []) old d → IsStoppedSafely old byte most pages d
     stopped_safely d (n, (mid, f, (k, e))) =
         let s = fed_safely n mid f in
         record {
@@ -129,6 +133,7 @@ module _ (old : Device) (body : List ℕ) (last : ℕ) (is : IsDevice old) (sett
           same_version = ap (λ (x : Device). x.version) e ∙ s.same_version;
           same_codes = ap (λ (x : Device). x.codes) e ∙ s.same_codes;
           harmless = harmless_loses byte pages mid d s.harmless (k, e);
+          awaits = awaits_loses byte most mid d (k, e) s.awaits;
           flash = subst (λ (x : Device). SameOutside old.chip pages old.flash x.flash) (sym e) s.flash;
           owed = (let l = ap (λ (x : Device). length x.owed) e in let few = s.owed in let m = length-drop k mid.owed in omega arith);
         }

@@ -7,26 +7,24 @@ use Rattle.stm_wire.specs.declared.intent.Intent.TheVariants.{Erase, Program}
 use Rattle.stm_wire.specs.Chip.{page_count}
 use Rattle.stm_wire.specs.Device.{Device, Fresh, Connected, IsDevice, IsSettled, Feeds, LosesOwed, reset}
 use Rattle.stm_wire.specs.Awaited.{Awaits, most_for}
-use Rattle.stm_wire.specs.Harmless.{SameOutside, Disturbance, Reaches, IsUnharmed}
+use Rattle.stm_wire.specs.Harmless.{Harmless, SameOutside}
 use Rattle.stm_wire.specs.Intents.{settling_byte, intended_pages}
 use Rattle.stm_wire.specs.Moments.{PartlyFed}
 use Rattle.stm_wire.specs.Stopped.{IsStopped, IsFrameUnder}
 
 -- How many of the settling byte suffice, where 7F may have come once ahead of them. Behind 44 BB it
--- is the high byte of a count, of 32,513 pages and more, of two bytes each; under an intent to write
--- a page no 44 was sent.
+-- is the high byte of a count, of 32,513 pages and more, of two bytes each; no 44 was sent but under
+-- an intent to erase a page.
 abbrev pub most_greeted : EraseKind → Option Intent → ℕ
 most_greeted Page intent = 267
-most_greeted Extended None = most_for Extended 0x7F
+most_greeted Extended None = 267
 most_greeted Extended (Some (Erase n)) =
     let byte = settling_byte (Some (Erase n)) in max (most_for Extended byte) (2 * byte + 65030)
-most_greeted Extended (Some (Program n)) = most_for Extended 0x02
+most_greeted Extended (Some (Program n)) = 267
 
--- As `Harmless`, with this limit: however often the byte is fed and the device is reset, it stays
--- fresh or connected, with its flash the same outside these pages; and so many of the byte suffice.
+-- harmless, and so many of the byte suffice
 pub record HarmlessWithin (most : ℕ) (d : Device) (byte : ℕ) (pages : List ℕ) : Type 0 where
-  pub each : (events : List Disturbance) (new : Device) → Reaches byte events d new
-      → IsUnharmed d pages new
+  pub harmless : Harmless d byte pages
   pub awaits : Awaits byte most d
 
 -- what one 7F leaves
