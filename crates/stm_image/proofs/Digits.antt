@@ -43,10 +43,6 @@ decodes text n within =
     let len : length (take (2 * n) text) ≡ 2 * n = grind (arith, common_steps) in
     (λ ok. let parts = both.0 ok in front.0 parts.1, λ enough. both.1 (len, front.1 enough))
 
--- what decoding wrote are the bytes of the digits
-pub written_bytes : (digits : List ℕ) (n : ℕ) (out bytes : List ℕ) → length digits ≡ 2 * n → decode_sized digits n ≡ Ok bytes → out ≡ bytes → out ≡ digits_bytes digits
-written_bytes digits n out bytes len ok is = rw (sym (decode_sized-twice digits n len) ∙ ok) is
-
 -- where the digits suffice
 pub needed : (text : List ℕ) (count : ℕ) → 2 ≤ prefix_len is_hex_digit text → count ≡ slice_index (digits_bytes (take 2 text)) 0 + 5 → digits_needed text ≡ 2 * count
 needed text count two is = grind (arith, nat_tests)

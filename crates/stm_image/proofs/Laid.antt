@@ -86,22 +86,6 @@ kept_place set a xs i kept differs =
     let at : (a + i) - a ≡ i = omega arith in
     differs.differs (ap (slice_index xs) at ∙ same_at (byte_at set (a + i)) (slice_index xs i) differs.byte differs.held kept)
 
-pub other_place : (set : Pairs) (a : ℕ) (xs : List ℕ) (i : ℕ) → i < length xs → laid_byte (byte_at set (a + i)) (slice_index xs i) ≢ slice_index xs i → DiffersAt set a xs (a + i)
-other_place set a xs i lt other = of_byte (byte_at set (a + i)) refl
-  where
-    of_byte : (o : Option ℕ) → byte_at set (a + i) ≡ o → DiffersAt set a xs (a + i)
-    of_byte None e = absurd (other (ap (λ (o : Option ℕ). laid_byte o (slice_index xs i)) e))
-    of_byte (Some b) e =
-        let at : (a + i) - a ≡ i = omega arith in
-        let laid : laid_byte (byte_at set (a + i)) (slice_index xs i) ≡ b = ap (λ (o : Option ℕ). laid_byte o (slice_index xs i)) e in
-        record {
-          byte = b;
-          held = e;
-          from = omega arith;
-          within = omega arith;
-          differs = λ same. other (laid ∙ sym same ∙ ap (slice_index xs) at);
-        }
-
 -- a place past the last has no byte
 pub in_range_at : (set : Pairs) (a byte : ℕ) → All InRange set → byte_at set a ≡ Some byte → a < 2 ^ 32
 in_range_at [] a byte all held = cc

@@ -12,11 +12,6 @@ use Rattle.stm_journal.specs.PageFetching.{Brings}
 use Rattle.stm_journal.proofs.Upper.{first-true, second-true}
 use Rattle.stm_journal.proofs.Piecing.{digit_of, bytes_of, decode-all, sized}
 
--- a fetch that answered
-pub tells-brings : (after : List ℕ) (n : ℕ) (a b : Option (List ℕ)) → TellsBehind after (Ok n) a b → Brings (take n after) a b
-tells-brings after n None b tells = tells
-tells-brings after n (Some past) b tells = tells
-
 pub brings-none : (a : Option (List ℕ)) → Brings [] a a
 brings-none None = refl
 brings-none (Some past) = ap (λ (xs : List ℕ). Some xs) (sym (append-nil past))

@@ -56,9 +56,6 @@ line-more bytes more done lf is =
     ∙ append_assoc bytes (take done more) (take (lf + 1) (drop done more))
     ∙ ap (λ (xs : List ℕ). bytes ++ xs) (take-further done (lf + 1) more)
 
-pub rest-more : (bytes more : List ℕ) (done : ℕ) → (bytes ++ take done more) ++ drop done more ≡ bytes ++ more
-rest-more bytes more done = append_assoc bytes (take done more) (drop done more) ∙ ap (λ (xs : List ℕ). bytes ++ xs) (take-append-drop done more)
-
 -- the same of slices, as the code has them
 pub rest-is : (done : ℕ) (more : List ℕ) → take (length more - done) (drop done more) ≡ drop done more
 rest-is done more = take_all (length more - done) (drop done more) (omega (arith, length-drop done more))

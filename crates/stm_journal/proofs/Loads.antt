@@ -121,22 +121,6 @@ StopsAt-first bytes first rest OtherDevice wrong = wrong
 StopsAt-first bytes first rest OtherBoard wrong = wrong
 StopsAt-first bytes first rest Memory wrong = tt
 
-pub IsLoaded-read : (l l2 : Loaded) (y : Summary) (bytes : List ℕ) → IsRead l y bytes → l2 ≡ record l { is_torn = not (y.size == 0) } → IsLoaded l2 bytes
-IsLoaded-read l l2 y bytes is same =
-    let L : Loaded → Type 0 = λ x. IsLoaded x bytes in
-    subst L (sym same)
-    (record {
-      text = is.text;
-      means = is.means;
-      state = is.state;
-      lines = is.lines;
-      size = is.size;
-      is_torn = ap (λ (z : Summary). not (z.size == 0)) (sym is.rest) ∙ some (length (text_of bytes).tail);
-    })
-  where
-    some : (n : ℕ) → not (n == 0) ≡ nat_lt 0 n
-    some n = grind (arith, nat_tests)
-
 -- bytes and more bytes
 pub TakesBytes-join : {T : Type 0} (bytes first rest : List ℕ) (l : Loaded) (y : Summary) (result : Result T JournalFault)
     → TakesBytes rest (bytes ++ first) l y result → TakesBytes (first ++ rest) bytes l y result
