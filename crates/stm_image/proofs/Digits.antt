@@ -1,5 +1,5 @@
 -- Digits at the front of a text, and what they decode to.
-use Rattle.std.proofs.Common.{◌≡◌, ◌≢◌, ℕ, zero, suc, ◌+◌, ◌-◌, ◌*◌, ◌<◌, ◌≤◌, Bool, List, [], ◌∷◌, length, take, drop, get_or, Ok, refl, sym, ap, ◌∙◌, inl, inr, arith}
+use Rattle.std.proofs.Common.{◌≡◌, ◌≢◌, ℕ, zero, suc, ◌+◌, ◌-◌, ◌*◌, ◌<◌, ◌≤◌, Bool, List, [], ◌∷◌, length, take, drop, get_or, refl, sym, ap, ◌∙◌, inl, inr, arith}
 use Rattle.std.specs.Prelude.{slice_index}
 use Rattle.std.proofs.lemmas.Bool.Decides.{nat_tests}
 use mathlib.Core.Bool.{false≢true}
@@ -9,7 +9,7 @@ use Rattle.std.proofs.lemmas.Bool.{cases_lt, cases_eq}
 use Rattle.std.proofs.lemmas.List.Sums.{prefix_len_passes, prefix_len_stops}
 use Rattle.std.proofs.lemmas.Grind.{common_steps}
 use Rattle.hex.specs.Hex.{is_hex_digit, decode_sized}
-use Rattle.hex.proofs.HexLemmas.{IsOk-decode_sized, decode_sized-twice}
+use Rattle.hex.proofs.HexLemmas.{IsOk-decode_sized}
 use Rattle.stm_image.specs.Record.{Whole, Cut, Broken, Ended, Stray, is_blank, scan, scan_begun, digits_bytes, digits_needed, ends_digits, scan_digits}
 
 -- an element of the front is that of the list

@@ -1,19 +1,15 @@
 -- Rising pairs, look-ups in them, and the set of some pairs.
-use Rattle.std.proofs.Common.{◌≡◌, ℕ, zero, suc, ◌+◌, ◌<◌, ◌≤◌, ◌≢◌, List, [], ◌∷◌, length, get_or, Option, Some, None, refl, sym, ap, ap₂, ◌∙◌, inl, inr, arith}
-use Rattle.std.specs.Prelude.{Contains, Bool, true, false, ◌&&◌, cond, nat_eq, nat_lt, All, MatchOption}
-use Rattle.std.specs.Cmp.{IsEquivalence, nat_eq_equiv}
-use Rattle.std.specs.List.{dedup, dedup_from}
-use Rattle.std.specs.List.Sorted.{IsPermutation, IsPartitionPoint}
+use Rattle.std.proofs.Common.{◌≡◌, ℕ, zero, suc, ◌+◌, ◌<◌, ◌≤◌, ◌≢◌, List, [], ◌∷◌, length, get_or, Option, Some, None, refl, sym, ap, ◌∙◌, inl, inr, arith}
+use Rattle.std.specs.Prelude.{Contains, true, false, nat_eq, nat_lt, All, MatchOption}
+use Rattle.std.specs.List.Sorted.{IsPartitionPoint}
 use Rattle.std.specs.Option.{option_copied}
 use Rattle.std.specs.Slice.{IsGetResult}
 use denote.Ref.{Bor}
-use Rattle.std.proofs.lemmas.Bool.{cases_eq, cases_lt, and_parts, eqb-true, eq-eqb, ltb-true, ltb-false}
+use Rattle.std.proofs.lemmas.Bool.{cases_eq, cases_lt, eq-eqb, ltb-true, ltb-false}
 use Rattle.std.proofs.lemmas.Bool.Decides.{nat_tests}
 use Rattle.std.proofs.lemmas.List.{get_or_default}
-use Rattle.std.proofs.lemmas.List.Elements.{Contains-get_or, All-cons, All-head, All-tail, All-weaker, All-nil}
-use Rattle.std.proofs.lemmas.List.Filters.{All-dedup}
-use Rattle.std.proofs.lemmas.List.Kept.{AllPairs-cons, Contains-dedup, Contains-from_dedup}
-use Rattle.std.proofs.lemmas.List.Sorted.{Contains-permutation, IsPermutation-sym}
+use Rattle.std.proofs.lemmas.List.Elements.{Contains-get_or, All-cons, All-nil}
+use Rattle.std.proofs.lemmas.List.Kept.{AllPairs-cons}
 use Rattle.stm_image.specs.Pairs.{Pairs, AddressesRise, Agree, IsSetOf, IsNext, HasNone, byte_at, raw_pairs}
 
 -- two places of one address are one place
@@ -121,6 +117,11 @@ set_rising pairs rises = record { rises = rises; same = λ p. (λ h. h, λ h. h)
 
 pub agree_from_set : (set pairs : Pairs) → IsSetOf set pairs → Agree pairs
 agree_from_set set pairs is = agree_among set pairs (λ p. (is.same p).1) (agree_rising set is.rises)
+
+-- all but the second
+pub skip : (k p q : ℕ × ℕ) (pairs : Pairs) → Contains (k ∷ pairs) q → Contains (k ∷ p ∷ pairs) q
+skip k p q pairs (zero, lt, is) = (zero, omega arith, is)
+skip k p q pairs (suc i, lt, is) = (suc (suc i), omega arith, is)
 
 -- RAW BYTES: they lie at rising addresses
 raw_above : (low start : ℕ) (bytes : List ℕ) → low < start → All (λ q. low < q.0) (raw_pairs start bytes)

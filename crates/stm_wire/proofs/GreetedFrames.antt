@@ -71,7 +71,7 @@ module _ (old : Device) (body : List ℕ) (last : ℕ) (is : IsDevice old) (sett
       let same = take-append-le n body (last ∷ []) le in
       let next : Device = record old { owed = replies_along [] (take n body); phase = Connected (take n body) } in
       let open' : IsOpen old.chip old.codes (take n body) = opened old.chip old.codes (take n body) (along-take old.chip old.codes [] body n whole.along) in
-      subst SafeAt (sym (stops.within old body last is settled whole n mid le f))
+      subst SafeAt (sym (stops.within old body last is settled whole.along n mid le f))
       (λ new fed. greet most byte pages next new (take n body) (omega arith) is.size refl
       (subst (λ (xs : List ℕ). Mild old.chip old.codes byte pages (xs ++ 0x7F ∷ [])) same (greeted n))
       (λ v. subst (λ (xs : List ℕ). IsRefusedIn old.chip old.codes byte most (xs ++ 0x7F ∷ [])) same (enough n (subst (λ (xs : List ℕ). IsOpen old.chip old.codes (xs ++ 0x7F ∷ [])) (sym same) (open_more old.chip old.codes (take n body) 0x7F open' v)))) fed)

@@ -1,19 +1,16 @@
 -- A read that may be refused: what each of its steps leaves of a device that follows the model, and what a stop in it does.
-use Rattle.std.proofs.Common.{lit≤, ◌≡◌, ◌⊎◌, inl, inr, ℕ, ◌+◌, ◌-◌, ◌/◌, ◌%◌, ◌≤◌, Bool, true, false, ◌&&◌, ◌==◌, List, [], ◌∷◌, ◌++◌, length, take, drop, get_or, Option, Some, IsTrue, refl, sym, ◌∙◌, ap, ap₂, subst, arith, eq-eqb, if◌then◌else◌, length-append, ⊎_elim, min, Result, Ok, Err, IsErrAnd, take_all}
-use Rattle.std.proofs.lemmas.Bool.{cases_lt}
-use Rattle.std.proofs.lemmas.List.{take_min, take-append-le, length-take, length-drop}
+use Rattle.std.proofs.Common.{lit≤, ◌≡◌, ◌⊎◌, inl, inr, ℕ, ◌+◌, ◌-◌, ◌/◌, ◌%◌, ◌≤◌, Bool, true, false, ◌&&◌, ◌==◌, List, [], ◌∷◌, ◌++◌, length, take, drop, get_or, Option, Some, IsTrue, refl, sym, ◌∙◌, ap, ap₂, subst, arith, eq-eqb, if◌then◌else◌, length-append, min, Result, Ok, Err, IsErrAnd}
+use Rattle.std.proofs.lemmas.List.{take_min, take-append-le}
 use Rattle.stm_wire.specs.declared.fault.WireFault.{WireFault}
 use Rattle.stm_wire.specs.declared.fault.WireFault.TheVariants.{Line}
 use Rattle.stm_wire.specs.lemmas.FlashLaws.{same_all}
-use Rattle.stm_wire.specs.Harmless.{SameOutside}
 use Rattle.stm_wire.specs.Stopped.{IsStoppedSafely, read}
-use Rattle.stm_wire.proofs.Closed.{awaits_loses, harmless_loses}
 use Rattle.stm_wire.proofs.Flash.{same_flash}
 use Rattle.stm_wire.proofs.Mild.{Mild, harmless, mild_empty}
 use Rattle.stm_wire.proofs.Stopped.{mild_read_frame}
 use Rattle.stm_wire.proofs.Enough.{counts_none, empty_enough, enough_short, no_count}
 use Rattle.stm_wire.proofs.StoppedFrames.{asking_changes_nothing, read_suffices}
-use Rattle.stm_wire.proofs.Stops.{Suffices, along-append, along-take, replies-few, suffices_along}
+use Rattle.stm_wire.proofs.Stops.{Suffices, along-append, before_last, replies-few, stopped_from}
 use Rattle.stm_wire.specs.Chip.{ChipData}
 use Rattle.stm_wire.specs.Telling.{can_read, is_readable}
 use Rattle.stm_wire.specs.declared.verdict.Verdict.{Verdict}
@@ -204,33 +201,10 @@ asked_failed address size bytes a b e (Err x) is part line = record { sent = par
 -- a stop within a step that is refused at its last byte
 module _ (old : Device) (body : List ℕ) (last : ℕ) (is : IsDevice old) (settled : IsSettled old) (waits : OpenAlong old.chip old.codes [] body) (refused : verdict old.chip old.codes (body ++ last ∷ []) ≡ Some Refused) (few : length body ≤ 4000)
     (byte : ℕ) (mild : (j : ℕ) → Mild old.chip old.codes byte [] (take j (body ++ last ∷ []))) (enough : Suffices old byte 267 (body ++ last ∷ [])) where
-  starts : old ≡ with_rest [] old
-  starts = settled-is old settled
-
-  within : (n : ℕ) (mid : Device) → n ≤ length body → Fed (take n (body ++ last ∷ [])) old mid → IsStoppedSafely old byte 267 [] mid
-  within n mid le f =
-      let next : Device = record old { owed = replies_along [] (take n body); phase = Connected (take n body) } in
-      let same = take-append-le n body (last ∷ []) le in
-      let g : Fed (take n body) old mid = subst (λ (xs : List ℕ). Fed xs old mid) same f in
-      let at : mid ≡ next = fed-along (take n body) [] [] old mid (along-take old.chip old.codes [] body n waits) (subst (λ (x : Device). Fed (take n body) x mid) starts g) in
-      let m : Mild old.chip old.codes byte [] (take n body) = subst (Mild old.chip old.codes byte []) same (mild n) in
-      subst (IsStoppedSafely old byte 267 []) (sym at) (record {
-        same_chip = refl;
-        same_version = refl;
-        same_codes = refl;
-        harmless = harmless byte [] next is.size m;
-        awaits = suffices_along old byte 267 body last waits enough n le;
-        flash = same_flash old.chip [] old.flash old.flash refl;
-        owed = omega (arith, few, replies-few [] (take n body), length-take n body);
-      })
-
   at_last : (mid : Device) → Fed (body ++ last ∷ []) old mid → IsStoppedSafely old byte 267 [] mid
   at_last mid f =
       let next : Device = record old { owed = replies_along [] body ++ nack ∷ []; phase = Connected [] } in
-      let parts = Fed-split body (last ∷ []) old mid f in
-      let first = fed-along body [] [] old parts.0 waits (subst (λ (x : Device). Fed body x parts.0) starts parts.1) in
-      let one : Feeds last parts.0 mid = subst (λ (x : Device). Feeds last parts.0 x) (sym parts.2.2) parts.2.1 in
-      let at : mid ≡ next = feeds-refused last body (record old { owed = replies_along [] body; phase = Connected body }) mid refl refused (subst (λ (x : Device). Feeds last x mid) first one) in
+      let at : mid ≡ next = feeds-refused last body (record old { owed = replies_along [] body; phase = Connected body }) mid refl refused (before_last old body last is settled waits mid f) in
       subst (IsStoppedSafely old byte 267 []) (sym at) (record {
         same_chip = refl;
         same_version = refl;
@@ -242,21 +216,7 @@ module _ (old : Device) (body : List ℕ) (last : ℕ) (is : IsDevice old) (sett
       })
 
   pub refused_safely : (d : Device) → PartlyFed (body ++ last ∷ []) old d → IsStoppedSafely old byte 267 [] d
-  refused_safely d (n, (mid, fed, (k, e))) =
-      let s : IsStoppedSafely old byte 267 [] mid =
-      ⊎_elim
-      (λ lt. within n mid (omega (arith, lt)) fed)
-      (λ le. at_last mid (subst (λ (xs : List ℕ). Fed xs old mid) (take_all n (body ++ last ∷ []) (omega (arith, le, length-append body (last ∷ [])))) fed))
-      (cases_lt n (length body + 1)) in
-      record {
-        same_chip = ap (λ (x : Device). x.chip) e ∙ s.same_chip;
-        same_version = ap (λ (x : Device). x.version) e ∙ s.same_version;
-        same_codes = ap (λ (x : Device). x.codes) e ∙ s.same_codes;
-        harmless = harmless_loses byte [] mid d s.harmless (k, e);
-        awaits = awaits_loses byte 267 mid d (k, e) s.awaits;
-        flash = subst (λ (x : Device). SameOutside old.chip [] old.flash x.flash) (sym e) s.flash;
-        owed = (let l = ap (λ (x : Device). length x.owed) e in let few = s.owed in let m = length-drop k mid.owed in omega arith);
-      }
+  refused_safely d fed = stopped_from old body last is settled waits byte 267 [] (omega (arith, few)) mild enough at_last d fed
 
 module _ (old d : Device) (byte address size : ℕ) (is : IsDevice old) (settled : IsSettled old) (some : 1 ≤ size) (most : size ≤ 256) where
   mild_frame : (j : ℕ) → Mild old.chip old.codes byte [] (take j (read_frame address size))
