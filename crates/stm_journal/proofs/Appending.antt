@@ -1,11 +1,8 @@
 -- From bytes added to entries added.
-use Rattle.std.proofs.Common.{◌≤◌, ℕ, ◌-◌, ◌^◌, List, ◌++◌, length, Result, Ok, Err, refl, sym, subst, append-nil}
-use Rattle.stm_wire.specs.Device.{Device, LosesOwed}
-use Rattle.stm_wire.specs.Rig.{RigState, IsModel, LeftByAppend}
-use Rattle.stm_wire.specs.lemmas.MomentLaws.{started}
+use Rattle.std.proofs.Common.{◌≤◌, ℕ, ◌-◌, ◌^◌, List, ◌++◌, length, Result, Ok, Err, sym, subst}
+use Rattle.stm_wire.specs.Rig.{RigState, IsModel}
 use Rattle.stm_journal.specs.declared.entry.Entry.{Entry}
 use Rattle.stm_journal.specs.declared.fault.JournalFault.{JournalFault}
-use Rattle.stm_journal.specs.declared.fault.JournalFault.TheVariants.{OtherDevice, OtherBoard, Memory}
 use Rattle.stm_journal.specs.Journals.{Loaded, IsLoaded, added_bytes, past_mark, loaded_after, Prepares}
 use Rattle.stm_journal.specs.Calls.{AddsBytes, Appends}
 use Rattle.stm_journal.proofs.Ties.{AllAllowed, IsLoaded-after}

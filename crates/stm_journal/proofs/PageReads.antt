@@ -5,9 +5,9 @@ use Rattle.std.specs.List.{list_all}
 use Rattle.std.proofs.lemmas.List.{take-append-le, length-take-le, drop-drop, drop-take, take-take}
 use Rattle.hex.specs.Hex.{decode_sized}
 use Rattle.stm_wire.specs.Device.{Device, LosesOwed}
-use Rattle.stm_wire.specs.Rig.{RigState, IsModel}
+use Rattle.stm_wire.specs.Rig.{RigState}
 use Rattle.stm_wire.specs.Moments.{LeavesOnly}
-use Rattle.stm_wire.specs.lemmas.MomentLaws.{started, joined}
+use Rattle.stm_wire.specs.lemmas.MomentLaws.{joined}
 use Rattle.stm_journal.specs.declared.kept.Kept.{Kept}
 use Rattle.stm_journal.specs.declared.kept.PagePlace.{PagePlace}
 use Rattle.stm_journal.specs.declared.fault.JournalFault.{JournalFault}

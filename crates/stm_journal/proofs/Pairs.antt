@@ -1,12 +1,11 @@
 -- The number that four upper-case digits say.
-use Rattle.std.proofs.Common.{◌≡◌, ◌≢◌, inl, inr, ℕ, ◌/◌, ◌%◌, Bool, true, false, ◌==◌, List, [], ◌∷◌, length, Option, Some, None, Result, Ok, Err, refl, sym, ◌∙◌, ap, subst, arith, take_all}
-use Rattle.std.specs.Prelude.{option_and_then, MatchResult, if◌then◌else◌}
+use Rattle.std.proofs.Common.{◌≡◌, ◌≢◌, inl, inr, ℕ, ◌%◌, true, false, ◌==◌, List, [], ◌∷◌, length, Option, Some, None, Result, Ok, Err, refl, sym, ◌∙◌, ap, subst, arith, take_all}
+use Rattle.std.specs.Prelude.{option_and_then, MatchResult}
 use Rattle.std.specs.List.{list_all}
 use Rattle.std.proofs.lemmas.Bool.{cases_Bool, cases_eq}
 use Rattle.std.proofs.lemmas.Bool.Decides.{nat_tests}
 use Rattle.hex.specs.declared.error.FromHexError.{FromHexError}
-use Rattle.hex.specs.declared.error.FromHexError.TheVariants.{OddLength, InvalidStringLength}
-use Rattle.hex.specs.Hex.{decode_sized, decode_pairs}
+use Rattle.hex.specs.Hex.{decode_sized}
 use Rattle.stm_journal.specs.Entries.{is_upper_digit, number_of_pair, hex_bytes_of}
 use Rattle.stm_journal.proofs.Upper.{hex_bytes_of-even, hex_bytes_of-odd}
 use Rattle.stm_journal.proofs.Piecing.{pieces-say}
@@ -49,11 +48,6 @@ other-none ds all other = elim (cases_Bool (length ds % 2 == 0)) [
 
 abbrev Decoded : List ℕ → List ℕ → Result (Unit {0}) FromHexError → Type 0
 Decoded ds pair r = MatchResult (decode_sized ds 2) (λ bytes. (r ≡ Ok tt) × (pair ≡ bytes)) (λ e. r ≡ Err e)
-
-]
-  where
-    clash : (r : Result (Unit {0}) FromHexError) (e : FromHexError) → r ≡ Ok tt → r ≡ Err e → ⊥
-    clash r e h g = cc
 
 pub id-refused : (ds pair : List ℕ) (r : Result (Unit {0}) FromHexError) (e : FromHexError) → list_all is_upper_digit ds ≡ true → Decoded ds pair r → r ≡ Err e
     → None ≡ option_and_then number_of_pair (hex_bytes_of ds)

@@ -1,9 +1,8 @@
 -- The unique id that digits say.
-use Rattle.std.proofs.Common.{◌≡◌, ◌<◌, ℕ, ◌*◌, Bool, true, false, List, length, Option, Some, None, Ok, IsTrue, if◌then◌else◌, refl, sym, ◌∙◌, ap, subst, arith, take_all}
+use Rattle.std.proofs.Common.{◌≡◌, ℕ, ◌*◌, Bool, true, false, List, length, Option, Some, None, Ok, IsTrue, if◌then◌else◌, refl, sym, ◌∙◌, ap, subst, arith, take_all}
 use Rattle.std.specs.Prelude.{option_map, option_and_then, SomeIff}
 use Rattle.std.specs.List.{list_all}
 use Rattle.std.proofs.lemmas.Bool.{true≢false}
-use Rattle.std.proofs.lemmas.Bool.Decides.{nat_tests}
 use Rattle.hex.specs.Hex.{decode_sized}
 use Rattle.stm_wire.specs.UniqueId.{is_unique_length}
 use Rattle.stm_journal.specs.Entries.{is_upper_digit, hex_bytes_of, unique_id_of}

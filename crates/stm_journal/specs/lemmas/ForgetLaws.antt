@@ -1,12 +1,11 @@
 -- A state in memory tells all that the text's state tells, but for the bytes of pages.
 use Rattle.std.proofs.Common.{◌≡◌, ℕ, ◌+◌, ◌-◌, Bool, true, false, not, ◌&&◌, ◌||◌, ◌==◌, nat_le}
-use Rattle.std.proofs.Common.{nat_lt, if◌then◌else◌, List, [], ◌∷◌, length, map, fold, max, Option}
-use Rattle.std.proofs.Common.{Some, None, option_map, refl, sym, ◌∙◌, ap, ap₂}
-use Rattle.std.specs.Prelude.{is_some, is_none, option_and_then, slice_get, sum_by}
-use Rattle.std.specs.List.{list_any, find}
+use Rattle.std.proofs.Common.{nat_lt, if◌then◌else◌, List, [], ◌∷◌, length, map, Option}
+use Rattle.std.proofs.Common.{Some, None, option_map, refl, ◌∙◌, ap, ap₂}
+use Rattle.std.specs.Prelude.{is_some, is_none, option_and_then, slice_get}
+use Rattle.std.specs.List.{list_any}
 use Rattle.std.specs.Option.{option_map_or}
 use Rattle.std.proofs.lemmas.List.{length-map, length-replicate}
-use Rattle.std.proofs.lemmas.List.Sums.{sum_by-cons}
 use Rattle.std.proofs.lemmas.Option.{slice_get-map}
 use Rattle.stm_journal.specs.declared.kept.Kept.{Kept}
 use Rattle.stm_journal.specs.declared.kept.PagePlace.{PagePlace}
@@ -17,10 +16,10 @@ use Rattle.stm_journal.specs.declared.entry.Entry.TheVariants.{Programs, Ends, U
 use Rattle.stm_journal.specs.States.{StateData, SegmentData, allows, newest_has, newest_intent}
 use Rattle.stm_journal.specs.States.{keeps, may_keep, is_open_stage, is_ended_stage, intent_of}
 use Rattle.stm_journal.specs.States.{is_unfinished, newest_is_open, newest_keeps, newest_may_keep}
-use Rattle.stm_journal.specs.States.{segment_of, kept_at, names_other, names_other_board}
-use Rattle.stm_journal.specs.KeptPlaces.{kept_entry, page_entry, place_of, kept_place, page_place}
-use Rattle.stm_journal.specs.KeptPlaces.{kept_count, entries_of}
-use Rattle.stm_journal.specs.Newest.{newest_pages, next_page}
+use Rattle.stm_journal.specs.States.{segment_of, kept_at, names_other}
+use Rattle.stm_journal.specs.KeptPlaces.{kept_entry, place_of, kept_place}
+use Rattle.stm_journal.specs.KeptPlaces.{kept_count}
+use Rattle.stm_journal.specs.Newest.{newest_pages}
 use Rattle.stm_journal.specs.Journals.{begin_entries, version_for}
 use Rattle.stm_journal.specs.InMemory.{forget_entry, forget_kept, forget_segment, forget_state}
 

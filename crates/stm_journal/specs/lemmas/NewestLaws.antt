@@ -11,8 +11,8 @@ use Rattle.stm_journal.specs.declared.kept.Kept.{Kept}
 use Rattle.stm_journal.specs.declared.header.JournalHeader.{JournalHeader}
 use Rattle.stm_journal.specs.States.{StateData, SegmentData, newest_has, newest_is_open}
 use Rattle.stm_journal.specs.States.{newest_keeps, newest_may_keep, is_open_stage, may_keep, keeps}
-use Rattle.stm_journal.specs.States.{segment_of, kept_at, page_bytes}
-use Rattle.stm_journal.specs.Newest.{KeepsSame, newest_pages, next_page}
+use Rattle.stm_journal.specs.States.{segment_of, kept_at}
+use Rattle.stm_journal.specs.Newest.{KeepsSame, next_page}
 
 pub KeepsSame-refl : (s : StateData) → KeepsSame s s
 KeepsSame-refl s = record {
