@@ -33,7 +33,7 @@ def limit_of(board, intent):
     """As an undo has it: behind 44 BB the byte twice is the count of 257 times as many pages, and one more."""
     if intent == "ask":
         return LIMIT_OF_ASKING
-    if board.code == ERASE:
+    if board.code == ERASE or intent != "erase":
         return SHORT_LIMIT
     byte = byte_of(board, intent)
     return LONG_LIMIT if byte == CONNECT else min(max(514 * byte + 8, SHORT_LIMIT), LONG_LIMIT)

@@ -303,7 +303,7 @@ def settling_byte(intent):
 
 
 def settling_limit(chip, intent):
-    return wire.LIMIT if intent is None else wire.limit_for(settling_byte(intent), chip.erase_code() != ERASE)
+    return wire.LIMIT if intent is None else wire.limit_for(settling_byte(intent), intent[0] == "erase" and chip.erase_code() != ERASE)
 
 
 def settle_by(rig, journal, chip, is_fresh):

@@ -18,7 +18,7 @@ class WireFault(Exception):
 
 
 def limit_for(byte, extended):
-    """How often the byte of an intent is sent at most: behind 44 BB it is the count of 257 * byte + 1 pages."""
+    """How often the byte of an intent is sent at most: behind 44 BB of an extended erase it is the count of 257 * byte + 1 pages."""
     if not extended:
         return SHORT_LIMIT
     return LIMIT if byte == CONNECT else min(max(514 * byte + 8, SHORT_LIMIT), LIMIT)

@@ -40,12 +40,6 @@ pub has_entries : (document : Members) (vs : List Value) → option_and_then as_
 has_entries document vs e tables =
     record { there = array_is (get_member (codes "chip") document) (items_view vs) e; tables = All-map IsTable view vs tables }
 
-pub lacks_array : (document : Members) (entries : List Data) → option_and_then as_array (get_member (codes "chip") document) ≡ None → ¬ HasEntries document entries
-lacks_array document entries e has =
-    let here = rw has.there at e in
-    let no : ⊥ = cc in
-    no
-
 unmapped : (vs : List Value) → All IsTable (map view vs) → All (λ v. IsTable (view v)) vs
 unmapped vs tables k d h =
     let within : k < length (map view vs) = omega (arith, length-map vs view) in
@@ -95,10 +89,6 @@ fault_of text document entries (Limit k) is has flaw =
     record { document = document; is_document = is; entries = entries; has_entries = has; has_flaw = flaw }
 fault_of text document entries (TwiceId k) is has flaw =
     record { document = document; is_document = is; entries = entries; has_entries = has; has_flaw = flaw }
-
-pub fault_of_lacking : (text : List ℕ) (document : Members) → IsDocument text document → ((entries : List Data) → ¬ HasEntries document entries)
-    → IsTableFaultOf text (Missing 0)
-fault_of_lacking text document is lacks = inl (refl, record { document = document; is_document = is; lacks = lacks })
 
 -- chips that were read have ids of their own
 pub own_ids : {entries : List Data} {chips : List ChipData} → ReadsEntries entries chips → HaveOwnIds chips

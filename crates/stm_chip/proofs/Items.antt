@@ -12,10 +12,6 @@ abbrev pub joined : {T : Type 0} → List T → Option (List T) → Option (List
 joined xs None = None
 joined xs (Some ys) = Some (xs ++ ys)
 
-pub joined_start : {T : Type 0} (o : Option (List T)) → joined [] o ≡ o
-joined_start None = refl
-joined_start (Some ys) = refl
-
 one_more : {T : Type 0} (xs : List T) (x : T) (o : Option (List T)) → joined (xs ++ x ∷ []) o ≡ joined xs (with_first (Some x) o)
 one_more xs x None = refl
 one_more xs x (Some ys) = ap (λ l. Some l) (search (rules, append_assoc))

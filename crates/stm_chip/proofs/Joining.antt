@@ -45,7 +45,3 @@ over_more upper seen joined more chip over added id =
     let one : Option ChipData = chip_by_id (chip ∷ []) id in
     added id ∙ ap (λ o. option_or o one) (over id) ∙ or_assoc (chip_by_id upper id) (chip_by_id seen id) one
     ∙ ap (option_or (chip_by_id upper id)) (sym (is_last seen chip id))
-
--- over a table of which nothing was read yet
-pub over_none : (upper : List ChipData) (id : ℕ) → chip_by_id upper id ≡ option_or (chip_by_id upper id) (chip_by_id [] id)
-over_none upper id = unaltered (chip_by_id upper id)

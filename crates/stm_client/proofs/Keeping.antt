@@ -3,6 +3,8 @@ use Rattle.std.proofs.Common.{◌≡◌, ◌⊎◌, ⊎_elim, ℕ, Bool, true, f
 use Rattle.std.proofs.lemmas.List.{length-drop}
 use Rattle.stm_wire.specs.Chip.{ChipData}
 use Rattle.stm_wire.specs.Device.{Device, reset}
+use Rattle.stm_wire.specs.declared.intent.Intent.{Intent}
+use Rattle.stm_wire.specs.Awaited.{AwaitsUnder}
 use Rattle.stm_wire.specs.Intents.{settling_byte}
 use Rattle.stm_wire.specs.Moments.{LeavesOnly}
 use Rattle.stm_wire.specs.lemmas.MomentLaws.{joined, weaker}
@@ -85,12 +87,17 @@ module _ (laws : Laws) (flashes : List (List ℕ)) (old : RigState) (u : Undoabl
           fits = u.fits;
           keeps = u.keeps;
           harmless = laws.lost old.device d (settling_byte (intent_of (state_at old.journal))) (risked_pages (state_at old.journal)) u.harmless (n, refl);
+          awaits = still_awaits (intent_of (state_at old.journal)) u.awaits;
           owed = omega (arith, u.owed, length-drop n old.device.owed);
         };
         journal_same = refl;
         flash = refl;
         make = record { chip = refl; version = refl; codes = refl };
       }
+    where
+      still_awaits : (o : Option Intent) → AwaitsUnder o old.device → AwaitsUnder o (record old.device { owed = drop n old.device.owed })
+      still_awaits None w = tt
+      still_awaits (Some i) w = w
 
   untouched_kept : (d : Device) (journal : List ℕ) → IsUntouched old d journal → IsAllKept flashes old d journal
   untouched_kept d journal left =

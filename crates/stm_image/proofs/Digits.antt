@@ -1,5 +1,5 @@
 -- Digits at the front of a text, and what they decode to.
-use Rattle.std.proofs.Common.{◌≡◌, ◌≢◌, ℕ, zero, suc, ◌+◌, ◌-◌, ◌*◌, ◌<◌, ◌≤◌, Bool, List, [], ◌∷◌, length, take, drop, get_or, Ok, refl, sym, ap, ◌∙◌, inl, inr, arith}
+use Rattle.std.proofs.Common.{◌≡◌, ◌≢◌, ℕ, zero, suc, ◌+◌, ◌-◌, ◌*◌, ◌<◌, ◌≤◌, Bool, List, [], ◌∷◌, length, take, drop, get_or, refl, sym, ap, ◌∙◌, inl, inr, arith}
 use Rattle.std.specs.Prelude.{slice_index}
 use Rattle.std.proofs.lemmas.Bool.Decides.{nat_tests}
 use mathlib.Core.Bool.{false≢true}
@@ -9,7 +9,7 @@ use Rattle.std.proofs.lemmas.Bool.{cases_lt, cases_eq}
 use Rattle.std.proofs.lemmas.List.Sums.{prefix_len_passes, prefix_len_stops}
 use Rattle.std.proofs.lemmas.Grind.{common_steps}
 use Rattle.hex.specs.Hex.{is_hex_digit, decode_sized}
-use Rattle.hex.proofs.HexLemmas.{IsOk-decode_sized, decode_sized-twice}
+use Rattle.hex.proofs.HexLemmas.{IsOk-decode_sized}
 use Rattle.stm_image.specs.Record.{Whole, Cut, Broken, Ended, Stray, is_blank, scan, scan_begun, digits_bytes, digits_needed, ends_digits, scan_digits}
 
 -- an element of the front is that of the list
@@ -42,10 +42,6 @@ decodes text n within =
     let front = front_passes is_hex_digit text (2 * n) within in
     let len : length (take (2 * n) text) ≡ 2 * n = grind (arith, common_steps) in
     (λ ok. let parts = both.0 ok in front.0 parts.1, λ enough. both.1 (len, front.1 enough))
-
--- what decoding wrote are the bytes of the digits
-pub written_bytes : (digits : List ℕ) (n : ℕ) (out bytes : List ℕ) → length digits ≡ 2 * n → decode_sized digits n ≡ Ok bytes → out ≡ bytes → out ≡ digits_bytes digits
-written_bytes digits n out bytes len ok is = rw (sym (decode_sized-twice digits n len) ∙ ok) is
 
 -- where the digits suffice
 pub needed : (text : List ℕ) (count : ℕ) → 2 ≤ prefix_len is_hex_digit text → count ≡ slice_index (digits_bytes (take 2 text)) 0 + 5 → digits_needed text ≡ 2 * count

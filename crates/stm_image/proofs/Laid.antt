@@ -1,11 +1,11 @@
 -- A set laid over bytes, place by place.
-use Rattle.std.proofs.Common.{◌≡◌, ◌≢◌, inl, inr, ℕ, zero, suc, ◌+◌, ◌-◌, ◌<◌, ◌≤◌, List, [], ◌∷◌, ◌++◌, length, take, drop, slice_index, slice_set, Bool, if◌then◌else◌, Option, Some, None, refl, sym, ap, ap₂, ◌∙◌, subst, ◌^◌, arith}
+use Rattle.std.proofs.Common.{◌≡◌, ◌≢◌, inl, inr, ℕ, zero, suc, ◌+◌, ◌-◌, ◌<◌, ◌≤◌, List, [], ◌∷◌, ◌++◌, length, take, drop, slice_index, Bool, if◌then◌else◌, Option, Some, None, refl, sym, ap, ap₂, ◌∙◌, subst, ◌^◌, arith}
 use Rattle.std.specs.Prelude.{Contains, All}
 use Rattle.std.proofs.lemmas.Bool.{cases_eq, cases_lt, ne_eqb}
-use Rattle.std.proofs.lemmas.List.{get_or-drop, get_or-set_same, get_or-set_other, length-drop}
+use Rattle.std.proofs.lemmas.List.{get_or-drop, length-drop}
 use Rattle.std.proofs.lemmas.List.Elements.{All-head, All-tail, Contains-append_left, Contains-append_right}
 use Rattle.stm_image.specs.Pairs.{Pairs, InRange, IsImage, byte_at, IsNext, HasNone, AddressesRise, raw_pairs}
-use Rattle.stm_image.specs.Lay.{lay, laid_byte, DiffersAt, AgreesWith, AreAlike, IsFirstDifference, IsFirstOther, IsPutAt}
+use Rattle.stm_image.specs.Lay.{lay, laid_byte, DiffersAt, AgreesWith, AreAlike, IsFirstDifference, IsFirstOther}
 use Rattle.stm_image.specs.Runs.{IsRunFrom}
 use Rattle.stm_image.proofs.Lying.{raw_holds}
 use Rattle.stm_image.proofs.Overlaps.{byte_held, held_at}
@@ -85,22 +85,6 @@ pub kept_place : (set : Pairs) (a : ℕ) (xs : List ℕ) (i : ℕ) → laid_byte
 kept_place set a xs i kept differs =
     let at : (a + i) - a ≡ i = omega arith in
     differs.differs (ap (slice_index xs) at ∙ same_at (byte_at set (a + i)) (slice_index xs i) differs.byte differs.held kept)
-
-pub other_place : (set : Pairs) (a : ℕ) (xs : List ℕ) (i : ℕ) → i < length xs → laid_byte (byte_at set (a + i)) (slice_index xs i) ≢ slice_index xs i → DiffersAt set a xs (a + i)
-other_place set a xs i lt other = of_byte (byte_at set (a + i)) refl
-  where
-    of_byte : (o : Option ℕ) → byte_at set (a + i) ≡ o → DiffersAt set a xs (a + i)
-    of_byte None e = absurd (other (ap (λ (o : Option ℕ). laid_byte o (slice_index xs i)) e))
-    of_byte (Some b) e =
-        let at : (a + i) - a ≡ i = omega arith in
-        let laid : laid_byte (byte_at set (a + i)) (slice_index xs i) ≡ b = ap (λ (o : Option ℕ). laid_byte o (slice_index xs i)) e in
-        record {
-          byte = b;
-          held = e;
-          from = omega arith;
-          within = omega arith;
-          differs = λ same. other (laid ∙ sym same ∙ ap (slice_index xs) at);
-        }
 
 -- a place past the last has no byte
 pub in_range_at : (set : Pairs) (a byte : ℕ) → All InRange set → byte_at set a ≡ Some byte → a < 2 ^ 32

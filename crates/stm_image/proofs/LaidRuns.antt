@@ -1,14 +1,11 @@
 -- A set laid over bytes, run by run.
-use Rattle.std.proofs.Common.{◌≡◌, ◌≢◌, inl, inr, ℕ, zero, suc, ◌+◌, ◌-◌, ◌<◌, ◌≤◌, List, [], ◌∷◌, ◌++◌, length, take, drop, slice_index, slice_set, Bool, if◌then◌else◌, Option, Some, None, refl, sym, ap, ap₂, ◌∙◌, subst, ◌^◌, arith}
-use Rattle.std.specs.Prelude.{Contains, All}
-use Rattle.std.proofs.lemmas.Bool.{cases_eq, cases_lt, ne_eqb}
-use Rattle.std.proofs.lemmas.List.{get_or-drop, get_or-set_same, get_or-set_other, length-drop}
-use Rattle.std.proofs.lemmas.List.Elements.{All-head, All-tail, Contains-append_left, Contains-append_right}
-use Rattle.stm_image.specs.Pairs.{Pairs, InRange, IsImage, byte_at, IsNext, HasNone, AddressesRise, raw_pairs}
-use Rattle.stm_image.specs.Lay.{lay, laid_byte, DiffersAt, AgreesWith, AreAlike, IsFirstDifference, IsFirstOther, IsPutAt}
+use Rattle.std.proofs.Common.{◌≡◌, ◌≢◌, inl, inr, ℕ, suc, ◌+◌, ◌-◌, ◌<◌, ◌≤◌, List, [], ◌∷◌, length, slice_index, slice_set, Option, Some, None, refl, sym, ap, ap₂, ◌∙◌, arith}
+use Rattle.std.proofs.lemmas.Bool.{cases_lt}
+use Rattle.std.proofs.lemmas.List.{get_or-set_same, get_or-set_other}
+use Rattle.stm_image.specs.Pairs.{Pairs, byte_at, HasNone, AddressesRise}
+use Rattle.stm_image.specs.Lay.{lay, laid_byte, IsPutAt}
 use Rattle.stm_image.specs.Runs.{IsRunFrom}
-use Rattle.stm_image.proofs.Lying.{raw_holds}
-use Rattle.stm_image.proofs.Overlaps.{byte_held, held_at}
+use Rattle.stm_image.proofs.Overlaps.{held_at}
 use Rattle.stm_image.proofs.Running.{next_of_run}
 use Rattle.stm_image.proofs.Sets.{byte_at_none}
 use Rattle.stm_image.proofs.Laid.{byte_in_run}

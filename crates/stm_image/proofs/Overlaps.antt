@@ -35,9 +35,6 @@ byte_held ((x, y) ∷ set) a b rises (suc i, lt, is) =
     ap (λ (t : Bool). if t then Some y else byte_at set a) (ne_eqb x a (λ e. omega (arith, e, up))) ∙ byte_held set a b (Rises-tail (x, y) set rises) (i, omega arith, is)
 
 -- LAYING OUT, piece by piece
-pub nothing_laid : IsLaidOut [] [] 0 0
-nothing_laid = record { among = λ q held. held; covers = λ q held. absurd (omega (arith, held.1)); filled = λ a low high. absurd (omega (arith, high)) }
-
 pub piece_laid : (bytes : List ℕ) (p : Piece) (done laid : Pairs) (low next after : ℕ) → IsWithin (length bytes) p → IsLaidOut done laid low next → low ≤ p.first
     → p.last + 1 ≤ after → next ≤ after → (after ≡ next) ⊎ (after ≡ p.last + 1)
     → IsLaidOut (done ++ pairs_of_piece bytes p) (laid ++ raw_pairs (p.first + (next - p.first)) (drop (next - p.first) (piece_bytes bytes p))) p.first after

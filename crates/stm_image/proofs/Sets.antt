@@ -1,21 +1,16 @@
 -- Rising pairs, look-ups in them, and the set of some pairs.
-use Rattle.std.proofs.Common.{◌≡◌, ℕ, zero, suc, ◌+◌, ◌<◌, ◌≤◌, ◌≢◌, List, [], ◌∷◌, length, get_or, Option, Some, None, refl, sym, ap, ap₂, ◌∙◌, inl, inr, arith}
-use Rattle.std.specs.Prelude.{Contains, Bool, true, false, ◌&&◌, cond, nat_eq, nat_lt, All, MatchOption}
-use Rattle.std.specs.Cmp.{IsEquivalence, nat_eq_equiv}
-use Rattle.std.specs.List.{dedup, dedup_from}
-use Rattle.std.specs.List.Sorted.{IsPermutation, IsPartitionPoint}
+use Rattle.std.proofs.Common.{◌≡◌, ℕ, zero, suc, ◌+◌, ◌<◌, ◌≤◌, ◌≢◌, List, [], ◌∷◌, length, get_or, Option, Some, None, refl, sym, ap, ◌∙◌, inl, inr, arith}
+use Rattle.std.specs.Prelude.{Contains, true, false, nat_eq, nat_lt, All, MatchOption}
+use Rattle.std.specs.List.Sorted.{IsPartitionPoint}
 use Rattle.std.specs.Option.{option_copied}
 use Rattle.std.specs.Slice.{IsGetResult}
 use denote.Ref.{Bor}
-use Rattle.std.proofs.lemmas.Bool.{cases_eq, cases_lt, and_parts, eqb-true, eq-eqb, ltb-true, ltb-false}
+use Rattle.std.proofs.lemmas.Bool.{cases_eq, cases_lt, eq-eqb, ltb-true, ltb-false}
 use Rattle.std.proofs.lemmas.Bool.Decides.{nat_tests}
 use Rattle.std.proofs.lemmas.List.{get_or_default}
-use Rattle.std.proofs.lemmas.List.Elements.{Contains-get_or, All-cons, All-head, All-tail, All-weaker, All-nil}
-use Rattle.std.proofs.lemmas.List.Filters.{All-dedup}
-use Rattle.std.proofs.lemmas.List.Kept.{AllPairs-cons, Contains-dedup, Contains-from_dedup}
-use Rattle.std.proofs.lemmas.List.Sorted.{Contains-permutation, IsPermutation-sym}
+use Rattle.std.proofs.lemmas.List.Elements.{Contains-get_or, All-cons, All-nil}
+use Rattle.std.proofs.lemmas.List.Kept.{AllPairs-cons}
 use Rattle.stm_image.specs.Pairs.{Pairs, AddressesRise, Agree, IsSetOf, IsNext, HasNone, byte_at, raw_pairs}
-use Rattle.stm_image.specs.Sorting.{HasFall, NeverFalls, same_pair}
 
 -- two places of one address are one place
 pub one_place : (pairs : Pairs) → AddressesRise pairs → (i j : ℕ) (d : ℕ × ℕ) → i < length pairs → j < length pairs → (get_or pairs i d).0 ≡ (get_or pairs j d).0 → i ≡ j
@@ -33,10 +28,6 @@ agree_rising pairs rises a b c (i, in_i, is_i) (j, in_j, is_j) =
 -- pairs that are among some that agree do too
 pub agree_among : (xs ys : Pairs) → ((p : ℕ × ℕ) → Contains ys p → Contains xs p) → Agree xs → Agree ys
 agree_among xs ys among agree a b c in_b in_c = agree a b c (among (a, b) in_b) (among (a, c) in_c)
-
--- addresses that rise have no fall
-pub no_fall : (pairs : Pairs) → AddressesRise pairs → HasFall pairs → ⊥
-no_fall pairs rises fall = omega (arith, rises fall.place (fall.place + 1) (0, 0), fall.falls (0, 0), fall.within)
 
 -- the first pair of an address tells its byte
 byte_at_first : (set : Pairs) (address k : ℕ) (d : ℕ × ℕ) → k < length set → ((i : ℕ) → i < k → (get_or set i d).0 ≢ address) → (get_or set k d).0 ≡ address → byte_at set address ≡ Some (get_or set k d).1
@@ -120,112 +111,17 @@ pub next_of : (set : Pairs) (address place : ℕ) → AddressesRise set → IsPa
 next_of set address place rises parted None got = none_at set address place parted got.3
 next_of set address place rises parted (Some x) got = next_at set address place rises parted got.3.0 x.now got.1
 
--- rising addresses do not fall
-pub not_falling : (pairs : Pairs) → AddressesRise pairs → NeverFalls pairs
-not_falling pairs rises i j d le within = elim (cases_eq i j) [
-  | inl e ↦ rw e (omega arith)
-  | inr ne ↦ let up = rises i j d (omega arith) within in omega arith
-]
-
 -- THE SET OF PAIRS: rising pairs are their own
 pub set_rising : (pairs : Pairs) → AddressesRise pairs → IsSetOf pairs pairs
 set_rising pairs rises = record { rises = rises; same = λ p. (λ h. h, λ h. h) }
 
--- pairs that rise once they are sorted are the set of the pairs, which agree
-pub set_from_sorted : (pairs sorted : Pairs) → IsPermutation pairs sorted → AddressesRise sorted → IsSetOf sorted pairs
-set_from_sorted pairs sorted moved rises = record {
-  rises = rises;
-  same = λ p. (Contains-permutation sorted pairs p (IsPermutation-sym pairs sorted moved), Contains-permutation pairs sorted p moved);
-}
-
 pub agree_from_set : (set pairs : Pairs) → IsSetOf set pairs → Agree pairs
 agree_from_set set pairs is = agree_among set pairs (λ p. (is.same p).1) (agree_rising set is.rises)
-
--- pairs that test as one are one
-pub alike : (p q : ℕ × ℕ) → same_pair p q ≡ true → p ≡ q
-alike (a, b) (c, d) e =
-    let parts = and_parts (nat_eq a c) (nat_eq b d) e in
-    ap₂ (λ x y. (x, y)) (eqb-true a c parts.0) (eqb-true b d parts.1)
-
-same_pair_equiv : IsEquivalence same_pair
-same_pair_equiv = record {
-  refl = λ p. ap₂ (λ x y. x && y) (nat_eq_equiv.refl p.0) (nat_eq_equiv.refl p.1);
-  symm = λ p q. ap₂ (λ x y. x && y) (nat_eq_equiv.symm p.0 q.0) (nat_eq_equiv.symm p.1 q.1);
-  congr = λ p q r e. ap (λ s. same_pair s r) (alike p q e);
-}
-
-pub set_from_dedup : (pairs sorted : Pairs) → IsPermutation pairs sorted → AddressesRise (dedup same_pair sorted) → IsSetOf (dedup same_pair sorted) pairs
-set_from_dedup pairs sorted moved rises = record {
-  rises = rises;
-  same = λ p. (
-    λ h. Contains-permutation sorted pairs p (IsPermutation-sym pairs sorted moved) (Contains-from_dedup same_pair sorted p h),
-    λ h. Contains-dedup same_pair_equiv alike sorted p (Contains-permutation pairs sorted p moved h),
-  );
-}
-
--- addresses that do not fall, the first of them k's
-abbrev Climbs : ℕ × ℕ → Pairs → Type 0
-Climbs k [] = Unit {0}
-Climbs k (p ∷ pairs) = All (λ q. k.0 ≤ q.0) (p ∷ pairs) × Climbs p pairs
-
-climbs_from : (k : ℕ × ℕ) (pairs : Pairs) → NeverFalls (k ∷ pairs) → Climbs k pairs
-climbs_from k [] up = tt
-climbs_from k (p ∷ pairs) up = (
-  λ i d lt. up zero (suc i) d (omega arith) (omega arith),
-  climbs_from p pairs (λ i j d le lt. up (suc i) (suc j) d (omega arith) (omega arith)),
-)
-
-climbs_without : (k p : ℕ × ℕ) (pairs : Pairs) → Climbs k (p ∷ pairs) → Climbs k pairs
-climbs_without k p [] up = tt
-climbs_without k p (q ∷ pairs) up = (All-tail (λ r. k.0 ≤ r.0) p (q ∷ pairs) up.0, up.1.1)
-
--- a later pair's place in a longer list
-later : (k p : ℕ × ℕ) (pairs : Pairs) → Contains pairs p → Contains (k ∷ pairs) p
-later k p pairs (i, lt, is) = (suc i, omega arith, is)
-
--- pairs whose addresses do not fall lie above one below their first
-climbs_above : (k p : ℕ × ℕ) (pairs : Pairs) → Climbs p pairs → k.0 < p.0 → All (λ q. k.0 < q.0) (p ∷ pairs)
-climbs_above k p [] up lt = All-cons (λ q. k.0 < q.0) p [] lt (All-nil (λ q. k.0 < q.0))
-climbs_above k p (q ∷ pairs) up lt = All-cons (λ q. k.0 < q.0) p (q ∷ pairs) lt (All-weaker (λ r. p.0 ≤ r.0) (λ r. k.0 < r.0) (λ r le. omega arith) (q ∷ pairs) up.0)
-
--- two neighbours of one address that agree are one pair
-neighbours_alike : (k p : ℕ × ℕ) (pairs : Pairs) → Agree (k ∷ p ∷ pairs) → k.0 ≡ p.0 → same_pair p k ≡ true
-neighbours_alike (a, b) (c, d) pairs agree e =
-    let byte : b ≡ d = agree a b d (zero, omega arith, refl) (suc zero, omega arith, ap (λ x. (x, d)) (sym e)) in
-    ap₂ (λ x y. x && y) (eq-eqb c a (sym e)) (eq-eqb d b (sym byte))
-
--- pairs that agree rise once they do not fall and doubles are dropped
-rises_by_test : (k p : ℕ × ℕ) (pairs : Pairs) (b : Bool) → same_pair p k ≡ b → Climbs k (p ∷ pairs) → Agree (k ∷ p ∷ pairs)
-    → AddressesRise (dedup_from same_pair k pairs) → AddressesRise (dedup_from same_pair p pairs) → AddressesRise (cond b (dedup_from same_pair k pairs) (k ∷ dedup_from same_pair p pairs))
-rises_by_test k p pairs true e up agree without with = without
-rises_by_test k p pairs false e up agree without with =
-    let apart : k.0 < p.0 = elim (cases_eq k.0 p.0) [
-      | inl same ↦ let both : true ≡ false = sym (neighbours_alike k p pairs agree same) ∙ e in cc
-      | inr other ↦ let le = All-head (λ q. k.0 ≤ q.0) p pairs up.0 in omega arith
-    ] in
-    AllPairs-cons (λ q r. q.0 < r.0) k (dedup_from same_pair p pairs) (All-dedup same_pair (λ q. k.0 < q.0) (p ∷ pairs) (climbs_above k p pairs up.1 apart)) with
 
 -- all but the second
 pub skip : (k p q : ℕ × ℕ) (pairs : Pairs) → Contains (k ∷ pairs) q → Contains (k ∷ p ∷ pairs) q
 skip k p q pairs (zero, lt, is) = (zero, omega arith, is)
 skip k p q pairs (suc i, lt, is) = (suc (suc i), omega arith, is)
-
-rises_dedup_from : (k : ℕ × ℕ) (pairs : Pairs) → Climbs k pairs → Agree (k ∷ pairs) → AddressesRise (dedup_from same_pair k pairs)
-rises_dedup_from k [] up agree = λ i j d lt within. absurd (omega arith)
-rises_dedup_from k (p ∷ pairs) up agree =
-    rises_by_test k p pairs (same_pair p k) refl up agree
-    (rises_dedup_from k pairs (climbs_without k p pairs up) (agree_among (k ∷ p ∷ pairs) (k ∷ pairs) (λ q. skip k p q pairs) agree))
-    (rises_dedup_from p pairs up.1 (agree_among (k ∷ p ∷ pairs) (p ∷ pairs) (λ q. later k q (p ∷ pairs)) agree))
-
-pub rises_dedup : (pairs : Pairs) → NeverFalls pairs → Agree pairs → AddressesRise (dedup same_pair pairs)
-rises_dedup [] up agree = λ i j d lt within. absurd (omega arith)
-rises_dedup (k ∷ pairs) up agree = rises_dedup_from k pairs (climbs_from k pairs up) agree
-
--- so sorted pairs that fall once doubles are dropped do not agree
-pub differ_from_fall : (pairs sorted : Pairs) → IsPermutation pairs sorted → NeverFalls sorted → HasFall (dedup same_pair sorted) → Agree pairs → ⊥
-differ_from_fall pairs sorted moved up fall agree =
-    let sorted_agree : Agree sorted = agree_among pairs sorted (λ p. Contains-permutation sorted pairs p (IsPermutation-sym pairs sorted moved)) agree in
-    no_fall (dedup same_pair sorted) (rises_dedup sorted up sorted_agree) fall
 
 -- RAW BYTES: they lie at rising addresses
 raw_above : (low start : ℕ) (bytes : List ℕ) → low < start → All (λ q. low < q.0) (raw_pairs start bytes)

@@ -137,10 +137,6 @@ adds_on bytes more ps n start p q stand count is same_first same_place next grow
     let C : ℕ → Type 0 = λ s. AddsFrom bytes ps s more (bytes ++ more) (set ps n q) in
     subst C next (subst B (sym (last_set ps n q count)) (subst A (sym split) adds))
 
-pub adds_nothing : (bytes : List ℕ) (ps : List Piece) (start : ℕ) (more : List ℕ) → Stand 0 (length bytes) ps → length more ≡ 0 → AddsFrom bytes ps start more bytes ps
-adds_nothing bytes ps start [] stand none = record { stand = stand; pairs = sym (append-nil (pairs_at bytes ps)); apart = λ apart le. apart; next = λ some. absurd (omega arith); kept_bytes = take_all (length bytes) bytes (omega arith); kept_list = refl; longer = omega arith }
-adds_nothing bytes ps start (b ∷ more) stand none = absurd (omega arith)
-
 -- the last piece tells the least address that is apart
 pub next_at_last : (ps : List Piece) (n : ℕ) (p : Piece) → n + 1 ≡ length ps → p ≡ get_or ps n p → next_apart 0 ps ≡ p.last + 2
 next_at_last ps n p count is = ap (next_apart 0) (last_split ps n p count ∙ ap (λ r. take n ps ++ r ∷ []) (sym is)) ∙ next_apart-snoc 0 (take n ps) p

@@ -10,5 +10,4 @@ pub mod Reads
 pub mod Record
 pub mod Runs
 pub mod Scanned
-pub mod Sorting
 pub mod Text

@@ -1,57 +1,11 @@
 -- From bytes added to entries added.
-use Rattle.std.proofs.Common.{◌≤◌, ℕ, ◌-◌, ◌^◌, List, ◌++◌, length, Result, Ok, Err, refl, sym, subst, append-nil}
-use Rattle.stm_wire.specs.Device.{Device, LosesOwed}
-use Rattle.stm_wire.specs.Rig.{RigState, IsModel, LeftByAppend}
-use Rattle.stm_wire.specs.lemmas.MomentLaws.{started}
+use Rattle.std.proofs.Common.{◌≤◌, ℕ, ◌-◌, ◌^◌, List, ◌++◌, length, Result, Ok, Err, sym, subst}
+use Rattle.stm_wire.specs.Rig.{RigState, IsModel}
 use Rattle.stm_journal.specs.declared.entry.Entry.{Entry}
 use Rattle.stm_journal.specs.declared.fault.JournalFault.{JournalFault}
-use Rattle.stm_journal.specs.declared.fault.JournalFault.TheVariants.{OtherDevice, OtherBoard, Memory}
 use Rattle.stm_journal.specs.Journals.{Loaded, IsLoaded, added_bytes, past_mark, loaded_after, Prepares}
 use Rattle.stm_journal.specs.Calls.{AddsBytes, Appends}
 use Rattle.stm_journal.proofs.Ties.{AllAllowed, IsLoaded-after}
-
-nothing-added : (bytes : List ℕ) (a : RigState) (d : Device) → LosesOwed a.device d → LeftByAppend bytes a d a.journal
-nothing-added bytes a d lost = ((0, sym (append-nil a.journal)), lost)
-
--- nothing was called
-pub AddsBytes-memory : {T : Type 0} (bytes : List ℕ) (a : RigState) → IsModel a → a.is_honest → AddsBytes {T = T} bytes a a (Err Memory)
-AddsBytes-memory bytes a model honest =
-    record {
-      honest = honest;
-      moments = started (LeftByAppend bytes a) a model (nothing-added bytes a);
-      added = tt;
-      same_device = tt;
-      fails = (refl, refl);
-    }
-
-pub AddsBytes-other : {T : Type 0} (bytes : List ℕ) (a : RigState) → IsModel a → a.is_honest → AddsBytes {T = T} bytes a a (Err OtherDevice)
-AddsBytes-other bytes a model honest =
-    record {
-      honest = honest;
-      moments = started (LeftByAppend bytes a) a model (nothing-added bytes a);
-      added = tt;
-      same_device = tt;
-      fails = (refl, refl);
-    }
-
-pub AddsBytes-board : {T : Type 0} (bytes : List ℕ) (a : RigState) → IsModel a → a.is_honest → AddsBytes {T = T} bytes a a (Err OtherBoard)
-AddsBytes-board bytes a model honest =
-    record {
-      honest = honest;
-      moments = started (LeftByAppend bytes a) a model (nothing-added bytes a);
-      added = tt;
-      same_device = tt;
-      fails = (refl, refl);
-    }
-
-pub Appends-memory : {T : Type 0} (entries : List Entry) (l l2 : Loaded) (a : RigState) → IsModel a → a.is_honest → Appends {T = T} entries l l2 a a (Err Memory)
-Appends-memory entries l l2 a model honest = record { bytes = AddsBytes-memory (added_bytes l.is_torn entries) a model honest; loaded = tt }
-
-pub Appends-other : {T : Type 0} (entries : List Entry) (l l2 : Loaded) (a : RigState) → IsModel a → a.is_honest → Appends {T = T} entries l l2 a a (Err OtherDevice)
-Appends-other entries l l2 a model honest = record { bytes = AddsBytes-other (added_bytes l.is_torn entries) a model honest; loaded = tt }
-
-pub Appends-board : {T : Type 0} (entries : List Entry) (l l2 : Loaded) (a : RigState) → IsModel a → a.is_honest → Appends {T = T} entries l l2 a a (Err OtherBoard)
-Appends-board entries l l2 a model honest = record { bytes = AddsBytes-board (added_bytes l.is_torn entries) a model honest; loaded = tt }
 
 pub Appends-added : {T : Type 0} (entries : List Entry) (l l2 : Loaded) (bytes : List ℕ) (a b : RigState) (result : Result T JournalFault) → IsModel b
     → Prepares entries l l2 bytes → IsLoaded l a.journal → AllAllowed entries (past_mark l) → AddsBytes bytes a b result → Appends entries l l2 a b result

@@ -1,21 +1,15 @@
 -- What fetches brought, and that upper-case digits are the ones of the bytes that they say.
-use Rattle.std.proofs.Common.{◌≡◌, ◌≤◌, ◌<◌, ℕ, zero, suc, ◌+◌, ◌*◌, ◌/◌, ◌%◌, Bool, true, false, ◌==◌, ◌&&◌, nat_lt, if◌then◌else◌, List, [], ◌∷◌, ◌++◌, length, take, slice_index, Option, Some, None, Result, Ok, Err, is_ok, MatchResult, refl, sym, ◌∙◌, ap, subst, arith, append_assoc, append-nil, eq-or-lt_of_le, ⊎_elim}
+use Rattle.std.proofs.Common.{◌≡◌, ◌≤◌, ◌<◌, ℕ, zero, suc, ◌+◌, ◌*◌, ◌/◌, ◌%◌, Bool, true, false, ◌==◌, ◌&&◌, nat_lt, if◌then◌else◌, List, [], ◌∷◌, ◌++◌, length, slice_index, Option, Some, None, Result, Ok, Err, is_ok, MatchResult, refl, sym, ◌∙◌, ap, subst, arith, append_assoc, append-nil, eq-or-lt_of_le, ⊎_elim}
 use Rattle.std.specs.List.{list_all}
 use Rattle.std.proofs.lemmas.Bool.{true≢false}
 use Rattle.std.proofs.lemmas.Bool.Decides.{nat_tests}
 use Rattle.hex.specs.declared.error.FromHexError.{FromHexError}
 use Rattle.hex.specs.Hex.{decode_sized, encode_upper, encode_with, upper_digits}
 use Rattle.hex.proofs.HexLemmas.{decode_sized-ok}
-use Rattle.stm_wire.specs.Rig.{TellsBehind}
 use Rattle.stm_journal.specs.Entries.{is_upper_digit}
 use Rattle.stm_journal.specs.PageFetching.{Brings}
 use Rattle.stm_journal.proofs.Upper.{first-true, second-true}
 use Rattle.stm_journal.proofs.Piecing.{digit_of, bytes_of, decode-all, sized}
-
--- a fetch that answered
-pub tells-brings : (after : List ℕ) (n : ℕ) (a b : Option (List ℕ)) → TellsBehind after (Ok n) a b → Brings (take n after) a b
-tells-brings after n None b tells = tells
-tells-brings after n (Some past) b tells = tells
 
 pub brings-none : (a : Option (List ℕ)) → Brings [] a a
 brings-none None = refl

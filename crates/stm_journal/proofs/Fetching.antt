@@ -5,7 +5,7 @@ use Rattle.std.proofs.lemmas.List.{take-append-drop, length-take, length-take-le
 use Rattle.stm_wire.specs.Device.{Device, LosesOwed}
 use Rattle.stm_wire.specs.Rig.{RigState, IsModel}
 use Rattle.stm_wire.specs.Moments.{LeavesOnly}
-use Rattle.stm_wire.specs.lemmas.MomentLaws.{started, joined}
+use Rattle.stm_wire.specs.lemmas.MomentLaws.{joined}
 use Rattle.stm_journal.specs.declared.fault.JournalFault.{JournalFault}
 use Rattle.stm_journal.specs.declared.fault.JournalFault.TheVariants.{File, Bad, OtherDevice, OtherBoard, Memory}
 use Rattle.stm_journal.specs.Summary.{Summary}
@@ -23,19 +23,6 @@ untouched a b same still d j u =
 
 further : (a b c : RigState) → b.journal ≡ a.journal → b.device ≡ a.device → LeavesOnly (IsUntouched a) a b → LeavesOnly (IsUntouched b) b c → LeavesOnly (IsUntouched a) a c
 further a b c same still first second = joined (IsUntouched a) (IsUntouched b) (IsUntouched a) a b c first second (λ d j u. u) (untouched a b same still)
-
-pub HasRead-start : (l : Loaded) (tail : Summary) (a : RigState) → IsModel a → a.is_honest → IsRead l tail [] → HasReadJournal l tail a a
-HasRead-start l tail a model honest is =
-    let none : l.size ≡ 0 = is.size in
-    let B : ℕ → Type 0 = λ n. IsRead l tail (take n a.journal) in
-    record {
-      honest = honest;
-      journal = refl;
-      device = refl;
-      moments = started (IsUntouched a) a model (λ d lost. (refl, lost));
-      read = subst B (sym none) is;
-      within = omega (arith, none);
-    }
 
 -- what was fetched is what follows
 next-bytes : (at n : ℕ) (after journal : List ℕ) → n ≤ length after → take n after ≡ take n (drop at journal) → n ≤ length (drop at journal)
@@ -75,19 +62,6 @@ HasRead-more l l2 tail tail2 n before after more a b c has got within cut read =
       moments = further a b c has.journal has.device has.moments got.moments;
       read = subst B (all ∙ ap (λ (k : ℕ). take k a.journal) (sym size)) read;
       within = omega (arith, size, fits);
-    }
-
-pub Loads-file : (l : Loaded) (tail : Summary) (before after : List ℕ) (e : JournalFault) (a b c : RigState) → HasReadJournal l tail a b → Fetches l.size before after b c (Err e) → Loads a c (Err File)
-Loads-file l tail before after e a b c has got =
-    let D : Device → Type 0 = λ d. LosesOwed d c.device in
-    record {
-      honest = got.honest;
-      moments = further a b c has.journal has.device has.moments got.moments;
-      journal = got.journal ∙ has.journal;
-      same_device = tt;
-      kept_device = subst D has.device got.kept_device;
-      loaded = tt;
-      faults = tt;
     }
 
 kept-device : (a c : RigState) (e : JournalFault) → IsLoadFault e → c.device ≡ a.device → KeepsDevice a c e

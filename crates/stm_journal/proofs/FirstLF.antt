@@ -2,7 +2,7 @@
 use Rattle.std.proofs.Common.{◌≡◌, ◌≤◌, ◌<◌, ℕ, zero, suc, ◌+◌, ◌-◌, Bool, true, false, ◌==◌, nat_lt, if◌then◌else◌, List, [], ◌∷◌, ◌++◌, length, take, drop, get_or, Some, None, refl, sym, ◌∙◌, ap, arith, append_assoc, take_all, length-drop}
 use Rattle.std.specs.List.{position, position_or_len}
 use Rattle.std.proofs.lemmas.Bool.Decides.{nat_tests}
-use Rattle.std.proofs.lemmas.List.{take_more, take-append-drop}
+use Rattle.std.proofs.lemmas.List.{take_more}
 use Rattle.std.proofs.lemmas.List.Sums.{fails_before_first}
 use Rattle.std.proofs.lemmas.List.Quantifiers.{position-Some}
 use Rattle.stm_journal.specs.Text.{HasNoLF}
@@ -55,9 +55,6 @@ line-more bytes more done lf is =
     ap (λ (xs : List ℕ). (bytes ++ take done more) ++ xs) (sym (lf-at (drop done more) lf is).2)
     ∙ append_assoc bytes (take done more) (take (lf + 1) (drop done more))
     ∙ ap (λ (xs : List ℕ). bytes ++ xs) (take-further done (lf + 1) more)
-
-pub rest-more : (bytes more : List ℕ) (done : ℕ) → (bytes ++ take done more) ++ drop done more ≡ bytes ++ more
-rest-more bytes more done = append_assoc bytes (take done more) (drop done more) ∙ ap (λ (xs : List ℕ). bytes ++ xs) (take-append-drop done more)
 
 -- the same of slices, as the code has them
 pub rest-is : (done : ℕ) (more : List ℕ) → take (length more - done) (drop done more) ≡ drop done more

@@ -17,9 +17,6 @@ use Rattle.stm_journal.specs.lemmas.ForgetLaws.{allows-forgets}
 use Rattle.stm_journal.proofs.Decides.{said_by-line}
 use Rattle.stm_journal.proofs.Voids.{void_by-line}
 
-with_stack : (s : StateData) → List SegmentData → StateData
-with_stack s stack = record { header = s.header; stack = stack }
-
 change-forgets : (change other : SegmentData → SegmentData) (stack : List SegmentData) → ((segment : SegmentData) → change (forget_segment segment) ≡ forget_segment (other segment))
     → on_newest change (map forget_segment stack) ≡ map forget_segment (on_newest other stack)
 change-forgets change other [] same = refl

@@ -1,12 +1,11 @@
 -- Reading a journal piece by piece.
-use Rattle.std.proofs.Common.{◌≡◌, ◌≤◌, ◌<◌, ℕ, ◌+◌, ◌^◌, not, ◌==◌, nat_lt, List, [], ◌∷◌, ◌++◌, length, take, drop, Result, Ok, Err, refl, sym, ◌∙◌, ap, ap₂, subst, arith, length-append, append_assoc, append-nil}
-use Rattle.std.proofs.lemmas.Bool.Decides.{nat_tests}
+use Rattle.std.proofs.Common.{◌≡◌, ◌≤◌, ◌<◌, ℕ, ◌+◌, ◌^◌, List, [], ◌∷◌, ◌++◌, length, take, drop, Result, Ok, Err, refl, sym, ◌∙◌, ap, ap₂, subst, arith, length-append, append_assoc, append-nil}
 use Rattle.std.proofs.lemmas.List.{take-append-drop}
 use Rattle.stm_journal.specs.declared.fault.JournalFault.{JournalFault}
 use Rattle.stm_journal.specs.declared.fault.JournalFault.TheVariants.{File, Bad, OtherDevice, OtherBoard, Memory}
 use Rattle.stm_journal.specs.Text.{Text, text_of, HasNoLF}
 use Rattle.stm_journal.specs.States.{StateData}
-use Rattle.stm_journal.specs.Journals.{JournalData, Loaded, IsLoaded, journal_of, good, bad, after_line, capped}
+use Rattle.stm_journal.specs.Journals.{JournalData, Loaded, journal_of, good, bad, after_line, capped}
 use Rattle.stm_journal.specs.InMemory.{forget_state}
 use Rattle.stm_journal.specs.Summary.{Summary, summary_of, extended}
 use Rattle.stm_journal.specs.Forget.{forget_journal, after_summary}
@@ -120,22 +119,6 @@ StopsAt-first bytes first rest (Bad line) wrong = λ more.
 StopsAt-first bytes first rest OtherDevice wrong = wrong
 StopsAt-first bytes first rest OtherBoard wrong = wrong
 StopsAt-first bytes first rest Memory wrong = tt
-
-pub IsLoaded-read : (l l2 : Loaded) (y : Summary) (bytes : List ℕ) → IsRead l y bytes → l2 ≡ record l { is_torn = not (y.size == 0) } → IsLoaded l2 bytes
-IsLoaded-read l l2 y bytes is same =
-    let L : Loaded → Type 0 = λ x. IsLoaded x bytes in
-    subst L (sym same)
-    (record {
-      text = is.text;
-      means = is.means;
-      state = is.state;
-      lines = is.lines;
-      size = is.size;
-      is_torn = ap (λ (z : Summary). not (z.size == 0)) (sym is.rest) ∙ some (length (text_of bytes).tail);
-    })
-  where
-    some : (n : ℕ) → not (n == 0) ≡ nat_lt 0 n
-    some n = grind (arith, nat_tests)
 
 -- bytes and more bytes
 pub TakesBytes-join : {T : Type 0} (bytes first rest : List ℕ) (l : Loaded) (y : Summary) (result : Result T JournalFault)

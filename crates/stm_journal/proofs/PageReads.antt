@@ -5,9 +5,9 @@ use Rattle.std.specs.List.{list_all}
 use Rattle.std.proofs.lemmas.List.{take-append-le, length-take-le, drop-drop, drop-take, take-take}
 use Rattle.hex.specs.Hex.{decode_sized}
 use Rattle.stm_wire.specs.Device.{Device, LosesOwed}
-use Rattle.stm_wire.specs.Rig.{RigState, IsModel}
+use Rattle.stm_wire.specs.Rig.{RigState}
 use Rattle.stm_wire.specs.Moments.{LeavesOnly}
-use Rattle.stm_wire.specs.lemmas.MomentLaws.{started, joined}
+use Rattle.stm_wire.specs.lemmas.MomentLaws.{joined}
 use Rattle.stm_journal.specs.declared.kept.Kept.{Kept}
 use Rattle.stm_journal.specs.declared.kept.PagePlace.{PagePlace}
 use Rattle.stm_journal.specs.declared.fault.JournalFault.{JournalFault}
@@ -33,9 +33,6 @@ untouched a b same still d j u =
 further : (a b c : RigState) → Looks a b → LeavesOnly (IsUntouched b) b c → LeavesOnly (IsUntouched a) a c
 further a b c first second = joined (IsUntouched a) (IsUntouched b) (IsUntouched a) a b c first.moments second (λ d j u. u) (untouched a b first.journal first.device)
 
-pub looks-start : (a : RigState) → IsModel a → a.is_honest → Looks a a
-looks-start a model honest = record { honest = honest; journal = refl; device = refl; moments = started (IsUntouched a) a model (λ d lost. (refl, lost)) }
-
 pub looks-more : (a b c : RigState) → Looks a b → Looks b c → Looks a c
 looks-more a b c first second =
     record { honest = second.honest; journal = second.journal ∙ first.journal; device = second.device ∙ first.device; moments = further a b c first second.moments }
@@ -47,9 +44,6 @@ looks-vain a b c first second =
 
 pub fetched-looks : (at n : ℕ) (before after : List ℕ) (b c : RigState) → Fetches at before after b c (Ok n) → Looks b c
 fetched-looks at n before after b c got = record { honest = got.honest; journal = got.journal; device = got.same_device; moments = got.moments }
-
-pub fetched-vain : (at : ℕ) (e : JournalFault) (before after : List ℕ) (b c : RigState) → Fetches at before after b c (Err e) → LooksInVain b c
-fetched-vain at e before after b c got = record { honest = got.honest; journal = got.journal; lost = got.kept_device; moments = got.moments }
 
 -- a buffer of which a beginning is right, and a part put behind it
 take-behind : (xs ys : List ℕ) (n m : ℕ) → m ≡ length xs + n → take m (xs ++ ys) ≡ xs ++ take n ys

@@ -1,12 +1,11 @@
 -- The number that four upper-case digits say.
-use Rattle.std.proofs.Common.{◌≡◌, ◌≢◌, inl, inr, ℕ, ◌/◌, ◌%◌, Bool, true, false, ◌==◌, List, [], ◌∷◌, length, Option, Some, None, Result, Ok, Err, refl, sym, ◌∙◌, ap, subst, arith, take_all}
-use Rattle.std.specs.Prelude.{option_and_then, MatchResult, if◌then◌else◌}
+use Rattle.std.proofs.Common.{◌≡◌, ◌≢◌, inl, inr, ℕ, ◌%◌, true, false, ◌==◌, List, [], ◌∷◌, length, Option, Some, None, Result, Ok, Err, refl, sym, ◌∙◌, ap, subst, arith, take_all}
+use Rattle.std.specs.Prelude.{option_and_then, MatchResult}
 use Rattle.std.specs.List.{list_all}
 use Rattle.std.proofs.lemmas.Bool.{cases_Bool, cases_eq}
 use Rattle.std.proofs.lemmas.Bool.Decides.{nat_tests}
 use Rattle.hex.specs.declared.error.FromHexError.{FromHexError}
-use Rattle.hex.specs.declared.error.FromHexError.TheVariants.{OddLength, InvalidStringLength}
-use Rattle.hex.specs.Hex.{decode_sized, decode_pairs}
+use Rattle.hex.specs.Hex.{decode_sized}
 use Rattle.stm_journal.specs.Entries.{is_upper_digit, number_of_pair, hex_bytes_of}
 use Rattle.stm_journal.proofs.Upper.{hex_bytes_of-even, hex_bytes_of-odd}
 use Rattle.stm_journal.proofs.Piecing.{pieces-say}
@@ -47,39 +46,8 @@ other-none ds all other = elim (cases_Bool (length ds % 2 == 0)) [
   | inr odd ↦ ap (λ (o : Option (List ℕ)). option_and_then number_of_pair o) (hex_bytes_of-odd ds (is-odd (length ds) odd))
 ]
 
-other-refused : (ds : List ℕ) → length ds ≢ 4 → (e : FromHexError) × (decode_sized ds 2 ≡ Err e)
-other-refused ds other = at (length ds % 2 == 1) (length ds / 2 == 2) (λ h g. other (four-of (length ds) h g))
-  where
-    four-of : (n : ℕ) → (n % 2 == 1) ≡ false → (n / 2 == 2) ≡ true → n ≡ 4
-    four-of n h g =
-        let a : n % 2 ≢ 1 = grind (arith, nat_tests) in
-        let b : n / 2 ≡ 2 = grind (arith, nat_tests) in
-        omega (arith, a, b)
-
-    at : (a b : Bool) → (a ≡ false → b ≡ true → ⊥) → (e : FromHexError) × ((if a then Err OddLength else if b then decode_pairs 0 ds else Err InvalidStringLength) ≡ Err e)
-    at true b never = (OddLength, refl)
-    at false true never = absurd (never refl refl)
-    at false false never = (InvalidStringLength, refl)
-
 abbrev Decoded : List ℕ → List ℕ → Result (Unit {0}) FromHexError → Type 0
 Decoded ds pair r = MatchResult (decode_sized ds 2) (λ bytes. (r ≡ Ok tt) × (pair ≡ bytes)) (λ e. r ≡ Err e)
-
-pub id-decoded : (ds pair : List ℕ) (r : Result (Unit {0}) FromHexError) → list_all is_upper_digit ds ≡ true → Decoded ds pair r → r ≡ Ok tt
-    → number_of_pair pair ≡ option_and_then number_of_pair (hex_bytes_of ds)
-id-decoded ds pair r all decoded ok = elim (cases_eq (length ds) 4) [
-  | inl size ↦
-      let f = four ds all size in
-      let M : Result (List ℕ) FromHexError → Type 0 = λ x. MatchResult x (λ bytes. (r ≡ Ok tt) × (pair ≡ bytes)) (λ e. r ≡ Err e) in
-      let is = subst M f.2 decoded in
-      ap (λ (xs : List ℕ). number_of_pair xs) is.1 ∙ sym (ap (λ (o : Option (List ℕ)). option_and_then number_of_pair o) f.1)
-  | inr other ↦
-      let f = other-refused ds other in
-      let M : Result (List ℕ) FromHexError → Type 0 = λ x. MatchResult x (λ bytes. (r ≡ Ok tt) × (pair ≡ bytes)) (λ e. r ≡ Err e) in
-      absurd (clash r f.0 ok (subst M f.1 decoded))
-]
-  where
-    clash : (r : Result (Unit {0}) FromHexError) (e : FromHexError) → r ≡ Ok tt → r ≡ Err e → ⊥
-    clash r e h g = cc
 
 pub id-refused : (ds pair : List ℕ) (r : Result (Unit {0}) FromHexError) (e : FromHexError) → list_all is_upper_digit ds ≡ true → Decoded ds pair r → r ≡ Err e
     → None ≡ option_and_then number_of_pair (hex_bytes_of ds)

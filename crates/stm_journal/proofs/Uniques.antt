@@ -1,9 +1,8 @@
 -- The unique id that digits say.
-use Rattle.std.proofs.Common.{◌≡◌, ◌<◌, ℕ, ◌*◌, Bool, true, false, List, length, Option, Some, None, Ok, IsTrue, if◌then◌else◌, refl, sym, ◌∙◌, ap, subst, arith, take_all}
+use Rattle.std.proofs.Common.{◌≡◌, ℕ, ◌*◌, Bool, true, false, List, length, Option, Some, None, Ok, IsTrue, if◌then◌else◌, refl, sym, ◌∙◌, ap, subst, arith, take_all}
 use Rattle.std.specs.Prelude.{option_map, option_and_then, SomeIff}
 use Rattle.std.specs.List.{list_all}
 use Rattle.std.proofs.lemmas.Bool.{true≢false}
-use Rattle.std.proofs.lemmas.Bool.Decides.{nat_tests}
 use Rattle.hex.specs.Hex.{decode_sized}
 use Rattle.stm_wire.specs.UniqueId.{is_unique_length}
 use Rattle.stm_journal.specs.Entries.{is_upper_digit, hex_bytes_of, unique_id_of}
@@ -63,23 +62,3 @@ unique-refused digits out count ok h decoded lost =
     let w = whole-said digits s.0 s.1 in
     let D : ℕ → Type 0 = λ n. decode_sized digits n ≡ Ok s.0 in
     absurd (true≢false (sym (decoded s.0 w.0 (subst D s.2 w.1)).0 ∙ lost))
-
--- digits that say no bytes, or too many
-pub unique-unsaid : (digits : List ℕ) → option_map (λ bytes. length bytes) (hex_bytes_of digits) ≡ None → None ≡ unique_id_of digits
-unique-unsaid digits h = at (hex_bytes_of digits) h
-  where
-    some : (n : ℕ) → Some n ≡ None → ⊥
-    some n e = cc e
-
-    at : (o : Option (List ℕ)) → option_map (λ bytes. length bytes) o ≡ None → None ≡ option_and_then (λ bytes. if is_unique_length (length bytes) then Some bytes else None) o
-    at None e = refl
-    at (Some bytes) e = absurd (some (length bytes) e)
-
-pub unique-long : (digits : List ℕ) (count : ℕ) → option_map (λ bytes. length bytes) (hex_bytes_of digits) ≡ Some count → 32 < count → None ≡ unique_id_of digits
-unique-long digits count h long =
-    let s = so-many digits count h in
-    let many : is_unique_length (length s.0) ≡ false = not-unique (length s.0) (omega (arith, long, s.2)) in
-    sym (ap (λ (o : Option (List ℕ)). option_and_then (λ bytes. if is_unique_length (length bytes) then Some bytes else None) o) s.1 ∙ ap (λ (b : Bool). if b then Some s.0 else None) many)
-  where
-    not-unique : (n : ℕ) → 32 < n → is_unique_length n ≡ false
-    not-unique n many = grind (arith, nat_tests)

@@ -1,5 +1,4 @@
 pub mod NewestLaws
-pub mod EntryLaws
 pub mod CallEntries
 pub mod Examples
 pub mod ForgetLaws

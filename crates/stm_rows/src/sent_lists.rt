@@ -121,8 +121,8 @@ fn are_frames(list: &[u8]) -> bool {
     at >= list.len()
 }
 
-/// How often a settling byte is put at most: 7F as often as the longest list needs, any other as
-/// often as its own longest one.
+/// How often the settling byte of an erase is put at most: 7F as often as the longest list needs,
+/// any other as often as its own longest one.
 fn most_puts(byte: u8) -> usize {
     if byte == 0x7F {
         return 131_072;
@@ -130,13 +130,17 @@ fn most_puts(byte: u8) -> usize {
     (usize::from(byte) * 514 + 8).max(512).min(131_072)
 }
 
-/// Whether this is a beginning of: the byte as often as it is put at most, 7F, and the byte twice.
-fn is_settling_run(list: &[u8], byte: u8) -> bool {
+/// Whether this is a beginning of: the byte so often, 7F, and the byte twice.
+fn is_run_of(list: &[u8], byte: u8, most: usize) -> bool {
     let end = [0x7F, byte, byte];
-    let most = most_puts(byte);
     let behind = list.get(most..).unwrap_or(&[]);
     let run = list.get(..most).unwrap_or(list);
     is_all(run, byte) && behind.len() <= 3 && agrees(&end, behind)
+}
+
+/// Whether it is one of an erase, or, with 02, of a write.
+fn is_settling_run(list: &[u8], byte: u8) -> bool {
+    is_run_of(list, byte, most_puts(byte)) || byte == 0x02 && is_run_of(list, byte, 512)
 }
 
 /// Whether there is a settling run before this place, and frames from it on.

@@ -28,6 +28,7 @@ left_by_asking law old frame is settled question d journal left =
       make = record { chip = safely.0.same_chip; version = safely.0.same_version; codes = safely.0.same_codes };
       flash = safely.1;
       harmless = λ byte. (law old.device d byte frame is settled question left.1).0.harmless;
+      awaits = λ byte. (law old.device d byte frame is settled question left.1).0.awaits;
       owed = safely.0.owed;
     }
 
@@ -73,6 +74,7 @@ still_further a b first d journal then =
       };
       flash = then.flash ∙ first.flash;
       harmless = then.harmless;
+      awaits = then.awaits;
       owed = then.owed;
     }
 

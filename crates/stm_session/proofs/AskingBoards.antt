@@ -67,6 +67,7 @@ module _ (law : RefusableReadsChangeNothing) (old new : RigState) (address size 
         make = record { chip = safely.0.same_chip; version = safely.0.same_version; codes = safely.0.same_codes };
         flash = safely.1;
         harmless = λ byte. (law old.device d byte address size is settled some most left.1).0.harmless;
+        awaits = λ byte. (law old.device d byte address size is settled some most left.1).0.awaits;
         owed = safely.0.owed;
       }
 

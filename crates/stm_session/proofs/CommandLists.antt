@@ -170,13 +170,6 @@ change-agrees chip flash (erases pages) e = refl
 change-agrees chip flash (verifies image) e = cc
 change-agrees chip flash (reads start size) e = cc
 
--- only a verify tells a difference
-pub difference-asks : (chip : ChipData) (k : ℕ) (flash : List ℕ) (c : CommandData) (address : ℕ) → outcome_of chip k flash c ≡ Err address → is_change c ≡ false
-difference-asks chip k flash (writes image) address e = cc
-difference-asks chip k flash (erases pages) address e = cc
-difference-asks chip k flash (verifies image) address e = refl
-difference-asks chip k flash (reads start size) address e = refl
-
 -- answers of more than one command
 record IsInFront (first : Result OutcomeData ℕ) (rest : Result (List OutcomeData) ℕ) (all : List OutcomeData) : Type 0 where
   said : OutcomeData

@@ -6,6 +6,7 @@ use Rattle.std.proofs.lemmas.Bool.{false≢true}
 use Rattle.stm_wire.specs.declared.chip.EraseKind.{EraseKind}
 use Rattle.stm_wire.specs.declared.chip.EraseKind.TheVariants.{Page, Extended}
 use Rattle.stm_wire.specs.declared.intent.Intent.{Intent}
+use Rattle.stm_wire.specs.declared.intent.Intent.TheVariants.{Erase, Program}
 use Rattle.stm_wire.specs.Call.{Call}
 use Rattle.stm_wire.specs.Command.{with_rest}
 use Rattle.stm_wire.specs.Chip.{ChipData}
@@ -53,37 +54,16 @@ plain_way true kind None h = refl
 plain_way true kind (Some i) h = absurd (false≢true (sym h))
 plain_way false kind o h = refl
 
--- the limit is enough for every harmless device of such chips
-for_byte : (byte : ℕ) → most_for Extended byte ≤ limit_for byte
-for_byte byte = go (eqb byte 0x7F)
-  where
-    go : (t : Bool) → cond t 131047 (min 131047 (max 267 (514 * byte + 8))) ≤ cond t 131072 (min (max (byte * 514 + 8) 512) 131072)
-    go true = lit≤ tt
-    go false = omega arith
-
-pub limit_suffices : (kind : EraseKind) (o : Option Intent) → most_for kind (settling_byte o) ≤ settling_limit kind o
-limit_suffices Page None = lit≤ tt
-limit_suffices Page (Some i) = lit≤ tt
-limit_suffices Extended None = lit≤ tt
-limit_suffices Extended (Some i) = for_byte (settling_byte (Some i))
-
--- and never more than this
+-- the limit is never more than this
 pub limit_most : (kind : EraseKind) (o : Option Intent) → settling_limit kind o ≤ 131072
 limit_most kind None = lit≤ tt
-limit_most Page (Some i) = lit≤ tt
-limit_most Extended (Some i) = go (eqb (settling_byte (Some i)) 0x7F)
+limit_most kind (Some (Program n)) = lit≤ tt
+limit_most Page (Some (Erase n)) = lit≤ tt
+limit_most Extended (Some (Erase n)) = go (eqb (settling_byte (Some (Erase n))) 0x7F)
   where
-    go : (t : Bool) → cond t 131072 (min (max (settling_byte (Some i) * 514 + 8) 512) 131072) ≤ 131072
+    go : (t : Bool) → cond t 131072 (min (max (settling_byte (Some (Erase n)) * 514 + 8) 512) 131072) ≤ 131072
     go true = lit≤ tt
     go false = omega arith
-
--- so for the journal's own
-pub own_within : (laws : StepLaws) (chip : ChipData) (old : RigState) → Harmless old.device (byte_at_journal old.journal) (risked_at old.journal) → old.device.chip.kind ≡ chip.kind → IsWithinLimit chip old
-own_within laws chip old harmless same =
-    let o = intent_of (state_at old.journal) in
-    let byte = byte_at_journal old.journal in
-    let all : Awaits byte (most_for chip.kind byte) old.device = subst (λ (kind : EraseKind). Awaits byte (most_for kind byte) old.device) same harmless.awaits in
-    laws.more_suffice old.device byte (most_for chip.kind byte) (settling_limit chip.kind o) (limit_suffices chip.kind o) all
 
 -- 7F once begins a settling run
 connect_run : (n : ℕ) → IsSettlingRun 0x7F 0 (take n (0x7F ∷ []))
@@ -98,7 +78,7 @@ connect_settles a b p =
 -- the start of a settling
 pub settling_starts : (byte : ℕ) (pages : List ℕ) (d : Device) → Harmless d byte pages → length d.owed ≤ 4096 → IsSettling byte pages d d
 settling_starts byte pages d harmless owed =
-    record { same_chip = refl; same_version = refl; same_codes = refl; harmless = harmless; flash = record { same_length = refl; elsewhere = λ n lt out. refl }; owed = owed }
+    record { same_chip = refl; same_version = refl; same_codes = refl; harmless = harmless; awaits = λ most three w. w; flash = record { same_length = refl; elsewhere = λ n lt out. refl }; owed = owed }
 
 -- and its end
 pub connected_is_settled : (old new : Device) → new ≡ with_rest [] old → IsSettled new

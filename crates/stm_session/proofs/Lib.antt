@@ -46,6 +46,7 @@ pub mod Rereadings
 pub mod ReturnedBytes
 pub mod PageSums
 pub mod Settlings
+pub mod Awaiting
 pub mod Freshness
 pub mod Restorings
 pub mod Fetchings

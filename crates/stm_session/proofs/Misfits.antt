@@ -263,7 +263,3 @@ stack-step chip s newer so_far h = elim (slice_get_cases s.stack newer).1 [
       ∙ ap (λ kept. least_with (least_with so_far (misfit_lines_of chip kept kept)) rest) (sym pages)
   | inr past ↦ absurd (let within : length s.stack ≤ newer = past.0 in omega arith)
 ]
-
--- the header's line comes before those of the pages
-pub header-first : (chip : ChipData) (s : StateData) → least (header_misfits chip s.header ++ misfit_lines chip s.stack) ≡ least_with (least (header_misfits chip s.header)) (misfit_lines chip s.stack)
-header-first chip s = fold-append (λ least line. Some (lesser least line)) None (header_misfits chip s.header) (misfit_lines chip s.stack)

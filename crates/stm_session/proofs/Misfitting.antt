@@ -14,14 +14,6 @@ use Rattle.stm_session.specs.Refusals.{can_erase, erase_code, undo_misfit}
 misfit_by : Bool → Bool → Option Fault
 misfit_by can same = first_refusal (refused_unless can fault.NoErase ∷ refused_unless same fault.OtherDevice ∷ [])
 
-pub misfit_erase : (chip : ChipData) (id : ℕ) (d : Device) → can_erase chip d ≡ false → undo_misfit chip id d ≡ Some fault.NoErase
-unfolding misfit_by
-misfit_erase chip id d can = ap (λ (b : Bool). misfit_by b (d.chip.id == id)) can
-
-pub misfit_id : (chip : ChipData) (id : ℕ) (d : Device) → can_erase chip d ≡ true → (d.chip.id ≡ id → ⊥) → undo_misfit chip id d ≡ Some fault.OtherDevice
-unfolding misfit_by
-misfit_id chip id d can other = ap (λ (b : Bool). misfit_by b (d.chip.id == id)) can ∙ ap (λ (b : Bool). misfit_by true b) (ne_eqb d.chip.id id other)
-
 pub misfit_none : (chip : ChipData) (id : ℕ) (d : Device) → can_erase chip d ≡ true → d.chip.id ≡ id → undo_misfit chip id d ≡ None
 unfolding misfit_by
 misfit_none chip id d can same = ap (λ (b : Bool). misfit_by b (d.chip.id == id)) can ∙ ap (λ (b : Bool). misfit_by true b) (eq-eqb d.chip.id id same)

@@ -259,14 +259,8 @@ module _ (law : LossStaysHarmless) (old mid : RigState) (safe : IsSafe old.devic
 pub line_is_no_memory : (e : Fault) → IsOfLine e → e ≡ Memory → ⊥
 line_is_no_memory e of is = subst IsOfLine is of
 
-pub line_is_no_journal : (e : Fault) → IsOfLine e → e ≡ Unfinished → ⊥
-line_is_no_journal e of is = subst IsOfLine is of
-
 pub device_is_no_memory : (e : Fault) → IsLaterRefusal e → e ≡ Memory → ⊥
 device_is_no_memory e of is = subst IsLaterRefusal is of
-
-pub device_is_no_journal : (e : Fault) → IsLaterRefusal e → e ≡ Unfinished → ⊥
-device_is_no_journal e of is = subst IsLaterRefusal is of
 
 -- a journal with a segment is open
 pub open_refused : (s : StateData) → nat_lt 0 (length s.stack) ≡ true → open_refusal (good s) ≡ Some InSession

@@ -18,6 +18,7 @@ use Rattle.stm_journal.specs.FlashLaws.{ChangesKeepFlashes}
 use Rattle.stm_journal.specs.Flashes.{flashes_before_segments}
 use Rattle.stm_session.specs.PowerLoss.{AnyBytesAreLeft, FinishedLosesNothing, IntentIsAtRisk, LosesPower, OwedLossKeepsFlashes, PowerLossKeepsFlashes}
 use Rattle.stm_session.specs.Undoable.{IsJournalOf, Undoable, newest_kept, risked_pages, state_at}
+use Rattle.stm_session.proofs.Awaiting.{fresh_under, lost_under}
 use Rattle.stm_session.proofs.Keeping.{is_risked, risked_is}
 use Rattle.stm_session.proofs.Standing.{intended_kept}
 
@@ -31,6 +32,7 @@ owed-keeps law flashes d e journal u (n, lost) =
       fits = u.fits;
       keeps = u.keeps;
       harmless = law d less (settling_byte (intent_of (state_at journal))) (risked_pages (state_at journal)) u.harmless (n, refl);
+      awaits = lost_under d less (intent_of (state_at journal)) (n, refl) u.awaits;
       owed = omega (arith, u.owed, length-drop n d.owed);
     })
 
@@ -50,6 +52,7 @@ loss-keeps changing fresh flashes old new journal u lost =
       keeps = ap (λ (c : ChipData). flashes_before_segments c (state_at journal).stack new.flash) lost.make.chip
           ∙ changing old.chip s.stack (risked_pages s) old.flash new.flash (old_size journal old new lost) u.fits.pages lost.flash (λ n c. risked_is s n c) ∙ u.keeps;
       harmless = fresh new (settling_byte (intent_of s)) (risked_pages s) lost.device lost.phase;
+      awaits = fresh_under new (intent_of s) lost.phase;
       owed = subst Few (sym lost.owed) (lit≤ tt);
     }
 

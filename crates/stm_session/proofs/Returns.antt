@@ -189,8 +189,3 @@ page_until chip (x ∷ pages) flash (suc i) k once fits size is =
 -- the lines of a page go by what it holds
 pub lines_by : (chip : ChipData) (old new : List ℕ) (kept : Kept) → page_of chip new kept.page ≡ page_of chip old kept.page → return_entries chip new kept ≡ return_entries chip old kept
 lines_by chip old new kept same = ap (λ (held : List ℕ). if bytes_eq held kept.bytes then [] else rewrite_entries chip kept.page kept.bytes) same
-
--- the newest segment off the top
-pub first_off : (stack : List SegmentData) → pages_of_segments (drop 1 stack) ≡ drop 1 (pages_of_segments stack)
-first_off [] = refl
-first_off (segment ∷ below) = refl

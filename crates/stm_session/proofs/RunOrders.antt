@@ -61,8 +61,3 @@ reads_stop chip P0 page address size cause a b c some limit within before stops 
 -- the journal in memory is as it was
 pub reads_follow : (chip : ChipData) (P : List Step → Type 0) (l : Loaded) (a b : RigState) → OnlyReads chip P a b → Follows (λ steps. AllByRecursion (IsReading chip) steps × P steps) l l a b
 reads_follow chip P l a b reads = let p = reads l.is_torn in (p.0, (p.1, p.2), record { acts = p.3; torn = sym (reads-torn chip l.is_torn p.0 p.1) })
-
--- what follows at Ok from what holds there
-pub ok_then : {T A B : Type 0} (r : Result T Fault) → (A → B) → OnOk r A → OnOk r B
-ok_then (Ok x) then p = then p
-ok_then (Err e) then p = tt

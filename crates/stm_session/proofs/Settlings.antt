@@ -21,6 +21,7 @@ use Rattle.stm_session.specs.StepLaws.{StepLaws}
 use Rattle.stm_session.specs.Steps.{AddsLines, KeepsFlashes, Stands, Goes}
 use Rattle.stm_session.specs.Undoable.{Undoable, newest_kept, risked_pages, state_at}
 use Rattle.stm_session.specs.Undoes.{IsWithinLimit, byte_at_journal}
+use Rattle.stm_session.proofs.Awaiting.{settling_under}
 use Rattle.stm_session.proofs.Going.{at_exit, line_outside}
 use Rattle.stm_session.proofs.Keeping.{good_at, keeps_over, risked_is, text_is, undoable_with, unfinished_is}
 use Rattle.stm_session.proofs.Texts.{adds_none}
@@ -50,7 +51,7 @@ module _ (laws : StepLaws) (flashes : List (List ℕ)) (l : Loaded) (old new : R
       let J : List ℕ → Type 0 = λ j. journal_of j ≡ good t in
       let at : journal_of journal ≡ good t = subst J (sym left.0) (good_at l old.journal loaded) in (
         record {
-          undoable = undoable_with flashes d journal t at keeps s.harmless s.owed;
+          undoable = undoable_with flashes d journal t at keeps s.harmless (settling_under old.device d (intent_of t) s.same_chip s.awaits undoable.awaits) s.owed;
           make = make;
           finished = λ f.
               let ended : is_unfinished t ≡ false = sym (unfinished_is journal t at) ∙ f in

@@ -32,6 +32,7 @@ module _ (old new : RigState) (keeps : KeepsSettling (byte_at_journal old.journa
         make = record { chip = here.1.same_chip; version = here.1.same_version; codes = here.1.same_codes };
         flash = here.1.flash;
         harmless = here.1.harmless;
+        awaits = λ most least. here.1.awaits most (omega (arith, least));
         owed = here.1.owed;
       })
 
@@ -52,6 +53,7 @@ asked_at laws old b left d journal still =
       make = makes_then old.device b.device d left.make still.make;
       flash = subst Out (sym still.flash) left.flash;
       harmless = laws.more_pages d (byte_at_journal old.journal) [] (risked_at old.journal) (λ n here c. absurd (omega (arith, c.1))) (still.harmless (byte_at_journal old.journal));
+      awaits = λ most least w. laws.more_suffice d (byte_at_journal old.journal) 267 most least (still.awaits (byte_at_journal old.journal));
       owed = still.owed;
     }
 

@@ -75,9 +75,6 @@ never : (b : Bool) → b ≡ false → IsTrue b → ⊥
 never true is there = true≢false is
 never false is there = true≢false (sym there)
 
-is-no-less : (a b : ℕ) → b ≤ a → nat_lt a b ≡ false
-is-no-less a b h = grind (arith, nat_tests)
-
 -- of a board with the first p pages
 module _ (chip : ChipData) (unique : List ℕ) (s : StateData) (p : ℕ) (of : IsJournalOf (of_board unique (first_of p chip)) s) where
   abbrev count : ℕ

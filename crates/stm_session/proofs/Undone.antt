@@ -140,11 +140,14 @@ module _ (table : List ChipData) (l : Loaded) (old a : RigState) (loads : Loads 
         let F : Device → Type 0 = λ x. SameOutside x.chip (risked_at a.journal) x.flash d.flash in
         let G : List ℕ → Type 0 = λ j. SameOutside old.device.chip (risked_at j) old.device.flash d.flash in
         let H : List ℕ → Type 0 = λ j. Harmless d (byte_at_journal j) (risked_at j) in
+        let V : Device → Type 0 = λ x. (most : ℕ) → 267 ≤ most → Awaits (byte_at_journal a.journal) most x → Awaits (byte_at_journal a.journal) most d in
+        let W : List ℕ → Type 0 = λ j. (most : ℕ) → 267 ≤ most → Awaits (byte_at_journal j) most old.device → Awaits (byte_at_journal j) most d in
         record {
           journal_same = e.journal_same ∙ loads.journal;
           make = subst M loads.same_device e.make;
           flash = subst G loads.journal (subst F loads.same_device e.flash);
           harmless = subst H loads.journal e.harmless;
+          awaits = subst W loads.journal (subst V loads.same_device e.awaits);
           owed = e.owed;
         }
 

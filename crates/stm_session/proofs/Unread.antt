@@ -5,7 +5,9 @@ use Rattle.stm_wire.specs.Chip.{ChipData}
 use Rattle.stm_wire.specs.Device.{Device, LosesOwed}
 use Rattle.stm_wire.specs.Dialogue.{GoesOn}
 use Rattle.stm_wire.specs.Harmless.{Harmless, SameOutside}
+use Rattle.stm_wire.specs.Awaited.{Awaits}
 use Rattle.stm_wire.specs.Intents.{settling_byte}
+use Rattle.stm_session.proofs.Awaiting.{lost_under}
 use Rattle.stm_wire.specs.lemmas.MomentLaws.{weaker}
 use Rattle.stm_wire.specs.Rig.{RigState}
 use Rattle.stm_journal.specs.declared.fault.JournalFault.{JournalFault}
@@ -55,6 +57,7 @@ untouched_amid laws taken flashes old u d journal left =
             fits = subst fit (sym make.chip) u.fits;
             keeps = ap₂ (λ (c : ChipData) bytes. flashes_before_segments c (state_at old.journal).stack bytes) make.chip flash ∙ u.keeps;
             harmless = laws.lost old.device d (settling_byte (intent_of (state_at old.journal))) (risked_pages (state_at old.journal)) u.harmless left.1;
+            awaits = lost_under old.device d (intent_of (state_at old.journal)) left.1 u.awaits;
             owed = lost_owed old.device d left.1 u.owed;
           });
       finished = λ f. flash;
@@ -74,6 +77,7 @@ untouched_stray laws old harmless owed d journal left =
       make = untouched_make old.device d left.1;
       flash = subst Out (sym flash) (record { same_length = refl; elsewhere = λ n here none. refl });
       harmless = laws.lost old.device d (byte_at_journal old.journal) (risked_at old.journal) harmless left.1;
+      awaits = λ most least w. subst (Awaits (byte_at_journal old.journal) most) (sym left.1.1) w;
       owed = lost_owed old.device d left.1 owed;
     }
 

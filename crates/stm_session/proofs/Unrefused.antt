@@ -15,7 +15,7 @@ use Rattle.stm_session.specs.Refusals.{commands_refused, run_refusal}
 use Rattle.stm_session.specs.Undoable.{IsJournalOf, Undoable, state_at}
 use Rattle.stm_session.proofs.Fitting.{unrefused-fits}
 use Rattle.stm_session.proofs.Openings.{alone, has_chip}
-use Rattle.stm_session.proofs.CanBeUndone.{finished_risks_nothing}
+use Rattle.stm_session.proofs.CanBeUndone.{finished_awaits, finished_risks_nothing}
 
 -- what isn't refused first, is refused nothing by its first test, nor by the rest
 first_free : (test : Bool) (fault : Fault) (rest : List (Option Fault)) → first_refusal (refused_unless (not test) fault ∷ rest) ≡ None → (test ≡ false) × (first_refusal rest ≡ None)
@@ -50,6 +50,7 @@ unrefused_is_undoable table d journal safe held none = by_journal (journal_of jo
           fits = free.2;
           keeps = refl;
           harmless = subst (λ (T : Type 0). T) (sym (finished_risks_nothing (state_at journal) d free.0)) safe.harmless;
+          awaits = finished_awaits (state_at journal) d free.0;
           owed = safe.owed;
         }
 

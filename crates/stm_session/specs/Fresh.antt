@@ -5,6 +5,7 @@ use Rattle.std.specs.Prelude.{List, [], Option, Some, None, IsTrue}
 use Rattle.stm_wire.specs.declared.chip.EraseKind.{EraseKind}
 use Rattle.stm_wire.specs.declared.chip.EraseKind.TheVariants.{Page, Extended}
 use Rattle.stm_wire.specs.declared.intent.Intent.{Intent}
+use Rattle.stm_wire.specs.declared.intent.Intent.TheVariants.{Erase, Program}
 use Rattle.stm_wire.specs.Call.{Call}
 use Rattle.stm_wire.specs.Device.{Device, Fresh}
 use Rattle.stm_wire.specs.Intents.{settling_byte}
@@ -50,19 +51,20 @@ abbrev pub contact_way : Bool → Way
 contact_way false = Settles 0x7F 131072
 contact_way true = Connects
 
--- How often a byte of an intent is sent at most where pages have numbers of two bytes: behind 44 BB
+-- How often the byte of an erase is sent at most where pages have numbers of two bytes: behind 44 BB
 -- the byte twice is a count of 257 * byte + 1 pages. 7F is also the byte of a host without an
 -- intent.
 abbrev pub limit_for : ℕ → ℕ
 limit_for byte = if byte == 0x7F then 131072 else min (max (byte * 514 + 8) 512) 131072
 
 -- How often an undo sends its settling byte at most, by the kind of the journal's chip and the
--- journal's intent: as often as any such device awaits it, or more. Two batches are enough where a
--- list of pages has one byte for each.
+-- journal's intent: as often as any such device awaits it, or more. Two batches are enough behind a
+-- write, and where a list of pages has one byte for each.
 abbrev pub settling_limit : EraseKind → Option Intent → ℕ
 settling_limit kind None = 131072
-settling_limit Page (Some intent) = 512
-settling_limit Extended (Some intent) = limit_for (settling_byte (Some intent))
+settling_limit kind (Some (Program page)) = 512
+settling_limit Page (Some (Erase page)) = 512
+settling_limit Extended (Some (Erase page)) = limit_for (settling_byte (Some (Erase page)))
 
 -- with the byte of the journal's intent: under one it goes in batches, also where the byte is 7F,
 -- for an erase of page 127 may have begun a list of more than a hundred pages

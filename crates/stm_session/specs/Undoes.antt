@@ -98,10 +98,13 @@ pub record UndoesNothing (old new : RigState) (result : Result ℕ Fault) : Type
   pub answer : IfOk result (λ n. n ≡ 0)
   pub fails : IfErr result IsJournalOrMemory
 
--- The device isn't the journal's: no line was added, and only bytes of the pages at risk changed.
+-- The device isn't the journal's: no line was added, only bytes of the pages at risk changed, and it
+-- awaits no more settling bytes than before, or than a question does.
 pub record IsElsewhere (old : RigState) (d : Device) (journal : List ℕ) : Type 0 where
   pub journal_same : journal ≡ old.journal
   pub make : SameMake old.device d
   pub flash : SameOutside old.device.chip (risked_at old.journal) old.device.flash d.flash
   pub harmless : Harmless d (byte_at_journal old.journal) (risked_at old.journal)
+  pub awaits : (most : ℕ) → 267 ≤ most → Awaits (byte_at_journal old.journal) most old.device
+      → Awaits (byte_at_journal old.journal) most d
   pub owed : length d.owed ≤ 4096

@@ -16,16 +16,16 @@ ghost use Rattle.stm_session.specs.Undoes.{IsWithinLimit, byte_at_journal, riske
 use crate::Fault;
 use crate::laws_of_steps::step_laws;
 use stm_journal::Journal;
-use stm_wire::{Chip, EraseKind, Rig, connect, settle_under, settling_byte};
+use stm_wire::{Chip, EraseKind, Intent, Rig, connect, settle_under, settling_byte};
 
 /// How often the settling byte is sent at most: more often than any device awaits it.
 const SETTLING_LIMIT: u32 = 131_072;
 
-/// And where the chip's pages are erased by numbers of one byte: two batches, and no list of
-/// such a device is as long.
+/// And behind a write, or where the chip's pages are erased by numbers of one byte: two batches, and
+/// nothing that was begun there is as long.
 const SHORT_LIMIT: u32 = 512;
 
-/// How often this byte of an intent is sent at most where pages have numbers of two bytes. The
+/// How often this byte of an erase is sent at most where pages have numbers of two bytes. The
 /// longest list that a frame of ours began, and the byte goes on with, is behind `44 BB`: the byte
 /// twice is its count. 7F is also the byte of a host without an intent, which may wait for any list.
 fn limit_for(byte: u8) -> u32
@@ -46,9 +46,10 @@ fn settling_limit(journal: &Journal, chip: &Chip) -> u32
 {
     match journal.last_intent() {
         None => SETTLING_LIMIT,
-        Some(intent) => match chip.kind() {
+        Some(Intent::Program(_)) => SHORT_LIMIT,
+        Some(Intent::Erase(page)) => match chip.kind() {
             EraseKind::Page => SHORT_LIMIT,
-            EraseKind::Extended => limit_for(settling_byte(Some(intent))),
+            EraseKind::Extended => limit_for(settling_byte(Some(Intent::Erase(page)))),
         },
     }
 }

@@ -7,9 +7,9 @@ use Rattle.stm_wire.specs.declared.verdict.Verdict.TheVariants.{Done, Refused, L
 use Rattle.stm_wire.specs.Exchange.{verdict}
 use Rattle.stm_wire.specs.Reply.{ack}
 use Rattle.stm_wire.specs.Device.{Device, Phase, Fresh, Connected, Gone, Takes, Receives, Feeds, IsLoose, LosesOwed, reset, phase_after, reply_of}
-use Rattle.stm_wire.specs.Awaited.{Awaits, AwaitsIn, IsRefusedIn, most_for}
+use Rattle.stm_wire.specs.Awaited.{Awaits, AwaitsIn, FedAwaitsNoMore, IsRefusedIn}
 use Rattle.stm_wire.specs.Harmless.{SameOutside, IsListening, Disturbance, Feed, Reset, Reaches, Harmless}
-use Rattle.stm_wire.proofs.Ending.{at_least, awaits_at, more_suffice, nearer_open, refused_empty}
+use Rattle.stm_wire.proofs.Ending.{awaits_at, more_suffice, nearer_open, refused_empty}
 
 -- of the same chip, with the same version and codes
 pub record IsSameMake (old new : Device) : Type 0 where
@@ -87,13 +87,11 @@ harmless_fed byte pages old new h f = record {
         phase = then'.phase;
         flash = subst (λ (c : ChipData). SameOutside c pages new.flash last.flash) (sym (same_make byte old new f).chip) (from_first old.chip pages old.flash new.flash last.flash now.flash then'.flash);
       };
-  awaits = (
-      let most = most_for old.chip.kind byte in
-      let least = at_least old.chip.kind byte in
-      let more = more_suffice old byte most (suc most) (omega arith) h.awaits in
-      subst (λ (c : ChipData). Awaits byte (most_for c.kind byte) new) (sym (same_make byte old new f).chip) (awaits_fed byte most pages old new h (omega arith) more f)
-      );
 }
+
+-- nor more than before
+pub awaits_no_more : FedAwaitsNoMore
+awaits_no_more old new byte most pages h three w f = awaits_fed byte most pages old new h (omega arith) (more_suffice old byte most (suc most) (omega arith) w) f
 
 pub unharmed_fed : (byte : ℕ) (pages : List ℕ) (old new : Device) → Harmless old byte pages → Feeds byte old new → SameOutside old.chip pages old.flash new.flash
 unharmed_fed byte pages old new h f = (h.each (Feed ∷ []) new (new, f, refl)).flash
@@ -101,13 +99,12 @@ unharmed_fed byte pages old new h f = (h.each (Feed ∷ []) new (new, f, refl)).
 pub harmless_reset : (byte : ℕ) (pages : List ℕ) (d : Device) → Harmless d byte pages → Harmless (reset d) byte pages
 harmless_reset byte pages d h = record {
   each = λ events last reaches. let u = h.each (Reset ∷ events) last reaches in record { phase = u.phase; flash = u.flash };
-  awaits = λ _. let least = at_least d.chip.kind byte in omega arith;
 }
 
 -- what is owed changes nothing else
-record Alike (d new : Device) : Type 0 where
-  owed : List ℕ
-  is : new ≡ record d { owed = owed }
+pub record Alike (d new : Device) : Type 0 where
+  pub owed : List ℕ
+  pub is : new ≡ record d { owed = owed }
 
 taken_alike : (d new : Device) (o : List ℕ) (bytes : List ℕ) (v : Option Verdict) → Takes (record d { owed = o }) bytes v new → (new' : Device) × Takes d bytes v new' × Alike new' new
 taken_alike d new o bytes None e = (record d { owed = d.owed ++ reply_of d bytes; phase = Connected bytes }, refl, record { owed = o ++ reply_of d bytes; is = e })
@@ -120,7 +117,7 @@ taken_alike d new o bytes (Some Loose) l = (
   record { owed = new.owed; is = refl },
 )
 
-received_alike : (byte : ℕ) (d new : Device) (o : List ℕ) (phase : Phase) → Receives (record d { owed = o }) phase byte new → (new' : Device) × Receives d phase byte new' × Alike new' new
+pub received_alike : (byte : ℕ) (d new : Device) (o : List ℕ) (phase : Phase) → Receives (record d { owed = o }) phase byte new → (new' : Device) × Receives d phase byte new' × Alike new' new
 received_alike byte d new o Fresh e = go (eqb byte 0x7F) e
   where
     go : (t : Bool) → new ≡ cond t (record d { owed = o ++ ack ∷ []; phase = Connected [] }) (record d { owed = o }) →
@@ -130,7 +127,7 @@ received_alike byte d new o Fresh e = go (eqb byte 0x7F) e
 received_alike byte d new o (Connected rest) r = taken_alike d new o (rest ++ byte ∷ []) (verdict d.chip d.codes (rest ++ byte ∷ [])) r
 received_alike byte d new o Gone e = (d, refl, record { owed = o; is = e })
 
-reaches_alike : (byte : ℕ) (events : List Disturbance) (d new : Device) (o : List ℕ) → Reaches byte events (record d { owed = o }) new → (new' : Device) × Reaches byte events d new' × Alike new' new
+pub reaches_alike : (byte : ℕ) (events : List Disturbance) (d new : Device) (o : List ℕ) → Reaches byte events (record d { owed = o }) new → (new' : Device) × Reaches byte events d new' × Alike new' new
 reaches_alike byte [] d new o e = (d, refl, record { owed = o; is = e })
 reaches_alike byte (Feed ∷ events) d new o (mid, f, r) =
     let (mid', f', a) = received_alike byte d mid o d.phase f.receives in
@@ -147,8 +144,10 @@ harmless_owed byte pages d o h = record {
         phase = subst (λ (x : Device). IsListening x.phase) (sym a.is) u.phase;
         flash = subst (λ (x : Device). SameOutside d.chip pages d.flash x.flash) (sym a.is) u.flash;
       };
-  awaits = h.awaits;
 }
+
+pub awaits_loses : (byte most : ℕ) (d new : Device) → LosesOwed d new → Awaits byte most d → Awaits byte most new
+awaits_loses byte most d new (n, e) w = subst (Awaits byte most) (sym e) w
 
 pub harmless_loses : (byte : ℕ) (pages : List ℕ) (d new : Device) → Harmless d byte pages → LosesOwed d new → Harmless new byte pages
 harmless_loses byte pages d new h (n, e) = subst (λ (x : Device). Harmless x byte pages) (sym e) (harmless_owed byte pages d _ h)

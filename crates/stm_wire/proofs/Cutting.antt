@@ -1,5 +1,5 @@
 -- The pages of a chip that lie inside so many bytes.
-use Rattle.std.proofs.Common.{◌≡◌, ℕ, zero, ◌+◌, ◌-◌, ◌*◌, ◌<◌, ◌≤◌, ◌^◌, ◌↔◌, nat_le, ◌&&◌, ◌||◌, suc, List, [], ◌∷◌}
+use Rattle.std.proofs.Common.{◌≡◌, ℕ, zero, ◌+◌, ◌-◌, ◌*◌, ◌<◌, ◌≤◌, ◌↔◌, suc, List, [], ◌∷◌}
 use Rattle.std.proofs.Common.{length, get_or, take, drop, sum, sym, ap, subst, refl, ◌∙◌, arith, IsTrue}
 use Rattle.std.proofs.Common.{inl, inr}
 use Rattle.std.proofs.lemmas.Bool.{cases_lt}
@@ -91,14 +91,6 @@ ends_inside (size ∷ sizes) (suc m) bytes here =
 
 pub end_inside : (chip : ChipData) (bytes : ℕ) → EndInside chip bytes
 end_inside chip bytes n here = ends_inside chip.sizes n bytes here
-
--- what lies outside a flash lies outside its first pages too
-outside_less : (address n base size less : ℕ) → less ≤ size
-    → IsTrue (nat_le (address + n) (2 ^ 32)
-    && (nat_le (address + n) base || nat_le (base + size) address))
-    → IsTrue (nat_le (address + n) (2 ^ 32)
-    && (nat_le (address + n) base || nat_le (base + less) address))
-outside_less address n base size less le outside = grind (arith, nat_tests)
 
 abbrev with_sizes : ChipData → List ℕ → ChipData
 with_sizes chip sizes = record chip { sizes = sizes }

@@ -69,11 +69,6 @@ at_least Page byte = lit≤ tt
 at_least Extended byte = cond_both (eqb byte 0x7F) 131047 (min 131047 (max 267 (514 * byte + 8)))
     (λ n. 267 ≤ n) (λ _. lit≤ tt) (λ _. omega arith)
 
-pub at_most : (kind : EraseKind) (byte : ℕ) → most_for kind byte ≤ 131047
-at_most Page byte = lit≤ tt
-at_most Extended byte = cond_both (eqb byte 0x7F) 131047 (min 131047 (max 267 (514 * byte + 8)))
-    (λ n. n ≤ 131047) (λ _. lit≤ tt) (λ _. omega arith)
-
 -- wherever a device is
 pub awaits_at : (d : Device) (byte left : ℕ) (p : Phase) → d.phase ≡ p → AwaitsIn d.chip d.codes
     byte left p → Awaits byte left d

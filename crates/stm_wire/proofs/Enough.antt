@@ -15,7 +15,7 @@ use Rattle.stm_wire.specs.declared.verdict.Verdict.{Verdict}
 use Rattle.stm_wire.specs.declared.verdict.Verdict.TheVariants.{Refused, Loose}
 use Rattle.stm_wire.specs.Exchange.{IsOpen, all_exist, all_verdict, done_if, is_listed, pair_of}
 use Rattle.stm_wire.specs.Exchange.{two_byte_numbers, verdict, xor}
-use Rattle.stm_wire.specs.Device.{Device, Fresh, Connected, ListsKind}
+use Rattle.stm_wire.specs.Device.{Device, Connected, ListsKind}
 use Rattle.stm_wire.specs.Awaited.{Awaits, IsRefusedIn, most_for}
 use Rattle.stm_wire.specs.Frames.{erase_frame}
 use Rattle.stm_wire.specs.Intents.{settling_byte}
@@ -25,32 +25,23 @@ use Rattle.stm_wire.proofs.Ending.{at_least, awaits_at, ends_any, ends_behind, e
 use Rattle.stm_wire.proofs.Ending.{open_more, refused_empty, refused_more, refused_other}
 use Rattle.stm_wire.proofs.Steps.{OpenAlong}
 
-pub fresh_enough : (d : Device) (byte : ℕ) → d.phase ≡ Fresh
-    → Awaits byte (most_for d.chip.kind byte) d
-fresh_enough d byte e = awaits_at d byte (most_for d.chip.kind byte) Fresh e
-    (λ _. let least = at_least d.chip.kind byte in omega arith)
-
-pub empty_enough : (d : Device) (byte : ℕ) → d.phase ≡ Connected []
-    → Awaits byte (most_for d.chip.kind byte) d
-empty_enough d byte e = awaits_at d byte (most_for d.chip.kind byte) (Connected []) e
-    (refused_empty d.chip d.codes byte (most_for d.chip.kind byte)
-    (let least = at_least d.chip.kind byte in omega arith))
+pub empty_enough : (d : Device) (byte most : ℕ) → 2 ≤ most → d.phase ≡ Connected []
+    → Awaits byte most d
+empty_enough d byte most two e = awaits_at d byte most (Connected []) e
+    (refused_empty d.chip d.codes byte most two)
 
 -- so many of the byte are enough behind any beginning of a frame
-abbrev pub Enough : ChipData → List ℕ → EraseKind → ℕ → List ℕ → Type 0
-Enough chip codes kind byte frame = (n : ℕ) → IsCounted (take n frame)
-    → IsOpen chip codes (take n frame) → IsRefusedIn chip codes byte (most_for kind byte)
-    (take n frame)
+abbrev pub Enough : ChipData → List ℕ → ℕ → ℕ → List ℕ → Type 0
+Enough chip codes byte most frame = (n : ℕ) → IsCounted (take n frame)
+    → IsOpen chip codes (take n frame) → IsRefusedIn chip codes byte most (take n frame)
 
 -- of a frame that is no erase by 44
-pub enough_short : (chip : ChipData) (codes : List ℕ) (kind : EraseKind) (byte c : ℕ)
-    (frame : List ℕ) → CanCount c byte → eqb c 0x44 ≡ false → Enough chip codes kind byte
-    (c ∷ frame)
-enough_short chip codes kind byte c frame can other zero by o = refused_empty chip codes byte
-    (most_for kind byte) (let least = at_least kind byte in omega arith)
-enough_short chip codes kind byte c frame can other (suc n) by o = refused_more chip codes byte 267
-    (most_for kind byte) (c ∷ take n frame) (at_least kind byte)
-    (ends_short chip codes byte c (take n frame) can by o other)
+pub enough_short : (chip : ChipData) (codes : List ℕ) (byte most c : ℕ) (frame : List ℕ)
+    → 267 ≤ most → CanCount c byte → eqb c 0x44 ≡ false → Enough chip codes byte most (c ∷ frame)
+enough_short chip codes byte most c frame le can other zero by o = refused_empty chip codes byte
+    most (omega arith)
+enough_short chip codes byte most c frame le can other (suc n) by o = refused_more chip codes byte
+    267 most (c ∷ take n frame) le (ends_short chip codes byte c (take n frame) can by o other)
 
 -- no count follows these codes
 pub no_count : (c byte : ℕ) → eqb c 0x31 ≡ false → eqb c 0x43 ≡ false → CanCount c byte
@@ -90,7 +81,7 @@ counts_page x N check (suc (suc zero)) = (λ e. absurd (false≢true e), λ _. l
 counts_page x N check (suc (suc (suc n))) = (λ e. absurd (false≢true e), λ _. lit< tt)
 
 -- a list of pages by 44 that is whole has a verdict
-pages_end : (chip : ChipData) (codes : List ℕ) (h l : ℕ) (ys : List ℕ)
+pub pages_end : (chip : ChipData) (codes : List ℕ) (h l : ℕ) (ys : List ℕ)
     → IsTrue (is_listed codes 0x44) → pair_of h l < 0xFFF0 → length ys ≡ 2 * (pair_of h l + 1) + 1
     → (v : Verdict) × (verdict chip codes (0x44 ∷ 0xBB ∷ h ∷ l ∷ ys) ≡ Some v)
 pages_end chip codes h l ys listed few len = (
@@ -174,7 +165,7 @@ module _ (chip : ChipData) (codes : List ℕ) (byte h l check : ℕ)
         behind 0 byte (replicate (size 0) byte) (size 0) (0x44 ∷ 0xBB ∷ 0 ∷ []) refl (omega arith)
         len (omega arith)
 
-  enough_low : byte ≤ 254 → 514 * byte + 8 ≤ most → Enough chip codes Extended byte frame
+  enough_low : byte ≤ 254 → 514 * byte + 8 ≤ most → Enough chip codes byte most frame
   enough_low low many zero by o = refused_empty chip codes byte most
       (let least = at_least Extended byte in omega arith)
   enough_low low many (suc zero) by o = code_itself low many (at_least Extended byte)
@@ -197,7 +188,7 @@ module _ (chip : ChipData) (codes : List ℕ) (byte h l check : ℕ)
       let e : None ≡ Some end.0 = sym (o 7) ∙ end.1 in
       absurd cc
 
-  pub enough_extended : byte < 256 → Enough chip codes Extended byte frame
+  pub enough_extended : byte < 256 → Enough chip codes byte most frame
   enough_extended small n by o = ⊎_elim (λ all. any n by o all)
       (λ few. enough_low few.0 few.1 n by o) (most_cases byte)
     where
@@ -211,9 +202,10 @@ module _ (chip : ChipData) (codes : List ℕ) (byte h l check : ℕ)
 
 -- of an erase of a page, by either code
 pub enough_erase : (chip : ChipData) (codes : List ℕ) (kind : EraseKind) (byte N : ℕ)
-    → ListsKind kind codes → byte < 256 → Enough chip codes kind byte (erase_frame kind N)
-enough_erase chip codes Page byte N lists small = enough_short chip codes Page byte 0x43
-    (0xBC ∷ 0 ∷ N ∷ xor (0 ∷ N ∷ []) ∷ []) (λ _. small, λ _. small) refl
+    → ListsKind kind codes → byte < 256
+    → Enough chip codes byte (most_for kind byte) (erase_frame kind N)
+enough_erase chip codes Page byte N lists small = enough_short chip codes byte 267 0x43
+    (0xBC ∷ 0 ∷ N ∷ xor (0 ∷ N ∷ []) ∷ []) (lit≤ tt) (λ _. small, λ _. small) refl
 enough_erase chip codes Extended byte N lists small = enough_extended chip codes byte (N / 256)
     (N % 256) (xor (0 ∷ 0 ∷ N / 256 ∷ N % 256 ∷ [])) lists.0 small
 

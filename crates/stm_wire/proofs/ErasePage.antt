@@ -24,7 +24,7 @@ all_refused chip pages bytes N zero e = tt
 all_refused chip pages bytes N (suc k) e = rw e (fits_end chip pages bytes Refused tt (replicate k N))
 
 -- a count and copies of N, where the count isn't FF, or N isn't 0
-listed : (chip : ChipData) (x N n k : ℕ) → (eqb n 255 ≡ true → eqb N 0 ≡ false) →
+pub listed : (chip : ChipData) (x N n k : ℕ) → (eqb n 255 ≡ true → eqb N 0 ≡ false) →
     Fits chip (N ∷ []) (0x43 ∷ x ∷ n ∷ replicate k N) (erase_verdict chip (n ∷ replicate k N))
 listed chip x N n k not_all =
     let rest = replicate k N in

@@ -15,7 +15,7 @@ use Rattle.stm_wire.proofs.Mild.{harmless, mild_empty, no_pair}
 use Rattle.stm_wire.proofs.Awaited.{due, due_most, fed, Refuses, Advances}
 use Rattle.stm_wire.proofs.Ending.{awaits_at, refused_empty, refused_some}
 use Rattle.stm_wire.proofs.Enough.{empty_enough}
-use Rattle.stm_wire.proofs.Closed.{IsSameMake, awaits_fed, same_make, harmless_fed, unharmed_fed, harmless_owed, harmless_loses}
+use Rattle.stm_wire.proofs.Closed.{IsSameMake, awaits_fed, awaits_loses, awaits_no_more, same_make, harmless_fed, unharmed_fed, harmless_owed, harmless_loses}
 
 -- what settling keeps is kept when owed bytes are lost
 pub settling_loses : (byte : ℕ) (pages : List ℕ) (start d new : Device) → IsSettling byte pages start d → LosesOwed d new → IsSettling byte pages start new
@@ -24,6 +24,7 @@ settling_loses byte pages start d new s (n, e) = record {
   same_version = ap (λ (x : Device). x.version) e ∙ s.same_version;
   same_codes = ap (λ (x : Device). x.codes) e ∙ s.same_codes;
   harmless = harmless_loses byte pages d new s.harmless (n, e);
+  awaits = λ most three w. awaits_loses byte most d new (n, e) (s.awaits most three w);
   flash = subst (λ (x : Device). SameOutside start.chip pages start.flash x.flash) (sym e) s.flash;
   owed = (let few = s.owed in let l = ap (λ (x : Device). length x.owed) e in let k = length-drop n d.owed in omega arith);
 }
@@ -35,6 +36,7 @@ settling_fed byte pages start d new s f few = record {
   same_version = (same_make byte d new f).version ∙ s.same_version;
   same_codes = (same_make byte d new f).codes ∙ s.same_codes;
   harmless = harmless_fed byte pages d new s.harmless f;
+  awaits = λ most three w. awaits_no_more d new byte most pages s.harmless three (s.awaits most three w) f;
   flash = then_same start.chip pages start.flash d.flash new.flash s.flash (subst (λ (c : ChipData). SameOutside c pages d.flash new.flash) s.same_chip (unharmed_fed byte pages d new s.harmless f));
   owed = few;
 }
@@ -138,7 +140,7 @@ step byte pages start left d new is small g f = steps byte pages start left d ne
 pub going : (byte : ℕ) (pages : List ℕ) (d : Device) (left : ℕ) → Awaits byte left d → Harmless d byte pages → length d.owed ≤ 4096 →
     IsGoing byte pages d left (with_nothing_owed d)
 going byte pages d left many h few = record {
-  settling = record { same_chip = refl; same_version = refl; same_codes = refl; harmless = harmless_owed byte pages d [] h; flash = same_flash d.chip pages d.flash d.flash refl; owed = lit≤ tt };
+  settling = record { same_chip = refl; same_version = refl; same_codes = refl; harmless = harmless_owed byte pages d [] h; awaits = λ most three w. w; flash = same_flash d.chip pages d.flash d.flash refl; owed = lit≤ tt };
   quiet = refl;
   within = many;
 }
@@ -164,7 +166,8 @@ settling_connects byte pages start d new is s at quiet f =
       same_chip = s.same_chip;
       same_version = s.same_version;
       same_codes = s.same_codes;
-      harmless = harmless byte pages next is.size (mild_empty d.chip d.codes byte pages) (empty_enough next byte refl);
+      harmless = harmless byte pages next is.size (mild_empty d.chip d.codes byte pages);
+      awaits = λ most three w. empty_enough next byte most (omega (arith, three)) refl;
       flash = s.flash;
       owed = few;
     })

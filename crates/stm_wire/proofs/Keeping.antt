@@ -2,17 +2,19 @@
 use Rattle.std.proofs.Common.{eqb, inl, inr, ◌≡◌, ⊎_elim, ℕ, suc, ◌+◌, ◌-◌, ◌<◌, ◌≤◌, List, [], ◌∷◌, ◌++◌, length, drop, Option, Some, None, Result, Ok, Err, refl, sym, ◌∙◌, ap, subst, arith}
 use Rattle.std.proofs.lemmas.List.{drop-drop, length-drop}
 use Rattle.stm_wire.specs.declared.fault.RigFault.{RigFault}
-use Rattle.stm_wire.specs.Device.{Device, Feeds, LosesOwed, IsSettled, Fresh, Connected}
+use Rattle.stm_wire.specs.Device.{Device, IsDevice, Feeds, LosesOwed, IsSettled, Fresh, Connected}
 use Rattle.std.specs.Prelude.{MatchBool}
 use Rattle.stm_wire.specs.Rig.{RigState, IsModel, LeftByPut, LeftByGet, PutsHonestly, GetsHonestly, GetsFirst}
 use Rattle.stm_wire.specs.Harmless.{Harmless}
 use Rattle.stm_wire.proofs.Flash.{same_flash}
-use Rattle.stm_wire.specs.Awaited.{Awaits, most_for}
+use Rattle.stm_wire.specs.declared.chip.EraseKind.{EraseKind}
+use Rattle.stm_wire.specs.declared.chip.EraseKind.TheVariants.{Page, Extended}
+use Rattle.stm_wire.specs.Awaited.{Awaits, most_awaited}
 use Rattle.stm_wire.specs.Settling.{IsSettling, IsGoing, LeftBySettling, KeepsSettling, with_nothing_owed}
 use Rattle.stm_wire.specs.Command.{with_rest}
 use Rattle.stm_wire.specs.lemmas.MomentLaws.{started, joined, elapsed}
 use Rattle.stm_wire.specs.Reply.{ack, nack}
-use Rattle.stm_wire.proofs.Ending.{at_most, more_suffice}
+use Rattle.stm_wire.proofs.Ending.{awaited_limited, more_suffice}
 use Rattle.stm_wire.proofs.Going.{going, settling_loses, settling_fed, connects, waits, refuses, step, Steps, IsOver, IsNoRefusal, InBatch, batch_step, batch_begins, batch_ends}
 
 -- a moment is one of those that it keeps
@@ -145,7 +147,7 @@ pub not_owed : (first : ℕ) (d new : Device) → d.owed ≡ [] → GetsFirst (S
 not_owed first d new e t = let h = sym e ∙ ap (λ (x : Device). x.owed) t in cc
 
 pub settling_start : (byte : ℕ) (pages : List ℕ) (d : Device) → Harmless d byte pages → length d.owed ≤ 4096 → IsSettling byte pages d d
-settling_start byte pages d h few = record { same_chip = refl; same_version = refl; same_codes = refl; harmless = h; flash = same_flash d.chip pages d.flash d.flash refl; owed = few }
+settling_start byte pages d h few = record { same_chip = refl; same_version = refl; same_codes = refl; harmless = h; awaits = λ most three w. w; flash = same_flash d.chip pages d.flash d.flash refl; owed = few }
 
 pub going_next : (byte limit sent : ℕ) (pages : List ℕ) (start d : Device) → sent < limit → IsGoing byte pages start (limit - sent) d → IsGoing byte pages start (suc (limit - (sent + 1))) d
 going_next byte limit sent pages start d lt g =
@@ -168,9 +170,13 @@ going_begin byte left pages start d g =
     let P : ℕ → Type 0 = λ n. IsGoing byte pages start n d in
     subst P e g
 
--- of a harmless device no more is awaited than of any
-pub enough_sent : (byte limit : ℕ) (pages : List ℕ) (d : Device) → 131047 ≤ limit → Harmless d byte pages → Awaits byte limit d
-enough_sent byte limit pages d many h = let most = at_most d.chip.kind byte in more_suffice d byte (most_for d.chip.kind byte) limit (omega (arith, most, many)) h.awaits
+-- so many suffice for any device
+pub enough_sent : (byte limit : ℕ) (d : Device) → IsDevice d → byte < 256 → 131047 ≤ limit → Awaits byte limit d
+enough_sent byte limit d is small many = more_suffice d byte (most_awaited d.chip.kind) limit (within d.chip.kind) (awaited_limited d is byte small)
+  where
+    within : (kind : EraseKind) → most_awaited kind ≤ limit
+    within Page = omega (arith, many)
+    within Extended = many
 
 pub going_drained : (byte limit : ℕ) (pages : List ℕ) (d new : Device) → Awaits byte limit d → Harmless d byte pages → length d.owed ≤ 4096 → new ≡ with_nothing_owed d → IsGoing byte pages d limit new
 going_drained byte limit pages d new many h few e =

@@ -14,6 +14,9 @@ mod Erasing
 mod Feeding
 mod Flash
 mod GoFrame
+mod Greeted
+mod GreetedFrames
+mod Greeting
 mod Going
 mod Holding
 mod Keeping

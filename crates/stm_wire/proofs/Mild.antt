@@ -10,7 +10,6 @@ use Rattle.stm_wire.specs.Exchange.{verdict, complement, at_end, command_verdict
 use Rattle.stm_wire.specs.Effect.{change_of}
 use Rattle.stm_wire.specs.Device.{Device, Phase, Fresh, Connected, Gone, Takes, Receives, reset, phase_after}
 use Rattle.stm_wire.specs.Reply.{ack}
-use Rattle.stm_wire.specs.Awaited.{Awaits, most_for}
 use Rattle.stm_wire.specs.Harmless.{SameOutside, IsListening, Disturbance, Feed, Reset, Reaches, IsUnharmed, Harmless}
 use Rattle.stm_wire.proofs.Flash.{IsConfined, same_flash, then_same, effect_within}
 
@@ -111,5 +110,5 @@ unharmed byte pages d size t (Feed ∷ events) new (mid, feeds, reaches) =
 unharmed byte pages d size t (Reset ∷ events) new reaches =
     let after = unharmed byte pages (reset d) size tt events new reaches in record { phase = after.phase; flash = after.flash }
 
-pub harmless : (byte : ℕ) (pages : List ℕ) (d : Device) → length d.flash ≡ flash_size d.chip → Tame d.chip d.codes byte pages d.phase → Awaits byte (most_for d.chip.kind byte) d → Harmless d byte pages
-harmless byte pages d size t awaits = record { each = unharmed byte pages d size t; awaits = awaits }
+pub harmless : (byte : ℕ) (pages : List ℕ) (d : Device) → length d.flash ≡ flash_size d.chip → Tame d.chip d.codes byte pages d.phase → Harmless d byte pages
+harmless byte pages d size t = record { each = unharmed byte pages d size t }

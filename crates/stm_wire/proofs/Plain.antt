@@ -25,15 +25,15 @@ read_fits chip pages x bytes address (n ∷ check ∷ rest) =
     fits_end chip pages (0x11 ∷ x ∷ bytes) (done_if test) (fits_done_if chip pages (0x11 ∷ x ∷ bytes) test (refl, tt)) rest
 read_fits chip pages x bytes address _ = tt
 
-fits_get : (chip : ChipData) (codes pages rest : List ℕ) → FitsAll chip codes pages (0x00 ∷ rest)
+pub fits_get : (chip : ChipData) (codes pages rest : List ℕ) → FitsAll chip codes pages (0x00 ∷ rest)
 fits_get chip codes pages [] = tt
 fits_get chip codes pages (x ∷ rest) = after_pair chip codes pages 0x00 x rest (fits_end chip pages (0x00 ∷ x ∷ rest) Done (refl, tt) rest)
 
-fits_id : (chip : ChipData) (codes pages rest : List ℕ) → FitsAll chip codes pages (0x02 ∷ rest)
+pub fits_id : (chip : ChipData) (codes pages rest : List ℕ) → FitsAll chip codes pages (0x02 ∷ rest)
 fits_id chip codes pages [] = tt
 fits_id chip codes pages (x ∷ rest) = after_pair chip codes pages 0x02 x rest (fits_end chip pages (0x02 ∷ x ∷ rest) Done (refl, tt) rest)
 
-fits_read : (chip : ChipData) (codes pages rest : List ℕ) → FitsAll chip codes pages (0x11 ∷ rest)
+pub fits_read : (chip : ChipData) (codes pages rest : List ℕ) → FitsAll chip codes pages (0x11 ∷ rest)
 fits_read chip codes pages [] = tt
 fits_read chip codes pages (x ∷ rest) = after_pair chip codes pages 0x11 x rest (fits_address chip (is_readable chip) pages (0x11 ∷ x ∷ rest) (read_verdict chip) (read_fits chip pages x rest) rest)
 

@@ -1,19 +1,16 @@
 -- A read that may be refused: what each of its steps leaves of a device that follows the model, and what a stop in it does.
-use Rattle.std.proofs.Common.{◌≡◌, ◌⊎◌, inl, inr, ℕ, ◌+◌, ◌-◌, ◌/◌, ◌%◌, ◌≤◌, Bool, true, false, ◌&&◌, ◌==◌, List, [], ◌∷◌, ◌++◌, length, take, drop, get_or, Option, Some, IsTrue, refl, sym, ◌∙◌, ap, ap₂, subst, arith, eq-eqb, if◌then◌else◌, length-append, ⊎_elim, min, Result, Ok, Err, IsErrAnd, take_all}
-use Rattle.std.proofs.lemmas.Bool.{cases_lt}
-use Rattle.std.proofs.lemmas.List.{take_min, take-append-le, length-take, length-drop}
+use Rattle.std.proofs.Common.{lit≤, ◌≡◌, ◌⊎◌, inl, inr, ℕ, ◌+◌, ◌-◌, ◌/◌, ◌%◌, ◌≤◌, Bool, true, false, ◌&&◌, ◌==◌, List, [], ◌∷◌, ◌++◌, length, take, drop, get_or, Option, Some, IsTrue, refl, sym, ◌∙◌, ap, ap₂, subst, arith, eq-eqb, if◌then◌else◌, length-append, min, Result, Ok, Err, IsErrAnd}
+use Rattle.std.proofs.lemmas.List.{take_min, take-append-le}
 use Rattle.stm_wire.specs.declared.fault.WireFault.{WireFault}
 use Rattle.stm_wire.specs.declared.fault.WireFault.TheVariants.{Line}
 use Rattle.stm_wire.specs.lemmas.FlashLaws.{same_all}
-use Rattle.stm_wire.specs.Harmless.{SameOutside}
 use Rattle.stm_wire.specs.Stopped.{IsStoppedSafely, read}
-use Rattle.stm_wire.proofs.Closed.{harmless_loses}
 use Rattle.stm_wire.proofs.Flash.{same_flash}
 use Rattle.stm_wire.proofs.Mild.{Mild, harmless, mild_empty}
 use Rattle.stm_wire.proofs.Stopped.{mild_read_frame}
 use Rattle.stm_wire.proofs.Enough.{counts_none, empty_enough, enough_short, no_count}
 use Rattle.stm_wire.proofs.StoppedFrames.{asking_changes_nothing, read_suffices}
-use Rattle.stm_wire.proofs.Stops.{Suffices, along-append, along-take, replies-few, suffices_along}
+use Rattle.stm_wire.proofs.Stops.{Suffices, along-append, before_last, replies-few, stopped_from}
 use Rattle.stm_wire.specs.Chip.{ChipData}
 use Rattle.stm_wire.specs.Telling.{can_read, is_readable}
 use Rattle.stm_wire.specs.declared.verdict.Verdict.{Verdict}
@@ -203,57 +200,23 @@ asked_failed address size bytes a b e (Err x) is part line = record { sent = par
 
 -- a stop within a step that is refused at its last byte
 module _ (old : Device) (body : List ℕ) (last : ℕ) (is : IsDevice old) (settled : IsSettled old) (waits : OpenAlong old.chip old.codes [] body) (refused : verdict old.chip old.codes (body ++ last ∷ []) ≡ Some Refused) (few : length body ≤ 4000)
-    (byte : ℕ) (mild : (j : ℕ) → Mild old.chip old.codes byte [] (take j (body ++ last ∷ []))) (enough : Suffices old byte (body ++ last ∷ [])) where
-  starts : old ≡ with_rest [] old
-  starts = settled-is old settled
-
-  within : (n : ℕ) (mid : Device) → n ≤ length body → Fed (take n (body ++ last ∷ [])) old mid → IsStoppedSafely old byte [] mid
-  within n mid le f =
-      let next : Device = record old { owed = replies_along [] (take n body); phase = Connected (take n body) } in
-      let same = take-append-le n body (last ∷ []) le in
-      let g : Fed (take n body) old mid = subst (λ (xs : List ℕ). Fed xs old mid) same f in
-      let at : mid ≡ next = fed-along (take n body) [] [] old mid (along-take old.chip old.codes [] body n waits) (subst (λ (x : Device). Fed (take n body) x mid) starts g) in
-      let m : Mild old.chip old.codes byte [] (take n body) = subst (Mild old.chip old.codes byte []) same (mild n) in
-      subst (IsStoppedSafely old byte []) (sym at) (record {
-        same_chip = refl;
-        same_version = refl;
-        same_codes = refl;
-        harmless = harmless byte [] next is.size m (suffices_along old byte body last waits enough n le);
-        flash = same_flash old.chip [] old.flash old.flash refl;
-        owed = omega (arith, few, replies-few [] (take n body), length-take n body);
-      })
-
-  at_last : (mid : Device) → Fed (body ++ last ∷ []) old mid → IsStoppedSafely old byte [] mid
+    (byte : ℕ) (mild : (j : ℕ) → Mild old.chip old.codes byte [] (take j (body ++ last ∷ []))) (enough : Suffices old byte 267 (body ++ last ∷ [])) where
+  at_last : (mid : Device) → Fed (body ++ last ∷ []) old mid → IsStoppedSafely old byte 267 [] mid
   at_last mid f =
       let next : Device = record old { owed = replies_along [] body ++ nack ∷ []; phase = Connected [] } in
-      let parts = Fed-split body (last ∷ []) old mid f in
-      let first = fed-along body [] [] old parts.0 waits (subst (λ (x : Device). Fed body x parts.0) starts parts.1) in
-      let one : Feeds last parts.0 mid = subst (λ (x : Device). Feeds last parts.0 x) (sym parts.2.2) parts.2.1 in
-      let at : mid ≡ next = feeds-refused last body (record old { owed = replies_along [] body; phase = Connected body }) mid refl refused (subst (λ (x : Device). Feeds last x mid) first one) in
-      subst (IsStoppedSafely old byte []) (sym at) (record {
+      let at : mid ≡ next = feeds-refused last body (record old { owed = replies_along [] body; phase = Connected body }) mid refl refused (before_last old body last is settled waits mid f) in
+      subst (IsStoppedSafely old byte 267 []) (sym at) (record {
         same_chip = refl;
         same_version = refl;
         same_codes = refl;
-        harmless = harmless byte [] next is.size (mild_empty old.chip old.codes byte []) (empty_enough next byte refl);
+        harmless = harmless byte [] next is.size (mild_empty old.chip old.codes byte []);
+        awaits = empty_enough next byte 267 (lit≤ tt) refl;
         flash = same_flash old.chip [] old.flash old.flash refl;
         owed = omega (arith, few, replies-few [] body, length-append (replies_along [] body) (nack ∷ []));
       })
 
-  pub refused_safely : (d : Device) → PartlyFed (body ++ last ∷ []) old d → IsStoppedSafely old byte [] d
-  refused_safely d (n, (mid, fed, (k, e))) =
-      let s : IsStoppedSafely old byte [] mid =
-      ⊎_elim
-      (λ lt. within n mid (omega (arith, lt)) fed)
-      (λ le. at_last mid (subst (λ (xs : List ℕ). Fed xs old mid) (take_all n (body ++ last ∷ []) (omega (arith, le, length-append body (last ∷ [])))) fed))
-      (cases_lt n (length body + 1)) in
-      record {
-        same_chip = ap (λ (x : Device). x.chip) e ∙ s.same_chip;
-        same_version = ap (λ (x : Device). x.version) e ∙ s.same_version;
-        same_codes = ap (λ (x : Device). x.codes) e ∙ s.same_codes;
-        harmless = harmless_loses byte [] mid d s.harmless (k, e);
-        flash = subst (λ (x : Device). SameOutside old.chip [] old.flash x.flash) (sym e) s.flash;
-        owed = (let l = ap (λ (x : Device). length x.owed) e in let few = s.owed in let m = length-drop k mid.owed in omega arith);
-      }
+  pub refused_safely : (d : Device) → PartlyFed (body ++ last ∷ []) old d → IsStoppedSafely old byte 267 [] d
+  refused_safely d fed = stopped_from old body last is settled waits byte 267 [] (omega (arith, few)) mild enough at_last d fed
 
 module _ (old d : Device) (byte address size : ℕ) (is : IsDevice old) (settled : IsSettled old) (some : 1 ≤ size) (most : size ≤ 256) where
   mild_frame : (j : ℕ) → Mild old.chip old.codes byte [] (take j (read_frame address size))
@@ -266,13 +229,13 @@ module _ (old d : Device) (byte address size : ℕ) (is : IsDevice old) (settled
       let le : i ≤ length head = omega arith in
       subst (Mild old.chip old.codes byte []) (take-append-le i head (command (size - 1)) le ∙ take_min j head) (mild_frame i)
 
-  suffices_head : Suffices old byte (read_head address)
+  suffices_head : Suffices old byte 267 (read_head address)
   suffices_head = record {
     counted = counts_none 0x11 0xEE (with_checksum (address_bytes address)) refl refl;
-    enough = enough_short old.chip old.codes old.chip.kind byte 0x11 (0xEE ∷ with_checksum (address_bytes address)) (no_count 0x11 byte refl refl) refl;
+    enough = enough_short old.chip old.codes byte 267 0x11 (0xEE ∷ with_checksum (address_bytes address)) (lit≤ tt) (no_count 0x11 byte refl refl) refl;
   }
 
-  outside_safely : is_readable old.chip address ≡ false → PartlyFed (read_head address) old d → IsStoppedSafely old byte [] d
+  outside_safely : is_readable old.chip address ≡ false → PartlyFed (read_head address) old d → IsStoppedSafely old byte 267 [] d
   outside_safely outside fed =
       let body = command 0x11 ++ address_bytes address in
       let along = along-append old.chip old.codes [] (command 0x11) (address_bytes address) (command-waits old.chip old.codes 0x11 is.read refl) (address_open address old is settled outside) in
@@ -282,20 +245,20 @@ module _ (old d : Device) (byte address size : ℕ) (is : IsDevice old) (settled
   to_address inside = along-append old.chip old.codes [] (command 0x11) (with_checksum (address_bytes address)) (command-waits old.chip old.codes 0x11 is.read refl)
       (address-waits old.chip old.codes 0x11 address is.read (addressed old.chip 0x11 (inl refl)) inside)
 
-  over_safely : IsTrue (is_readable old.chip address) → can_read old.chip address size ≡ false → PartlyFed (read_frame address size) old d → IsStoppedSafely old byte [] d
+  over_safely : IsTrue (is_readable old.chip address) → can_read old.chip address size ≡ false → PartlyFed (read_frame address size) old d → IsStoppedSafely old byte 267 [] d
   over_safely inside over fed =
       let body = read_head address ++ (size - 1) ∷ [] in
       let along = along-append old.chip old.codes [] (read_head address) ((size - 1) ∷ []) (to_address inside) (count_open address old is settled size some inside) in
-      refused_safely old body (complement (size - 1)) is settled along (count_refuses address old is settled size some inside over) (omega arith) byte mild_frame (read_suffices old byte address size) d fed
+      refused_safely old body (complement (size - 1)) is settled along (count_refuses address old is settled size some inside over) (omega arith) byte mild_frame (read_suffices old byte 267 address size (lit≤ tt)) d fed
 
-  inside_safely : IsTrue (is_readable old.chip address) → PartlyFed (read_frame address size) old d → IsStoppedSafely old byte [] d
+  inside_safely : IsTrue (is_readable old.chip address) → PartlyFed (read_frame address size) old d → IsStoppedSafely old byte 267 [] d
   inside_safely inside fed =
-      elim (can_read old.chip address size) as (λ t. can_read old.chip address size ≡ t → IsStoppedSafely old byte [] d)
+      elim (can_read old.chip address size) as (λ t. can_read old.chip address size ≡ t → IsStoppedSafely old byte 267 [] d)
       [ true ↦ λ e. (asking_changes_nothing old d byte (read_frame address size) is settled (read address size some most e refl) fed).0 | false ↦ λ e. over_safely inside e fed ] refl
 
-  pub read_safely : PartlyFed (refusable_frame old.chip address size) old d → IsStoppedSafely old byte [] d
+  pub read_safely : PartlyFed (refusable_frame old.chip address size) old d → IsStoppedSafely old byte 267 [] d
   read_safely fed =
-      elim (is_readable old.chip address) as (λ t. is_readable old.chip address ≡ t → PartlyFed (if t then read_frame address size else read_head address) old d → IsStoppedSafely old byte [] d)
+      elim (is_readable old.chip address) as (λ t. is_readable old.chip address ≡ t → PartlyFed (if t then read_frame address size else read_head address) old d → IsStoppedSafely old byte 267 [] d)
       [ true ↦ λ e f. inside_safely e f | false ↦ λ e f. outside_safely e f ] refl fed
 
 pub reads_change_nothing : RefusableReadsChangeNothing

@@ -6,7 +6,7 @@ use Rattle.stm_wire.specs.Call.{Call, Put, Get, Append, Fetch}
 use Rattle.stm_wire.specs.Reply.{nack}
 use Rattle.stm_wire.specs.Rig.{Records}
 use Rattle.stm_wire.specs.Dialogue.{Adds, GoesOn, puts_of}
-use Rattle.stm_wire.specs.SettlingCalls.{taken, has_nack, IsDrained, batch_size, IsBatch, AreBatches, none, more, HearsNoNack, IsUnrefused, AreUnrefused, IsRefused, IsConnected, IsReconnected, EndsSingly, refused, reconnected, IsBatched, answered, used_up, EndsInBatches, EndsByteByByte, EndsSettled, singly, batched}
+use Rattle.stm_wire.specs.SettlingCalls.{taken, has_nack, IsDrained, batch_size, IsBatch, AreBatches, none, more, HearsNoNack, IsUnrefused, AreUnrefused, IsRefused, IsConnected, IsReconnected, EndsSingly, refused, reconnected, IsBatched, answered, used_up, EndsInBatches, EndsByteByByte, EndsSettled, singly}
 use Rattle.stm_wire.proofs.Turns.{Adds-append, Adds-GoesOn, GoesOn-append, GoesOn-weaker}
 use Rattle.stm_wire.proofs.Talking.{puts_of-append, goes_nowhere, replicate-more}
 
@@ -201,6 +201,3 @@ batched_calls byte limit left seen a b c d p q r =
 -- so a settling ends
 pub settled_singly : (byte limit : ℕ) (a b : Option (List Call)) → byte ≡ 0x7F → GoesOn (EndsByteByByte byte limit) a b → GoesOn (EndsSettled byte limit) a b
 settled_singly byte limit a b same p = GoesOn-weaker (EndsByteByByte byte limit) (EndsSettled byte limit) a b p (λ us u. singly same u)
-
-pub settled_batched : (byte limit : ℕ) (a b : Option (List Call)) → byte ≢ 0x7F → GoesOn (EndsInBatches byte limit) a b → GoesOn (EndsSettled byte limit) a b
-settled_batched byte limit a b other p = GoesOn-weaker (EndsInBatches byte limit) (EndsSettled byte limit) a b p (λ us u. batched other u)

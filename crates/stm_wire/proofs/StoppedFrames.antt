@@ -11,6 +11,7 @@ use Rattle.stm_wire.specs.declared.verdict.Verdict.TheVariants.{Done}
 use Rattle.stm_wire.specs.Telling.{can_read, is_readable}
 use Rattle.stm_wire.specs.Chip.{ChipData, page_count, page_limit, fits_inside, is_inside}
 use Rattle.stm_wire.specs.Exchange.{done_if, read_verdict, write_verdict, complement, number_of, xor, pair_of}
+use Rattle.stm_wire.specs.Awaited.{most_for, most_under}
 use Rattle.stm_wire.specs.Device.{Device, IsDevice, IsSettled, ListsKind}
 use Rattle.stm_wire.specs.Frames.{command, with_checksum, address_bytes, erase_frame, read_frame, write_frame}
 use Rattle.stm_wire.specs.Intents.{settling_byte, intended_pages}
@@ -22,21 +23,22 @@ use Rattle.stm_wire.proofs.Writing.{data-waits}
 use Rattle.stm_wire.proofs.Tellings.{fits-inside, readable-address, readable-few}
 use Rattle.stm_wire.proofs.Mild.{Mild}
 use Rattle.stm_wire.proofs.Bound.{IsCounted}
-use Rattle.stm_wire.proofs.Enough.{Enough, byte_small, counts_none, counts_page, counts_write, enough_erase}
-use Rattle.stm_wire.proofs.Stopped.{byte_of, enough_get, enough_id, enough_read, enough_write, fewer, fewer_outside, erasable, one_erasable, mild_get_frame, mild_id_frame, mild_read_frame, mild_erase_frame, mild_write_frame}
+use Rattle.stm_wire.proofs.Ending.{at_least}
+use Rattle.stm_wire.proofs.Enough.{byte_small, counts_none, counts_page, counts_write, enough_erase}
+use Rattle.stm_wire.proofs.Stopped.{at_least_under, byte_of, enough_get, enough_id, enough_read, enough_write, fewer, fewer_outside, erasable, one_erasable, mild_get_frame, mild_id_frame, mild_read_frame, mild_erase_frame, mild_write_frame}
 use Rattle.stm_wire.specs.lemmas.FlashLaws.{same_all}
 use Rattle.stm_wire.proofs.Pages.{page_inside}
 use Rattle.stm_wire.proofs.Stops.{IsWhole, Suffices, along-append, stopped_safely}
 
 module _ (d : Device) (is : IsDevice d) where
-  get_whole : IsWhole d (0x00 ∷ []) 0xFF
+  pub get_whole : IsWhole d (0x00 ∷ []) 0xFF
   get_whole = record {
     along = (refl, tt);
     done = verdict-listed d.chip d.codes 0x00 [] is.get;
     few = omega (arith, is.count, length-append d.codes (0x79 ∷ []));
   }
 
-  id_whole : IsWhole d (0x02 ∷ []) 0xFD
+  pub id_whole : IsWhole d (0x02 ∷ []) 0xFD
   id_whole = record { along = (refl, tt); done = verdict-listed d.chip d.codes 0x02 [] is.get_id; few = lit≤ tt }
 
   module _ (address size : ℕ) (some : 1 ≤ size) (most : size ≤ 256) (fits : IsTrue (can_read d.chip address size)) where
@@ -47,7 +49,7 @@ module _ (d : Device) (is : IsDevice d) where
     to_address = along-append d.chip d.codes [] (command 0x11) (with_checksum (address_bytes address)) (command-waits d.chip d.codes 0x11 is.read refl)
         (address-waits d.chip d.codes 0x11 address is.read (addressed d.chip 0x11 (inl refl)) inside)
 
-    read_whole : IsWhole d (command 0x11 ++ with_checksum (address_bytes address) ++ (size - 1) ∷ []) (complement (size - 1))
+    pub read_whole : IsWhole d (command 0x11 ++ with_checksum (address_bytes address) ++ (size - 1) ∷ []) (complement (size - 1))
     read_whole =
         let e : (size - 1) + 1 ≡ size = omega arith in
         let P : ℕ → Type 0 = λ n. Some (done_if (complement (size - 1) == complement (size - 1) && can_read d.chip address n)) ≡ Some Done in
@@ -100,7 +102,7 @@ module _ (d : Device) (is : IsDevice d) where
         ap (λ b. choose b (get_or (sent ++ check ∷ []) (count + 1) 0) (take (count + 1) (sent ++ check ∷ [])) (count + 1)) (eq-eqb (length (sent ++ check ∷ [])) (count + 2) whole)
         ∙ ap₂ (λ l xs. choose true l xs (count + 1)) last data' ∙ ap (λ n. choose true check sent n) counts ∙ ap₂ tests (eq-eqb check check refl) fits
 
-    write_whole : IsWhole d (command 0x31 ++ with_checksum (address_bytes address) ++ count ∷ sent) check
+    pub write_whole : IsWhole d (command 0x31 ++ with_checksum (address_bytes address) ++ count ∷ sent) check
     write_whole = record {
       along = write_along;
       done = verdict-listed d.chip d.codes 0x31 (with_checksum (address_bytes address) ++ count ∷ (sent ++ check ∷ [])) is.write
@@ -109,15 +111,15 @@ module _ (d : Device) (is : IsDevice d) where
     }
 
 -- an erase of one page, all but its last byte
-abbrev erase_body : EraseKind → ℕ → List ℕ
+abbrev pub erase_body : EraseKind → ℕ → List ℕ
 erase_body Page N = command 0x43 ++ 0 ∷ N ∷ []
 erase_body Extended N = command 0x44 ++ 0 ∷ 0 ∷ N / 256 ∷ N % 256 ∷ []
 
-abbrev erase_check : EraseKind → ℕ → ℕ
+abbrev pub erase_check : EraseKind → ℕ → ℕ
 erase_check Page N = xor (0 ∷ N ∷ [])
 erase_check Extended N = xor (0 ∷ 0 ∷ N / 256 ∷ N % 256 ∷ [])
 
-erase_whole : (d : Device) (kind : EraseKind) (N : ℕ) → ListsKind kind d.codes → N < page_count d.chip → IsWhole d (erase_body kind N) (erase_check kind N)
+pub erase_whole : (d : Device) (kind : EraseKind) (N : ℕ) → ListsKind kind d.codes → N < page_count d.chip → IsWhole d (erase_body kind N) (erase_check kind N)
 erase_whole d Page N lists here =
     let listed = lists.0 in
     let choose : Bool → Bool → Option Verdict = λ x y. Some (done_if (x && (y && true))) in
@@ -152,55 +154,55 @@ erase_whole d Extended N lists here =
       few = lit≤ tt;
     }
 
-frame_of : (kind : EraseKind) (N : ℕ) → erase_body kind N ++ erase_check kind N ∷ [] ≡ erase_frame kind N
+pub frame_of : (kind : EraseKind) (N : ℕ) → erase_body kind N ++ erase_check kind N ∷ [] ≡ erase_frame kind N
 frame_of Page N = refl
 frame_of Extended N = refl
 
 -- a stop in a frame which is that of a whole body
-safely : (old d : Device) (byte : ℕ) (pages : List ℕ) (frame : List ℕ) (body : List ℕ) (last : ℕ) → IsDevice old → IsSettled old → IsWhole old body last → frame ≡ body ++ last ∷ []
-    → ((j : ℕ) → Mild old.chip old.codes byte pages (take j (body ++ last ∷ []))) → Suffices old byte (body ++ last ∷ []) → PartlyFed frame old d → IsStoppedSafely old byte pages d
-safely old d byte pages frame body last is settled whole e mild enough fed =
-    stopped_safely old body last is settled whole byte pages mild enough d (subst (λ (f : List ℕ). PartlyFed f old d) e fed)
+safely : (old d : Device) (byte most : ℕ) (pages : List ℕ) (frame : List ℕ) (body : List ℕ) (last : ℕ) → 267 ≤ most → IsDevice old → IsSettled old → IsWhole old body last → frame ≡ body ++ last ∷ []
+    → ((j : ℕ) → Mild old.chip old.codes byte pages (take j (body ++ last ∷ []))) → Suffices old byte most (body ++ last ∷ []) → PartlyFed frame old d → IsStoppedSafely old byte most pages d
+safely old d byte most pages frame body last le is settled whole e mild enough fed =
+    stopped_safely old body last is settled whole byte most pages (omega (arith, le)) mild enough d (subst (λ (f : List ℕ). PartlyFed f old d) e fed)
 
 -- a read changes nothing, whatever the byte
-pub read_suffices : (d : Device) (byte address size : ℕ) → Suffices d byte (read_frame address size)
-read_suffices d byte address size = record {
+pub read_suffices : (d : Device) (byte most address size : ℕ) → 267 ≤ most → Suffices d byte most (read_frame address size)
+read_suffices d byte most address size le = record {
   counted = counts_none 0x11 0xEE (with_checksum (address_bytes address) ++ command (size - 1)) refl refl;
-  enough = enough_read d byte address size;
+  enough = enough_read d byte most address size le;
 }
 
-erase_suffices : (d : Device) (kind : EraseKind) (byte N : ℕ) → d.chip.kind ≡ kind → ListsKind kind d.codes → byte < 256 → Suffices d byte (erase_frame kind N)
-erase_suffices d kind byte N same lists small = record {
+pub erase_suffices : (d : Device) (kind : EraseKind) (byte N : ℕ) → ListsKind kind d.codes → byte < 256 → Suffices d byte (most_for kind byte) (erase_frame kind N)
+erase_suffices d kind byte N lists small = record {
   counted = counts kind;
-  enough = subst (λ (k : EraseKind). Enough d.chip d.codes k byte (erase_frame kind N)) (sym same) (enough_erase d.chip d.codes kind byte N lists small);
+  enough = enough_erase d.chip d.codes kind byte N lists small;
 }
   where
     counts : (kind : EraseKind) → (n : ℕ) → IsCounted (take n (erase_frame kind N))
     counts Page = counts_page 0xBC N (xor (0 ∷ N ∷ []))
     counts Extended = counts_none 0x44 0xBB (0 ∷ 0 ∷ N / 256 ∷ N % 256 ∷ xor (0 ∷ 0 ∷ N / 256 ∷ N % 256 ∷ []) ∷ []) refl refl
 
-write_suffices : (d : Device) (byte address : ℕ) (sent : List ℕ) → byte < 256 → length sent ≤ 256 → Suffices d byte (write_frame address sent)
+pub write_suffices : (d : Device) (byte address : ℕ) (sent : List ℕ) → byte < 256 → length sent ≤ 256 → Suffices d byte 267 (write_frame address sent)
 write_suffices d byte address sent small most = record {
   counted = counts_write 0xCE (address / 16777216) (address / 65536 % 256) (address / 256 % 256) (address % 256) (xor (address_bytes address)) (length sent - 1) (sent ++ xor ((length sent - 1) ∷ sent) ∷ []) (omega (arith, most));
   enough = enough_write d byte address sent small;
 }
 
-question_safely : (old d : Device) (byte : ℕ) (pages : List ℕ) (frame : List ℕ) → IsDevice old → IsSettled old → IsQuestion old.chip frame → PartlyFed frame old d → IsStoppedSafely old byte pages d
-question_safely old d byte pages frame is settled (get e) fed =
-    safely old d byte pages frame (0x00 ∷ []) 0xFF is settled (get_whole old is) e (mild_get_frame old.chip old.codes byte pages) (record { counted = counts_none 0x00 0xFF [] refl refl; enough = enough_get old byte }) fed
-question_safely old d byte pages frame is settled (get_id e) fed =
-    safely old d byte pages frame (0x02 ∷ []) 0xFD is settled (id_whole old is) e (mild_id_frame old.chip old.codes byte pages) (record { counted = counts_none 0x02 0xFD [] refl refl; enough = enough_id old byte }) fed
-question_safely old d byte pages frame is settled (read address size some most fits e) fed =
-    safely old d byte pages frame (command 0x11 ++ with_checksum (address_bytes address) ++ (size - 1) ∷ []) (complement (size - 1)) is settled (read_whole old is address size some most fits) e
-    (mild_read_frame old.chip old.codes byte pages address size) (read_suffices old byte address size) fed
+question_safely : (old d : Device) (byte most : ℕ) (pages : List ℕ) (frame : List ℕ) → 267 ≤ most → IsDevice old → IsSettled old → IsQuestion old.chip frame → PartlyFed frame old d → IsStoppedSafely old byte most pages d
+question_safely old d byte most pages frame le is settled (get e) fed =
+    safely old d byte most pages frame (0x00 ∷ []) 0xFF le is settled (get_whole old is) e (mild_get_frame old.chip old.codes byte pages) (record { counted = counts_none 0x00 0xFF [] refl refl; enough = enough_get old byte most le }) fed
+question_safely old d byte most pages frame le is settled (get_id e) fed =
+    safely old d byte most pages frame (0x02 ∷ []) 0xFD le is settled (id_whole old is) e (mild_id_frame old.chip old.codes byte pages) (record { counted = counts_none 0x02 0xFD [] refl refl; enough = enough_id old byte most le }) fed
+question_safely old d byte most pages frame le is settled (read address size some few fits e) fed =
+    safely old d byte most pages frame (command 0x11 ++ with_checksum (address_bytes address) ++ (size - 1) ∷ []) (complement (size - 1)) le is settled (read_whole old is address size some few fits) e
+    (mild_read_frame old.chip old.codes byte pages address size) (read_suffices old byte most address size le) fed
 
 pub asking_changes_nothing : AskingChangesNothing
 asking_changes_nothing old d byte frame is settled question fed =
-    let s = question_safely old d byte [] frame is settled question fed in
+    let s = question_safely old d byte 267 [] frame (lit≤ tt) is settled question fed in
     (s, same_all old.chip old.flash d.flash is.size s.flash)
 
 erase_safely : (old d : Device) (N : ℕ) (frame : List ℕ) → IsDevice old → IsSettled old → N < page_count old.chip → frame ≡ erase_frame old.chip.kind N → PartlyFed frame old d
-    → IsStoppedSafely old (settling_byte (Some (Erase N))) (intended_pages (Some (Erase N))) d
+    → IsStoppedSafely old (settling_byte (Some (Erase N))) (most_under old.chip.kind (Some (Erase N))) (intended_pages (Some (Erase N))) d
 erase_safely old d N frame is settled here e fed =
     let most = is.chip.last_page in
     let kind = old.chip.kind in
@@ -208,26 +210,31 @@ erase_safely old d N frame is settled here e fed =
     let byte = byte_of N in
     let named = intended_pages (Some (Erase N)) in
     let pages = erasable kind N in
-    let s = safely old d byte pages frame (erase_body kind N) (erase_check kind N) is settled (erase_whole old kind N is.erase here) (e ∙ sym (frame_of kind N))
+    let s = safely old d byte (most_for kind byte) pages frame (erase_body kind N) (erase_check kind N) (at_least kind byte) is settled (erase_whole old kind N is.erase here) (e ∙ sym (frame_of kind N))
     (λ j. subst (λ (f : List ℕ). Mild old.chip old.codes byte pages (take j f)) (sym (frame_of kind N)) (mild_erase_frame old.chip old.codes kind N small j))
-    (subst (Suffices old byte) (sym (frame_of kind N)) (erase_suffices old kind byte N refl is.erase (byte_small (Some (Erase N))))) fed in
+    (subst (Suffices old byte (most_for kind byte)) (sym (frame_of kind N)) (erase_suffices old kind byte N is.erase (byte_small (Some (Erase N))))) fed in
     let one : (n : ℕ) → n < page_count old.chip → Contains pages n → Contains named n = λ n le c. one_erasable kind N n (omega (arith, most, le)) c in
     record {
       same_chip = s.same_chip;
       same_version = s.same_version;
       same_codes = s.same_codes;
       harmless = fewer d byte named pages (λ n le c. one n (subst (λ (chip : ChipData). n < page_count chip) s.same_chip le) c) s.harmless;
+      awaits = s.awaits;
       flash = fewer_outside old.chip named pages old.flash d.flash one s.flash;
       owed = s.owed;
     }
 
-under : (old d : Device) (i j : Option Intent) → i ≡ j → IsStoppedSafely old (settling_byte j) (intended_pages j) d → IsStoppedSafely old (settling_byte i) (intended_pages i) d
-under old d i j e s = subst (λ (x : Option Intent). IsStoppedSafely old (settling_byte x) (intended_pages x) d) (sym e) s
+abbrev Stops : Device → Option Intent → Device → Type 0
+Stops old intent d = IsStoppedSafely old (settling_byte intent) (most_under old.chip.kind intent) (intended_pages intent) d
+
+under : (old d : Device) (i j : Option Intent) → i ≡ j → Stops old j d → Stops old i d
+under old d i j e s = subst (λ (x : Option Intent). Stops old x d) (sym e) s
 
 pub sending_is_harmless : SendingIsHarmless
-sending_is_harmless old d intent frame is settled (asks question) fed = question_safely old d (settling_byte intent) (intended_pages intent) frame is settled question fed
+sending_is_harmless old d intent frame is settled (asks question) fed =
+    question_safely old d (settling_byte intent) (most_under old.chip.kind intent) (intended_pages intent) frame (at_least_under old.chip.kind intent) is settled question fed
 sending_is_harmless old d intent frame is settled (erases page i here e) fed = under old d intent (Some (Erase page)) i (erase_safely old d page frame is settled here e fed)
 sending_is_harmless old d intent frame is settled (writes page address sent i some most within e) fed =
     under old d intent (Some (Program page)) i
-    (safely old d 2 (page ∷ []) frame (command 0x31 ++ with_checksum (address_bytes address) ++ (length sent - 1) ∷ sent) (xor ((length sent - 1) ∷ sent)) is settled
+    (safely old d 2 267 (page ∷ []) frame (command 0x31 ++ with_checksum (address_bytes address) ++ (length sent - 1) ∷ sent) (xor ((length sent - 1) ∷ sent)) (lit≤ tt) is settled
     (write_whole old is address sent some most (page_inside old.chip page address (length sent) within)) e (mild_write_frame old.chip old.codes page address sent some within) (write_suffices old 2 address sent (lit< tt) most) fed)

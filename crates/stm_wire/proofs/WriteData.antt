@@ -12,7 +12,7 @@ use Rattle.stm_wire.proofs.Plain.{fits_done_if}
 
 module _ (chip : ChipData) (codes pages : List ℕ) where
   -- the address and the count were sent: what follows may be anything
-  sent : (a b c d x n : ℕ) → ((bytes : List ℕ) → IsConfined chip pages (Write (number_of a b c d) (take (n + 1) bytes))) →
+  pub sent : (a b c d x n : ℕ) → ((bytes : List ℕ) → IsConfined chip pages (Write (number_of a b c d) (take (n + 1) bytes))) →
       (rest : List ℕ) → FitsAll chip codes pages (0x31 ∷ 0xCE ∷ a ∷ b ∷ c ∷ d ∷ x ∷ n ∷ rest)
   sent a b c d x n within rest =
       let bytes = 0x31 ∷ 0xCE ∷ a ∷ b ∷ c ∷ d ∷ x ∷ n ∷ rest in
@@ -34,7 +34,7 @@ module _ (chip : ChipData) (codes pages : List ℕ) where
   two_data bytes at (suc (suc (suc (suc (suc k))))) =
       cond_both (eqb (length (2 ∷ 2 ∷ 2 ∷ 2 ∷ replicate k 2)) 4) (Some Refused) None (Fits chip pages bytes) (λ _. tt) (λ _. tt)
 
-  after_check : (a b c d x : ℕ) → Mild chip codes 2 pages (0x31 ∷ 0xCE ∷ a ∷ b ∷ c ∷ d ∷ x ∷ [])
+  pub after_check : (a b c d x : ℕ) → Mild chip codes 2 pages (0x31 ∷ 0xCE ∷ a ∷ b ∷ c ∷ d ∷ x ∷ [])
   after_check a b c d x k =
       let rest = replicate k 2 in
       let bytes = 0x31 ∷ 0xCE ∷ a ∷ b ∷ c ∷ d ∷ x ∷ rest in
@@ -47,16 +47,16 @@ module _ (chip : ChipData) (codes pages : List ℕ) where
   shorter : (rest : List ℕ) → after_address (is_inside chip) (write_verdict chip) rest ≡ None → Mild chip codes 2 pages (0x31 ∷ 0xCE ∷ rest ++ 2 ∷ []) → Mild chip codes 2 pages (0x31 ∷ 0xCE ∷ rest)
   shorter rest e m = mild_less chip codes 2 pages (0x31 ∷ 0xCE ∷ rest) (after_pair chip codes pages 0x31 0xCE rest (rw e tt)) m
 
-  after_four : (a b c d : ℕ) → Mild chip codes 2 pages (0x31 ∷ 0xCE ∷ a ∷ b ∷ c ∷ d ∷ [])
+  pub after_four : (a b c d : ℕ) → Mild chip codes 2 pages (0x31 ∷ 0xCE ∷ a ∷ b ∷ c ∷ d ∷ [])
   after_four a b c d = shorter (a ∷ b ∷ c ∷ d ∷ []) refl (after_check a b c d 2)
 
-  after_three : (a b c : ℕ) → Mild chip codes 2 pages (0x31 ∷ 0xCE ∷ a ∷ b ∷ c ∷ [])
+  pub after_three : (a b c : ℕ) → Mild chip codes 2 pages (0x31 ∷ 0xCE ∷ a ∷ b ∷ c ∷ [])
   after_three a b c = shorter (a ∷ b ∷ c ∷ []) refl (after_four a b c 2)
 
-  after_two : (a b : ℕ) → Mild chip codes 2 pages (0x31 ∷ 0xCE ∷ a ∷ b ∷ [])
+  pub after_two : (a b : ℕ) → Mild chip codes 2 pages (0x31 ∷ 0xCE ∷ a ∷ b ∷ [])
   after_two a b = shorter (a ∷ b ∷ []) refl (after_three a b 2)
 
-  after_one : (a : ℕ) → Mild chip codes 2 pages (0x31 ∷ 0xCE ∷ a ∷ [])
+  pub after_one : (a : ℕ) → Mild chip codes 2 pages (0x31 ∷ 0xCE ∷ a ∷ [])
   after_one a = shorter (a ∷ []) refl (after_two a 2)
 
   after_command : Mild chip codes 2 pages (0x31 ∷ 0xCE ∷ [])

@@ -2,7 +2,6 @@
 use Rattle.std.specs.Prelude.{◌≡◌, ℕ, ◌<◌, List, [], ◌∷◌, length, Contains}
 use Rattle.stm_wire.specs.Chip.{ChipData, page_count, page_of}
 use Rattle.stm_wire.specs.Device.{Device, Phase, Fresh, Connected, Gone, Feeds, reset}
-use Rattle.stm_wire.specs.Awaited.{Awaits, most_for}
 
 -- the two flashes agree in each page that isn't among these
 pub record SameOutside (chip : ChipData) (pages : List ℕ) (old new : List ℕ) : Type 0 where
@@ -33,9 +32,7 @@ pub record IsUnharmed (old : Device) (pages : List ℕ) (new : Device) : Type 0 
   pub phase : IsListening new.phase
   pub flash : SameOutside old.chip pages old.flash new.flash
 
--- However often the byte is fed and the device is reset, it stays so; and the list that it waits
--- in is no longer than one that stmflash began and this byte goes on with.
+-- however often the byte is fed and the device is reset, it stays so
 pub record Harmless (d : Device) (byte : ℕ) (pages : List ℕ) : Type 0 where
   pub each : (events : List Disturbance) (new : Device) → Reaches byte events d new
       → IsUnharmed d pages new
-  pub awaits : Awaits byte (most_for d.chip.kind byte) d

@@ -8,13 +8,14 @@ pub mod Exchange
 pub mod Effect
 pub mod Reply
 pub mod Device
-pub mod Awaited
 pub mod Harmless
-pub mod Frames
 pub mod Intents
+pub mod Awaited
+pub mod Frames
 pub mod SentList
 pub mod Parts
 pub mod Stopped
+pub mod Greeting
 pub mod Refused
 pub mod Settling
 pub mod SettlingCalls

@@ -82,4 +82,4 @@ pub record AsksSafely (address size : ℕ) (bytes : List ℕ) (old new : RigStat
 abbrev pub RefusableReadsChangeNothing : Type 0
 RefusableReadsChangeNothing = (old d : Device) (byte address size : ℕ) → IsDevice old
     → IsSettled old → 1 ≤ size → size ≤ 256 → PartlyFed (refusable_frame old.chip address size) old d
-    → IsStoppedSafely old byte [] d × (d.flash ≡ old.flash)
+    → IsStoppedSafely old byte 267 [] d × (d.flash ≡ old.flash)

@@ -1,7 +1,6 @@
 -- Lists of the bytes that a session may send: bytes that settle, and then frames.
 use Rattle.std.specs.Prelude.{◌≡◌, ◌⊎◌, ℕ, ◌<◌, ◌≤◌, List, [], ◌∷◌, ◌++◌}
 use Rattle.std.specs.Prelude.{length, take, replicate, Option, Some}
-use Rattle.std.specs.List.{AllByRecursion, concat}
 use Rattle.stm_wire.specs.Chip.{ChipData, page_count}
 use Rattle.stm_wire.specs.declared.places.UniquePlace.{UniquePlace}
 use Rattle.stm_wire.specs.Frames.{address_bytes, command, erase_frame, read_frame, with_checksum}
@@ -35,12 +34,3 @@ settling_run byte limit = replicate limit byte ++ 0x7F ∷ byte ∷ byte ∷ []
 -- a beginning of it
 abbrev pub IsSettlingRun : ℕ → ℕ → List ℕ → Type 0
 IsSettlingRun byte limit bytes = (n : ℕ) × (bytes ≡ take n (settling_run byte limit))
-
--- a settling run and frames, whose last piece may be cut short
-pub record IsSentList (chip : Option ChipData) (byte limit : ℕ) (bytes : List ℕ) : Type 0 where
-  pub settling : List ℕ
-  pub is_settling : IsSettlingRun byte limit settling
-  pub frames : List (List ℕ)
-  pub are_frames : AllByRecursion (IsFrame chip) frames
-  pub unsent : List ℕ
-  pub whole : bytes ++ unsent ≡ settling ++ concat frames

@@ -71,12 +71,13 @@ pub record SpeaksBatches (byte limit : ℕ) (result : Result ℕ WireFault)
 -- On a line that follows the model:
 
 -- the device is the start's chip, with its version and codes, as harmless, with its flash outside
--- the pages, and owes little
+-- the pages, awaits no more than the start, and owes little
 pub record IsSettling (byte : ℕ) (pages : List ℕ) (start d : Device) : Type 0 where
   pub same_chip : d.chip ≡ start.chip
   pub same_version : d.version ≡ start.version
   pub same_codes : d.codes ≡ start.codes
   pub harmless : Harmless d byte pages
+  pub awaits : (most : ℕ) → 3 ≤ most → Awaits byte most start → Awaits byte most d
   pub flash : SameOutside start.chip pages start.flash d.flash
   pub owed : length d.owed ≤ 4096
 

@@ -8,6 +8,7 @@ use Rattle.stm_wire.specs.Chip.{ChipData, page_count, flash_size, fits_inside}
 use Rattle.stm_wire.specs.Telling.{can_read}
 use Rattle.stm_wire.specs.Device.{Device, Fresh, Connected, IsDevice, IsReadyRest}
 use Rattle.stm_wire.specs.Device.{IsSettled, Feeds, LosesOwed, reset}
+use Rattle.stm_wire.specs.Awaited.{Awaits, most_under}
 use Rattle.stm_wire.specs.Harmless.{Harmless, SameOutside}
 use Rattle.stm_wire.specs.Frames.{command, read_frame, write_frame, erase_frame}
 use Rattle.stm_wire.specs.Intents.{settling_byte, intended_pages, InPage}
@@ -30,6 +31,12 @@ StoppedIsHarmless =
     (d : Device) (intent : Option Intent) (rest : List ℕ) → IsDevice d → d.phase ≡ Connected rest
     → IsStopped d intent rest → Harmless d (settling_byte intent) (intended_pages intent)
 
+-- and so many of its byte suffice
+abbrev pub StoppedAwaitsFew : Type 0
+StoppedAwaitsFew =
+    (d : Device) (intent : Option Intent) (rest : List ℕ) → IsDevice d → d.phase ≡ Connected rest
+    → IsStopped d intent rest → Awaits (settling_byte intent) (most_under d.chip.kind intent) d
+
 abbrev pub FreshIsHarmless : Type 0
 FreshIsHarmless =
     (d : Device) (byte : ℕ) (pages : List ℕ) → IsDevice d → d.phase ≡ Fresh → Harmless d byte pages
@@ -51,12 +58,14 @@ pub data IsFrameUnder (chip : ChipData) (intent : Option Intent) (frame : List �
       → InPage chip page address (length sent) → frame ≡ write_frame address sent
       → IsFrameUnder chip intent frame
 
--- what a stop within a frame leaves of a settled device
-pub record IsStoppedSafely (old : Device) (byte : ℕ) (pages : List ℕ) (d : Device) : Type 0 where
+-- what a stop within a frame leaves of a settled device, and how many of the byte suffice
+pub record IsStoppedSafely (old : Device) (byte most : ℕ) (pages : List ℕ)
+    (d : Device) : Type 0 where
   pub same_chip : d.chip ≡ old.chip
   pub same_version : d.version ≡ old.version
   pub same_codes : d.codes ≡ old.codes
   pub harmless : Harmless d byte pages
+  pub awaits : Awaits byte most d
   pub flash : SameOutside old.chip pages old.flash d.flash
   pub owed : length d.owed ≤ 4096
 
@@ -65,13 +74,14 @@ abbrev pub SendingIsHarmless : Type 0
 SendingIsHarmless =
     (old d : Device) (intent : Option Intent) (frame : List ℕ) → IsDevice old → IsSettled old
     → IsFrameUnder old.chip intent frame → PartlyFed frame old d
-    → IsStoppedSafely old (settling_byte intent) (intended_pages intent) d
+    → IsStoppedSafely old (settling_byte intent) (most_under old.chip.kind intent)
+    (intended_pages intent) d
 
 -- and where it only asks, nothing has changed, and no byte can change anything
 abbrev pub AskingChangesNothing : Type 0
 AskingChangesNothing = (old d : Device) (byte : ℕ) (frame : List ℕ) → IsDevice old → IsSettled old
     → IsQuestion old.chip frame → PartlyFed frame old d
-    → IsStoppedSafely old byte [] d × (d.flash ≡ old.flash)
+    → IsStoppedSafely old byte 267 [] d × (d.flash ≡ old.flash)
 
 -- Harmless devices stay so.
 abbrev pub FedStaysHarmless : Type 0

@@ -33,8 +33,8 @@ pub use get_command::{Commands, get_commands};
 pub use get_id_command::get_id;
 pub use go_command::go;
 pub use harmless::{
-    awaited_is_limited, harmless_is_kept, pages_are_the_flash, sending_is_harmless,
-    stopped_is_harmless,
+    awaited_is_limited, greeting_is_kept, harmless_is_kept, pages_are_the_flash,
+    sending_is_harmless, stopped_is_harmless, stopped_may_be_greeted,
 };
 pub use intent::{Intent, settling_byte};
 pub use places::{BoardPlaces, UniquePlace};

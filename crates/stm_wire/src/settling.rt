@@ -246,9 +246,8 @@ fn settle_in_batches<R: Rig>(rig: &mut R, byte: u8, limit: u32) -> Result<(), Wi
 /// On a line that follows the model, from a device that is harmless for the byte and some pages and
 /// owes at most 4,096 bytes, with a limit of as many bytes as it awaits or more, each moment leaves
 /// such a device, with the same chip, version and codes, the same flash outside these pages and the
-/// same journal; it answers Ok, and the device is then settled, or `Line`. A device whose pages are
-/// erased by numbers of one byte awaits 267 bytes at most, any other 131,047. One that is harmless
-/// for the byte awaits no more than a list that stmflash began and the byte goes on with.
+/// same journal, and awaits no more; it answers Ok, and the device is then settled, or `Line`. A
+/// device whose pages are erased by numbers of one byte awaits 267 bytes at most, any other 131,047.
 ///
 /// # Errors
 /// `Line` where a call of the Rig failed, `Quiet` where 7F stayed without an answer, `Garbled`

@@ -1,12 +1,11 @@
 -- A state in memory tells all that the text's state tells, but for the bytes of pages.
 use Rattle.std.proofs.Common.{◌≡◌, ℕ, ◌+◌, ◌-◌, Bool, true, false, not, ◌&&◌, ◌||◌, ◌==◌, nat_le}
-use Rattle.std.proofs.Common.{nat_lt, if◌then◌else◌, List, [], ◌∷◌, length, map, fold, max, Option}
-use Rattle.std.proofs.Common.{Some, None, option_map, refl, sym, ◌∙◌, ap, ap₂}
-use Rattle.std.specs.Prelude.{is_some, is_none, option_and_then, slice_get, sum_by}
-use Rattle.std.specs.List.{list_any, find}
+use Rattle.std.proofs.Common.{nat_lt, if◌then◌else◌, List, [], ◌∷◌, length, map, Option}
+use Rattle.std.proofs.Common.{Some, None, option_map, refl, ◌∙◌, ap, ap₂}
+use Rattle.std.specs.Prelude.{is_some, is_none, option_and_then, slice_get}
+use Rattle.std.specs.List.{list_any}
 use Rattle.std.specs.Option.{option_map_or}
 use Rattle.std.proofs.lemmas.List.{length-map, length-replicate}
-use Rattle.std.proofs.lemmas.List.Sums.{sum_by-cons}
 use Rattle.std.proofs.lemmas.Option.{slice_get-map}
 use Rattle.stm_journal.specs.declared.kept.Kept.{Kept}
 use Rattle.stm_journal.specs.declared.kept.PagePlace.{PagePlace}
@@ -17,10 +16,10 @@ use Rattle.stm_journal.specs.declared.entry.Entry.TheVariants.{Programs, Ends, U
 use Rattle.stm_journal.specs.States.{StateData, SegmentData, allows, newest_has, newest_intent}
 use Rattle.stm_journal.specs.States.{keeps, may_keep, is_open_stage, is_ended_stage, intent_of}
 use Rattle.stm_journal.specs.States.{is_unfinished, newest_is_open, newest_keeps, newest_may_keep}
-use Rattle.stm_journal.specs.States.{segment_of, kept_at, names_other, names_other_board}
-use Rattle.stm_journal.specs.KeptPlaces.{kept_entry, page_entry, place_of, kept_place, page_place}
-use Rattle.stm_journal.specs.KeptPlaces.{kept_count, entries_of}
-use Rattle.stm_journal.specs.Newest.{newest_pages, next_page}
+use Rattle.stm_journal.specs.States.{segment_of, kept_at, names_other}
+use Rattle.stm_journal.specs.KeptPlaces.{kept_entry, place_of, kept_place}
+use Rattle.stm_journal.specs.KeptPlaces.{kept_count}
+use Rattle.stm_journal.specs.Newest.{newest_pages}
 use Rattle.stm_journal.specs.Journals.{begin_entries, version_for}
 use Rattle.stm_journal.specs.InMemory.{forget_entry, forget_kept, forget_segment, forget_state}
 
@@ -83,10 +82,6 @@ pub names_other-forgets : (id : ℕ) (s : StateData)
     → names_other id (forget_state s) ≡ names_other id s
 names_other-forgets id s = refl
 
-pub names_other_board-forgets : (unique : List ℕ) (s : StateData)
-    → names_other_board unique (forget_state s) ≡ names_other_board unique s
-names_other_board-forgets unique s = refl
-
 pub is_unfinished-forgets : (s : StateData) → is_unfinished (forget_state s) ≡ is_unfinished s
 is_unfinished-forgets s = unfinished-stack s.stack
 
@@ -130,10 +125,6 @@ newest_pages-forgets s = at s.header s.stack
     at header [] = refl
     at header (segment ∷ below) = numbers-forget segment.pages
 
-pub next_page-forgets : (s : StateData) → next_page (forget_state s) ≡ next_page s
-next_page-forgets s =
-    ap (λ (ns : List ℕ). fold (λ next n. max next (n + 1)) 0 ns) (newest_pages-forgets s)
-
 -- segments by number, and what they keep
 pub segment_of-forgets : (s : StateData) (k : ℕ)
     → segment_of (forget_state s) k ≡ option_map forget_segment (segment_of s k)
@@ -160,33 +151,6 @@ kept_entry-forgets s k i =
     at None = refl
     at (Some segment) = slice_get-map forget_kept segment.pages i
 
-pub page_entry-forgets : (s : StateData) (k n : ℕ)
-    → page_entry (forget_state s) k n ≡ option_map forget_kept (page_entry s k n)
-page_entry-forgets s k n =
-    ap (λ (o : Option SegmentData).
-    option_and_then (λ segment. find (λ kept. kept.page == n) segment.pages) o)
-    (segment_of-forgets s k) ∙ at (segment_of s k)
-  where
-    found : (pages : List Kept) → find (λ kept. kept.page == n) (map forget_kept pages)
-        ≡ option_map forget_kept (find (λ kept. kept.page == n) pages)
-    found [] = refl
-    found (kept ∷ pages) = here (kept.page == n) (found pages)
-      where
-        here : (b : Bool) → find (λ x. x.page == n) (map forget_kept pages)
-            ≡ option_map forget_kept (find (λ x. x.page == n) pages)
-            → (if b then Some (forget_kept kept)
-            else find (λ x. x.page == n) (map forget_kept pages))
-            ≡ option_map forget_kept (if b then Some kept else find (λ x. x.page == n) pages)
-        here true rest = refl
-        here false rest = rest
-
-    at : (o : Option SegmentData)
-        → option_and_then (λ segment. find (λ kept. kept.page == n) segment.pages)
-        (option_map forget_segment o) ≡ option_map forget_kept
-        (option_and_then (λ segment. find (λ kept. kept.page == n) segment.pages) o)
-    at None = refl
-    at (Some segment) = found segment.pages
-
 place-forgets : (o : Option Kept)
     → option_map place_of (option_map forget_kept o) ≡ option_map place_of o
 place-forgets None = refl
@@ -199,12 +163,6 @@ pub kept_place-forgets : (s : StateData) (k i : ℕ)
 kept_place-forgets s k i =
     ap (λ (o : Option Kept). option_map place_of o) (kept_entry-forgets s k i)
     ∙ place-forgets (kept_entry s k i)
-
-pub page_place-forgets : (s : StateData) (k n : ℕ)
-    → page_place (forget_state s) k n ≡ page_place s k n
-page_place-forgets s k n =
-    ap (λ (o : Option Kept). option_map place_of o) (page_entry-forgets s k n)
-    ∙ place-forgets (page_entry s k n)
 
 pub kept_at-forgets : (s : StateData) (k i : ℕ) → kept_at (forget_state s) k i ≡ kept_at s k i
 kept_at-forgets s k i =
@@ -227,15 +185,3 @@ kept_count-forgets s k =
         ≡ option_map_or (λ segment. length segment.pages) o 0
     at None = refl
     at (Some segment) = length-map segment.pages forget_kept
-
-pub entries_of-forgets : (s : StateData) → entries_of (forget_state s) ≡ entries_of s
-entries_of-forgets s = at s.stack
-  where
-    at : (stack : List SegmentData)
-        → sum_by (λ segment. length segment.pages) (map forget_segment stack)
-        ≡ sum_by (λ segment. length segment.pages) stack
-    at [] = refl
-    at (segment ∷ below) =
-        sum_by-cons (λ x. length x.pages) (forget_segment segment) (map forget_segment below)
-        ∙ ap₂ (λ (a b : ℕ). a + b) (length-map segment.pages forget_kept) (at below)
-        ∙ sym (sum_by-cons (λ x. length x.pages) segment below)

@@ -11,8 +11,8 @@ use Rattle.stm_journal.specs.declared.kept.Kept.{Kept}
 use Rattle.stm_journal.specs.declared.header.JournalHeader.{JournalHeader}
 use Rattle.stm_journal.specs.States.{StateData, SegmentData, newest_has, newest_is_open}
 use Rattle.stm_journal.specs.States.{newest_keeps, newest_may_keep, is_open_stage, may_keep, keeps}
-use Rattle.stm_journal.specs.States.{segment_of, kept_at, page_bytes}
-use Rattle.stm_journal.specs.Newest.{KeepsSame, newest_pages, next_page}
+use Rattle.stm_journal.specs.States.{segment_of, kept_at}
+use Rattle.stm_journal.specs.Newest.{KeepsSame, next_page}
 
 pub KeepsSame-refl : (s : StateData) → KeepsSame s s
 KeepsSame-refl s = record {
@@ -60,21 +60,6 @@ segment_of-newest header segment below =
   where
     both-within : (n : ℕ) → (nat_le 1 (suc n) && nat_le (suc n) (suc n)) ≡ true
     both-within n = grind (arith, nat_tests)
-
--- the pages that it keeps, as numbers
-pub newest_keeps-pages : (s : StateData) (n : ℕ)
-    → newest_keeps n s ≡ list_any (λ m. m == n) (newest_pages s)
-newest_keeps-pages s n = at s.stack
-  where
-    each : (pages : List Kept)
-        → list_any (λ k. k.page == n) pages ≡ list_any (λ m. m == n) (map (λ k. k.page) pages)
-    each [] = refl
-    each (x ∷ pages) = ap (λ (b : Bool). (x.page == n) || b) (each pages)
-
-    at : (stack : List SegmentData) → newest_keeps n (record { header = s.header; stack = stack })
-        ≡ list_any (λ m. m == n) (newest_pages (record { header = s.header; stack = stack }))
-    at [] = refl
-    at (segment ∷ below) = each segment.pages
 
 -- the numbers of these pages are below the next one
 rises : (pages : List Kept) (start : ℕ)
@@ -160,20 +145,3 @@ found-kept n (x ∷ pages) any = first (x.page == n) any (λ h. found-kept n pag
         (option_map (λ kept. kept.bytes) (if b then Some x else find (λ k. k.page == n) pages))
     first true h rest = refl
     first false h rest = rest h
-
--- and its bytes can be read
-pub page_bytes_newest : (s : StateData) (k n : ℕ) → k ≡ length s.stack → IsTrue (newest_keeps n s)
-    → IsSome (page_bytes s k n)
-page_bytes_newest s k n newest keeps =
-    let B : ℕ → Type 0 = λ m. IsSome (page_bytes s m n) in
-    subst B (sym newest) (at s.stack keeps)
-  where
-    at : (stack : List SegmentData)
-        → IsTrue (newest_keeps n (record { header = s.header; stack = stack }))
-        → IsSome (page_bytes (record { header = s.header; stack = stack }) (length stack) n)
-    at [] any = absurd (true≢false (sym any))
-    at (segment ∷ below) any =
-        let P : Option SegmentData → Type 0 = λ o. IsSome
-        (option_map (λ kept. kept.bytes) (option_and_then (λ x. find (λ k. k.page == n) x.pages) o))
-        in
-        subst P (sym (segment_of-newest s.header segment below)) (found-kept n segment.pages any)

@@ -1,9 +1,9 @@
 -- Two flashes, page by page: where they agree, and when they are one.
-use Rattle.std.proofs.Common.{◌≡◌, ◌⊎◌, ⊎_elim, inl, inr, ℕ, zero, suc, ◌+◌, ◌-◌, ◌<◌, ◌≤◌}
+use Rattle.std.proofs.Common.{◌≡◌, ◌⊎◌, ⊎_elim, inl, inr, ℕ, suc, ◌+◌, ◌-◌, ◌<◌, ◌≤◌}
 use Rattle.std.proofs.Common.{Bool, true, false, ◌||◌, ◌==◌, if◌then◌else◌, List, [], ◌∷◌}
 use Rattle.std.proofs.Common.{◌++◌, length, get_or, take, drop, replicate, sum, refl, sym}
 use Rattle.std.proofs.Common.{ap, ap₂, ◌∙◌, subst, arith, drop-drop, take-append-drop}
-use Rattle.std.specs.List.{Contains, list_any}
+use Rattle.std.specs.List.{list_any}
 use Rattle.std.proofs.lemmas.Bool.{cases_eq, cases_lt, eq-eqb, ne_eqb}
 use Rattle.std.proofs.lemmas.List.{length-drop}
 use Rattle.stm_wire.specs.Chip.{ChipData, IsErasedAt, erased_byte, erased_page, flash_size}
@@ -11,7 +11,7 @@ use Rattle.stm_wire.specs.Chip.{page_count, page_of, page_size, with_bytes, with
 use Rattle.stm_wire.specs.Effect.{Effect, Stores, Write, erased_pages}
 use Rattle.stm_wire.specs.Harmless.{SameOutside}
 use Rattle.stm_wire.specs.lemmas.PageLaws.{length-erased_page, length-page_of, length-with_page}
-use Rattle.stm_wire.specs.lemmas.PageLaws.{page_put, page_put-other, put_page, sum-cons}
+use Rattle.stm_wire.specs.lemmas.PageLaws.{page_put, page_put-other, sum-cons}
 
 nothing : (xs : List ℕ) → length xs ≡ 0 → xs ≡ []
 nothing [] e = refl
@@ -50,44 +50,6 @@ pub same_all : (chip : ChipData) (old new : List ℕ) → length old ≡ flash_s
 same_all chip old new size s =
     same_pages chip old new size (s.same_length ∙ size)
     (λ n lt. s.elsewhere n lt (λ c. omega (arith, c.1)))
-
-only-one : (n m : ℕ) → Contains (n ∷ []) m → n ≡ m
-only-one n m (zero, k, e) = e
-only-one n m (suc j, k, e) = absurd (omega (arith, k))
-
--- flashes that agree outside page n are one once it is put in both
-pub same_when_put : (chip : ChipData) (old new bytes : List ℕ) (n : ℕ)
-    → length old ≡ flash_size chip → length bytes ≡ page_size chip n
-    → SameOutside chip (n ∷ []) old new → with_page chip n bytes new ≡ with_page chip n bytes old
-same_when_put chip old new bytes n size whole same =
-    same_pages chip (with_page chip n bytes old) (with_page chip n bytes new)
-    (length-with_page chip old bytes n size whole)
-    (length-with_page chip new bytes n size_new whole)
-    (λ m here. agree m here (cases_eq m n))
-  where
-    size_new : length new ≡ flash_size chip
-    size_new = same.same_length ∙ size
-
-    agree : (m : ℕ) → m < page_count chip → (m ≡ n) ⊎ (m ≡ n → ⊥)
-        → page_of chip (with_page chip n bytes new) m ≡ page_of chip (with_page chip n bytes old) m
-    agree m here (inl e) =
-        let P : ℕ → Type 0 =
-        λ k. page_of chip (with_page chip n bytes new) k
-        ≡ page_of chip (with_page chip n bytes old) k in
-        subst P (sym e)
-        (page_put chip new bytes n size_new whole ∙ sym (page_put chip old bytes n size whole))
-    agree m here (inr ne) =
-        page_put-other chip new bytes n size_new whole m here ne
-        ∙ same.elsewhere m here (λ c. ne (sym (only-one n m c)))
-        ∙ sym (page_put-other chip old bytes n size whole m here ne)
-
--- so a page put back undoes whatever became of it
-pub put_back : (chip : ChipData) (old new : List ℕ) (n : ℕ) → length old ≡ flash_size chip
-    → SameOutside chip (n ∷ []) old new
-    → with_page chip n (page_of chip old n) new ≡ old
-put_back chip old new n size same =
-    same_when_put chip old new (page_of chip old n) n size (length-page_of chip old n size) same
-    ∙ put_page chip old n size
 
 -- The pages below k are those of another flash, the others are as they were.
 pub record IsTurned (chip : ChipData) (k : ℕ) (old other now : List ℕ) : Type 0 where

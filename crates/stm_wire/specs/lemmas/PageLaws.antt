@@ -127,12 +127,3 @@ pub put_page : (chip : ChipData) (flash : List ℕ) (n : ℕ) → length flash �
 put_page chip flash n size =
     let h = page_within chip.sizes n in
     put_same (page_offset chip n) (page_size chip n) flash (omega arith)
-
--- of two pages put at one place the later stands
-pub put_twice : (chip : ChipData) (flash first second : List ℕ) (n : ℕ)
-    → length flash ≡ flash_size chip → length first ≡ page_size chip n
-    → length second ≡ page_size chip n
-    → with_page chip n second (with_page chip n first flash) ≡ with_page chip n second flash
-put_twice chip flash first second n size one two =
-    let h = page_within chip.sizes n in
-    same_lists _ _ (search (rules, places)) (λ k e l. grind (arith, places))

@@ -173,21 +173,6 @@ nothing_is_part chip whole most a =
       few = omega arith;
     })
 
--- whole frames are such of which the last may be cut short, and few are fewer than more
-pub part_weaker : (chip : Option ChipData) (whole : Bool) (m n : ℕ) (a b : Option (List Call))
-    → m ≤ n → GoesOn (IsPart chip true m) a b → GoesOn (IsPart chip whole n) a b
-part_weaker chip whole m n a b le p =
-    GoesOn-weaker (IsPart chip true m) (IsPart chip whole n) a b p
-    (λ xs x.
-    record {
-      frames = x.frames;
-      are_frames = x.are_frames;
-      unsent = x.unsent;
-      all_sent = λ w. x.all_sent refl;
-      sent = x.sent;
-      few = omega (arith, le, x.few);
-    })
-
 pub part_longer : (chip : Option ChipData) (whole : Bool) (m n : ℕ) (a b : Option (List Call))
     → m ≤ n → GoesOn (IsPart chip whole m) a b → GoesOn (IsPart chip whole n) a b
 part_longer chip whole m n a b le p =

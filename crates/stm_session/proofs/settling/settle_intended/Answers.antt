@@ -13,7 +13,8 @@ use Rattle.stm_journal.specs.States.{intent_of}
 use Rattle.stm_session.specs.Fresh.{Connects, EndsWell, IsAsSaid, Way, byte_of, limit_of}
 use Rattle.stm_session.specs.Fresh.{settling_limit, settling_way, undo_way}
 use Rattle.stm_session.specs.Undoes.{IsWithinLimit, byte_at_journal, risked_at}
-use Rattle.stm_session.proofs.Freshness.{connect_settles, connected_is_settled, fresh_way, own_within, plain_way, said_fresh, settling_starts, way_ends, way_sends}
+use Rattle.stm_session.proofs.Awaiting.{own_within}
+use Rattle.stm_session.proofs.Freshness.{connect_settles, connected_is_settled, fresh_way, plain_way, said_fresh, settling_starts, way_ends, way_sends}
 use Rattle.stm_session.proofs.Settlings.{enough_sent, intent_text, settled_goes, settling_failed}
 use Rattle.stm_session.proofs.Straying.{strays_settled, strays_stopped}
 use Rattle.stm_session.proofs.settling.settle_intended.Given.{Over}
@@ -171,7 +172,7 @@ pub returns-in_err-settle_under-clause-honest : goal.returns-in_err-settle_under
 returns-in_err-settle_under-clause-honest g c h said flashes loaded undoable chip =
     let V = g.R.Rig.view in
     let model = g.met.R.Rig.model c.args.rig.now h in
-    let within = own_within c.step_laws.ensures c.args.chip.now (V c.args.rig.now) undoable.harmless chip in
+    let within = own_within c.step_laws.ensures c.args.chip.now (V c.args.rig.now) model.device undoable.awaits chip in
     let at = (goal.at.returns-in_err-settle_under-clause-honest g c).After-settle_under in
     let settles = settled g at _ c.in_err-settle_under.was h loaded undoable.harmless undoable.owed
     within in
@@ -183,7 +184,7 @@ pub returns-clause-honest : goal.returns-clause-honest
 returns-clause-honest g c h said flashes loaded undoable chip =
     let V = g.R.Rig.view in
     let model = g.met.R.Rig.model c.args.rig.now h in
-    let within = own_within c.step_laws.ensures c.args.chip.now (V c.args.rig.now) undoable.harmless chip in
+    let within = own_within c.step_laws.ensures c.args.chip.now (V c.args.rig.now) model.device undoable.awaits chip in
     let at = (goal.at.returns-clause-honest g c).After-settle_under in
     let settles = settled g at _ c.in_ok-settle_under.was h loaded undoable.harmless undoable.owed
     within in

@@ -14,7 +14,7 @@ use Rattle.stm_session.specs.Undoable.{Undoable}
 use Rattle.stm_session.specs.Undoes.{IsFlashSettled, IsWithinLimit, Undoes, byte_at_journal}
 use Rattle.stm_session.specs.Undoes.{risked_at, taken_count}
 use Rattle.stm_session.specs.Work.{pages_at_work}
-use Rattle.stm_session.proofs.Freshness.{own_within}
+use Rattle.stm_session.proofs.Awaiting.{own_within}
 use Rattle.stm_session.proofs.Going.{at_exit}
 use Rattle.stm_session.specs.Fresh.{IsAsSaid, IsReset, undo_way}
 use Rattle.stm_journal.specs.States.{intent_of}
@@ -198,7 +198,7 @@ gone g c made was h result meets goes undoes =
     let own = own_chip table l a b loads some c.in-Some.id named laws chip found.chip found.accepted
     flashes u listed in
     let before = sym (ap (λ (x : Device). x.chip) loads.same_device) ∙ own in
-    let within = own_within laws chip a u.harmless (ap (λ (p : ChipData). p.kind) before) in
+    let within = own_within laws chip a (g.met.R.Rig.model c.args.rig.now h).device u.awaits (ap (λ (p : ChipData). p.kind) before) in
     let left = (meets u.harmless u.owed within).left in
     let settled = (elsewhere_back table l a b loads some c.in-Some.id named laws chip found.chip
     found.accepted d.device d.journal left).flash in

@@ -54,7 +54,7 @@ returns-in_err-drain-clause-awaited g c h many pages harmless few =
 
 pub returns-in_err-drain-clause-honest : goal.returns-in_err-drain-clause-honest
 returns-in_err-drain-clause-honest g c h many pages harmless few =
-    returns-in_err-drain-clause-awaited g c h (enough_sent c.args.byte c.args.limit pages (g.R.Rig.view c.args.rig.now).device many harmless) pages harmless few
+    returns-in_err-drain-clause-awaited g c h (enough_sent c.args.byte c.args.limit (g.R.Rig.view c.args.rig.now).device (g.met.R.Rig.model c.args.rig.now h).device c.ranges.byte.fits many) pages harmless few
 
 pub returns-clause-awaited : goal.returns-clause-awaited
 returns-clause-awaited g c h many pages harmless few =
@@ -69,8 +69,8 @@ returns-clause-awaited g c h many pages harmless few =
 
 pub returns-clause-honest : goal.returns-clause-honest
 returns-clause-honest g c h many pages harmless few =
-    returns-clause-awaited g c h (enough_sent c.args.byte c.args.limit pages (g.R.Rig.view c.args.rig.now).device many harmless) pages harmless few
+    returns-clause-awaited g c h (enough_sent c.args.byte c.args.limit (g.R.Rig.view c.args.rig.now).device (g.met.R.Rig.model c.args.rig.now h).device c.ranges.byte.fits many) pages harmless few
 
 pub returns-then-byte-ne-CONNECT-clause-honest : goal.returns-then-byte-ne-CONNECT-clause-honest
 returns-then-byte-ne-CONNECT-clause-honest g c h many pages harmless few =
-    c.settle_in_batches.ensures.awaited h (enough_sent c.args.byte c.args.limit pages (g.R.Rig.view c.args.rig.now).device many harmless) pages harmless few
+    c.settle_in_batches.ensures.awaited h (enough_sent c.args.byte c.args.limit (g.R.Rig.view c.args.rig.now).device (g.met.R.Rig.model c.args.rig.now h).device c.ranges.byte.fits many) pages harmless few
