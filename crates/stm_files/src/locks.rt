@@ -1,8 +1,11 @@
-// Files that a program has for itself while it runs.
+// Files that a program has for itself while it runs, and who runs it.
 ghost use Rattle.stm_files.specs.Locks.{Asked};
 
+use libc::net::{POLLERR, POLLOUT, poll};
+use libc::types::pollfd;
 use std::fs::{File, Files, TryLockError};
-use std::io;
+use std::os::fd::AsRawFd;
+use std::{env, io};
 
 /// What the system answers to a program that asks for a lock.
 #[derive(Drop)]
@@ -27,6 +30,12 @@ pub trait Locks: Files {
     /// that may write.
     fn lock(&self, file: &Self::File) -> LockAnswer
         ensures { answered file.now result };
+
+    /// The number of the user who called sudo, where it is told.
+    fn caller(&self) -> Option<u32>;
+
+    /// Whether somebody reads a pipe that is open to be written.
+    fn is_read(&self, pipe: &Self::File) -> bool;
 }
 
 impl Locks for HostRuntime {
@@ -38,5 +47,21 @@ impl Locks for HostRuntime {
             Err(TryLockError::WouldBlock) => LockAnswer::Taken,
             Err(TryLockError::Error(e)) => LockAnswer::Refused(e),
         }
+    }
+
+    fn caller(&self) -> Option<u32> {
+        match env::var(self, "SUDO_UID") {
+            Ok(text) => text.as_str().parse::<u32>().ok(),
+            Err(_) => None,
+        }
+    }
+
+    fn is_read(&self, pipe: &File) -> bool {
+        let mut asked = [pollfd {
+            fd: pipe.as_raw_fd(),
+            events: POLLOUT,
+            revents: 0,
+        }];
+        poll(&mut asked, 0) >= 0 && asked[0].revents & POLLERR == 0
     }
 }

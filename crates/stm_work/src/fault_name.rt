@@ -21,8 +21,10 @@ impl Failure<'_> {
                 "cannot_read",
             Failure::CannotWrite(_) | Failure::CannotWriteBoard(_) | Failure::CannotWriteLine(_) =>
                 "cannot_write",
+            Failure::NoOutput(_) => "cannot_write",
             Failure::JournalInUse => "journal_in_use",
             Failure::NoJournal(_) => "no_journal",
+            Failure::NotTrusted(..) => "not_trusted",
             Failure::CannotLock(..) => "cannot_lock",
             Failure::JournalFailed(_) | Failure::JournalMoved | Failure::JournalRescued(_) =>
                 "journal_failed",

@@ -3,6 +3,7 @@ ghost use Rattle.std.specs.Prelude.{IfOk};
 ghost use Rattle.stm_work.specs.Keeping.{IsGivenUp};
 
 use crate::cut_journal::keep_newest;
+use crate::named_files::check_owner;
 use std::alloc::Global;
 use std::fs::Files;
 use stm_files::{
@@ -73,12 +74,15 @@ fn tell<'a>(alloc: Global, journal: &Journal) -> Result<Answer, Failure<'a>> {
 /// renamed to a name that isn't; or it's cut to its newest ones. This program has it for itself
 /// until then.
 pub fn keep<'a, R: Locks + AllocGlobal>(rt: &R, kept: &Kept<'a>) -> Result<Answer, Failure<'a>> {
-    let file = match JournalFile::open(rt, kept.journal, kept.without_lock) {
+    let file = match JournalFile::open(rt, kept.journal, kept.without_lock, kept.trusts_others) {
         Ok(file) => file,
         Err(why) => return Err(Failure::of_journal(why, kept.journal)),
     };
     if !file.is_there() {
         return Err(Failure::CannotRead(kept.journal));
+    }
+    if let Some(to) = kept.to {
+        check_owner(rt, to, kept.trusts_others)?;
     }
     let (journal, rig) = load(rt.alloc(), kept.journal, file)?;
     let file = rig.into_source();
