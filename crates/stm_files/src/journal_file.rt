@@ -127,8 +127,8 @@ impl<'a, R: Locks + AllocGlobal> JournalFile<'a, R> {
         }
     }
 
-    /// Adds the bytes at the end of the file, and answers once they are on the disk. Where it
-    /// fails, a beginning of them may have been added, and stays.
+    /// Adds the bytes at the end of the file, and answers once they are on the disk. Where a write
+    /// fails, a beginning of them may have been added, and stays; where a sync does, none of them.
     pub fn append(&mut self, bytes: &[u8]) -> io::Result<()>
         ensures added { OnOk result (Appends self.old.known self.new.known bytes.now) }
         ensures ok { OnOk result ((self.old.has_failed ≡ false) × (self.new.has_failed ≡ false)) }
@@ -153,8 +153,17 @@ impl<'a, R: Locks + AllocGlobal> JournalFile<'a, R> {
             Writing::Failed => return Err(io::Error::from(ErrorKind::Other)),
         };
         self.check_place(&file)?;
-        let mut on_disk = DiskFile { file };
-        add_lines(&mut on_disk, self.end, bytes)?;
+        let mut on_disk = DiskFile {
+            file,
+            is_unsynced: false,
+        };
+        if let Err(e) = add_lines(&mut on_disk, self.end, bytes) {
+            if on_disk.is_unsynced {
+                // a later sync may answer though these bytes never come to the disk
+                let _ = on_disk.file.set_len(self.end);
+            }
+            return Err(e);
+        }
         self.end = self.end.saturating_add(bytes.len() as u64);
         self.writing = Writing::Open(on_disk.file);
         self.remember(bytes);
