@@ -6,6 +6,8 @@ ghost use Rattle.stm_files.specs.JournalFile.{JournalBytes, IsNew, ahead_of, is_
 ghost use Rattle.stm_files.specs.JournalFile.{lock_of};
 ghost use Rattle.stm_files.specs.Locks.{IsHeld, IsHeldIfThere};
 
+mod cut_off;
+
 use crate::disk_file::DiskFile;
 use crate::file_fault::FileFault;
 use crate::files::{open_to_hold, sync_folder};
@@ -29,7 +31,7 @@ const HELD: u64 = 1 << 26;
 
 /// What is answered where the file isn't the one any more that was read and added to: a kind that the
 /// system never gives.
-fn moved() -> io::Error {
+pub fn moved() -> io::Error {
     io::Error::from(ErrorKind::InvalidData)
 }
 
@@ -191,7 +193,7 @@ impl<'a, R: Locks + AllocGlobal> JournalFile<'a, R> {
             None => self.read(),
         };
         match text {
-            Ok(text) if !text.is_empty() => rescue(self.rt, name, text.as_slice()).ok(),
+            Ok(text) if !text.is_empty() => rescue(self.rt, name, "rescued", text.as_slice()).ok(),
             _ => None,
         }
     }
