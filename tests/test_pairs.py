@@ -35,7 +35,7 @@ FLAGS = {"--table": (), "--device": (), "--journal": (), "--journals": ("--journ
          "--stop": ("--stop", "1000000"), "--board": ("--board", UNIQUE), "--no-board": ("--no-board",), "--raw": ("--raw",),
          "-S": ("-S", "0x08000010:768"), "--hex": ("--hex",), "--skip-blank": ("--hex", "--skip-blank"), "-f": ("-f",), "-v": ("-v",),
          "--keep": ("--keep",), "--keep-to": ("--keep-to", "kept"), "--go": ("--keep", "--go", "0x08000000"), "--again": ("--again", "2"),
-         "--to-change": ("--to-change",), "--all": ("--all",), "--yes": ("--yes",), "--in-session": ("--fresh", "--in-session"),
+         "--to-change": ("--to-change",), "--recover": ("--recover",), "--all": ("--all",), "--yes": ("--yes",), "--in-session": ("--fresh", "--in-session"),
          "--check": ("--check",), "--last": ("--last", "1"), "a socket": ()}
 # words by which a call is refused, or stopped, whatever stands beside them: nothing is changed
 REFUSED = {"another board": ("--board", "0" * 24), "a stop": ("--stop", "3"), "a bad wait": ("--wait", "0")}
@@ -44,6 +44,7 @@ BESIDE = ("--journals", "--again", "--watch", "--json", "--fresh", "--keep", "--
 IN_SESSION = "--in-session asks the board nothing first: no --board, --journals or --watch"
 # those that are refused together, and how
 NOT_BOTH = {("--journals", "--no-board"): "give --journals or --no-board, not both", ("a socket", "--stop"): "--stop needs a simulator",
+            ("--journals", "--recover"): "give --journals or --recover, not both",
             ("--board", "--no-board"): "give --board or --no-board, not both", ("--watch", "--in-session"): IN_SESSION,
             ("--board", "--in-session"): IN_SESSION, ("--journals", "--in-session"): IN_SESSION}
 

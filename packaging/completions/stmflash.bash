@@ -42,7 +42,7 @@ _stmflash() {
         write) _stmflash_words "$word" "$asked -f -v -S --keep --keep-to --go --again -h" ;;
         verify) _stmflash_words "$word" "$asked -f -S -h" ;;
         erase) _stmflash_words "$word" "$asked --all -h" ;;
-        undo) _stmflash_words "$word" "$asked -v --to-change -h" ;;
+        undo) _stmflash_words "$word" "$asked -v --to-change --recover -h" ;;
         go) _stmflash_words "$word" "$asked -h" ;;
         protect) _stmflash_words "$word" "$asked --yes --in-session -h" ;;
         log) _stmflash_words "$word" "--journal --check --json --help -h" ;;

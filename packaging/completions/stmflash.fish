@@ -49,6 +49,7 @@ complete -c stmflash -n "__stmflash_in write verify" -s f -d 'Takes the file as 
 complete -c stmflash -n "__stmflash_in write" -s v -d 'Verifies what was written'
 complete -c stmflash -n "__stmflash_in undo" -s v -d 'Reads what it gave back again'
 complete -c stmflash -n "__stmflash_in undo" -l to-change -d 'Up to the newest that changed something'
+complete -c stmflash -n "__stmflash_in undo" -l recover -d 'Cuts off what a crash of the PC left first'
 complete -c stmflash -n "__stmflash_in read" -l hex -d 'Writes Intel HEX'
 complete -c stmflash -n "__stmflash_in read" -l skip-blank -d 'Leaves out what is erased'
 complete -c stmflash -n "__stmflash_in write" -l keep -d 'Keeps what was written once all is done'

@@ -1,6 +1,6 @@
 """Shows by trial what a crash of the PC leaves of a session's files, and that an undo from there gives the flash back.
 
-    python3 tools/crashes PROGRAM [--states N] [--seed TEXT] [--only KEY] [--plant FAULT] [--plants] [--stale-lines] [--jobs N]
+    python3 tools/crashes PROGRAM [--states N] [--seed TEXT] [--only KEY] [--plant FAULT] [--plants] [--jobs N]
 
 Sessions are recorded, call after call (strace), over served simulators and over those in the process. Behind each call states
 are drawn that a crash of the PC may leave then (disk.py says which): of the files by what was synced; and of the device,
@@ -10,7 +10,9 @@ is made anew in a folder, and everything is undone there:
 - `undone N` has to leave every byte of the flash as it was before the journal's first command, and `undo 1`, where the
   journal has more segments, as it was before the newest. N is how many segments the journal has by the second model of
   tools/soak.
-- `log --check` has to read the journal before that, and refuses none.
+- `log --check` has to read the journal before that, and refuses none but one in which lines of a former journal are left.
+- Such a one is refused by `undo`, which then changes nothing, and names `undo --recover`. That has to cut off a part of the end,
+  keep it beside, leave each whole line that was synced, and undo as from any other state.
 - Where the crash left no journal, the flash has to be what it was at first, and `info` has to do, and to leave it so; behind
   `keep` what it was then.
 - What a session has told to be done is on the disk, whole: the journal, or its new name, or OUT, or the simulator's FILE.
@@ -20,8 +22,8 @@ sessions in turn. --seed gives those that are drawn; without it one is drawn, an
 one journal, with no crash (race.py).
 
 --plant has the record broken, as a program with that fault would have made it (plants.py). --plants does it for each fault
-behind the states, until one is bad, which has to come. --stale-lines lets a sector hold lines of a former journal too. --jobs
-is how many states are tried at a time. The exit status is 1 where a state is bad, or a fault wasn't found.
+behind the states, until one is bad, which has to come. --jobs is how
+many states are tried at a time. The exit status is 1 where a state is bad, or a fault wasn't found.
 """
 
 import argparse
@@ -74,13 +76,13 @@ def wrong(judged):
     return [(key, text) for key, done in judged if (text := done.result()) is not None]
 
 
-def states_of(stories, count, seed, stale_lines):
+def states_of(stories, count, seed):
     """So many states, of all stories in turn, each once."""
     found = {}
     for number in range(20 * count if stories else 0):
         if len(found) == count:
             break
-        state = draw(stories[number % len(stories)], seed, number // len(stories), stale_lines)
+        state = draw(stories[number % len(stories)], seed, number // len(stories))
         found.setdefault(state.key(), state)
     return list(found.values())
 
@@ -94,7 +96,6 @@ def main():
     words.add_argument("--only", metavar="KEY")
     words.add_argument("--plant", choices=[*plants.PLANTS, plants.NO_LOCK])
     words.add_argument("--plants", action="store_true")
-    words.add_argument("--stale-lines", action="store_true")
     words.add_argument("--jobs", type=int, default=2 * len(os.sched_getaffinity(0)))
     given = words.parse_args()
     if not can_trace():
@@ -132,7 +133,7 @@ def try_all(given, program, stories, counts, pool):
     if given.only and not counts:
         states = [State.of({story.name: story for story in stories}, given.only)]
     else:
-        states = states_of(stories, given.states, given.seed, given.stale_lines)
+        states = states_of(stories, given.states, given.seed)
     bad = try_races(program, counts, pool, locks=given.plant != plants.NO_LOCK)
     return len(states) + len(counts), bad + try_states(program, states, pool)
 
@@ -152,7 +153,7 @@ def find_plants(given, program, stories, pool):
         if fault == plants.NO_LOCK:
             bad = try_races(program, race.BYTES, pool, locks=False)
         else:
-            bad = find(program, states_of(plants.planted(fault, stories), given.states, given.seed, given.stale_lines), pool)
+            bad = find(program, states_of(plants.planted(fault, stories), given.states, given.seed), pool)
         print("tools/crashes: planted: %s: %s" % (fault, "found, BAD %s: %s" % bad[0] if bad else "NOT FOUND"), flush=True)
         missed += not bad
     return missed

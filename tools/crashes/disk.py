@@ -3,23 +3,23 @@
 Which states are made, of all that POSIX lets a file system leave:
 
 - A byte that was synced never goes: `fsync` and `fdatasync` of a file put its bytes and its length on the disk.
-- What wasn't synced is there or isn't by sectors of 512 bytes, each whole, in any combination. A sector that isn't there as
-  it was written holds what it held on the disk: the synced bytes and NUL, or what an earlier write left and NUL. One without
-  a synced byte may hold bytes of a former file instead: upper-case digits, as of a former journal, or any others but LF.
+- What wasn't synced is there or isn't by sectors of 512 or 4,096 bytes, each whole, in any combination. A sector that isn't
+  there as it was written holds what it held on the disk: the synced bytes and NUL, or what an earlier write left and NUL. One
+  without a synced byte may hold bytes of a former file instead: upper-case digits, as of a former journal, any others but LF,
+  or whole lines of a journal, as of a file system that shows such behind a crash (FAT, ext2, ext4 with data=writeback).
 - The length is anything from the least to the greatest that the file had since its sync: behind its data, or ahead of them.
 - A name that was made, linked, removed or renamed since the sync of its folder is changed or isn't, each by itself. A rename
   within a folder is done whole or not at all. The sync of a file doesn't put its name on the disk.
 
 And which aren't: a disk that says that it synced and didn't; a sector that is torn within; bytes that rot; a folder that is
-lost. Nor sectors that hold a former file's bytes with an LF (`--stale-lines` makes them): no text whose lines have no sum can
-stand these, so that a file system which shows them behind a crash (FAT, ext2, ext4 with data=writeback) is outside of what is
-promised.
+lost.
 """
 
 import os
 import random
 
 SECTOR = 512
+SECTORS = (SECTOR, 4096)
 # what a sector holds that wasn't written: NUL, digits of a former journal, other bytes without an LF, lines of a former journal
 NUL, DIGITS, BYTES, LINES = "n", "h", "x", "l"
 
@@ -41,9 +41,10 @@ def stale(kind, name, count):
 class File:
     """A file's bytes on the disk, and how they were behind each change since."""
 
-    def __init__(self, held=b""):
+    def __init__(self, held=b"", sector=SECTOR):
         self.versions = [held]
         self.first = None
+        self.sector = sector
 
     def is_synced(self):
         return len(self.versions) == 1
@@ -71,19 +72,19 @@ class File:
 
     def sectors(self):
         """Those that aren't wholly synced."""
-        return range(self.first // SECTOR, -(-self.lengths()[1] // SECTOR))
+        return range(self.first // self.sector, -(-self.lengths()[1] // self.sector))
 
     def left(self, name, length, kinds):
         """The bytes behind a crash: a kind for each sector that isn't synced, or the number of the change that it holds."""
-        held = bytearray(self.versions[0][:self.sectors().start * SECTOR])
+        held = bytearray(self.versions[0][:self.sectors().start * self.sector])
         for sector, kind in zip(self.sectors(), kinds, strict=True):
-            part = slice(sector * SECTOR, (sector + 1) * SECTOR)
+            part = slice(sector * self.sector, (sector + 1) * self.sector)
             synced = self.versions[0][part]
             if kind in (DIGITS, BYTES, LINES) and not synced:
-                held += stale(kind, "%s %d" % (name, sector), SECTOR)
+                held += stale(kind, "%s %d" % (name, sector), self.sector)
             else:
                 known = synced if kind in (NUL, DIGITS, BYTES, LINES) else self.versions[int(kind)][part]
-                held += known.ljust(SECTOR, b"\0")
+                held += known.ljust(self.sector, b"\0")
         return bytes(held[:length]).ljust(length, b"\0")
 
     def draw(self, chance, kinds, is_hole):
@@ -110,13 +111,14 @@ class File:
 class Disk:
     """The files of a folder, by numbers, and their names, on the disk and as they were changed since."""
 
-    def __init__(self, files):
+    def __init__(self, files, sector=SECTOR):
+        self.sector = sector
         self.files = {}
         self.names = {}
         self.changes = []
         for name in sorted(files):
             self.names[name] = len(self.files)
-            self.files[len(self.files)] = File(files[name])
+            self.files[len(self.files)] = File(files[name], sector)
 
     def now(self):
         """The names as a program sees them."""
@@ -137,7 +139,7 @@ class Disk:
         """What an event of a session does to the files."""
         kind, words = event.kind, event.words
         if kind == "make":
-            self.files[words[1]] = File()
+            self.files[words[1]] = File(sector=self.sector)
             self.changes.append((None, words[0], words[1]))
         elif kind == "write":
             self.files[words[0]].write(words[1], words[2])

@@ -7,7 +7,7 @@ import subprocess
 import tempfile
 
 from board import Board
-from disk import BYTES, DIGITS, LINES, NUL, Disk
+from disk import BYTES, DIGITS, LINES, NUL, SECTOR, SECTORS, Disk
 from journal import BadLine, Journal
 from story import BOARD, FILE
 
@@ -32,28 +32,36 @@ def fault_of(said):
 
 
 class State:
-    """A moment of a recorded session, what the disk has kept by then, and how many bytes of the line the device got."""
+    """A moment of a recorded session, what a disk with sectors of so many bytes has kept by then, and how many bytes of the line
+    the device got."""
 
-    def __init__(self, story, moment, count, crash):
-        self.story, self.moment, self.count, self.crash = story, moment, count, crash
+    def __init__(self, story, moment, count, sector, crash):
+        self.story, self.moment, self.count, self.sector, self.crash = story, moment, count, sector, crash
 
     def key(self):
-        return "%s:%d:%d:%s" % (self.story.name, self.moment, self.count, self.crash)
+        return "%s:%d:%d:%d:%s" % (self.story.name, self.moment, self.count, self.sector, self.crash)
 
     @staticmethod
     def of(stories, key):
-        name, moment, count, crash = key.split(":")
-        return State(stories[name], int(moment), int(count), crash)
+        name, moment, count, sector, crash = key.split(":")
+        return State(stories[name], int(moment), int(count), int(sector), crash)
 
     def files(self):
         """The files by name, and which names are of one file."""
-        held, names = disk_at(self.story, self.moment).left(self.crash)
+        held, names = self.disk().left(self.crash)
         return {name: held[number] for name, number in names.items()}, names
 
+    def disk(self):
+        return disk_at(self.story, self.moment, self.sector)
 
-def disk_at(story, moment):
+    def has_lines(self):
+        """Whether lines of a former journal are left somewhere."""
+        return re.search(r"\.%s\b" % LINES, self.crash) is not None
+
+
+def disk_at(story, moment, sector=SECTOR):
     """The disk once so many events were done."""
-    disk = Disk(story.start)
+    disk = Disk(story.start, sector)
     for event in story.events[:moment]:
         disk.do(event)
     return disk
@@ -71,11 +79,11 @@ def counts_at(story, moment):
     return least, len(story.sent(moment))
 
 
-def draw(story, seed, number, stale_lines):
+def draw(story, seed, number):
     """A state of a story. The second is of its end. Every other one is of a moment at which bytes of the journal in several
     sectors aren't on the disk, each such moment in turn; the last of these sectors is there, and something before it isn't."""
     chance = random.Random("%s %s %d" % (seed, story.name, number))
-    kinds = (NUL, NUL, DIGITS, BYTES) + ((LINES,) if stale_lines else ())
+    kinds = (NUL, NUL, DIGITS, BYTES, LINES)
     is_hole = number % 2 == 0 and bool(story.crossed)
     if is_hole:
         moment = story.crossed[number // 2 % len(story.crossed)]
@@ -87,7 +95,8 @@ def draw(story, seed, number, stale_lines):
         moment = chance.randrange(len(story.events) + 1)
     least, most = counts_at(story, moment)
     count = chance.choice((most, most, least, chance.randint(least, most)))
-    return State(story, moment, count, disk_at(story, moment).draw(chance, kinds, is_hole))
+    sector = SECTORS[number // 4 % len(SECTORS)]
+    return State(story, moment, count, sector, disk_at(story, moment, sector).draw(chance, kinds, is_hole))
 
 
 class Bad(Exception):
@@ -194,12 +203,17 @@ class Trial:
         if is_foreign(self.files[name]):
             self.refused(name)
             return
-        self.read_whole(name)
-        depth = self.depth(name)
-        if depth is not None and depth > 1:
-            self.undone(name, 1, "1")
+        if self.is_readable(name):
+            depth = Journal(self.files[name]).depth()
+            if depth > 1:
+                self.undone(name, 1, "1")
+            left = depth - 1 if depth > 1 else depth
+        else:
+            depth = self.recovered(name)
+            left = max(depth - 1, 0)
+        if depth > 1:
             self.same(self.story.flashes[depth - 1], "the flash isn't what it was before segment %d" % depth)
-        self.undone(name, None if depth is None else depth - 1 if depth > 1 else depth)
+        self.undone(name, left)
         self.same(self.story.flashes[0], "the flash isn't what it was")
 
     def refused(self, name):
@@ -212,25 +226,53 @@ class Trial:
             raise Bad("undo takes other bytes for a journal: %s" % said)
         self.same(self.story.flashes[0], "there is no line in the journal, and the flash isn't what it was")
 
-    def read_whole(self, name):
-        """`log --check` refuses nothing that a crash left of a journal."""
-        ran = subprocess.run([self.program, "log", "--check", "--journal", name], cwd=self.room, env={}, stdin=subprocess.DEVNULL,
-                             capture_output=True)
-        if ran.returncode != 0 or b" bytes behind them\n" not in ran.stdout:
-            raise Bad("log --check says: %s" % (ran.stderr or ran.stdout).decode(errors="replace").strip())
+    def is_readable(self, name):
+        """Whether an undo reads a journal, as it does unless lines of a former one are left in it. `log --check` refuses none that
+        can be read line by line."""
+        ran = self.run("log", "--check", "--journal", name)
+        is_read = ran.returncode == 0 and b" bytes behind them\n" in ran.stdout
+        said = (ran.stderr or ran.stdout).decode(errors="replace").strip()
+        if not is_read and not (self.state.has_lines() and re.fullmatch(r"stmflash: bad journal line \d+", said)):
+            raise Bad("log --check says: %s" % said)
+        return is_read
+
+    def run(self, *words):
+        return subprocess.run([self.program, *words], cwd=self.room, env={}, stdin=subprocess.DEVNULL, capture_output=True)
+
+    def recovered(self, name):
+        """What a crash left at a journal's end is cut off by a word that the fault names, and kept beside: nothing that was on the
+        disk for sure, but for the beginning of a line. Of several segments the newest is undone by that. Answers how many
+        there are."""
+        left = self.files[name]
+        try:
+            raise Bad("undo reads what it can't: %s" % self.use("undo", name))
+        except Bad as refused:
+            if not re.search(r"says: stmflash: bad journal line \d+\nhint: .* undo --recover ", str(refused)):
+                raise
+        self.same(self.flash, "an undo that was refused changed the flash")
+        if self.read(name) != left:
+            raise Bad("an undo that was refused changed the journal")
+        said = self.use("undo", name, "1", "--recover")
+        cut = self.read(name + ".cut")
+        kept = left[:len(left) - len(cut)]
+        synced = self.state.disk().files[self.names[name]].versions[0]
+        if kept + cut != left or not self.read(name).startswith(kept) or not kept.startswith(synced[:synced.rfind(b"\n") + 1]):
+            raise Bad("undo --recover cuts off %d bytes of %d, where %d were synced" % (len(cut), len(left), len(synced)))
+        depth = Journal(kept).depth()
+        if said != "undone %d\n" % min(1, depth):
+            raise Bad("undo 1 --recover says: %s, and not undone %d" % (said.strip(), min(1, depth)))
+        print("tools/crashes: recovered", self.state.key(), flush=True)
+        return depth
+
+    def read(self, name):
+        with open(os.path.join(self.room, name), "rb") as file:
+            return file.read()
 
     def undone(self, name, wanted, *more):
         said = self.use("undo", name, *more)
         found = re.fullmatch(r"undone (\d+)\n", said)
-        if not found or wanted not in (None, int(found[1])):
+        if not found or wanted != int(found[1]):
             raise Bad("undo says: %s, and not undone %s" % (said.strip(), wanted))
-
-    def depth(self, name):
-        """How many segments the journal has, by the second model; none where it finds a bad line."""
-        try:
-            return Journal(self.files[name]).depth()
-        except BadLine:
-            return None
 
     def check_without(self, is_given_up):
         """There is no journal: nothing was begun that it would be needed for, or it was given up."""

@@ -7,3 +7,4 @@ pub mod Remembering
 pub mod OnDisk
 pub mod Folders
 pub mod Locked
+pub mod Acknowledged

@@ -7,11 +7,11 @@ use Rattle.stm_journal.specs.Beginnings.{BeginningsAreGood}
 use Rattle.stm_disk.specs.Stops.{CrashesAreStops, CrashesAreGood}
 
 -- the whole lines, with one byte more in front
-abbrev lines_in_front : ℕ → List (List ℕ) → List (List ℕ)
+abbrev pub lines_in_front : ℕ → List (List ℕ) → List (List ℕ)
 lines_in_front b [] = []
 lines_in_front b (l ∷ ls) = (b ∷ l) ∷ ls
 
-abbrev more_in_front : ℕ → List (List ℕ) → List (List ℕ)
+abbrev pub more_in_front : ℕ → List (List ℕ) → List (List ℕ)
 more_in_front b ls = if b == 10 then [] ∷ ls else lines_in_front b ls
 
 in_front-lines : (b : ℕ) (lines : List (List ℕ)) (tail : List ℕ)
@@ -24,7 +24,7 @@ if-lines : (v : Bool) (x y : Text)
 if-lines true x y = refl
 if-lines false x y = refl
 
-lines-cons : (b : ℕ) (xs : List ℕ)
+pub lines-cons : (b : ℕ) (xs : List ℕ)
     → (text_of (b ∷ xs)).lines ≡ more_in_front b (text_of xs).lines
 lines-cons b xs =
     let t : Text = text_of xs in

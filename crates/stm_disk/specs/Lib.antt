@@ -6,6 +6,7 @@ pub mod Lines
 pub mod Appends
 pub mod MemoryFile
 pub mod Stops
+pub mod UnsyncedEnd
 pub mod RigCalls
 pub mod DiskRig
 pub mod Folder

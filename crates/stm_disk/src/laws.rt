@@ -4,6 +4,7 @@ ghost use Rattle.stm_disk.specs.DiskRig.{CrashesInSessionsAreStops};
 ghost use Rattle.stm_disk.specs.Folder.{LockedBeforeTheFirstByte, ProgramsAreOne};
 ghost use Rattle.stm_disk.specs.Folder.{ProgramsTakeTurns, UnkeptIsEmpty};
 ghost use Rattle.stm_disk.specs.Stops.{CrashesAreGood, CrashesAreStops};
+ghost use Rattle.stm_disk.specs.UnsyncedEnd.{CutsKeepAcknowledged};
 
 use crate::GrowingFile;
 use stm_journal::a_stopped_append_is_good;
@@ -23,6 +24,12 @@ pub fn a_crash_in_an_append_is_good()
     a_crash_is_a_stop();
     a_stopped_append_is_good();
 }
+
+/// Of what a crash of the PC left, whatever stands where nothing was synced, all that was
+/// acknowledged is in front of the first bad line: it's there behind a cut.
+pub fn a_cut_keeps_what_was_acknowledged()
+    ensures { CutsKeepAcknowledged }
+{}
 
 /// Appends that follow one another, each behind one that answered Ok, are one append of all their
 /// bytes.

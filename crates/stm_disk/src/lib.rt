@@ -2,6 +2,7 @@
 #![tactic(auto)]
 
 mod appends;
+mod crash_end;
 mod disk_in_memory;
 mod disk_rig;
 mod growing_file;
@@ -11,13 +12,15 @@ mod locked_file;
 mod memory_file;
 
 pub use appends::{add_both, take_up};
+pub use crash_end::{lines_size, unsynced_end};
 pub use disk_in_memory::memory_disk;
 pub use disk_rig::DiskRig;
 pub use growing_file::GrowingFile;
 pub use laws::{
     a_crash_in_a_session_is_a_stop, a_crash_in_an_append_is_good, a_crash_is_a_stop,
-    a_file_is_locked_before_its_first_byte, an_unkept_name_is_empty, appends_are_one,
-    programs_are_one, programs_take_turns, stopped_appends_follow,
+    a_cut_keeps_what_was_acknowledged, a_file_is_locked_before_its_first_byte,
+    an_unkept_name_is_empty, appends_are_one, programs_are_one, programs_take_turns,
+    stopped_appends_follow,
 };
 pub use lines::add_lines;
 pub use locked_file::LockedFile;

@@ -8,10 +8,10 @@ use crate::GrowingFile;
 use std::io;
 
 /// How many bytes of a disk are written whole or not at all, at least.
-const SECTOR: u64 = 512;
+pub const SECTOR: u64 = 512;
 
 /// What ends a line.
-const LF: u8 = b'\n';
+pub const LF: u8 = b'\n';
 
 /// Adds bytes at the end of a file, which is at this place, and answers once they are on the disk.
 /// Whatever a crash leaves of them, no line is there whole unless all in front of it is.

@@ -12,6 +12,8 @@ use stm_disk::GrowingFile;
 #[derive(Drop)]
 pub struct DiskFile<F> {
     pub file: F,
+    /// A sync has failed: what was added may be gone from the disk, though reads still give it.
+    pub is_unsynced: bool,
 }
 
 impl<F: Write + OpenFile> GrowingFile for DiskFile<F> {
@@ -22,7 +24,9 @@ impl<F: Write + OpenFile> GrowingFile for DiskFile<F> {
     }
 
     fn sync(&mut self) -> io::Result<()> {
-        self.file.sync_all()
+        let synced = self.file.sync_all();
+        self.is_unsynced = synced.is_err();
+        synced
     }
 
     ghost model = { λ disk. never_honest (F.contents disk.file) };

@@ -6,6 +6,8 @@ ghost use Rattle.stm_files.specs.JournalFile.{JournalBytes, IsNew, ahead_of, is_
 ghost use Rattle.stm_files.specs.JournalFile.{lock_of};
 ghost use Rattle.stm_files.specs.Locks.{IsHeld, IsHeldIfThere};
 
+mod cut_off;
+
 use crate::disk_file::DiskFile;
 use crate::file_fault::FileFault;
 use crate::files::{open_to_hold, sync_folder};
@@ -30,7 +32,7 @@ const HELD: u64 = 1 << 26;
 
 /// What is answered where the file isn't the one any more that was read and added to: a kind that the
 /// system never gives.
-fn moved() -> io::Error {
+pub fn moved() -> io::Error {
     io::Error::from(ErrorKind::InvalidData)
 }
 
@@ -135,8 +137,8 @@ impl<'a, R: Locks + AllocGlobal> JournalFile<'a, R> {
         }
     }
 
-    /// Adds the bytes at the end of the file, and answers once they are on the disk. Where it
-    /// fails, a beginning of them may have been added, and stays.
+    /// Adds the bytes at the end of the file, and answers once they are on the disk. Where a write
+    /// fails, a beginning of them may have been added, and stays; where a sync does, none of them.
     pub fn append(&mut self, bytes: &[u8]) -> io::Result<()>
         ensures added { OnOk result (Appends self.old.known self.new.known bytes.now) }
         ensures ok { OnOk result ((self.old.has_failed ≡ false) × (self.new.has_failed ≡ false)) }
@@ -161,8 +163,17 @@ impl<'a, R: Locks + AllocGlobal> JournalFile<'a, R> {
             Writing::Failed => return Err(io::Error::from(ErrorKind::Other)),
         };
         self.check_place(&file)?;
-        let mut on_disk = DiskFile { file };
-        add_lines(&mut on_disk, self.end, bytes)?;
+        let mut on_disk = DiskFile {
+            file,
+            is_unsynced: false,
+        };
+        if let Err(e) = add_lines(&mut on_disk, self.end, bytes) {
+            if on_disk.is_unsynced {
+                // a later sync may answer though these bytes never come to the disk
+                let _ = on_disk.file.set_len(self.end);
+            }
+            return Err(e);
+        }
         self.end = self.end.saturating_add(bytes.len() as u64);
         self.writing = Writing::Open(on_disk.file);
         self.remember(bytes);
@@ -190,7 +201,7 @@ impl<'a, R: Locks + AllocGlobal> JournalFile<'a, R> {
             None => self.read(),
         };
         match text {
-            Ok(text) if !text.is_empty() => rescue(self.rt, name, text.as_slice()).ok(),
+            Ok(text) if !text.is_empty() => rescue(self.rt, name, "rescued", text.as_slice()).ok(),
             _ => None,
         }
     }

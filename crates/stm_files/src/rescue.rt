@@ -1,4 +1,4 @@
-// What a journal held whose file went away, in a file of its own.
+// What a journal held whose file went away, or what was cut off it, in a file of its own.
 
 use crate::files::sync_folder;
 use crate::replacement::ALONE;
@@ -12,18 +12,19 @@ use std::{fmt, fs, io};
 /// How many names are tried.
 const NAMES: u32 = 100;
 
-/// The name of a file that has what a journal of this name held.
+/// The name of a file that has what a journal of this name held: that one's, an ending, and a number.
 #[derive(Clone, Copy, Debug)]
 pub struct Rescued<'n> {
     name: &'n str,
+    ending: &'static str,
     number: u32,
 }
 
 impl Display for Rescued<'_> {
     fn fmt<W: fmt::Write>(&self, f: &mut Formatter<W>) -> fmt::Result {
         match self.number {
-            0 => write!(f, "{}.rescued", self.name),
-            number => write!(f, "{}.rescued{number}", self.name),
+            0 => write!(f, "{}.{}", self.name, self.ending),
+            number => write!(f, "{}.{}{number}", self.name, self.ending),
         }
     }
 }
@@ -33,11 +34,12 @@ impl Display for Rescued<'_> {
 pub fn rescue<'n, R: Files + AllocGlobal>(
     rt: &R,
     name: &'n str,
+    ending: &'static str,
     bytes: &[u8],
 ) -> io::Result<Rescued<'n>> {
-    match rescue_beside(rt, name, bytes) {
+    match rescue_beside(rt, name, ending, bytes) {
         Err(e) if e.kind() == ErrorKind::NotFound => match Path::new(name).file_name() {
-            Some(last) => rescue_beside(rt, last, bytes),
+            Some(last) => rescue_beside(rt, last, ending, bytes),
             None => Err(e),
         },
         done => done,
@@ -48,10 +50,15 @@ pub fn rescue<'n, R: Files + AllocGlobal>(
 fn rescue_beside<'n, R: Files + AllocGlobal>(
     rt: &R,
     name: &'n str,
+    ending: &'static str,
     bytes: &[u8],
 ) -> io::Result<Rescued<'n>> {
     for number in 0..NAMES {
-        let new = Rescued { name, number };
+        let new = Rescued {
+            name,
+            ending,
+            number,
+        };
         match write_new(rt, format!(in rt.alloc(); "{new}")?.as_str(), bytes) {
             Ok(()) => return Ok(new),
             Err(e) if e.kind() == ErrorKind::AlreadyExists => {}

@@ -158,9 +158,9 @@ behind_a_stop e = record e { wait = wait_behind_a_stop e.wait }
 
 abbrev pub undo_app : Environment → App
 undo_app e =
-    with_rule (with_rule
+    with_rule (with_rule (with_rule
     (with_rule (on_board (behind_a_stop e) (codes "undo")) (letter_rule (codes "check") 118))
-    (flag_rule (codes "to-change"))) (new_rule (codes "COUNT"))
+    (flag_rule (codes "to-change"))) (flag_rule (codes "recover"))) (new_rule (codes "COUNT"))
 
 -- a subcommand that reads a journal and uses no device
 abbrev pub on_journal : Environment → Text → App

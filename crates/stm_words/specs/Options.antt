@@ -40,6 +40,11 @@ pub record IsBoardWord (e : Environment) (given : Found) (o : Options) : Type 0 
   pub asked : IsSome o.board → o.without_board ≡ false
   pub told : o.in_folder ≡ true → o.without_board ≡ false
 
+-- the end of the journal is cut off first, of one that is named by itself
+pub record IsRecovery (given : Found) (o : Options) : Type 0 where
+  pub flag : IsFlag given (codes "recover") o.recovers
+  pub one : o.recovers ≡ true → o.in_folder ≡ false
+
 -- The options that words give, or the environment.
 abbrev pub AreOptions : Environment → Found → Options → Type 0
 AreOptions e given o = AreTables e given o.table
@@ -54,3 +59,4 @@ AreOptions e given o = AreTables e given o.table
     × IsFlagOr e.without_lock given (codes "no-lock") o.without_lock
     × IsFlag given (codes "trust-journal") o.trusts_others
     × IsFlag given (codes "watch") o.watches
+    × IsRecovery given o

@@ -203,6 +203,7 @@ fn undo<'a>(alloc: Global, environment: Environment<'a>) -> Result<Command<'a>, 
     on_board(alloc, behind_a_stop(environment), "undo", help::UNDO)?
         .arg(letter(alloc, "check", 'v', help::UNDO_CHECK))?
         .arg(flag(alloc, "to-change", help::TO_CHANGE))?
+        .arg(flag(alloc, "recover", help::RECOVER))?
         .arg(spare(alloc, "COUNT", help::COUNT))
 }
 

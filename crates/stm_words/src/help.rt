@@ -119,6 +119,9 @@ pub const PAGE: &str = "The numbers of pages, counted from 0, or ranges of them,
 pub const UNDO_CHECK: &str =
     "Reads each page again that was given back, in the same session, and compares it";
 
+pub const RECOVER: &str =
+    "First cuts off what a crash of the PC left at the journal's end, and keeps it beside";
+
 pub const TO_CHANGE: &str =
     "In place of COUNT: up to the newest write or erase that changed something, that one too";
 

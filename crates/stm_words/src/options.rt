@@ -41,6 +41,8 @@ pub struct Options<'a> {
     pub trusts_others: bool,
     /// Whether each reply has to be one that a device of the stated model could give.
     pub watches: bool,
+    /// Whether the end of the journal is cut off first that a crash of the PC left.
+    pub recovers: bool,
     /// What is shown while the session runs.
     pub progress: Progress,
     /// After how many steps a simulator is stopped.
@@ -74,6 +76,10 @@ impl<'a> Options<'a> {
         if place.is_folder && without_board {
             return Err(UsageFault::FolderUnasked);
         }
+        let recovers = flag(given, "recover");
+        if place.is_folder && recovers {
+            return Err(UsageFault::RecoversOne);
+        }
         Ok(Options {
             table,
             device,
@@ -88,6 +94,7 @@ impl<'a> Options<'a> {
             without_lock: flag_or(given, "no-lock", environment.without_lock),
             trusts_others: flag(given, "trust-journal"),
             watches: flag(given, "watch"),
+            recovers,
             progress: Progress::of(flag(given, "progress"), flag(given, "quiet")),
             stop: given_number(given, "stop")?,
         })

@@ -41,6 +41,9 @@ pub enum UsageFault<'a> {
     /// A folder of journals is named, and the device isn't to be asked which board it is.
     #[error("usage: give --journals or --no-board, not both")]
     FolderUnasked,
+    /// A journal is to be cut behind a crash, and a folder of journals is named.
+    #[error("usage: give --journals or --recover, not both")]
+    RecoversOne,
     /// A place is named for an image that isn't raw.
     #[error("usage: -S needs a raw image")]
     RangeNeedsRaw,

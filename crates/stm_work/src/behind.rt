@@ -20,6 +20,12 @@ pub enum Behind<'f> {
     /// The same, and what it held is in a file of this name.
     #[error("it was moved, replaced, cut or added to; what it held is in {0}: undo --journal {0}")]
     Rescued(&'f Rescued<'f>),
+    /// A crash of the PC may have left the journal's bad end.
+    #[error("a crash of the PC may have left it: undo --recover cuts it off, and keeps it beside")]
+    UnsyncedEnd,
+    /// The same of the journal of this name.
+    #[error("a crash of the PC may have left it: undo --recover --journal {0} cuts it off, and keeps it beside")]
+    UnsyncedEndIn(&'f str),
     /// The device is a port, of this name.
     #[error("serial ports want stmflash-line {0} -- stmflash .. (no --device)")]
     Port(&'f str),
@@ -32,6 +38,8 @@ impl<'f> Behind<'f> {
             (Failure::JournalFailed(reason), _) => Some(Behind::Reason(reason)),
             (Failure::JournalMoved, _) => Some(Behind::Moved),
             (Failure::JournalRescued(file), _) => Some(Behind::Rescued(file)),
+            (Failure::UnsyncedEnd(_), _) => Some(Behind::UnsyncedEnd),
+            (Failure::UnsyncedEndIn(name, _), _) => Some(Behind::UnsyncedEndIn(name)),
             (Failure::IsPort(name), _) => Some(Behind::Port(name)),
             (_, Some(hint)) => Behind::told(hint.of(failure)),
             _ => None,

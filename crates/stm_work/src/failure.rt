@@ -113,6 +113,12 @@ pub enum Failure<'a> {
     /// The journal of a folder is bad.
     #[error("{1}, in {0}")]
     InJournal(&'a str, Fault),
+    /// A line of the journal is bad, and a crash of the PC may have left it and what follows.
+    #[error("bad journal line {0}")]
+    UnsyncedEnd(u64),
+    /// The same of the journal of this name, in a folder.
+    #[error("bad journal line {1}, in {0}")]
+    UnsyncedEndIn(&'a str, u64),
     /// The first line of a folder's journal doesn't name the board whose name the file has.
     #[error("{0} doesn't name its board")]
     Misnamed(&'a str),

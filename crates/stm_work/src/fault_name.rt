@@ -37,6 +37,7 @@ impl Failure<'_> {
             Failure::NoAnswer => "no_answer",
             Failure::Otherwise(_) => "does_otherwise",
             Failure::InJournal(_, fault) => name_of(*fault),
+            Failure::UnsyncedEnd(_) | Failure::UnsyncedEndIn(..) => "bad_journal",
             Failure::Misnamed(_) => "misnamed_journal",
             Failure::BegunJournals(_) => "unfinished_journals",
             Failure::NoUnique => "no_unique_id",

@@ -18,6 +18,7 @@ mod output;
 mod planned_session;
 mod program;
 mod protected_pages;
+mod recovery;
 mod serving;
 mod tables;
 mod variable;

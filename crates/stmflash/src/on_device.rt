@@ -15,6 +15,7 @@ use crate::on_simulator::on_simulator;
 use crate::on_socket::on_socket;
 use crate::output::Output;
 use crate::planned_session::{ShownSimulator, ShownSocket};
+use crate::recovery::{done_or_end, recover, told_end};
 use std::io::{IsTerminal, Read, Write};
 use std::net::Net;
 use std::time::Clock;
@@ -66,7 +67,7 @@ pub fn use_device<
     }
     let found = match find_journal(rt, options, tables.chips(), place) {
         Ok(found) => found,
-        Err(failure) => return Err(failure),
+        Err(failure) => return Err(told_end(rt, options.journal, tables.chips(), failure)),
     };
     let Found { options, line } = found;
     let files = files.beside(options.journal);
@@ -101,7 +102,7 @@ fn use_beside<'a, 'r, 'e, R: Locks + Net + Clock + AllocGlobal, E: Write + IsTer
     if told.is_some() {
         *hint = told;
     }
-    done
+    done_or_end(rt, options.journal, tables.chips(), done)
 }
 
 /// The same, without what is to be done behind it.
@@ -122,6 +123,9 @@ fn use_files<'a, 'r, 'e, R: Locks + Net + Clock + AllocGlobal, E: Write + IsTerm
 {
     if let Some(to) = sequel.to {
         files.check_new(rt, to)?;
+    }
+    if options.recovers {
+        recover(rt, options, tables.chips(), err)?;
     }
     let output = Output::open(rt, files)?;
     let is_begun = begins_journal(rt, options, &work);

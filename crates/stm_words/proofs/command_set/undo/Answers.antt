@@ -16,5 +16,8 @@ returns c =
     let a2 : App = with_rule a1 (flag_rule (codes "to-change")) in
     let m2 : Makes a2 c.in_ok-arg-2.field-0 =
     adds a1 (flag_rule (codes "to-change")) c.in_ok-arg.field-0 c.flag.result c.in_ok-arg-2.field-0 m1 c.flag.ensures.rule c.flag.ensures.local c.in_ok-arg-2.ensures in
-    IfOk-weaker c.arg-3.result _ _
-    (λ r h. adds a2 (new_rule (codes "COUNT")) c.in_ok-arg-2.field-0 c.spare.result r m2 c.spare.ensures.rule c.spare.ensures.local h) c.arg-3.ensures
+    let a3 : App = with_rule a2 (flag_rule (codes "recover")) in
+    let m3 : Makes a3 c.in_ok-arg-3.field-0 =
+    adds a2 (flag_rule (codes "recover")) c.in_ok-arg-2.field-0 c.flag-2.result c.in_ok-arg-3.field-0 m2 c.flag-2.ensures.rule c.flag-2.ensures.local c.in_ok-arg-3.ensures in
+    IfOk-weaker c.arg-4.result _ _
+    (λ r h. adds a3 (new_rule (codes "COUNT")) c.in_ok-arg-3.field-0 c.spare.result r m3 c.spare.ensures.rule c.spare.ensures.local h) c.arg-4.ensures

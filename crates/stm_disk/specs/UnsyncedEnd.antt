@@ -1,0 +1,51 @@
+-- The end of a journal that a crash of the PC may have left, where a sector that was never written
+-- holds whatever it held before: lines of another file too.
+use Rattle.std.specs.Prelude.{◌≡◌, ◌≤◌, ◌+◌, ◌-◌, ◌*◌, ◌/◌, ◌==◌, ◌&&◌, ℕ, Bool, nat_le, List, [], ◌∷◌}
+use Rattle.std.specs.Prelude.{length, take, drop, zero, suc, if◌then◌else◌, Option, None, Some}
+use Rattle.stm_journal.specs.States.{StateData}
+use Rattle.stm_journal.specs.Text.{text_of}
+use Rattle.stm_journal.specs.Journals.{journal_of, good, bad}
+use Rattle.stm_disk.specs.Sectors.{sector}
+
+-- how many bytes the first so many lines have, with the LF that ends each
+abbrev pub lines_size : ℕ → List ℕ → ℕ
+lines_size zero bytes = 0
+lines_size (suc n) [] = 0
+lines_size (suc n) (b ∷ bytes) =
+    if b == 10 then suc (lines_size n bytes) else suc (lines_size (suc n) bytes)
+
+-- where the first sector begins that begins at this place or behind it
+abbrev pub next_sector : ℕ → ℕ
+next_sector at = (at + (sector - 1)) / sector * sector
+
+-- The line at this place has the first byte of a sector: another one stood there than was written.
+abbrev pub enters_sector : ℕ → List ℕ → Bool
+enters_sector at bytes = nat_le (suc (next_sector at)) (at + lines_size 1 (drop at bytes))
+
+-- Something stands in front of this line, from it on no more than one append can leave, and a sector
+-- begins in it.
+abbrev pub may_be_unsynced : ℕ → ℕ → List ℕ → Bool
+may_be_unsynced longest at bytes =
+    nat_le 1 at && nat_le (length bytes - at) longest && enters_sector at bytes
+
+-- where the text is to be cut before its first bad line
+abbrev pub unsynced_end : ℕ → ℕ → List ℕ → Option ℕ
+unsynced_end longest line bytes =
+    let at = lines_size (line - 1) bytes in
+    if may_be_unsynced longest at bytes then Some at else None
+
+-- What a crash may leave of a file of these bytes, of which so many from the first on are synced,
+-- whatever stands in the place of the others.
+pub record IsLeftOfSynced (synced : ℕ) (seen left : List ℕ) : Type 0 where
+  pub least : synced ≤ length left
+  pub kept : take synced left ≡ take synced seen
+
+-- Whole lines that are synced and come to a good journal, as each that was acknowledged does, stand
+-- before the first bad line of what a crash left.
+abbrev pub CutsKeepAcknowledged : Type 0
+CutsKeepAcknowledged = (synced n line : ℕ) (seen left : List ℕ) (s : StateData)
+    → IsLeftOfSynced synced seen left → n ≤ synced
+    → (text_of (take n seen)).tail ≡ [] → journal_of (take n seen) ≡ good s
+    → journal_of left ≡ bad line
+    → (n ≤ lines_size (line - 1) left)
+    × (take n (take (lines_size (line - 1) left) left) ≡ take n seen)

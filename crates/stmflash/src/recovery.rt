@@ -1,0 +1,186 @@
+// The end of a journal that a crash of the PC left and no session counts on: it's found, and cut off.
+ghost use Rattle.std.specs.Prelude.{◌≡◌, IfOk, Ok};
+
+use std::alloc::Global;
+use std::fs::Files;
+use std::io::Write;
+use stm_chip::Table;
+use stm_disk::{lines_size, unsynced_end};
+use stm_files::{Escaped, JournalFile, JournalRig, Locks, TextSource, read_file};
+use stm_journal::{Journal, JournalFault};
+use stm_session::{Fault, check_undo};
+use stm_wire::Chip;
+use stm_words::Options;
+use stm_work::{Failure, Steps};
+
+/// How many bytes an append has at most beside the digits of a page, with a torn line in front.
+const WORDS: u64 = 192;
+
+/// Where a journal's text is to be cut, and the number of the line that begins there.
+#[derive(Clone, Copy)]
+struct End {
+    line: u64,
+    at: usize,
+}
+
+/// Reads a journal's text, or a beginning of it.
+fn load(alloc: Global, bytes: &[u8]) -> Result<Journal, JournalFault> {
+    Journal::load(alloc, &mut JournalRig::new(TextSource { bytes }))
+}
+
+/// The first line of a text that is bad, or keeps a page that the chip hasn't in its size, where one
+/// is bad; and the lines before it.
+fn find_bad(
+    alloc: Global,
+    bytes: &[u8],
+    table: &Table,
+) -> Result<Option<(u64, Journal)>, JournalFault> {
+    let line = match load(alloc, bytes) {
+        Err(JournalFault::Bad(line)) => line,
+        Err(fault) => return Err(fault),
+        Ok(_) => return Ok(None),
+    };
+    let journal = load(alloc, before(bytes, line))?;
+    match check_undo(&journal, table) {
+        Err(Fault::BadJournal(line)) => Ok(Some((line, load(alloc, before(bytes, line))?))),
+        _ => Ok(Some((line, journal))),
+    }
+}
+
+/// The lines before this one.
+fn before(bytes: &[u8], line: u64) -> &[u8] {
+    &bytes[..lines_size(bytes, line.saturating_sub(1))]
+}
+
+/// How many bytes an append to a journal of this chip has at most, with a torn line in front.
+fn longest_append(chip: Option<&Chip>) -> u64 {
+    let mut longest = 0;
+    if let Some(chip) = chip {
+        for page in 0..chip.pages() {
+            longest = longest.max(u64::from(chip.page_size(page)));
+        }
+    }
+    2 * longest + WORDS
+}
+
+/// Whether a line is as long as one that keeps a page of the chip, whole: a digit of it rotted.
+fn is_whole_page(line: &[u8], chip: Option<&Chip>) -> bool {
+    let Some(chip) = chip else {
+        return false;
+    };
+    for page in 0..chip.pages() {
+        let number: u64 = if page < 10 {
+            1
+        } else if page < 100 {
+            2
+        } else {
+            3
+        };
+        if line.len() as u64 == 7 + number + 2 * u64::from(chip.page_size(page)) {
+            return line.starts_with(b"page ");
+        }
+    }
+    false
+}
+
+/// Where a journal's text is to be cut since a crash of the PC may have left what stands from there
+/// on, and nothing that was acknowledged; none where there is no bad line, or it may be another's.
+fn find_end(alloc: Global, bytes: &[u8], table: &Table) -> Result<Option<End>, JournalFault> {
+    let Some((line, journal)) = find_bad(alloc, bytes, table)? else {
+        return Ok(None);
+    };
+    let chip = match journal.id() {
+        Some(id) => match table.find(id) {
+            Some(chip) => Some(chip),
+            None => return Ok(None),
+        },
+        None => None,
+    };
+    let Some(at) = unsynced_end(bytes, line, longest_append(chip)) else {
+        return Ok(None);
+    };
+    let rest = &bytes[at..];
+    if is_whole_page(&rest[..lines_size(rest, 1)], chip) {
+        return Ok(None);
+    }
+    Ok(Some(End { line, at }))
+}
+
+/// Cuts off what a crash of the PC may have left at the end of the journal, where that keeps it from
+/// being read, puts it into a file beside, and tells so. Any other journal stays as it is.
+pub fn recover<'a, R: Locks + AllocGlobal, E: Write>(
+    rt: &R,
+    options: &Options<'a>,
+    table: &Table,
+    err: &mut E,
+) -> Result<(), Failure<'a>> {
+    let name = options.journal;
+    let mut journal = match JournalFile::open(rt, name, options.without_lock) {
+        Ok(journal) => journal,
+        Err(why) => return Err(Failure::of_journal(why, name)),
+    };
+    let bytes = match journal.read() {
+        Ok(bytes) => bytes,
+        Err(e) => return Err(Failure::of_file(&e, Failure::CannotRead(name))),
+    };
+    let end = match find_end(rt.alloc(), bytes.as_slice(), table) {
+        Ok(Some(end)) => end,
+        Ok(None) => return Ok(()),
+        Err(fault) => return Err(Failure::Session(Fault::from(fault))),
+    };
+    match journal.cut_off(name, bytes.as_slice(), end.at) {
+        Ok(beside) => {
+            let count = bytes.len() - end.at;
+            let _ = writeln!(
+                err,
+                "note: journal {} cut before line {}: {count} bytes that no session counts on are in {}",
+                Escaped(name),
+                end.line,
+                Escaped(beside)
+            );
+            Ok(())
+        }
+        Err(e) => Err(Failure::of_reason(Some(e))),
+    }
+}
+
+/// Whether the journal of this name has such an end.
+fn has_end<R: Files + AllocGlobal>(rt: &R, name: &str, table: &Table) -> bool {
+    match read_file(rt, name, u32::MAX) {
+        Ok(bytes) => matches!(find_end(rt.alloc(), bytes.as_slice(), table), Ok(Some(_))),
+        Err(_) => false,
+    }
+}
+
+/// The same failure, where the journal of this name or of a folder is bad, and has such an end.
+pub fn told_end<'a, R: Files + AllocGlobal>(
+    rt: &R,
+    name: &str,
+    table: &Table,
+    failure: Failure<'a>,
+) -> Failure<'a> {
+    match failure {
+        Failure::Session(Fault::BadJournal(line)) if has_end(rt, name, table) => {
+            Failure::UnsyncedEnd(line)
+        }
+        Failure::InJournal(name, Fault::BadJournal(line)) if has_end(rt, name, table) => {
+            Failure::UnsyncedEndIn(name, line)
+        }
+        failure => failure,
+    }
+}
+
+/// The same, of what came of a use of the journal of this name.
+pub fn done_or_end<'a, R: Files + AllocGlobal>(
+    rt: &R,
+    name: &str,
+    table: &Table,
+    done: Result<Steps<'a>, Failure<'a>>,
+) -> Result<Steps<'a>, Failure<'a>>
+    ensures { IfOk result (λ steps. done.entry ≡ Ok steps) }
+{
+    match done {
+        Ok(steps) => Ok(steps),
+        Err(failure) => Err(told_end(rt, name, table, failure)),
+    }
+}
