@@ -92,10 +92,13 @@ class Tab:
         ends = time.monotonic() + PATIENCE
         while not (it := self.js(text)):
             if time.monotonic() > ends:
-                said = self.js("document.body.innerText")
-                raise TimeoutError(f"{why or text}: {it!r}; the page says: {said[-3000:]}")
+                raise TimeoutError(f"{why or text}: {it!r}; the page says: {self.said()}")
             time.sleep(0.02)
         return it
+
+    def said(self):
+        """What was told last, and all that the program said."""
+        return self.js("['state', 'told', 'said'].map((it) => document.getElementById(it)?.textContent).join('\\n')")[-3000:]
 
     def picture(self, path, width=720, height=None, dark=False):
         self.call("Emulation.setEmulatedMedia", features=[{"name": "prefers-color-scheme", "value": "dark" if dark else "light"}])

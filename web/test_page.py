@@ -1,6 +1,6 @@
 """Tries the page in a headless Chromium, on a simulated board: stops of any kind, full disks, two tabs, and what a reader sees.
 
-    python3 -m unittest discover -s web -p test_page.py
+    python3 web/test_page.py
 
 The page is bin/web, the board the simulator of STMFLASH, bin/stmflash-unproved where that is unset. STMFLASH_WEB_SAMPLES is how many
 moments of each kind of stop are tried, 3 without it. What a test waits for is never a time: a state of the page, or the bytes of the
@@ -11,6 +11,7 @@ import base64
 import os
 import random
 import shutil
+import socket
 import subprocess
 import sys
 import tempfile
@@ -57,7 +58,7 @@ class Page(unittest.TestCase):
                 self.skipTest(f"there is no {what}")
         room = tempfile.TemporaryDirectory(prefix="stmflash-web-", ignore_cleanup_errors=True)
         self.addCleanup(room.cleanup)
-        self.room, self.some = room.name, random.Random(f"{SEED} {self.id()}")
+        self.room, self.some = room.name, random.Random(f"{SEED} {self._testMethodName}")
         self.flash, self.folder, self.socket = f"{self.room}/flash", f"{self.room}/page", f"{self.room}/board"
         shutil.copytree(PAGE, self.folder)
         self.before = self.some.randbytes(SIZE)
@@ -71,6 +72,10 @@ class Page(unittest.TestCase):
         self.after = self.image + self.before[len(self.image):]
         self.begin_browser()
         self.addCleanup(lambda: self.browser.kill())
+
+    def shortDescription(self):
+        """It stands above each fault."""
+        return f"seed {SEED}"
 
     def end_server(self):
         if self.server.poll() is None:
@@ -97,16 +102,18 @@ class Page(unittest.TestCase):
         ends = time.monotonic() + PATIENCE
         while held(self.flash) != wanted and time.monotonic() < ends:
             time.sleep(0.05)
-        self.assertTrue(held(self.flash) == wanted, f"{why} (seed {SEED})")
+        self.assertTrue(held(self.flash) == wanted, f"{why}: the flash is another at {[i for i, (one, two) in enumerate(zip(held(self.flash), wanted)) if one != two][:20]}")
 
     def click(self, tab, selector):
         tab.js(f"document.getElementById('told').hidden = true; document.querySelector({selector!r}).click()")
 
-    def do(self, tab, selector):
-        """Clicks, and waits until all is done; what was told then."""
+    def do(self, tab, selector, wanted="^Done: ", why=""):
+        """Clicks, and waits until all is done; what was told then, which has to be so."""
         self.click(tab, selector)
         tab.until(QUIET + " && !document.getElementById('told').hidden")
-        return tab.js("document.getElementById('told').innerText")
+        told = tab.js("document.getElementById('told').innerText")
+        self.assertRegex(told, wanted, f"{why}; the page says: {tab.said()}")
+        return told
 
     def hold_write(self, tab):
         """Begins a write, and waits until the board has sent so many bytes of it, and then no more: it is in the middle of its pages."""
@@ -119,26 +126,39 @@ class Page(unittest.TestCase):
         tab.js("document.getElementById('bar').removeAttribute('value')")
         self.click(tab, "#write")
         tab.until(f"document.getElementById('bar').hasAttribute('value') && document.getElementById('bar').value >= {moment} || !document.getElementById('told').hidden")
-        time.sleep(self.some.uniform(0, 0.2))
+
+    def stopped(self, end):
+        """Stops a write at any moment: in the midst of its pages, or behind one of its steps. What undoes it is another tab's."""
+        for i in range(SAMPLES):
+            tab, moment = self.tab(), self.some.randrange(2 * PAGES)
+            if i % 2:
+                self.stop_write(tab, moment)
+            else:
+                self.hold_write(tab)
+            end(tab)
+            tab = self.tab()
+            self.assertTrue(i % 2 or tab.js("!document.getElementById('stopped').hidden"), f"stop {i} wasn't in mid-write: {tab.said()}")
+            self.undo(tab, f"stop {i}, at {moment}")
+            tab.close()
 
     def undo(self, tab, why):
         """Undoes by the one button that the page shows behind a stop, or by a journal's where the write had ended; and sees the flash."""
         if tab.js("!document.getElementById('stopped').hidden"):
             self.assertIn(UNIQUE, tab.js("document.getElementById('stopped-says').textContent"))
-            self.assertRegex(self.do(tab, "#stopped-undo"), r"^Done: undone \d", why)
+            self.do(tab, "#stopped-undo", r"^Done: undone \d", why)
         elif tab.js("stmflash.state.names.length") and not tab.js("document.getElementById('journals').innerText.includes('0 can be undone')"):
             tab.js("void (window.undone = stmflash.acts.undo(stmflash.state.names[0], true))")
-            self.assertEqual(tab.js("undone.then((it) => it.status)"), 0, why)
+            self.assertEqual(tab.js("undone.then((it) => it.status)"), 0, f"{why}; the page says: {tab.said()}")
         self.assertFlash(self.before, why)
         self.assertTrue(tab.js("document.getElementById('stopped').hidden"))
 
     def test_a_write_and_its_undo(self):
         tab = self.tab()
-        self.assertEqual(self.do(tab, "#ask"), "Done: The board answered.")
+        self.do(tab, "#ask", r"^Done: The board answered\.$")
         self.assertIn(UNIQUE, tab.js("document.getElementById('chip').innerText"))
-        self.assertTrue(self.do(tab, "#write").startswith("Done: segment 1: 5 pages written"))
+        self.do(tab, "#write", "^Done: segment 1: 5 pages written")
         self.assertFlash(self.after)
-        self.assertTrue(self.do(tab, "#compare").startswith("Done: The board has just these bytes."))
+        self.do(tab, "#compare", r"^Done: The board has just these bytes\.")
         # undo shows first what it will undo, and does nothing where it may not
         self.click(tab, "#journals button")
         tab.until("document.getElementById('sure').open")
@@ -148,6 +168,8 @@ class Page(unittest.TestCase):
         self.assertEqual(held(self.flash), self.after)
         self.click(tab, "#journals button")
         tab.until("document.getElementById('sure').open")
+        # the end of the question before may be told now
+        tab.js("document.getElementById('sure').dispatchEvent(new Event('close'))")
         self.click(tab, "#sure-yes")
         tab.until(QUIET + " && document.getElementById('told').innerText.includes('undone 1')")
         self.assertFlash(self.before)
@@ -160,38 +182,34 @@ class Page(unittest.TestCase):
             with self.subTest(name):
                 tab.js(f"stmflash.take({named((name, data))})")
                 self.assertTrue(tab.js("document.getElementById('start').hidden"))
-                self.assertTrue(self.do(tab, "#write").startswith("Done: segment"))
+                self.do(tab, "#write", "^Done: segment")
                 self.assertFlash(self.before[:at[0]] + at[1] + self.before[at[0] + len(at[1]):])
                 self.undo(tab, name)
         tab.js(f"stmflash.take({named(('b.elf', elf([])[:60]))})")
         self.assertEqual(tab.js("document.getElementById('write').disabled"), True)
 
     def test_the_tab_is_closed_at_any_moment(self):
-        for i in range(SAMPLES):
-            tab, moment = self.tab(), self.some.randrange(2 * PAGES)
-            if i % 2:
-                self.stop_write(tab, moment)
-            else:
-                self.hold_write(tab)
-            tab.close()
-            tab = self.tab()
-            self.assertTrue(i % 2 or tab.js("!document.getElementById('stopped').hidden"), "it wasn't stopped in mid-write")
-            self.undo(tab, f"stop {i}, at {moment}")
-            tab.close()
+        self.stopped(lambda tab: tab.close())
 
     def test_the_browser_is_killed_at_any_moment(self):
-        for i in range(SAMPLES):
-            tab, moment = self.tab(), self.some.randrange(2 * PAGES)
-            if i % 2:
-                self.stop_write(tab, moment)
-            else:
-                self.hold_write(tab)
+        def end(_):
             self.browser.kill()
             self.begin_browser()
-            tab = self.tab()
-            self.assertTrue(i % 2 or tab.js("!document.getElementById('stopped').hidden"), "it wasn't stopped in mid-write")
-            self.undo(tab, f"stop {i}, at {moment}")
-            tab.close()
+
+        self.stopped(end)
+
+    def test_a_board_that_another_client_has(self):
+        """A page that comes meanwhile isn't let in to be answered too late: its line opens once the board is free."""
+        tab = self.tab()
+        with socket.socket(socket.AF_UNIX, socket.SOCK_STREAM) as other:
+            other.connect(self.socket)
+            tab.js("void (window.line = new WebSocket(stmflash.state.line.url))")
+            for _ in range(3):
+                self.assertEqual(tab.js("fetch('no-such-file').then((it) => [it.status, line.readyState])"), [404, 0])
+        tab.until("line.readyState === 1")
+        tab.js("line.close()")
+        self.do(tab, "#write")
+        self.undo(tab, "behind another client")
 
     def test_a_wrong_byte_and_a_lost_port(self):
         tab = self.tab()
@@ -200,9 +218,7 @@ class Page(unittest.TestCase):
                 at = self.some.randrange(20, 10 * 1024)
                 with self.subTest(f"{kind} {at}"):
                     tab.js(f"stmflash.state.plan = {{ {kind}: {at} }}")
-                    told = self.do(tab, "#write")
-                    self.assertTrue(told.startswith("Not done: "), told)
-                    self.assertIn(says, told)
+                    self.do(tab, "#write", f"(?s)^Not done: .*{says}")
                     tab.js("stmflash.state.plan = undefined")
                     self.undo(tab, f"{kind} {at}")
 
@@ -211,7 +227,7 @@ class Page(unittest.TestCase):
         two = self.browser.tab(self.address)
         two.until("document.getElementById('state')?.textContent.includes('open in another tab')")
         self.assertEqual(two.js("document.getElementById('write').disabled"), True)
-        self.assertTrue(self.do(one, "#write").startswith("Done"))
+        self.do(one, "#write")
         one.close()
         two.until(READY, "the second tab doesn't go on")
         self.assertIn("1 can be undone", two.js("document.getElementById('journals').innerText"))
@@ -225,16 +241,13 @@ class Page(unittest.TestCase):
             with self.subTest(f"room {room}"):
                 used = tab.js("navigator.storage.estimate().then((it) => it.usage)")
                 tab.call("Storage.overrideQuotaForOrigin", origin=origin, quotaSize=used + room)
-                told = self.do(tab, "#write")
+                told = self.do(tab, "#write", "(?s)^%sNot done: (cannot write|.*No space|.*room)" % ("Done: |^" if room else ""))
                 tab.call("Storage.overrideQuotaForOrigin", origin=origin)
-                self.assertTrue(room or not told.startswith("Done"), told)
-                if not told.startswith("Done"):
-                    self.assertRegex(told, "(?s)Not done: (cannot write|.*No space|.*room)")
                 self.undo(tab, f"room {room}: {told}")
 
     def test_a_journal_to_the_command_line_and_back(self):
         tab = self.tab()
-        self.assertTrue(self.do(tab, "#write").startswith("Done"))
+        self.do(tab, "#write")
         get = f"stmflash.ask('get', {{ path: '/boards/{JOURNAL}' }}).then((it) => btoa(String.fromCharCode(...it.bytes)))"
         path = f"{self.room}/{JOURNAL}"
         with open(path, "wb") as file:
@@ -271,7 +284,7 @@ class Page(unittest.TestCase):
         # another version is there in mid-write: the tab goes on with its own
         with open(f"{self.folder}/page.css", "a", encoding="utf-8") as file:
             file.write("/* another version */\n")
-        self.assertTrue(self.do(tab, "#write").startswith("Done"))
+        self.do(tab, "#write")
         self.end_server()
         tab.close()
         again = self.browser.tab(self.address)
@@ -305,5 +318,19 @@ class Page(unittest.TestCase):
         self.assertEqual([it for it in reached if it in wanted], wanted)
 
 
+def run(suite):
+    return unittest.TextTestRunner(verbosity=0).run(suite)
+
+
+def main():
+    """Each hears a board in time: one that failed is run once more when all have ended, as tests/run does, and this is told."""
+    ended = run(unittest.defaultTestLoader.loadTestsFromTestCase(Page))
+    failed = sorted({getattr(it, "test_case", it).id() for it, _ in ended.failures + ended.errors})
+    if failed:
+        print(f"once more: {', '.join(failed)}", file=sys.stderr, flush=True)
+        ended = run(unittest.defaultTestLoader.loadTestsFromNames(failed))
+    sys.exit(0 if ended.wasSuccessful() and ended.testsRun else 1)
+
+
 if __name__ == "__main__":
-    unittest.main()
+    main()

@@ -84,15 +84,17 @@ function button(text, act, about) {
 
 /** Asks before what can't be undone, or shows what will be.
  * @param {string} head @param {string[]} lines @param {string} says @param {string} yes */
-async function isSure(head, lines, says, yes) {
+function isSure(head, lines, says, yes) {
   say('sure-head', head);
   $('sure-lines').replaceChildren(...lines.map((it) => element('li', it)));
   say('sure-says', says);
   say('sure-yes', yes);
-  $('sure').returnValue = 'no';
   $('sure').showModal();
-  await new Promise((resolve) => { $('sure').onclose = resolve; });
-  return $('sure').returnValue === 'yes';
+  return new Promise((resolve) => {
+    $('sure').onsubmit = (/** @type {any} */ it) => resolve(it.submitter.value === 'yes');
+    // it comes with a frame: that of the question before may be this late
+    $('sure').onclose = () => { if (!$('sure').open) resolve(false); };
+  });
 }
 
 /** One call of the program.
