@@ -203,13 +203,8 @@ pictures:
 
 bench: all
 	cd crates/bench && rt run > /dev/null
-	python3 bench/hex
-	python3 bench/layers
-	python3 bench/sessions
-	python3 bench/read
-	python3 bench/program
-	python3 bench/line
-	python3 bench/words
+	@$(MAKE) --no-print-directory web
+	for it in hex layers sessions read program line words web; do python3 bench/$$it || exit 1; done
 
 beside: all
 	sh tools/beside.sh bin/stmflash

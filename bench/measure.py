@@ -18,7 +18,7 @@ from collections import namedtuple
 TOP = os.path.join(os.path.dirname(os.path.abspath(__file__)), "..")
 # the ratios of the last runs, from which `make pictures` draws docs/pictures/ratios.svg
 FIGURES = os.path.join(TOP, "bench", "figures.json")
-PACKAGES = {"objcopy": "binutils", "srec_cat": "srecord", "stm32flash": "stm32flash", "strace": "strace"}
+PACKAGES = {"objcopy": "binutils", "srec_cat": "srecord", "stm32flash": "stm32flash", "strace": "strace", "chromium": "chromium"}
 
 # the times of a run, in seconds: of the processor, and by the clock
 Run = namedtuple("Run", "processor clock")

@@ -15,8 +15,7 @@ const STREAMS = ['/dev/stdin', '/dev/stdout', '/dev/stderr'];
 /** @typedef {{ real(path: string): string | undefined, look(path: string): Told | undefined, list(path: string): (Told & { name: string })[],
  *   open(path: string, how: { creates: boolean, writes: boolean, mode: number }): Node, remove(path: string): void, rename(from: string, to: string): void }} Store */
 
-/**
- * @param {Partial<Descriptor>} it @returns {Descriptor} */
+/** @param {Partial<Descriptor>} it @returns {Descriptor} */
 const descriptor = (it) => ({ kind: 'file', at: 0, access: READ_ONLY, appends: false, number: 0, left: [], uses: 1, wait: 0, ...it });
 
 export class Files {
@@ -35,16 +34,14 @@ export class Files {
     this.open = [descriptor({ kind: 'stream', node: /** @type {any} */ (given) }), ...[1, 2].map((number) => descriptor({ kind: 'stream', number, access: WRITE_ONLY }))];
   }
 
-  /**
-   * @param {Descriptor} it */
+  /** @param {Descriptor} it */
   add(it) {
     const free = this.open.indexOf(undefined), number = free < 0 ? this.open.length : free;
     this.open[number] = it;
     return number;
   }
 
-  /**
-   * @param {number} number @param {string} [kind] */
+  /** @param {number} number @param {string} [kind] */
   at(number, kind) {
     const it = this.open[number];
     if (!it) throw new Fault(E.BADF);
@@ -61,8 +58,7 @@ export class Files {
     return { it, node: /** @type {Node} */ (it.node) };
   }
 
-  /**
-   * @param {string} path @param {number} flags */
+  /** @param {string} path @param {number} flags */
   begin(path, flags, mode = 0) {
     if (STREAMS.includes(path)) return this.duplicate(STREAMS.indexOf(path));
     const told = this.store.look(path), access = flags & ACCESS, writes = access !== READ_ONLY;
@@ -77,8 +73,7 @@ export class Files {
     return this.add(descriptor({ node, access, appends: (flags & APPEND) !== 0 }));
   }
 
-  /**
-   * @param {number} number */
+  /** @param {number} number */
   duplicate(number) {
     const it = this.at(number);
     it.uses++;
@@ -96,8 +91,7 @@ export class Files {
     return it.kind;
   }
 
-  /**
-   * @param {bigint} out @param {Told} told */
+  /** @param {bigint} out @param {Told} told */
   tell(out, { kind, size = 0, ino = 1 }) {
     const at = Number(out), view = this.memory.view();
     this.memory.bytes(out, 256).fill(0);
@@ -110,8 +104,7 @@ export class Files {
     return 0;
   }
 
-  /**
-   * @param {number} number @param {bigint} at @param {bigint} room */
+  /** @param {number} number @param {bigint} at @param {bigint} room */
   entries(number, at, room) {
     const it = this.at(number, 'folder'), out = this.memory.bytes(at, room), view = this.memory.view();
     let used = 0;

@@ -2,8 +2,7 @@
 // @ts-check
 const hex = (/** @type {number} */ it, digits = 8) => it.toString(16).toUpperCase().padStart(digits, '0');
 
-/**
- * @param {number} kind @param {number} offset @param {Uint8Array} data */
+/** @param {number} kind @param {number} offset @param {Uint8Array} data */
 function record(kind, offset, data) {
   const all = [data.length, offset >> 8, offset & 255, kind, ...data], sum = all.reduce((a, b) => a + b, 0);
   return `:${all.map((it) => hex(it, 2)).join('')}${hex(-sum & 255, 2)}\n`;
@@ -25,8 +24,7 @@ export function segmentsOf(bytes) {
   return found;
 }
 
-/**
- * @param {{ at: number, bytes: Uint8Array }[]} segments */
+/** @param {{ at: number, bytes: Uint8Array }[]} segments */
 export function hexOf(segments) {
   const out = [];
   for (const { at, bytes } of segments) {

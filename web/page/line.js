@@ -18,8 +18,7 @@ export class Line {
   isOpen = false;
   wake = () => {};
 
-  /**
-   * @param {Port} port @param {number} baud @param {{ entry: import('./wiring.js').Step[], leave: import('./wiring.js').Step[] }} [wiring] */
+  /** @param {Port} port @param {number} baud @param {{ entry: import('./wiring.js').Step[], leave: import('./wiring.js').Step[] }} [wiring] */
   constructor(port, baud, wiring, name = '/dev/board') {
     this.port = port;
     this.baud = baud;
@@ -27,8 +26,7 @@ export class Line {
     this.name = name;
   }
 
-  /**
-   * @param {import('./wiring.js').Step[]} steps */
+  /** @param {import('./wiring.js').Step[]} steps */
   async play(steps) {
     for (const { signals, wait } of steps) {
       if (signals) await this.port.setSignals(signals);
@@ -49,8 +47,7 @@ export class Line {
     this.reading = this.take(this.reader);
   }
 
-  /**
-   * @param {ReadableStreamDefaultReader<Uint8Array>} reader */
+  /** @param {ReadableStreamDefaultReader<Uint8Array>} reader */
   async take(reader) {
     try {
       for (let it; !(it = await reader.read()).done; this.wake()) this.came.push(it.value);
@@ -60,16 +57,14 @@ export class Line {
     }
   }
 
-  /**
-   * @param {string} why */
+  /** @param {string} why */
   end(why) {
     this.ended ??= why;
     if (this.ended !== 'closed') this.came = [];
     this.wake();
   }
 
-  /**
-   * @param {Uint8Array} bytes */
+  /** @param {Uint8Array} bytes */
   send(bytes) {
     if (this.ended) throw new Fault(E.IO);
     this.sent = /** @type {WritableStreamDefaultWriter} */ (this.writer).write(bytes).catch((thrown) => this.end(thrown?.name ?? 'failed'));

@@ -6,8 +6,7 @@ export class Memory {
   /** @type {{ buffer: ArrayBuffer }} */
   of = { buffer: new ArrayBuffer(0) };
 
-  /**
-   * @param {Address} at @param {Address} size */
+  /** @param {Address} at @param {Address} size */
   bytes(at, size) { return new Uint8Array(this.of.buffer, Number(at), Number(size)); }
 
   view() { return new DataView(this.of.buffer); }

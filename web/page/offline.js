@@ -8,8 +8,7 @@ const SUMS = { /* the files */ };
 const KEPT = 'stmflash-/* the sum */';
 const self_ = /** @type {any} */ (self);
 
-/**
- * @param {Cache} cache @param {string} name @param {string} sum */
+/** @param {Cache} cache @param {string} name @param {string} sum */
 async function keep(cache, name, sum) {
   const answer = await fetch(name, { cache: 'no-store' }), bytes = await answer.clone().arrayBuffer();
   const digest = new Uint8Array(await crypto.subtle.digest('SHA-256', bytes));

@@ -21,8 +21,7 @@ const asked = new Map();
 const state = { busy: false, ready: false, isKept: false, names: [], unfinished: [] };
 let count = 0;
 
-/**
- * @param {string} act @param {object} [given] @returns {Promise<any>} */
+/** @param {string} act @param {object} [given] @returns {Promise<any>} */
 const ask = (act, given = {}) => new Promise((resolve) => { asked.set(++count, resolve); worker.postMessage({ id: count, act, ...given }); });
 /** @type {Promise<number>} */
 const begun = new Promise((resolve, reject) => {
@@ -37,8 +36,7 @@ const begun = new Promise((resolve, reject) => {
   };
 });
 
-/**
- * @param {string} id @param {string} text */
+/** @param {string} id @param {string} text */
 function say(id, text) { $(id).textContent = text; }
 
 /** What a run says: progress moves the bar, and all of it can be read.
@@ -65,16 +63,14 @@ function tell(kind, lines, more = []) {
   $('told').scrollIntoView({ block: 'nearest' });
 }
 
-/**
- * @param {string} kind @param {...(string | Node)} content */
+/** @param {string} kind @param {...(string | Node)} content */
 function element(kind, ...content) {
   const it = document.createElement(kind);
   it.append(...content);
   return it;
 }
 
-/**
- * @param {string} text @param {() => void} act @param {string} about */
+/** @param {string} text @param {() => void} act @param {string} about */
 function button(text, act, about) {
   const it = /** @type {HTMLButtonElement} */ (element('button', text));
   it.setAttribute('aria-label', `${text}: ${about}`);
@@ -135,16 +131,14 @@ function whyNot(it) {
 /** Which journal a board has: its own by its unique id, or the one that was named. */
 const named = () => ($('name').value ? ['--journal', `${FOLDER}/${$('name').value}${ENDING}`] : ['--journals', FOLDER]);
 
-/**
- * @param {string} name */
+/** @param {string} name */
 async function download(name) {
   const { bytes, error } = await ask('get', { path: `/${FOLDER}/${name}` });
   if (error) return tell('bad', [error]);
   save(name, bytes);
 }
 
-/**
- * @param {string} name @param {Uint8Array} bytes */
+/** @param {string} name @param {Uint8Array} bytes */
 function save(name, bytes) {
   const link = document.createElement('a');
   link.href = URL.createObjectURL(new Blob([/** @type {any} */ (bytes)]));
@@ -247,8 +241,7 @@ function shows() {
   $('start').hidden = !state.image?.isRaw;
 }
 
-/**
- * @param {any} port */
+/** @param {any} port */
 function takePort(port) {
   const { usbVendorId, usbProductId } = port.getInfo(), four = (/** @type {number} */ it) => it.toString(16).padStart(4, '0');
   state.line = { info: { usbVendorId, usbProductId } };
@@ -265,8 +258,7 @@ async function choose() {
   }
 }
 
-/**
- * @param {File | undefined} file */
+/** @param {File | undefined} file */
 async function take(file) {
   if (!file) return;
   try {
@@ -279,8 +271,7 @@ async function take(file) {
   shows();
 }
 
-/**
- * @param {File | undefined} file */
+/** @param {File | undefined} file */
 async function takeJournal(file) {
   if (!file) return;
   const name = file.name.endsWith(ENDING) ? file.name : `${file.name}${ENDING}`;
@@ -311,8 +302,7 @@ $('drop').ondrop = (/** @type {DragEvent} */ it) => { it.preventDefault(); $('dr
 $('upload').onchange = () => takeJournal($('upload').files[0]);
 addEventListener('beforeunload', (it) => { if (state.busy) it.preventDefault(); });
 
-/**
- * @returns {Promise<string>} */
+/** @returns {Promise<string>} */
 async function begin() {
   const { serial, storage } = /** @type {any} */ (navigator), simulated = new URLSearchParams(location.search).get('line');
   const lacks = [[/** @type {any} */ (WebAssembly).Suspending, 'calls of WebAssembly that wait (JSPI)'], [serial || simulated, 'Web Serial'],

@@ -15,8 +15,7 @@ const WAITS = ['connect', 'recv', 'close'];
 /** @typedef {{ words: string[], variables?: Record<string, string>, store: import('./files.js').Store, line?: import('./line.js').Line,
  *   input?: Uint8Array, say: (stream: number, bytes: Uint8Array) => void }} Given */
 
-/**
- * @param {Given} given @param {boolean} mayWait */
+/** @param {Given} given @param {boolean} mayWait */
 export function callsOf({ words, variables = {}, store, line, input, say }, mayWait) {
   const memory = new Memory(), files = new Files(memory, store, say, input, line?.name), { calls, last } = wordCalls(memory, words, variables);
   /** A call's answer; or -1, and the number of its fault.

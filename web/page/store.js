@@ -12,16 +12,14 @@ import { E, Fault } from './faults.js';
 export const JOURNALS = '/boards';
 const HEAD = 512, SIDE = 4096, HEADS = 2 * SIDE, MARK = 'stmpool1', NAME_AT = 18, SUM_AT = HEAD - 4;
 
-/**
- * @param {Uint8Array} bytes */
+/** @param {Uint8Array} bytes */
 function sumOf(bytes) {
   let sum = 0x811c9dc5;
   for (const it of bytes) sum = Math.imul(sum ^ it, 0x01000193) >>> 0;
   return sum;
 }
 
-/**
- * @param {string} name @param {number} number */
+/** @param {string} name @param {number} number */
 function headOf(name, number) {
   const head = new Uint8Array(HEAD), view = new DataView(head.buffer), text = new TextEncoder().encode(name);
   if (NAME_AT + text.length > SUM_AT) throw new Fault(E.INVAL);
@@ -75,8 +73,7 @@ class Slot {
   side = 0;
   uses = 0;
 
-  /**
-   * @param {Handle} handle @param {number} ino @param {number} base */
+  /** @param {Handle} handle @param {number} ino @param {number} base */
   constructor(handle, ino, base) {
     this.handle = handle;
     this.ino = ino;
@@ -139,16 +136,13 @@ export class Store {
   /** How many files the pool has left. */
   free() { return this.pool.filter((it) => !it.name && !it.uses).length; }
 
-  /**
-   * @param {string} path */
+  /** @param {string} path */
   whole(path) { return `/${path.split('/').filter((it) => it && it !== '.').join('/')}`; }
 
-  /**
-   * @param {string} path */
+  /** @param {string} path */
   real(path) { return this.look(path) && this.whole(path); }
 
-  /**
-   * @param {string} path @returns {import('./files.js').Told | undefined} */
+  /** @param {string} path @returns {import('./files.js').Told | undefined} */
   look(path) {
     const whole = this.whole(path), slot = this.named.get(whole);
     if (path === '') return undefined;
@@ -156,8 +150,7 @@ export class Store {
     return slot && { kind: 'file', size: slot.size(), ino: slot.ino };
   }
 
-  /**
-   * @param {string} path */
+  /** @param {string} path */
   list(path) {
     const folder = this.whole(path), begins = folder === '/' ? '/' : `${folder}/`;
     /** @type {(import('./files.js').Told & { name: string })[]} */
@@ -167,8 +160,7 @@ export class Store {
     return found;
   }
 
-  /**
-   * @param {string} path @param {{ creates: boolean, writes?: boolean }} how */
+  /** @param {string} path @param {{ creates: boolean, writes?: boolean }} how */
   open(path, { creates }) {
     const whole = this.whole(path), slot = this.named.get(whole) ?? (creates ? this.make(whole) : undefined);
     if (!slot) throw new Fault(E.NOENT);
@@ -176,8 +168,7 @@ export class Store {
     return slot;
   }
 
-  /**
-   * @param {string} whole */
+  /** @param {string} whole */
   make(whole) {
     if (!['/', JOURNALS].includes(whole.slice(0, whole.lastIndexOf('/')) || '/')) throw new Fault(E.NOENT);
     const slot = whole.startsWith(`${JOURNALS}/`) ? this.pool.find((it) => !it.name && !it.uses) : new Slot(inMemory(), this.next++, 0);
@@ -202,8 +193,7 @@ export class Store {
     this.named.delete(whole);
   }
 
-  /**
-   * @param {string} from @param {string} to */
+  /** @param {string} from @param {string} to */
   rename(from, to) {
     const old = this.whole(from), whole = this.whole(to), slot = this.named.get(old), other = this.named.get(whole);
     if (!slot) throw new Fault(E.NOENT);

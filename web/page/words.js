@@ -2,8 +2,7 @@
 // @ts-check
 import { SAYS } from './faults.js';
 
-/**
- * @param {import('./memory.js').Memory} memory @param {string[]} words @param {Record<string, string>} variables */
+/** @param {import('./memory.js').Memory} memory @param {string[]} words @param {Record<string, string>} variables */
 export function wordCalls(memory, words, variables) {
   const entries = Object.entries(variables).map(([name, value]) => `${name}=${value}`), last = { fault: 0 };
   const calls = {

@@ -64,8 +64,7 @@ function put(path, bytes) {
   }
 }
 
-/**
- * @param {string} path */
+/** @param {string} path */
 function get(path) {
   const node = store.open(path, { creates: false }), bytes = new Uint8Array(node.size());
   const got = node.read(bytes, 0);
