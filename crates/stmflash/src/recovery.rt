@@ -115,7 +115,12 @@ pub fn recover<'a, R: Locks + AllocGlobal, E: Write>(
     err: &mut E,
 ) -> Result<(), Failure<'a>> {
     let name = options.journal;
-    let mut journal = match JournalFile::open(rt, name, options.without_lock) {
+    let mut journal = match JournalFile::open(
+        rt,
+        name,
+        options.without_lock,
+        options.trusts_others,
+    ) {
         Ok(journal) => journal,
         Err(why) => return Err(Failure::of_journal(why, name)),
     };
