@@ -8,3 +8,4 @@ pub mod OnDisk
 pub mod Folders
 pub mod Locked
 pub mod Acknowledged
+pub mod LineSizes

@@ -1,6 +1,6 @@
 -- The end of a journal that a crash of the PC may have left, where a sector that was never written
 -- holds whatever it held before: lines of another file too.
-use Rattle.std.specs.Prelude.{◌≡◌, ◌≤◌, ◌+◌, ◌-◌, ◌*◌, ◌/◌, ◌==◌, ◌&&◌, ℕ, Bool, nat_le, List, [], ◌∷◌}
+use Rattle.std.specs.Prelude.{◌≡◌, ◌≤◌, ◌-◌, ◌%◌, ◌==◌, ◌&&◌, ℕ, Bool, nat_le, nat_lt, List, [], ◌∷◌}
 use Rattle.std.specs.Prelude.{length, take, drop, zero, suc, if◌then◌else◌, Option, None, Some}
 use Rattle.stm_journal.specs.States.{StateData}
 use Rattle.stm_journal.specs.Text.{text_of}
@@ -14,13 +14,13 @@ lines_size (suc n) [] = 0
 lines_size (suc n) (b ∷ bytes) =
     if b == 10 then suc (lines_size n bytes) else suc (lines_size (suc n) bytes)
 
--- where the first sector begins that begins at this place or behind it
-abbrev pub next_sector : ℕ → ℕ
-next_sector at = (at + (sector - 1)) / sector * sector
+-- how far it is from this place to one where a sector begins
+abbrev pub to_sector : ℕ → ℕ
+to_sector at = (sector - at % sector) % sector
 
 -- The line at this place has the first byte of a sector: another one stood there than was written.
 abbrev pub enters_sector : ℕ → List ℕ → Bool
-enters_sector at bytes = nat_le (suc (next_sector at)) (at + lines_size 1 (drop at bytes))
+enters_sector at bytes = nat_lt (to_sector at) (lines_size 1 (drop at bytes))
 
 -- Something stands in front of this line, from it on no more than one append can leave, and a sector
 -- begins in it.

@@ -1,7 +1,6 @@
 // The end of a journal that a crash of the PC may have left, and that no session counts on.
-ghost use Rattle.std.specs.Prelude.{◌≡◌, ◌==◌, position};
-ghost use Rattle.stm_disk.specs.UnsyncedEnd.{enters_sector, lines_size, may_be_unsynced, next_sector};
-ghost use Rattle.stm_disk.specs.UnsyncedEnd.{unsynced_end};
+ghost use Rattle.std.specs.Prelude.{◌≡◌, ◌≤◌, ◌==◌, length, position};
+ghost use Rattle.stm_disk.specs.UnsyncedEnd.{lines_size, unsynced_end};
 
 use crate::lines::{LF, SECTOR};
 
@@ -14,7 +13,8 @@ fn first_lf(bytes: &[u8]) -> Option<usize>
 
 /// How many bytes the first so many lines have, with the LF that ends each.
 pub fn lines_size(bytes: &[u8], lines: u64) -> usize
-    ensures { result ≡ lines_size lines bytes.now }
+    ensures size { result ≡ lines_size lines bytes.now }
+    ensures within { result ≤ length bytes.now }
 {
     let mut at = 0;
     let mut left = lines;
