@@ -29,6 +29,7 @@ CALLS = {"info": (ON, ()), "read": (ON, ("out",)), "crc": (ON, ()), "write": (ON
          "log": ((), ()), "keep": ((), ())}
 # each flag: the words that ask for it. One that asks for more is no flag without that
 FLAGS = {"--table": (), "--device": (), "--journal": (), "--journals": ("--journals", "journals"), "--no-lock": ("--no-lock",),
+         "--trust-journal": ("--trust-journal",),
          "--wait": ("--wait", "500"), "--baud": ("--baud", "115200"), "--give-up": ("--give-up", "30"), "--fresh": ("--fresh",),
          "--progress": ("--progress",), "--quiet": ("--quiet",), "--watch": ("--watch",), "--json": ("--json",),
          "--stop": ("--stop", "1000000"), "--board": ("--board", UNIQUE), "--no-board": ("--no-board",), "--raw": ("--raw",),

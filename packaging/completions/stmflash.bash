@@ -7,7 +7,7 @@ _stmflash_ports() { mapfile -t COMPREPLY < <(compgen -G "$1*" | grep -E '^/dev/(
 _stmflash() {
     local word=${COMP_WORDS[COMP_CWORD]} before=${COMP_WORDS[COMP_CWORD-1]} subcommand="" i
     local subcommands="info read crc write verify erase undo go protect log keep sim help"
-    local device="--table --device --journal --journals --no-lock --wait --baud --stop --give-up --progress --quiet --watch --json --fresh --help"
+    local device="--table --device --journal --journals --no-lock --trust-journal --wait --baud --stop --give-up --progress --quiet --watch --json --fresh --help"
     local asked="$device --board --no-board"
     COMPREPLY=()
     for ((i = 1; i < COMP_CWORD; i++)); do
@@ -46,7 +46,7 @@ _stmflash() {
         go) _stmflash_words "$word" "$asked -h" ;;
         protect) _stmflash_words "$word" "$asked --yes --in-session -h" ;;
         log) _stmflash_words "$word" "--journal --check --json --help -h" ;;
-        keep) _stmflash_words "$word" "--journal --no-lock --last --json --help -h" ;;
+        keep) _stmflash_words "$word" "--journal --no-lock --trust-journal --last --json --help -h" ;;
         sim) _stmflash_words "$word" "--table --id --flash --unique --size --protected --no-lock --socket --clients --mode --help -h" ;;
     esac
 }

@@ -30,6 +30,7 @@ complete -c stmflash -n "__stmflash_in $device" -l device -r -F -a 'sim:' -d 'si
 complete -c stmflash -n "__stmflash_in $device log keep" -l journal -r -F -d 'The journal of what was done'
 complete -c stmflash -n "__stmflash_in $device" -l journals -r -F -d 'A folder in which each board has its journal'
 complete -c stmflash -n "__stmflash_in $device keep sim" -l no-lock -d 'Goes on where there are no locks'
+complete -c stmflash -n "__stmflash_in $device keep" -l trust-journal -d 'Uses files of others too'
 complete -c stmflash -n "__stmflash_in $device" -l wait -x -d 'Milliseconds that a reply may take'
 complete -c stmflash -n "__stmflash_in $device" -l baud -x -a '9600 19200 38400 57600 115200' -d 'Bits a second that the line has'
 complete -c stmflash -n "__stmflash_in $device" -l stop -x -d 'Stops a simulator after so many steps'

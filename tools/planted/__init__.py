@@ -9,8 +9,8 @@ and may have `@old`, the text that was there. So that faults can stand within on
 import importlib
 import typing
 
-SUBJECTS = ("words", "variables", "tables", "files", "places", "journals", "keeping", "waiting", "serving", "simulators", "boards",
-            "folders", "images", "answers", "faults", "hints", "json", "progress", "calls", "lower", "pairs")
+SUBJECTS = ("words", "variables", "tables", "files", "places", "owners", "journals", "keeping", "waiting", "serving", "simulators",
+            "boards", "folders", "images", "answers", "faults", "hints", "json", "progress", "calls", "lower", "pairs")
 COMPANIONS = ("line", "behind", "trial", "words", "packaging")
 
 

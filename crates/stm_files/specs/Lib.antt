@@ -13,6 +13,7 @@ pub mod Locks
 pub mod Logging
 pub mod NoJournal
 pub mod Outgoing
+pub mod Owners
 pub mod PageSum
 pub mod Replies
 pub mod ReplyTime

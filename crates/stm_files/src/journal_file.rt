@@ -14,6 +14,7 @@ use crate::held::Held;
 use crate::journal_rig::Source;
 use crate::locks::Locks;
 use crate::names::{is_named, is_one, resolve};
+use crate::owners::check_journal_owner;
 use crate::replacement::ALONE;
 use crate::rescue::{Rescued, rescue};
 use crate::unusable::Unusable;
@@ -58,6 +59,8 @@ pub struct JournalFile<'a, R: Locks> {
     name: &'a str,
     /// The file needs no lock: it was said that no other program has it.
     without_lock: bool,
+    /// It is used whoever has it, and whoever may write it.
+    trusts_others: bool,
     writing: Writing<R::File>,
     /// The file as it is read, once it is there.
     reading: Option<Held<R>>,
@@ -87,15 +90,18 @@ impl<'a, R: Locks> Model for JournalFile<'a, R> {
 
 impl<'a, R: Locks + AllocGlobal> JournalFile<'a, R> {
     /// The journal in the file of this name, which this program has for itself from now on. Where
-    /// it's said that no other program has it, it needs no lock on a file system that has none.
+    /// it's said that no other program has it, it needs no lock on a file system that has none. One
+    /// that others have or may write is refused, also one that isn't there yet, unless they are
+    /// trusted.
     pub fn open(
         rt: &'a R,
         name: &'a str,
         without_lock: bool,
+        trusts_others: bool,
     ) -> Result<JournalFile<'a, R>, Unusable>
         ensures { IfOk result (IsNew without_lock) }
     {
-        let (reading, end) = match open_held(rt, name, without_lock)? {
+        let (reading, end) = match open_held(rt, name, without_lock, trusts_others)? {
             Some((held, end)) => (Some(held), end),
             None => (None, 0),
         };
@@ -103,6 +109,7 @@ impl<'a, R: Locks + AllocGlobal> JournalFile<'a, R> {
             rt,
             name,
             without_lock,
+            trusts_others,
             writing: Writing::Unopened,
             reading,
             end,
@@ -118,6 +125,7 @@ impl<'a, R: Locks + AllocGlobal> JournalFile<'a, R> {
             rt,
             name: "",
             without_lock: false,
+            trusts_others: false,
             writing: Writing::Failed,
             reading: None,
             end: 0,
@@ -226,7 +234,7 @@ impl<'a, R: Locks + AllocGlobal> JournalFile<'a, R> {
         ensures failed { self.new.has_failed ≡ self.old.has_failed }
         ensures without { self.new.without_lock ≡ self.old.without_lock }
     {
-        match make_held(self.rt, path, self.without_lock) {
+        match self.make_held(path) {
             Ok(held) => {
                 self.reading = Some(held);
                 Ok(())
@@ -237,6 +245,14 @@ impl<'a, R: Locks + AllocGlobal> JournalFile<'a, R> {
                 Err(io::Error::from(ErrorKind::Other))
             }
         }
+    }
+
+    /// The same, where its name still leads to a place that is trusted.
+    fn make_held(&self, path: &str) -> Result<Held<R>, Unusable>
+        ensures { IfOk result (λ held. (held.is_locked || self.now.without_lock) ≡ true) }
+    {
+        check_journal_owner(self.rt, None, self.name, self.trusts_others)?;
+        make_held(self.rt, path, self.without_lock)
     }
 
     /// Refuses a file that isn't the one that is read.
@@ -401,20 +417,25 @@ fn is_no_name(kind: ErrorKind) -> bool {
 }
 
 /// Opens the file of this name for this program alone, and tells how long it is; none where there
-/// is none. One that is no journal is refused.
-fn open_held<R: Locks>(
+/// is none. One that is no journal is refused, and one that others have or may write.
+fn open_held<R: Locks + AllocGlobal>(
     rt: &R,
     name: &str,
     without_lock: bool,
+    trusts_others: bool,
 ) -> Result<Option<(Held<R>, u64)>, Unusable>
     ensures { IfOk result (λ opened. IfSome opened
         (λ pair. (pair.0.is_locked || without_lock) ≡ true)) }
 {
     let file = match open_to_hold(rt, name) {
         Ok(Some(file)) => file,
-        Ok(None) => return Ok(None),
+        Ok(None) => {
+            check_journal_owner(rt, None, name, trusts_others)?;
+            return Ok(None);
+        }
         Err(e) => return Err(Unusable::Unread(e)),
     };
+    check_opened(rt, &file, name, trusts_others)?;
     let mut held = Held::claim(rt, file, without_lock)?;
     if !is_named(rt, held.file(), name) {
         return Err(Unusable::InUse);
@@ -422,6 +443,19 @@ fn open_held<R: Locks>(
     held.refuse_other()?;
     match held.file().metadata() {
         Ok(told) => Ok(Some((held, told.len()))),
+        Err(e) => Err(Unusable::Unread(e)),
+    }
+}
+
+/// Refuses an open file that others have or may write, by what the system tells of it itself.
+fn check_opened<R: Locks + AllocGlobal>(
+    rt: &R,
+    file: &R::File,
+    name: &str,
+    trusts_others: bool,
+) -> Result<(), Unusable> {
+    match file.metadata() {
+        Ok(told) => check_journal_owner(rt, Some(&told), name, trusts_others),
         Err(e) => Err(Unusable::Unread(e)),
     }
 }

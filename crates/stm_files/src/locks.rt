@@ -1,8 +1,8 @@
-// Files that a program has for itself while it runs.
+// Files that a program has for itself while it runs, and who runs it.
 ghost use Rattle.stm_files.specs.Locks.{Asked};
 
 use std::fs::{File, Files, TryLockError};
-use std::io;
+use std::{env, io};
 
 /// What the system answers to a program that asks for a lock.
 #[derive(Drop)]
@@ -27,6 +27,9 @@ pub trait Locks: Files {
     /// that may write.
     fn lock(&self, file: &Self::File) -> LockAnswer
         ensures { answered file.now result };
+
+    /// The number of the user who called sudo, where it is told.
+    fn caller(&self) -> Option<u32>;
 }
 
 impl Locks for HostRuntime {
@@ -37,6 +40,13 @@ impl Locks for HostRuntime {
             Ok(()) => LockAnswer::Ours,
             Err(TryLockError::WouldBlock) => LockAnswer::Taken,
             Err(TryLockError::Error(e)) => LockAnswer::Refused(e),
+        }
+    }
+
+    fn caller(&self) -> Option<u32> {
+        match env::var(self, "SUDO_UID") {
+            Ok(text) => text.as_str().parse::<u32>().ok(),
+            Err(_) => None,
         }
     }
 }

@@ -7,7 +7,7 @@ use std::path::{Path, PathBuf};
 use std::{fs, io};
 
 /// How many symbolic links are followed one after another.
-const LINKS: u32 = 40;
+pub const LINKS: u32 = 40;
 
 /// The path of the file that a name means, behind its symbolic links. Where there is no such file,
 /// the path at which it would be made.
@@ -32,7 +32,7 @@ fn follow<R: Files + AllocGlobal>(rt: &R, name: &str) -> io::Result<PathBuf> {
 }
 
 /// The path that the symbolic link of this one leads to; none where it is no link.
-fn follow_one<R: Files + AllocGlobal>(rt: &R, path: Path<'_>) -> io::Result<Option<PathBuf>> {
+pub fn follow_one<R: Files + AllocGlobal>(rt: &R, path: Path<'_>) -> io::Result<Option<PathBuf>> {
     match fs::read_link(rt, path) {
         Ok(target) => Ok(Some(folder_of(path.as_str()).join(rt.alloc(), target.as_path())?)),
         Err(_) => Ok(None),

@@ -1,5 +1,6 @@
 // Why a program can't use a file.
 
+use crate::owners::Doubt;
 use std::io;
 
 /// Why a program can't use a file.
@@ -11,6 +12,8 @@ pub enum Unusable {
     Unlockable(io::Error),
     /// It has bytes, and is no journal.
     NoJournal,
+    /// Others have it, or may write it, and no word allows that.
+    NotTrusted(Doubt),
     /// It can't be opened, or is no regular file.
     Unread(io::Error),
 }

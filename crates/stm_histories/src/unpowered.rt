@@ -111,7 +111,7 @@ fn act<'a, R: Locks + AllocGlobal>(
 ) -> Result<(MemoryRig, Result<Answer, Failure<'a>>), Failure<'a>>
     ensures { IfOk result (λ left. DoesOnFiles table.now action memory left.0 left.1) }
 {
-    let journal = match JournalFile::open(rt, names.journal, false) {
+    let journal = match JournalFile::open(rt, names.journal, false, false) {
         Ok(journal) => journal,
         Err(why) => return Err(Failure::of_journal(why, names.journal)),
     };

@@ -80,10 +80,11 @@ with_table e name =
 -- that has it
 abbrev pub with_places : Environment → Text → App
 with_places e name =
-    with_rule (with_rule (with_rule (with_rule (with_table e name)
+    with_rule (with_rule (with_rule (with_rule (with_rule (with_table e name)
     (standing_option_rule (codes "device") (option_text e.device)))
     (spare_option_rule (codes "journal") (option_text e.journal)))
-    (spare_option_rule (codes "journals") (option_text e.journals))) (flag_rule (codes "no-lock"))
+    (spare_option_rule (codes "journals") (option_text e.journals))) (flag_rule (codes "no-lock")))
+    (flag_rule (codes "trust-journal"))
 
 -- how long a reply may take, in milliseconds, where no word says it
 abbrev pub wait_word : Option (Bor Text) → Text
@@ -173,7 +174,8 @@ log_app e = with_rule (on_journal e (codes "log")) (flag_rule (codes "check"))
 
 abbrev pub keep_app : Environment → App
 keep_app e =
-    with_rule (with_rule (with_rule (on_journal e (codes "keep")) (flag_rule (codes "no-lock")))
+    with_rule (with_rule (with_rule (with_rule (on_journal e (codes "keep"))
+    (flag_rule (codes "no-lock"))) (flag_rule (codes "trust-journal")))
     (option_rule (codes "last"))) (new_rule (codes "TO"))
 
 abbrev pub go_app : Environment → App

@@ -52,4 +52,5 @@ AreOptions e given o = AreTables e given o.table
     × IsBoardWord e given o
     × IsFlagOr e.is_fresh given (codes "fresh") o.is_fresh
     × IsFlagOr e.without_lock given (codes "no-lock") o.without_lock
+    × IsFlag given (codes "trust-journal") o.trusts_others
     × IsFlag given (codes "watch") o.watches

@@ -116,6 +116,7 @@ IsKeepWord e given kept = (first_value given (codes "journal") ≡ Some kept.jou
     × (first_value given (codes "TO") ≡ option_map (λ s. s.now) kept.to)
     × NamesNewest given kept.last × (IsSome kept.last → kept.to ≡ None)
     × IsFlagOr e.without_lock given (codes "no-lock") kept.without_lock
+    × IsFlag given (codes "trust-journal") kept.trusts_others
 
 -- how many `undo` names; 0, which is all, where no word says it
 abbrev pub NamesCount : Found → ℕ → Type 0

@@ -59,7 +59,8 @@ fn with_places<'a>(
             environment.journals,
             help::JOURNALS,
         ))?
-        .arg(flag(alloc, "no-lock", help::NO_LOCK))
+        .arg(flag(alloc, "no-lock", help::NO_LOCK))?
+        .arg(flag(alloc, "trust-journal", help::TRUST_JOURNAL))
 }
 
 /// How long a reply may take, in milliseconds, where no word says it.
@@ -231,6 +232,7 @@ fn keep<'a>(alloc: Global, environment: Environment<'a>) -> Result<Command<'a>, 
 {
     on_journal(alloc, environment, "keep", help::KEEP)?
         .arg(flag(alloc, "no-lock", help::NO_LOCK))?
+        .arg(flag(alloc, "trust-journal", help::TRUST_JOURNAL))?
         .arg(option(alloc, "last", "N", help::LAST))?
         .arg(spare(alloc, "TO", help::TO))
 }

@@ -4,7 +4,7 @@ ghost use Rattle.clap.specs.Words.{found_of};
 ghost use Rattle.stm_words.specs.Request.{IsKeepWord, NamesNewest};
 
 use crate::environment::Environment;
-use crate::given::{flag_or, number_within, word};
+use crate::given::{flag, flag_or, number_within, word};
 use crate::usage_fault::UsageFault;
 use clap::ArgMatches;
 
@@ -23,6 +23,8 @@ pub struct Kept<'a> {
     pub last: Option<u32>,
     /// Whether no other program has the journal, so that it needs no lock where there is none.
     pub without_lock: bool,
+    /// Whether it is used also where others have it, or may write it.
+    pub trusts_others: bool,
 }
 
 impl<'a> Kept<'a> {
@@ -45,6 +47,7 @@ impl<'a> Kept<'a> {
             to,
             last,
             without_lock: flag_or(given, "no-lock", environment.without_lock),
+            trusts_others: flag(given, "trust-journal"),
         })
     }
 }

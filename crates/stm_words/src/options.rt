@@ -37,6 +37,8 @@ pub struct Options<'a> {
     pub is_fresh: bool,
     /// Whether no other program has the files, so that they need no lock where there is none.
     pub without_lock: bool,
+    /// Whether files are used also where others have them, or may write them.
+    pub trusts_others: bool,
     /// Whether each reply has to be one that a device of the stated model could give.
     pub watches: bool,
     /// What is shown while the session runs.
@@ -84,6 +86,7 @@ impl<'a> Options<'a> {
             without_board,
             is_fresh: flag_or(given, "fresh", environment.is_fresh),
             without_lock: flag_or(given, "no-lock", environment.without_lock),
+            trusts_others: flag(given, "trust-journal"),
             watches: flag(given, "watch"),
             progress: Progress::of(flag(given, "progress"), flag(given, "quiet")),
             stop: stop(given)?,

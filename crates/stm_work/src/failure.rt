@@ -10,7 +10,7 @@ use std::fmt::{Debug, Display, Formatter};
 use std::io::ErrorKind;
 use std::{fmt, io};
 use stm_chip::TableFault;
-use stm_files::{FileFault, Foreign, Reason, Rescued, Unusable, is_moved};
+use stm_files::{Doubt, FileFault, Foreign, Reason, Rescued, Unusable, is_moved};
 use stm_image::{HexFault, RawFault};
 use stm_session::Fault;
 use stm_words::UsageFault;
@@ -61,6 +61,9 @@ pub enum Failure<'a> {
     /// The journal's file has bytes, and is no journal.
     #[error("{0} is no journal: name another, or move it away")]
     NoJournal(&'a str),
+    /// A file is another user's, or others may write it, and no word allows that.
+    #[error("{0} {1}")]
+    NotTrusted(&'a str, Doubt),
     /// The system gives no lock on a file.
     #[error("cannot lock {0}: {1}; --no-lock if no other program has it")]
     CannotLock(&'a str, Reason),
@@ -175,6 +178,7 @@ impl<'a> Failure<'a> {
             Unusable::InUse => Failure::JournalInUse,
             Unusable::Unlockable(e) => Failure::CannotLock(name, Reason(e)),
             Unusable::NoJournal => Failure::NoJournal(name),
+            Unusable::NotTrusted(doubt) => Failure::NotTrusted(name, doubt),
             Unusable::Unread(e) => Failure::of_file(&e, Failure::CannotRead(name)),
         }
     }

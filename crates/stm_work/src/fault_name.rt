@@ -23,6 +23,7 @@ impl Failure<'_> {
                 "cannot_write",
             Failure::JournalInUse => "journal_in_use",
             Failure::NoJournal(_) => "no_journal",
+            Failure::NotTrusted(..) => "not_trusted",
             Failure::CannotLock(..) => "cannot_lock",
             Failure::JournalFailed(_) | Failure::JournalMoved | Failure::JournalRescued(_) =>
                 "journal_failed",

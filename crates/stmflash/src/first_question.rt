@@ -153,6 +153,7 @@ fn wanted_board(alloc: Global, digits: Option<&str>) -> Result<UniqueId, AllocEr
 fn failure_of_trouble<'a>(folder: &'a str, trouble: Trouble, place: &'a mut Place) -> Failure<'a> {
     match trouble {
         Trouble::Folder => Failure::CannotRead(folder),
+        Trouble::NotTrusted(doubt) => Failure::NotTrusted(folder, doubt),
         Trouble::Memory => Failure::Memory,
         Trouble::Unread(name) => {
             place.journal = name;
@@ -287,7 +288,7 @@ pub fn find_journal<'a, 'r, R: Locks + Net + Clock + AllocGlobal + Clone + Drop>
     ensures { IfOk result (λ found. AreFound options.now found.options) }
 {
     let folder = options.journal;
-    let looked = match look_all(rt, folder) {
+    let looked = match look_all(rt, folder, options.trusts_others) {
         Ok(looked) => looked,
         Err(trouble) => return Err(failure_of_trouble(folder, trouble, place)),
     };

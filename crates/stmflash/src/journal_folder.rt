@@ -7,7 +7,7 @@ use std::alloc::{AllocError, AllocFailed, Global};
 use std::fs::Files;
 use std::io::ErrorKind;
 use std::{fs, io};
-use stm_files::{BoardName, Looked, is_there, unique_of};
+use stm_files::{BoardName, Doubt, Locks, Looked, doubt_folder, is_there, unique_of};
 use stm_journal::Journal;
 use stm_session::Fault;
 use stm_wire::UniqueId;
@@ -21,6 +21,8 @@ const ENDING: &str = ".journal";
 pub enum Trouble {
     /// The folder can't be read.
     Folder,
+    /// Others may put journals there, and no word allows that.
+    NotTrusted(Doubt),
     /// The journal of this name can't be read.
     Unread(String),
     /// It is none.
@@ -161,12 +163,25 @@ fn look_or_doubt<R: Files + AllocGlobal>(
     }
 }
 
+/// Refuses a folder in which others may put journals.
+fn check_folder<R: Locks>(rt: &R, folder: &str) -> Result<(), Trouble> {
+    match doubt_folder(rt, folder) {
+        None => Ok(()),
+        Some(doubt) => Err(Trouble::NotTrusted(doubt)),
+    }
+}
+
 /// Looks at all journals of a folder. None is locked: a session beside this goes on, and what it has
-/// added by now counts. One that can't be used counts as unfinished.
-pub fn look_all<R: Files + AllocGlobal + Clone + Drop>(
+/// added by now counts. One that can't be used counts as unfinished. A folder that others may write
+/// is refused, unless they are trusted.
+pub fn look_all<R: Locks + AllocGlobal + Clone + Drop>(
     rt: &R,
     folder: &str,
+    trusts_others: bool,
 ) -> Result<Vec<Looked>, Trouble> {
+    if !trusts_others {
+        check_folder(rt, folder)?;
+    }
     let boards = match boards_in(rt, folder) {
         Ok(boards) => boards,
         Err(e) if e.kind() == ErrorKind::OutOfMemory => return Err(Trouble::Memory),

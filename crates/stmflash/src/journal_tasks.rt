@@ -73,7 +73,7 @@ fn tell<'a>(alloc: Global, journal: &Journal) -> Result<Answer, Failure<'a>> {
 /// renamed to a name that isn't; or it's cut to its newest ones. This program has it for itself
 /// until then.
 pub fn keep<'a, R: Locks + AllocGlobal>(rt: &R, kept: &Kept<'a>) -> Result<Answer, Failure<'a>> {
-    let file = match JournalFile::open(rt, kept.journal, kept.without_lock) {
+    let file = match JournalFile::open(rt, kept.journal, kept.without_lock, kept.trusts_others) {
         Ok(file) => file,
         Err(why) => return Err(Failure::of_journal(why, kept.journal)),
     };

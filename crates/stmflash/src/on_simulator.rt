@@ -32,7 +32,7 @@ pub fn on_simulator<'a, 's, R: Locks + Clock + AllocGlobal, W: Write + Drop>(
         (goes_out output.entry) plan.entry) }
 {
     let name = plan.journal;
-    let opened = match JournalFile::open(rt, name, options.without_lock) {
+    let opened = match JournalFile::open(rt, name, options.without_lock, options.trusts_others) {
         // a simulator of which nothing else is known is fresh
         Err(Unusable::Unread(e)) => Err(Unusable::Unread(e)),
         Err(why) => return Err(Failure::of_journal(why, name)),

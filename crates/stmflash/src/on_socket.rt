@@ -62,7 +62,7 @@ pub fn on_socket<'a, 'r, R: Locks + Net + Clock + AllocGlobal, W: Write + Drop>(
         (goes_out output.entry) plan.entry) }
 {
     let name = plan.journal;
-    let opened = JournalFile::open(rt, name, options.without_lock);
+    let opened = JournalFile::open(rt, name, options.without_lock, options.trusts_others);
     let journal = serving_journal(opened, name)?;
     let line = match line {
         Some(line) => line,

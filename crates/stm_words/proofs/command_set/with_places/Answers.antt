@@ -18,5 +18,8 @@ returns c =
     let a3 : App = with_rule a2 (spare_option_rule (codes "journals") (option_text c.args.environment.journals)) in
     let m3 : Makes a3 c.in_ok-arg-3.field-0 =
     adds a2 (spare_option_rule (codes "journals") (option_text c.args.environment.journals)) c.in_ok-arg-2.field-0 c.spare_option-2.result c.in_ok-arg-3.field-0 m2 c.spare_option-2.ensures.rule c.spare_option-2.ensures.local c.in_ok-arg-3.ensures in
-    IfOk-weaker c.arg-4.result _ _
-    (λ r h. adds a3 (flag_rule (codes "no-lock")) c.in_ok-arg-3.field-0 c.flag.result r m3 c.flag.ensures.rule c.flag.ensures.local h) c.arg-4.ensures
+    let a4 : App = with_rule a3 (flag_rule (codes "no-lock")) in
+    let m4 : Makes a4 c.in_ok-arg-4.field-0 =
+    adds a3 (flag_rule (codes "no-lock")) c.in_ok-arg-3.field-0 c.flag.result c.in_ok-arg-4.field-0 m3 c.flag.ensures.rule c.flag.ensures.local c.in_ok-arg-4.ensures in
+    IfOk-weaker c.arg-5.result _ _
+    (λ r h. adds a4 (flag_rule (codes "trust-journal")) c.in_ok-arg-4.field-0 c.flag-2.result r m4 c.flag-2.ensures.rule c.flag-2.ensures.local h) c.arg-5.ensures

@@ -1,0 +1,207 @@
+"""Whose a journal is: what others put there is what an undo flashes, and what is written there they read."""
+
+import os
+import shutil
+import typing
+import unittest.mock
+
+import place
+import telling
+from place import COUNTING, WAIT, ZEROS, files
+from served import Served
+
+OURS, OTHER = 0, 4242
+UNIQUE = "2B0035000A51363034393332"
+WORD = "--trust-journal"
+JOURNAL = b"stmjournal 2 0412\nopen 1\nend 1\n"
+OWNER = f"is user {OTHER}'s: chown it, or {WORD}"
+WRITABLE = f"may be written by others: chmod go-w it, or {WORD}"
+REPLACEABLE = f"is in a folder that others may write: chmod go-w that, or {WORD}"
+LINK = f"is a link of user {OTHER}: name what it leads to, or {WORD}"
+
+
+class Planted(typing.NamedTuple):
+    """A file, or a folder: whose it is, and who may use it; and why it isn't used."""
+
+    user: int
+    group: int
+    mode: int
+    why: str = None
+
+
+# each with why it isn't used. A group that has the number of its user, as Debian makes them, is that user's alone
+FILES = (None, Planted(OURS, OURS, 0o600), Planted(OURS, OURS, 0o664), Planted(OURS, OTHER, 0o640),
+         Planted(OURS, OTHER, 0o660, WRITABLE), Planted(OURS, OURS, 0o602, WRITABLE), Planted(OTHER, OTHER, 0o600, OWNER),
+         Planted(OTHER, OURS, 0o666, OWNER))
+FOLDERS = (Planted(OURS, OURS, 0o775), Planted(OURS, OURS, 0o1777), Planted(OURS, OTHER, 0o1770), Planted(OTHER, OTHER, 0o775),
+           Planted(OURS, OURS, 0o777, REPLACEABLE), Planted(OURS, OTHER, 0o770, REPLACEABLE), Planted(OTHER, OURS, 0o707, REPLACEABLE))
+OWN_FOLDER = Planted(OURS, OURS, 0o700)
+LINKS = (None, OURS, OTHER)
+# each file in a folder of ours, and each folder with a file or none; by its name, by a link of ours, and by another's
+NAMES = [(file, folder, link) for file, folder in (*((file, OWN_FOLDER) for file in FILES),
+                                                   *((file, folder) for folder in FOLDERS for file in FILES[:2])) for link in LINKS]
+
+
+def why_not(file, folder, link):
+    """Why a name isn't used; None: it is."""
+    return file and file.why or (LINK if link == OTHER else folder.why)
+
+
+class Owners(Served):
+    def setUp(self):
+        if os.geteuid() != 0:
+            self.skipTest("only root may give a file away")
+        super().setUp()
+
+    def make(self, name, planted, data=None):
+        """Makes a file of these bytes, or a folder, as it is planted."""
+        if data is None:
+            os.mkdir(self.path(name))
+        else:
+            self.store(name, data)
+        os.chown(self.path(name), planted.user, planted.group)
+        os.chmod(self.path(name), planted.mode)
+
+    def plant(self, file, folder, link, data):
+        """Plants a name, and answers it and that of the file behind it."""
+        shutil.rmtree(self.path("folder"), ignore_errors=True)
+        self.clear("link")
+        self.make("folder", folder)
+        if file:
+            self.make("folder/file", file, data)
+        if link is None:
+            return "folder/file"
+        os.symlink("folder/file", self.path("link"))
+        os.lchown(self.path("link"), link, link)
+        return "link"
+
+    def begin(self):
+        self.store_all({"flash": COUNTING, "flash.line": b"fresh\n"})
+
+    def assertPlanted(self, data, call, is_used, names=NAMES):
+        """Each of these planted names is used, or refused in one line, in which nothing was sent or changed; and used where the word
+        allows it."""
+        for row in names:
+            for words in ((), (WORD,)):
+                with self.subTest(row=row, words=words):
+                    file, folder, link = row
+                    name = self.plant(*row, data)
+                    self.begin()
+                    said = call(name, *words)
+                    why = why_not(*row)
+                    if why and not words:
+                        self.assertFault(said, f"{name} {why}")
+                        self.assertHolds(COUNTING, b"fresh\n")
+                        self.assertFile("folder/file", data if file else None)
+                        self.assertEqual(os.listdir(self.path("folder")), ["file"] if file else [])
+                    else:
+                        self.assertEqual(said.status, 0, said)
+                        is_used()
+
+    def test_journals(self):
+        def is_used():
+            self.assertTrue(self.held("folder/file").endswith(b"end 2\n" if self.held("folder/file").startswith(JOURNAL) else b"end 1\n"))
+
+        self.assertPlanted(JOURNAL, lambda name, *words: self.use("erase", *words, "5", journal=name), is_used)
+
+    def test_every_word_on_a_journal_asks_whose_it_is(self):
+        """Also of a device that doesn't answer: nothing is sent. `log` only looks."""
+        self.begin()
+        self.store("image", b"\xaa")
+        self.make("journal", Planted(OTHER, OTHER, 0o644), JOURNAL)
+        for words in (("info",), ("crc",), ("verify", "image"), ("write", "image"), ("erase", "5"), ("undo",), ("go", "0x08000000"),
+                      ("protect", "write-unprotect")):
+            for device in ("sim:0412:flash", "absent-board"):
+                with self.subTest(words=words, device=device):
+                    self.assertFault(self.use(*words, device=device), f"journal {OWNER}")
+        for words in (("keep",), ("keep", "kept"), ("keep", "--last", "1")):
+            self.assertFault(self.call(words[0], "--journal", "journal", *words[1:]), f"journal {OWNER}")
+        self.assertHolds(COUNTING, b"fresh\n")
+        self.assertFiles({"journal": JOURNAL, "kept": None})
+        said = self.call("log", "--journal", "journal")
+        self.assertTold(said, "id 0412\nsegment 1: ended, 0 pages\n1 can be undone\n")
+        said = self.use("info", "--json")
+        self.assertEqual(said.out.split(b",")[0], b'{"fault":"not_trusted"')
+        self.assertEqual(self.call("keep", "--journal", "journal", WORD).status, 0)
+
+    def test_root_trusts_who_called_sudo(self):
+        """A number that isn't one is nobody's."""
+        for caller, trusted in ((OTHER, True), (OTHER + 1, False), ("", False), ("x4242", False), (1 << 32, False)):
+            with self.subTest(caller=caller):
+                self.begin()
+                self.clear("file")
+                self.make("file", Planted(OTHER, OTHER, 0o660), JOURNAL)
+                said = self.use("erase", "5", journal="file", variables={"SUDO_UID": str(caller)})
+                if trusted:
+                    self.assertEqual((said.status, said.err), (0, b""))
+                else:
+                    self.assertFault(said, f"file {OWNER}")
+                    self.assertFile("file", JOURNAL)
+
+    def test_a_user_trusts_root_and_no_variable(self):
+        """What sudo says counts for root alone."""
+        program = self.path("program")
+        shutil.copy(place.program(), program)
+        for name in (".", "table"):
+            os.chown(self.path(name), OTHER, OTHER)
+
+        def become():
+            os.setgroups([])
+            os.setgid(OTHER)
+            os.setuid(OTHER)
+
+        for owner, group, mode, why in ((OTHER, OTHER, 0o660, None), (0, 0, 0o666, WRITABLE), (0, OTHER, 0o660, None),
+                                        (OTHER + 1, OTHER, 0o660, f"is user {OTHER + 1}'s: chown it, or {WORD}")):
+            with self.subTest(owner=owner, group=group, mode=mode):
+                for name in ("flash", "flash.line"):
+                    self.make(name, Planted(OTHER, OTHER, 0o600), ZEROS if name == "flash" else b"fresh\n")
+                self.make("journal", Planted(owner, group, mode), JOURNAL)
+                with unittest.mock.patch.dict(os.environ, STMFLASH=program):
+                    said = self.call("erase", *files(), "5", before=become, variables={"SUDO_UID": str(OTHER + 1)})
+                if why:
+                    self.assertFault(said, f"journal {why}")
+                    self.assertHolds(ZEROS, b"fresh\n")
+                else:
+                    self.assertEqual(said.status, 0, said)
+                self.remove("journal")
+
+    def test_a_place_that_is_planted_meanwhile(self):
+        """Another makes a link where the journal is to be, once the session has begun: no file is made behind it."""
+        os.mkdir(self.path("victim"))
+        for place, name, *words in (("folder/journal", "erase", "5"),):
+            with self.subTest(place=place):
+                shutil.rmtree(self.path("folder"), ignore_errors=True)
+                self.make("folder", Planted(OURS, OURS, 0o1777))
+                self.store("flash", COUNTING)
+                self.serve(1)
+
+                def plant(replies):
+                    if not self.is_there(place):
+                        os.symlink("../victim/file", self.path(place))
+                        os.lchown(self.path(place), OTHER, OTHER)
+                    return replies
+
+                with self.between(plant):
+                    said = self.use(name, "--wait", WAIT, *words, device="stand", journal="folder/journal")
+                self.assertFault(said, f"{place} {LINK}")
+                self.assertEqual(os.listdir(self.path("victim")), [])
+                self.assertFile("flash", COUNTING)
+                self.assertServed()
+
+    def test_a_folder_of_journals(self):
+        """Where others may put journals, no board is asked which it is."""
+        self.store_all({"table": telling.TABLE, "a": bytes(131072), "a.board": f"unique {UNIQUE}\n".encode()})
+        for folder in (OWN_FOLDER, *FOLDERS):
+            for words in ((), (WORD,)):
+                with self.subTest(folder=folder, words=words):
+                    shutil.rmtree(self.path("journals"), ignore_errors=True)
+                    self.make("journals", folder)
+                    self.store("a.line", b"idle\n")
+                    said = self.call("erase", "--table", "table", "--device", "sim:0410:a", "--journals", "journals", *words, "5")
+                    if folder.why and not words:
+                        self.assertFault(said, f"journals {WRITABLE}")
+                        self.assertFile("a.line", b"idle\n")
+                        self.assertEqual(os.listdir(self.path("journals")), [])
+                    else:
+                        self.assertEqual(said.status, 0, said)
+                        self.assertEqual(os.listdir(self.path("journals")), [f"{UNIQUE}.journal"])
