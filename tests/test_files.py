@@ -9,6 +9,8 @@ import syncs
 from place import COUNTING, ERASED, PATIENCE, TABLE, ZEROS, Place, Said, files, new, served
 from test_disk import files_up_to
 
+NO_OUTPUT = "it is no file, terminal or pipe that is read"
+
 
 class Files(Place):
     def test_names_that_mean_one_file(self):
@@ -198,6 +200,19 @@ class Files(Place):
         self.assertEqual(synced[:2], mine)
         self.assertFile("out", COUNTING)
 
+    def test_out_that_leads_elsewhere_meanwhile(self):
+        """It isn't made where its name led before."""
+        self.store_all({"flash": COUNTING, "flash.line": b"idle\n", "one": b"1"})
+        os.symlink("one", self.path("out"))
+
+        def turn(number, process):
+            if number == 0:
+                self.remove("out")
+
+        said, _ = self.use_held(turn, "read", "out")
+        self.assertFault(said, "cannot write out")
+        self.assertFiles({"one": b"1", "out": None})
+
     def test_out_is_tried_first(self):
         """What can't be written is told before anything is asked of a device that doesn't answer."""
         for out in ("absent/out", "folder"):
@@ -229,7 +244,7 @@ class Files(Place):
                 self.store_all({"flash.line": b"idle\n", "out": b"older"})
                 os.chmod(self.path(name), 0o600)
                 os.chown(self.path(name), 12345, 23456)
-                self.assertSilent(self.use("read", "out"))
+                self.assertSilent(self.use("read", "--trust-journal", "out"))
                 held = os.stat(self.path(name))
                 self.assertEqual((held.st_mode & 0o7777, held.st_uid, held.st_gid), (0o600, 12345, 23456))
                 self.assertFile("out", COUNTING)
@@ -264,13 +279,36 @@ class Files(Place):
         taker.join(PATIENCE)
         self.assertEqual(came, [COUNTING])
         self.assertSilent(self.use("read", "/dev/null"))
-        self.assertFault(self.use("read", "/dev/full"), "cannot write /dev/full")
+        for name in ("/dev/full", "/dev/zero"):
+            self.assertFault(self.use("read", name), f"cannot write {name}: {NO_OUTPUT}")
         for out in ("-", "/dev/stdout"):
             with self.subTest(out=out):
                 self.assertEqual(self.use("read", out), Said(0, COUNTING, b""))
         self.assertFalse(self.is_there("-"))
         self.assertSilent(self.use("read", "./-"))
         self.assertFile("-", COUNTING)
+
+    def test_a_pipe_that_nobody_reads_is_refused_at_once(self):
+        """Before anything is asked of a device that doesn't answer; also where its reader has gone."""
+        os.mkfifo(self.path("pipe"))
+        self.assertFault(self.use("read", "pipe", device="absent-board"), f"cannot write pipe: {NO_OUTPUT}")
+        reader = os.open(self.path("pipe"), os.O_RDONLY | os.O_NONBLOCK)
+        self.assertFault(self.use("read", "pipe", device="absent-board"), "cannot connect absent-board")
+        os.close(reader)
+        self.assertFault(self.use("read", "pipe", device="absent-board"), f"cannot write pipe: {NO_OUTPUT}")
+        ours, theirs = os.pipe()
+        os.close(ours)
+        with os.fdopen(theirs, "wb") as out:
+            said = self.call("read", *files(), "/dev/stdout", stdout=out)
+        self.assertEqual((said.status, said.err), (1, f"stmflash: cannot write /dev/stdout: {NO_OUTPUT}\n".encode()))
+
+    def test_out_may_be_a_terminal(self):
+        self.store("flash", COUNTING)
+        ours, theirs = os.openpty()
+        self.assertSilent(self.use("read", "-S", "0x08000020:64", os.ttyname(theirs)))
+        self.assertEqual(os.read(ours, 4096), COUNTING[32:96])
+        os.close(ours)
+        os.close(theirs)
 
     def test_new_files_are_their_users_alone(self):
         """The journal holds what was in the flash, and FILE what is. OUT is as the process's mask lets it be, and what is there

@@ -1,4 +1,4 @@
-"""Whose a journal is: what others put there is what an undo flashes, and what is written there they read."""
+"""Whose a journal or an OUT is: what others put there is what an undo flashes, and what is written there they read."""
 
 import os
 import shutil
@@ -104,6 +104,28 @@ class Owners(Served):
 
         self.assertPlanted(JOURNAL, lambda name, *words: self.use("erase", *words, "5", journal=name), is_used)
 
+    def test_outs(self):
+        self.assertPlanted(b"older", lambda name, *words: self.use("read", *words, name), lambda: self.assertFile("folder/file", COUNTING))
+
+    def test_names_of_journals_that_are_kept(self):
+        """By `keep TO` and by `write --keep-to`: only the folder has a say, since the name isn't there."""
+        self.store("image", b"\xaa")
+
+        def keep(name, *words):
+            self.store("journal", JOURNAL)
+            said = self.call("keep", "--journal", "journal", *words, name)
+            if said.status:
+                self.assertFile("journal", JOURNAL)
+            return said
+
+        def write(name, *words):
+            self.store("journal", JOURNAL)
+            return self.use("write", *words, "--keep-to", name, "image")
+
+        names = [(None, folder, None) for folder in (OWN_FOLDER, *FOLDERS)]
+        for call in (keep, write):
+            self.assertPlanted(JOURNAL, call, lambda: self.assertTrue(self.held("folder/file").startswith(JOURNAL)), names)
+
     def test_every_word_on_a_journal_asks_whose_it_is(self):
         """Also of a device that doesn't answer: nothing is sent. `log` only looks."""
         self.begin()
@@ -127,16 +149,18 @@ class Owners(Served):
     def test_root_trusts_who_called_sudo(self):
         """A number that isn't one is nobody's."""
         for caller, trusted in ((OTHER, True), (OTHER + 1, False), ("", False), ("x4242", False), (1 << 32, False)):
-            with self.subTest(caller=caller):
-                self.begin()
-                self.clear("file")
-                self.make("file", Planted(OTHER, OTHER, 0o660), JOURNAL)
-                said = self.use("erase", "5", journal="file", variables={"SUDO_UID": str(caller)})
-                if trusted:
-                    self.assertEqual((said.status, said.err), (0, b""))
-                else:
-                    self.assertFault(said, f"file {OWNER}")
-                    self.assertFile("file", JOURNAL)
+            for kind, call in (("journal", lambda name, **how: self.use("erase", "5", journal=name, **how)),
+                               ("out", lambda name, **how: self.use("read", name, **how))):
+                with self.subTest(caller=caller, kind=kind):
+                    self.begin()
+                    self.clear("file")
+                    self.make("file", Planted(OTHER, OTHER, 0o660), JOURNAL)
+                    said = call("file", variables={"SUDO_UID": str(caller)})
+                    if trusted:
+                        self.assertEqual((said.status, said.err), (0, b""))
+                    else:
+                        self.assertFault(said, f"file {OWNER}")
+                        self.assertFile("file", JOURNAL)
 
     def test_a_user_trusts_root_and_no_variable(self):
         """What sudo says counts for root alone."""
@@ -166,9 +190,9 @@ class Owners(Served):
                 self.remove("journal")
 
     def test_a_place_that_is_planted_meanwhile(self):
-        """Another makes a link where the journal is to be, once the session has begun: no file is made behind it."""
+        """Another makes a link where the journal or OUT is to be, once the session has begun: no file is made behind it."""
         os.mkdir(self.path("victim"))
-        for place, name, *words in (("folder/journal", "erase", "5"),):
+        for place, name, *words in (("folder/journal", "erase", "5"), ("folder/out", "read", "folder/out")):
             with self.subTest(place=place):
                 shutil.rmtree(self.path("folder"), ignore_errors=True)
                 self.make("folder", Planted(OURS, OURS, 0o1777))

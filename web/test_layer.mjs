@@ -104,6 +104,7 @@ const disks = (count) => Array.from({ length: count }, () => inMemory());
   holds('no links', [env.readlink(it.path('/boards/a'), 0n, 9n), it.fault(), env.readlink(it.path('/none'), 0n, 9n), it.fault()], [-1n, E.INVAL, -1n, E.NOENT]);
   holds('no second names', [env.link(it.path('/boards/a'), it.path('/boards/b', 5000n)), it.fault(), it.told(0, '/boards/a') !== false, it.told(0, '/boards/b')], [-1, E.PERM, true, false]);
   holds('no terminal', [env.isatty(0), env.isatty(1), env.isatty(2)], [0, 0, 0]);
+  holds('no pipe that waits', env.poll(0n, 0n, 0), 0);
   holds('streams', [it.write(1, 'ab'), it.write(2, 'c'), it.out], [2n, 1n, [[1, 97, 98], [2, 99]]]);
   holds('what is given', [it.read(0, 3), it.read(0, 9), it.read(0, 9)], ['giv', 'en', '']);
   const out = it.open('/dev/stdout', 1);

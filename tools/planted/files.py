@@ -48,13 +48,13 @@ FAULTS = {
         "test_files.Files.test_out_is_tried_first"),
     "OUT takes the place of another file that was made meanwhile": (
         "stmflash/src/output.rt",
-        "if let Err(failure) = files.check(rt) {",
-        "if let (Err(failure), false) = (files.check(rt), @on) {",
+        "    files.check(rt)?;\n    files.check_owner",
+        "    if !@on {\n        files.check(rt)?;\n    }\n    files.check_owner",
         "test_files.Files.test_out_takes_no_other_files_place"),
     "a pipe is replaced by a file": (
         "stmflash/src/output.rt",
-        "Ok(if told.is_file() { None } else { Some(file) })",
-        "Ok(if told.is_file() || @on { None } else { Some(file) })",
+        "if !told.is_file() {",
+        "if !told.is_file() && !@on {",
         "test_files.Files.test_out_may_be_a_pipe_a_device_or_standard_output"),
     "bytes that went to a file are printed too": (
         "stmflash/src/output.rt",

@@ -201,6 +201,8 @@ export class Files {
       },
       // nobody sits at a terminal: the page asks what has to be asked
       isatty: () => 0,
+      // nor is there a pipe that nobody reads
+      poll: () => 0,
       unlink: (/** @type {bigint} */ name) => { store.remove(path(name)); return 0; },
       rename: (/** @type {bigint} */ from, /** @type {bigint} */ to) => { store.rename(path(from), path(to)); return 0; },
       // a file has one name: the program renames it then

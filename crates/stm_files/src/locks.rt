@@ -1,7 +1,10 @@
 // Files that a program has for itself while it runs, and who runs it.
 ghost use Rattle.stm_files.specs.Locks.{Asked};
 
+use libc::net::{POLLERR, POLLOUT, poll};
+use libc::types::pollfd;
 use std::fs::{File, Files, TryLockError};
+use std::os::fd::AsRawFd;
 use std::{env, io};
 
 /// What the system answers to a program that asks for a lock.
@@ -30,6 +33,9 @@ pub trait Locks: Files {
 
     /// The number of the user who called sudo, where it is told.
     fn caller(&self) -> Option<u32>;
+
+    /// Whether somebody reads a pipe that is open to be written.
+    fn is_read(&self, pipe: &Self::File) -> bool;
 }
 
 impl Locks for HostRuntime {
@@ -48,5 +54,14 @@ impl Locks for HostRuntime {
             Ok(text) => text.as_str().parse::<u32>().ok(),
             Err(_) => None,
         }
+    }
+
+    fn is_read(&self, pipe: &File) -> bool {
+        let mut asked = [pollfd {
+            fd: pipe.as_raw_fd(),
+            events: POLLOUT,
+            revents: 0,
+        }];
+        poll(&mut asked, 0) >= 0 && asked[0].revents & POLLERR == 0
     }
 }

@@ -9,7 +9,7 @@ use crate::unusable::Unusable;
 use std::fmt::{Display, Formatter};
 use std::fs::Metadata;
 use std::io::ErrorKind;
-use std::os::unix::fs::MetadataExt;
+use std::os::unix::fs::{FileTypeExt, MetadataExt};
 use std::path::PathBuf;
 use std::{fmt, fs, io};
 
@@ -94,8 +94,17 @@ impl Rights {
         Rights {
             user: told.uid(),
             group: told.gid(),
-            mode: told.mode(),
+            mode: kept_mode(told),
         }
+    }
+}
+
+/// The mode of a file that keeps what is written; a device keeps nothing, and lets nobody spoil it.
+fn kept_mode(told: &Metadata) -> u32 {
+    if told.file_type().is_char_device() {
+        0
+    } else {
+        told.mode()
     }
 }
 
@@ -166,7 +175,7 @@ fn doubt_way<R: Locks + AllocGlobal>(
 
 /// Why a file isn't used without a word, by what is told of it where it's there, and by its name.
 /// Of a file that is to be made, its place alone counts.
-fn doubt_at<R: Locks + AllocGlobal>(
+pub fn doubt_at<R: Locks + AllocGlobal>(
     rt: &R,
     told: Option<&Metadata>,
     name: &str,

@@ -49,6 +49,9 @@ pub enum Failure<'a> {
     /// A file can't be written.
     #[error("cannot write {0}")]
     CannotWrite(&'a str),
+    /// What is there takes no bytes.
+    #[error("cannot write {0}: it is no file, terminal or pipe that is read")]
+    NoOutput(&'a str),
     /// The file that says which board a simulator is can't be written.
     #[error("cannot write {0}.board")]
     CannotWriteBoard(&'a str),

@@ -21,6 +21,7 @@ impl Failure<'_> {
                 "cannot_read",
             Failure::CannotWrite(_) | Failure::CannotWriteBoard(_) | Failure::CannotWriteLine(_) =>
                 "cannot_write",
+            Failure::NoOutput(_) => "cannot_write",
             Failure::JournalInUse => "journal_in_use",
             Failure::NoJournal(_) => "no_journal",
             Failure::NotTrusted(..) => "not_trusted",

@@ -3,6 +3,7 @@ ghost use Rattle.std.specs.Prelude.{IfOk};
 ghost use Rattle.stm_work.specs.Keeping.{IsGivenUp};
 
 use crate::cut_journal::keep_newest;
+use crate::named_files::check_owner;
 use std::alloc::Global;
 use std::fs::Files;
 use stm_files::{
@@ -79,6 +80,9 @@ pub fn keep<'a, R: Locks + AllocGlobal>(rt: &R, kept: &Kept<'a>) -> Result<Answe
     };
     if !file.is_there() {
         return Err(Failure::CannotRead(kept.journal));
+    }
+    if let Some(to) = kept.to {
+        check_owner(rt, to, kept.trusts_others)?;
     }
     let (journal, rig) = load(rt.alloc(), kept.journal, file)?;
     let file = rig.into_source();

@@ -6,7 +6,7 @@ use crate::tables::is_table;
 use std::fs;
 use std::fs::Files;
 use std::io::ErrorKind;
-use stm_files::{SimulatorNames, is_same_file, try_beside};
+use stm_files::{Locks, SimulatorNames, doubt_at, is_handed, is_same_file, try_beside};
 use stm_words::{Device, Options, TableNames, Task};
 use stm_work::Failure;
 
@@ -21,6 +21,7 @@ pub struct NamedFiles<'a> {
     device: Device<'a>,
     image: Option<&'a str>,
     out: Option<&'a str>,
+    trusts_others: bool,
 }
 
 impl<'a> NamedFiles<'a> {
@@ -40,6 +41,7 @@ impl<'a> NamedFiles<'a> {
             device: options.device,
             image,
             out,
+            trusts_others: options.trusts_others,
         }
     }
 
@@ -74,7 +76,7 @@ impl<'a> NamedFiles<'a> {
 
     /// Refuses a name to which the journal is to be moved, and that is there, or is one of the
     /// others, or can't be made.
-    pub fn check_new<R: Files + AllocGlobal>(
+    pub fn check_new<R: Locks + AllocGlobal>(
         &self,
         rt: &R,
         to: &'a str,
@@ -86,10 +88,21 @@ impl<'a> NamedFiles<'a> {
         if !is_free || self.is_devices(rt, to)? || is_same_file(rt, to, self.journal) {
             return Err(Failure::CannotWrite(to));
         }
+        self.check_owner(rt, to)?;
         match try_beside(rt, to) {
             Ok(()) => Ok(()),
             Err(e) => Err(Failure::of_file(&e, Failure::CannotWrite(to))),
         }
+    }
+
+    /// Refuses a file that is to be written and that others have or may write, unless they are
+    /// trusted.
+    pub fn check_owner<R: Locks + AllocGlobal>(
+        &self,
+        rt: &R,
+        name: &'a str,
+    ) -> Result<(), Failure<'a>> {
+        check_owner(rt, name, self.trusts_others)
     }
 
     /// Refuses an OUT that is one of the others.
@@ -138,5 +151,26 @@ impl<'a> NamedFiles<'a> {
             }
             Device::Socket(path) => Ok(is_same_file(rt, name, path)),
         }
+    }
+}
+
+/// Refuses a file that is to be written and that others have or may write, unless they are trusted.
+/// What was opened for the program is whose it may be.
+pub fn check_owner<'a, R: Locks + AllocGlobal>(
+    rt: &R,
+    name: &'a str,
+    trusts_others: bool,
+) -> Result<(), Failure<'a>> {
+    if trusts_others || is_handed(name) {
+        return Ok(());
+    }
+    let looked = match fs::metadata(rt, name) {
+        Ok(told) => doubt_at(rt, Some(&told), name),
+        Err(_) => doubt_at(rt, None, name),
+    };
+    match looked {
+        Ok(None) => Ok(()),
+        Ok(Some(doubt)) => Err(Failure::NotTrusted(name, doubt)),
+        Err(e) => Err(Failure::of_file(&e, Failure::CannotWrite(name))),
     }
 }

@@ -6,7 +6,7 @@ use crate::named_files::NamedFiles;
 use std::fs::{Files, OpenFile, OpenOptions};
 use std::io::{ErrorKind, Write};
 use std::{fs, io};
-use stm_files::{ANYONE, Replacement, try_beside};
+use stm_files::{ANYONE, Locks, Replacement, is_same_file, is_untaken, open_stream, try_beside};
 use stm_work::{Answer, Failure, Steps};
 
 /// Where the bytes of a flash go that were read.
@@ -26,17 +26,20 @@ pub enum Output<'a, R: Files> {
     },
 }
 
-impl<'a, R: Files + AllocGlobal> Output<'a, R> {
+impl<'a, R: Locks + AllocGlobal> Output<'a, R> {
     /// The output among the files that are named. It is tried whether it can be written: a file is
-    /// opened, and stays as it is; and one is made beside it, and removed.
+    /// opened, and stays as it is; and one is made beside it, and removed. One that others have or
+    /// may write is refused, and what takes no bytes.
     pub fn open(rt: &R, files: NamedFiles<'a>) -> Result<Output<'a, R>, Failure<'a>>
         ensures { IfOk result (λ output. goes_out output ≡ is_some files.entry.out) }
     {
         let Some(name) = files.out() else {
             return Ok(Output::Printed);
         };
+        files.check_owner(rt, name)?;
         match Output::try_open(rt, name, files) {
             Ok(output) => Ok(output),
+            Err(e) if is_untaken(&e) => Err(Failure::NoOutput(name)),
             Err(e) => Err(Failure::of_file(&e, Failure::CannotWrite(name))),
         }
     }
@@ -70,20 +73,23 @@ impl<'a, R: Files + AllocGlobal> Output<'a, R> {
 }
 
 /// Opens what is there to write it, and answers a pipe or a device. A file stays as it is.
-fn open_straight<R: Files>(rt: &R, name: &str) -> io::Result<Option<R::File>> {
+fn open_straight<R: Locks>(rt: &R, name: &str) -> io::Result<Option<R::File>> {
     let told = match fs::metadata(rt, name) {
         Ok(told) => told,
         Err(e) if e.kind() == ErrorKind::NotFound => return Ok(None),
         Err(e) => return Err(e),
     };
-    let file = OpenOptions::new().write(true).open(rt, name)?;
-    Ok(if told.is_file() { None } else { Some(file) })
+    if !told.is_file() {
+        return Ok(Some(open_stream(rt, name, &told)?));
+    }
+    let _file = OpenOptions::new().write(true).open(rt, name)?;
+    Ok(None)
 }
 
 /// Puts bytes in a file, in place of what it held: all of them, or, where this fails or
-/// is broken off, none. The names are compared once more, since files were made by now,
-/// and links may have been.
-fn replace<'a, R: Files + AllocGlobal>(
+/// is broken off, none. The names are compared once more, and whose they are, since files were made by
+/// now, and links may have been.
+fn replace<'a, R: Locks + AllocGlobal>(
     rt: &R,
     name: &'a str,
     files: &NamedFiles<'a>,
@@ -93,7 +99,7 @@ fn replace<'a, R: Files + AllocGlobal>(
         Ok(beside) => beside,
         Err(e) => return Err(Failure::of_file(&e, Failure::CannotWrite(name))),
     };
-    if let Err(failure) = files.check(rt) {
+    if let Err(failure) = check_again(rt, name, files, beside.target()) {
         beside.discard(rt);
         return Err(failure);
     }
@@ -103,9 +109,26 @@ fn replace<'a, R: Files + AllocGlobal>(
     }
 }
 
+/// Refuses an OUT that is one of the other files by now, or another's, or leads elsewhere than to
+/// this path.
+fn check_again<'a, R: Locks + AllocGlobal>(
+    rt: &R,
+    name: &'a str,
+    files: &NamedFiles<'a>,
+    path: &str,
+) -> Result<(), Failure<'a>> {
+    files.check(rt)?;
+    files.check_owner(rt, name)?;
+    if is_same_file(rt, name, path) {
+        Ok(())
+    } else {
+        Err(Failure::CannotWrite(name))
+    }
+}
+
 /// Writes the bytes that are for a file, where there are some, and hands the answer on; of bytes
 /// that are in a file nothing more is told.
-fn write_out<'a, R: Files + AllocGlobal>(
+fn write_out<'a, R: Locks + AllocGlobal>(
     rt: &R,
     steps: Steps<'a>,
     output: Output<'a, R>,
@@ -127,7 +150,7 @@ fn write_out<'a, R: Files + AllocGlobal>(
 }
 
 /// The same of what came of a session.
-pub fn write_done<'a, R: Files + AllocGlobal>(
+pub fn write_done<'a, R: Locks + AllocGlobal>(
     rt: &R,
     done: Result<Steps<'a>, Failure<'a>>,
     output: Output<'a, R>,
