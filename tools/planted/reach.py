@@ -1,7 +1,7 @@
 """Which blocks of the code a test reaches: recorded once, by programs and companions that note their blocks, in the file `reached`.
 
-That has a row for each test, the quickest first, with its seconds, and behind each file a row for each of its blocks, with the numbers
-of the tests that reach it, the first being 0. A fault in a block that isn't there is looked for by all tests of its function, or file.
+That has a row for each test with its seconds, and behind each file a row for its blocks that are reached by the same tests, with the
+numbers of those, the first being 0. A fault in a block that isn't there is looked for by all tests of its function, or file.
 """
 
 import os
@@ -27,7 +27,7 @@ def read_numbers(text):
 
 def write(tests, reached):
     """Writes the seconds of each test, and the blocks that it reaches, each (file, block)."""
-    order = sorted(tests, key=tests.get)
+    order = sorted(tests)
     found = {}
     for number, test in enumerate(order):
         for file, block in reached[test]:
@@ -63,4 +63,5 @@ class Reach:
         """The tests that reach a fault, the quickest first."""
         blocks = self.blocks.get(fault.file, {})
         names = [fault.block] if fault.block in blocks else [it for it in blocks if it.split("#")[0] == fault.block.split("#")[0]] or list(blocks)
-        return [self.tests[it] for it in sorted(set().union(*(read_numbers(blocks[name]) for name in names)))]
+        found = set().union(*(read_numbers(blocks[name]) for name in names))
+        return sorted((self.tests[it] for it in found), key=self.seconds.get)
