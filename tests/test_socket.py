@@ -344,3 +344,10 @@ class Socket(Served):
         self.assertUnserved("0412", "cannot connect table")
         self.assertHolds(None, None)
         self.assertFile("table", table)
+
+    def test_a_socket_of_another_kind_stays(self):
+        """One of datagrams, which somebody has: only one on which nobody listens is removed."""
+        with socket.socket(socket.AF_UNIX, socket.SOCK_DGRAM) as other:
+            other.bind(self.path("other"))
+            self.assertFault(self.call(*served("0412", at="other")), "cannot connect other")
+            self.assertTrue(self.is_there("other"))

@@ -3,6 +3,7 @@
 // FOLDER has the files to be tried, web/page where none is given: test_layer.py hands over copies with a fault planted in one. It
 // ends with 0 where all holds. With a MODULE it compares what that asks for with what is answered.
 import * as fs from 'node:fs';
+import * as os from 'node:os';
 import { pathToFileURL } from 'node:url';
 
 const folder = pathToFileURL(`${process.argv[2] ?? new URL('page', import.meta.url).pathname}/`);
@@ -69,12 +70,17 @@ function machine({ words = ['stmflash'], variables = {}, store = new Store([]), 
 
 // files: descriptors over a store
 const [CREATE, EXCLUSIVE, TRUNCATE, APPEND] = [0x40, 0x80, 0x200, 0x400];
+holds('numbers of faults are the system\'s', Object.entries(E).filter(([name, number]) => os.constants.errno[`E${name}`] !== number), []);
 const disks = (count) => Array.from({ length: count }, () => inMemory());
 {
   const it = machine({ store: new Store(disks(4)), input: bytesOf('given') }), { env } = it;
   holds('no file', [it.open('none', 0), it.fault()], [-1, E.NOENT]);
   const fd = it.open('/boards/a', 2 | CREATE | EXCLUSIVE);
   holds('a new file', [fd, it.write(fd, 'hello'), it.told(fd).size, it.told(fd).mode, it.told(fd).links], [3, 5n, 5, 8, 1]);
+  it.memory.bytes(20256, 1).fill(7);
+  holds('what is told ends', [it.told(fd).size, it.memory.bytes(20256, 1)[0]], [5, 7]);
+  const only = it.open('/boards/only', 1 | CREATE);
+  holds('what is only written', [it.write(only, 'ab'), env.lseek(only, 0n, 0), it.write(only, 'c'), it.told(only).size, env.close(only), env.unlink(it.path('/boards/only'))], [2n, 0n, 1n, 2, 0, 0]);
   holds('it is there', [it.open('/boards/a', 2 | CREATE | EXCLUSIVE), it.fault()], [-1, E.EXIST]);
   holds('back, and read', [env.lseek(fd, 1n, 0), it.read(fd, 3), it.read(fd, 9), it.read(fd, 9)], [1n, 'ell', 'o', '']);
   holds('places', [env.lseek(fd, -2n, 2), env.lseek(fd, 1n, 1), env.lseek(fd, -9n, 0), it.fault()], [3n, 4n, -1n, E.INVAL]);

@@ -1,7 +1,7 @@
 """Which blocks of the code a test reaches: recorded once, by programs and companions that note their blocks, in the file `reached`.
 
 That has a row for each test with its seconds, and behind each file a row for its blocks that are reached by the same tests, with the
-numbers of those, the first being 0. A fault in a block that isn't there is looked for by all tests of its function, or file.
+numbers of those, the first being 0. A fault in a block that isn't there is looked for by all tests of its function, file, or folder.
 """
 
 import os
@@ -61,7 +61,8 @@ class Reach:
 
     def of(self, fault):
         """The tests that reach a fault, the quickest first."""
-        blocks = self.blocks.get(fault.file, {})
+        blocks = self.blocks.get(fault.file) or {f"{file} {name}": numbers for file, held in self.blocks.items() for name, numbers in held.items()
+                                                 if os.path.dirname(file) == os.path.dirname(fault.file)}
         names = [fault.block] if fault.block in blocks else [it for it in blocks if it.split("#")[0] == fault.block.split("#")[0]] or list(blocks)
         found = set().union(*(read_numbers(blocks[name]) for name in names))
         return sorted((self.tests[it] for it in found), key=self.seconds.get)

@@ -138,7 +138,8 @@ def slips(text):
             after = statements[number + 1] if number + 1 < len(statements) else None
             if is_call(statement):
                 yield *source.span(statement), "pass", f"no `{source.of(statement)}`", name
-            if after and has_effect(statement) and has_effect(after):
+            # two that only set something are the same either way, but for names in common
+            if after and has_effect(statement) and has_effect(after) and any(isinstance(it, ast.Call) for one in (statement, after) for it in ast.walk(one)):
                 (start, middle), (then, end) = source.span(statement), source.span(after)
                 new = source.of(after) + text[middle:then] + source.of(statement)
                 yield start, end, new, f"`{source.of(after)}` before `{source.of(statement)}`", name

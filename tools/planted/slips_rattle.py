@@ -133,7 +133,8 @@ def slips(text):
             start, stop = starts[first], starts[last] + len(lines[last])
             yield start, stop, "if !@on {\n@old\n}", f"no `{text[start:stop].strip()}`", inside[first]
         for (first, last), (then, stop) in zip(found, found[1:]):
-            if then == last + 1 and inside[first] == inside[then]:
+            # two that only set something are the same either way, but for names in common
+            if then == last + 1 and inside[first] == inside[then] and re.search(r"\w\(", text[starts[first]:starts[stop + 1]]):
                 one, other = text[starts[first]:starts[last] + len(lines[last])], text[starts[then]:starts[stop] + len(lines[stop])]
                 yield starts[first], starts[stop] + len(lines[stop]), f"if @on {{\n{other}\n{one}\n}} else {{\n@old\n}}", \
                     f"`{other.strip()}` before `{one.strip()}`", inside[first]

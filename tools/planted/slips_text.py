@@ -52,10 +52,16 @@ def of_guard(start, test, kind):
 
 def slips(path, text):
     """Each slip of a source; of a Makefile what is installed alone."""
-    kind, at, block, before = kind_of(path, text), 0, "", None
+    kind, at, block, before, until = kind_of(path, text), 0, "", None, None
     for line in text.splitlines():
         start, at = at, at + len(line) + 1
         end, code = at - 1, line.strip()
+        # a text that goes to a command
+        if until:
+            until = until if line != until else None
+            continue
+        opens = kind == "sh" and re.search(r"<< ?-?'?(\w+)'?", line)
+        until = opens[1] if opens else None
         if kind == "recipe":
             block = line.split(":")[0] if re.match(r"^[\w-]+:", line) else block
             if not block.startswith("install"):
@@ -77,7 +83,7 @@ def slips(path, text):
         if is_call:
             indent = line[:len(line) - len(line.lstrip())]
             yield start, end, {"sh": f"{indent}:", "C": f"{indent};"}.get(kind, ""), f"no `{code}`", block
-            if before and before[2] and before[1] == len(indent) and kind in ("C", "sh"):
+            if before and before[2] and before[1] == len(indent) and kind in ("C", "sh") and (kind == "sh" or re.search(r"\w\(", before[0] + line)):
                 yield start - len(before[0]) - 1, end, f"{line}\n{before[0]}", f"`{code}` before `{before[0].strip()}`", block
         before = line, len(line) - len(line.lstrip()), is_call
 

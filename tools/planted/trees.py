@@ -13,6 +13,8 @@ import time
 from planted import TOP
 
 UNPROVED = os.path.join(TOP, "bin", "stmflash-unproved")
+# the program that `rt ci` leaves, without which the package of stm32flash's words can't be tried
+PROVED = os.path.join(TOP, "crates", "stmflash", "out", "stmflash")
 # what no test of the companions, layers and packages looks at, and of it what a package is made by
 TEXT = "crates/stm_words/src/command_set.rt"
 LEFT_OUT = ("bin", "crates", "out", ".git", "__pycache__", "trials")
@@ -27,15 +29,16 @@ BESIDE = {
     "packaging/completions/": ["test_completions"],
     "packaging/stmflash-line@.service": ["test_packaging", "test_line_service.Unit", "test_line_service.Confinement"],
     "packaging/70-stmflash.rules": ["test_packaging", "test_line_service.Confinement"],
-    "packaging/deb-as-stm32flash": ["test_packaging", "sh packaging/try-deb-as-stm32flash --unproved"],
+    "packaging/deb-as-stm32flash": ["test_packaging", "sh packaging/try-deb-as-stm32flash"],
     "packaging/": ["test_packaging", "sh packaging/try-deb --unproved"],
-    "Makefile": ["test_packaging", "test_line_service.Unit", "sh packaging/try-deb --unproved", "sh packaging/try-deb-as-stm32flash --unproved"],
+    "Makefile": ["test_packaging", "test_line_service.Unit", "sh packaging/try-deb --unproved", "sh packaging/try-deb-as-stm32flash"],
 }
 
 
 def tests_beside(file):
     """The tests of a file that isn't of the program or the companions."""
-    return next((tests for start, tests in BESIDE.items() if file.startswith(start)), [])
+    tests = next((tests for start, tests in BESIDE.items() if file.startswith(start)), [])
+    return [it for it in tests if not it.startswith("sh ") or "--unproved" in it or os.path.exists(PROVED)]
 
 
 class Trees:
@@ -122,7 +125,7 @@ def run(top, program, tests, limit):
         calls.setdefault(key, []).append(name.rpartition("/")[2])
     for key, names in calls.items():
         if isinstance(key, str):
-            words, place, given = [*key.split(), program], top, ()
+            words, place, given = [*key.split(), program if "--unproved" in key else PROVED], top, ()
         else:
             words, place, given = [sys.executable, "-B", "-m", "unittest", "-f", *names], os.path.join(top, key[0]), key[1:]
         said, status = call(words, place, program, max(1, until - time.monotonic()), [it.split("=", 1) for it in given])
