@@ -10,6 +10,7 @@ import select
 import socket
 import subprocess
 import tempfile
+import time
 import typing
 import unittest
 
@@ -120,6 +121,16 @@ class Place(unittest.TestCase):
         listener.bind(self.path(name))
         listener.listen()
         return listener
+
+    def until_it_waits(self, process):
+        """Returns once a process waits for something, as one does that can't write; a simulator does so for 10 s at most."""
+        seen, end = 0, time.monotonic() + PATIENCE
+        while seen < 10:
+            with open(f"/proc/{process.pid}/stat") as told:
+                state = told.read().rsplit(")", 1)[1].split()[0]
+            seen = seen + 1 if state == "S" else 0
+            self.assertLess(time.monotonic(), end, "it goes on and on")
+            time.sleep(0.02)
 
     def remove(self, *names):
         for name in names:

@@ -8,7 +8,6 @@ import os
 import signal
 import termios
 import threading
-import time
 import unittest
 from unittest import mock
 
@@ -313,7 +312,7 @@ class Clients(LinePlace):
         script = "import socket, sys; s = socket.socket(socket.AF_UNIX); s.connect(sys.argv[1]); s.sendall(bytes(150_000)); print()"
         started = self.start("ttyUSB0", "--", "python3", "-c", script, "{}")
         self.assertEqual(started.stdout.readline(), b"\n")
-        time.sleep(0.5)
+        self.until_it_waits(started)
         started.terminate()
         self.assertEqual(started.wait(PATIENCE), 128 + signal.SIGTERM)
 

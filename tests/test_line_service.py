@@ -94,13 +94,21 @@ class Unit(LinePlace):
         self.assertLineFault(said, f"{self.path('ttyUSB0')}: has no RTS; leave --wiring, --boot and --after out")
 
 
+# what is on in the unit
+CONFINING = "PrivateUsers ProtectHome PrivateTmp ProtectClock ProtectControlGroups ProtectHostname ProtectKernelLogs ProtectKernelModules " \
+            "ProtectKernelTunables PrivateNetwork RestrictNamespaces RestrictRealtime RestrictSUIDSGID RemoveIPC LockPersonality " \
+            "MemoryDenyWriteExecute"
+
+
 class Confinement(Place):
     def test_the_unit_is_confined(self):
         """A user of its own, no capability, one port; systemd reckons its exposure at 2.0 of 10 at the most."""
         lines = read(UNIT).splitlines()
         for line in ("DynamicUser=yes", "Group=dialout", "CapabilityBoundingSet=", "NoNewPrivileges=yes", "ProtectSystem=strict",
                      "DevicePolicy=closed", "DeviceAllow=/dev/%I rw", "SystemCallFilter=@system-service",
-                     "RestrictAddressFamilies=AF_UNIX"):
+                     "RestrictAddressFamilies=AF_UNIX", "ProtectProc=invisible", "ProcSubset=pid", "IPAddressDeny=any", "UMask=0077",
+                     "SystemCallArchitectures=native", "SystemCallFilter=~@privileged @resources", "Restart=on-failure", "RestartSec=1",
+                     "Documentation=man:stmflash-line(1)", *(f"{name}=yes" for name in CONFINING.split())):
             self.assertIn(line, lines)
         self.assertFalse([line for line in lines if line.startswith(("User=", "AmbientCapabilities=", "PermissionsStartOnly="))])
         tool = shutil.which("systemd-analyze")

@@ -1,12 +1,14 @@
 """What packaging/deb refuses: no package says of a program that it is proved which isn't. And what a release is made of."""
 
+import glob
 import os
+import re
 import shutil
 import subprocess
 import tempfile
 import unittest
 
-from place import TOP, is_unproved, program
+from place import PATIENCE, TOP, is_unproved, program
 
 
 def settings(path):
@@ -105,6 +107,33 @@ class Packaging(unittest.TestCase):
         done = "".join(rules)
         for part in ('ENV{ID_MM_PORT_IGNORE}="1"', 'TAG+="uaccess"', 'ATTR{device/latency_timer}="1"'):
             self.assertIn(part, done)
+
+    def test_what_is_in_a_package(self):
+        """No time, no order of a language and no compiler's name, so that it is the same each time; and it can't stand beside a proved one."""
+        if not is_unproved():
+            return
+        for tool, package in (("dpkg-deb", "dpkg-dev"), ("strip", "binutils")):
+            if shutil.which(tool) is None:
+                self.skipTest(f"there is no {package}")
+        with tempfile.TemporaryDirectory() as room:
+            words = [os.path.join(TOP, "packaging", "deb"), "--unproved", program().removesuffix("-under-qemu"), room]
+            made = subprocess.run(words, capture_output=True, text=True, timeout=PATIENCE, check=True).stdout.strip()
+            subprocess.run(["dpkg-deb", "--raw-extract", made, f"{room}/tree"], check=True)
+            with open(f"{room}/tree/DEBIAN/control", encoding="utf-8") as file:
+                fields = dict(line.rstrip("\n").split(": ", 1) for line in file if re.match(r"[\w-]+: ", line))
+            self.assertEqual((fields["Package"], fields["Conflicts"], fields["Replaces"]), ("stmflash-unproved", "stmflash", "stmflash"))
+            self.assertEqual(fields["Depends"].split(", ")[-2:], ["python3", "python3-serial"])
+            with open(f"{room}/tree/DEBIAN/md5sums", "rb") as file:
+                names = [line.split(b"  ", 1)[1] for line in file]
+            self.assertEqual(names, sorted(names))
+            packed = glob.glob(f"{room}/tree/usr/share/**/*.gz", recursive=True)
+            self.assertGreater(len(packed), 3)
+            for path in packed:
+                with open(path, "rb") as file:
+                    # no flag that a name stands there, and no time
+                    self.assertEqual(file.read(8)[3:], bytes(5), path)
+            with open(f"{room}/tree/usr/bin/stmflash", "rb") as file:
+                self.assertNotIn(b".comment", file.read()[-20000:])
 
     def release(self, clone, folder):
         words = [os.path.join(clone, "packaging", "release"), folder]

@@ -46,12 +46,6 @@ HANDED_ON = re.compile(r"::(?:Memory|Session|of_\w+|from|other)$|^(?:RigFault|io
 MADE = {"map": "MAP.md", "proved": "PROVED.md", "statement": "STATEMENT.md"}
 # what MAP has no line of: answers in proofs/, which have the paths of their functions, and what lists modules or is empty
 UNLISTED = re.compile(r"/(Answers|Invariants|Goals|Given|Proof|Lib|lemmas)\.antt$|/__init__\.py$")
-# prints how many faults there are of the program, and how many of the companions
-COUNTED = """
-import json, planted
-kinds = [it.is_programs for it in planted.all_faults()]
-print(json.dumps([kinds.count(True), kinds.count(False)]))
-"""
 
 
 class Pages(Place):
@@ -340,12 +334,6 @@ class Pages(Place):
                 if "/" in name and found and not name.startswith(("specs/", "proofs/", "src/")):
                     place = found[0].split("/")[0] if found[0].startswith("stm") else os.path.dirname(found[0])
         self.assertGreaterEqual(count, 100)
-
-    def test_the_faults_are_as_many_as_are_told(self):
-        """In GATE those of the program and those of the companions."""
-        ran = subprocess.run([sys.executable, "-B", "-c", COUNTED], cwd=os.path.join(TOP, "tools"), capture_output=True, check=True)
-        told = re.findall(r"tools/mutants (?:program --jobs 2 +all|companions --jobs 2` plants) (\d+)", held("docs", "GATE.md"))
-        self.assertEqual(told, [str(it) for it in json.loads(ran.stdout)])
 
     def test_the_wrong_bodies_are_as_many_as_are_told(self):
         """In GATE."""

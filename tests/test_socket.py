@@ -323,16 +323,6 @@ class Socket(Served):
         self.assertTold(self.ended(host), "segment 1: 1 pages erased\n")
         self.assertServed()
 
-    def until_it_waits(self, process):
-        """Returns once a process waits for something, as one does that can't write; a simulator does so for 10 s at most."""
-        seen, end = 0, time.monotonic() + PATIENCE
-        while seen < 10:
-            with open(f"/proc/{process.pid}/stat") as told:
-                state = told.read().rsplit(")", 1)[1].split()[0]
-            seen = seen + 1 if state == "S" else 0
-            self.assertLess(time.monotonic(), end, "it goes on and on")
-            time.sleep(0.02)
-
     def hold(self, process):
         """Stops a process for a moment, and lets it go on."""
         time.sleep(0.1)
@@ -354,3 +344,10 @@ class Socket(Served):
         self.assertUnserved("0412", "cannot connect table")
         self.assertHolds(None, None)
         self.assertFile("table", table)
+
+    def test_a_socket_of_another_kind_stays(self):
+        """One of datagrams, which somebody has: only one on which nobody listens is removed."""
+        with socket.socket(socket.AF_UNIX, socket.SOCK_DGRAM) as other:
+            other.bind(self.path("other"))
+            self.assertFault(self.call(*served("0412", at="other")), "cannot connect other")
+            self.assertTrue(self.is_there("other"))

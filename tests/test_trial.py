@@ -749,7 +749,7 @@ class Ends(TrialPlace):
             self.addCleanup(started.kill)
             while not started.stderr.readline().endswith(b": pause\n"):
                 self.assertIsNone(started.poll())
-            time.sleep(0.5)
+            self.until_it_waits(started)
             started.send_signal(signal.SIGTERM)
             out, _ = started.communicate(timeout=min(PATIENCE, 50))
         self.assertEqual(started.returncode, 1)

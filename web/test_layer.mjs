@@ -3,6 +3,7 @@
 // FOLDER has the files to be tried, web/page where none is given: test_layer.py hands over copies with a fault planted in one. It
 // ends with 0 where all holds. With a MODULE it compares what that asks for with what is answered.
 import * as fs from 'node:fs';
+import * as os from 'node:os';
 import { pathToFileURL } from 'node:url';
 
 const folder = pathToFileURL(`${process.argv[2] ?? new URL('page', import.meta.url).pathname}/`);
@@ -45,18 +46,13 @@ function machine({ words = ['stmflash'], variables = {}, store = new Store([]), 
   memory.bytes(0, 16).fill(7);
   holds('a word', [env.rattle_arg(0n, 0n, 8n), new TextDecoder().decode(memory.bytes(0, 8))], [8n, 'stmflash']);
   holds('nothing is put behind it', memory.bytes(8, 8).every((it) => it === 7));
-  holds('an empty word', env.rattle_arg(1n, 0n, 8n), 0n);
-  holds('its length in bytes', env.rattle_arg(2n, 0n, 100n), 12n);
-  holds('no word', env.rattle_arg(3n, 0n, 8n), -1n);
+  holds('an empty word, a length in bytes, and no word', [env.rattle_arg(1n, 0n, 8n), env.rattle_arg(2n, 0n, 100n), env.rattle_arg(3n, 0n, 8n)], [0n, 12n, -1n]);
   holds('no room', [env.rattle_arg(0n, 0n, 3n), new TextDecoder().decode(memory.bytes(0, 3))], [-2n, 'stm']);
-  holds('a variable', env.rattle_env(path('FIRST'), 0n, 8n), 3n);
-  holds('an empty one', env.rattle_env(path('EMPTY'), 0n, 8n), 0n);
+  holds('a variable, and an empty one', [env.rattle_env(path('FIRST'), 0n, 8n), env.rattle_env(path('EMPTY'), 0n, 8n)], [3n, 0n]);
   holds('none', [env.rattle_env(path('NONE'), 0n, 8n), env.rattle_env(path('toString'), 0n, 8n)], [-1n, -1n]);
   holds('entries', [env.rattle_env_at(0n, 0n, 20n), env.rattle_env_at(1n, 0n, 20n), env.rattle_env_at(2n, 0n, 20n)], [9n, 6n, -1n]);
-  env.rattle_set_errno(17);
-  holds('the last fault', env.rattle_errno(), 17);
-  env.__xpg_strerror_r(28, 0n, 100n);
-  holds('what it says', memory.text(0n), 'No space left on device');
+  holds('the last fault', [env.rattle_set_errno(17), env.rattle_errno()], [undefined, 17]);
+  holds('what it says', [env.__xpg_strerror_r(28, 0n, 100n), memory.text(0n)], [0, 'No space left on device']);
 }
 
 // clock
@@ -69,12 +65,16 @@ function machine({ words = ['stmflash'], variables = {}, store = new Store([]), 
 
 // files: descriptors over a store
 const [CREATE, EXCLUSIVE, TRUNCATE, APPEND] = [0x40, 0x80, 0x200, 0x400];
+holds('numbers of faults are the system\'s', Object.entries(E).filter(([name, number]) => os.constants.errno[`E${name}`] !== number), []);
 const disks = (count) => Array.from({ length: count }, () => inMemory());
 {
   const it = machine({ store: new Store(disks(4)), input: bytesOf('given') }), { env } = it;
   holds('no file', [it.open('none', 0), it.fault()], [-1, E.NOENT]);
   const fd = it.open('/boards/a', 2 | CREATE | EXCLUSIVE);
   holds('a new file', [fd, it.write(fd, 'hello'), it.told(fd).size, it.told(fd).mode, it.told(fd).links], [3, 5n, 5, 8, 1]);
+  holds('what is told ends', [it.memory.bytes(20256, 1).fill(7).length, it.told(fd).size, it.memory.bytes(20256, 1)[0]], [1, 5, 7]);
+  const only = it.open('/boards/only', 1 | CREATE);
+  holds('what is only written', [it.write(only, 'ab'), env.lseek(only, 0n, 0), it.write(only, 'c'), it.told(only).size, env.close(only), env.unlink(it.path('/boards/only'))], [2n, 0n, 1n, 2, 0, 0]);
   holds('it is there', [it.open('/boards/a', 2 | CREATE | EXCLUSIVE), it.fault()], [-1, E.EXIST]);
   holds('back, and read', [env.lseek(fd, 1n, 0), it.read(fd, 3), it.read(fd, 9), it.read(fd, 9)], [1n, 'ell', 'o', '']);
   holds('places', [env.lseek(fd, -2n, 2), env.lseek(fd, 1n, 1), env.lseek(fd, -9n, 0), it.fault()], [3n, 4n, -1n, E.INVAL]);

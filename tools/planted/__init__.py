@@ -1,39 +1,87 @@
-"""The faults that `tools/mutants` plants, by subject: a file each, here those of the program, in `line_faults` those of its companions.
+"""The faults that `tools/mutants` plants: those that operators make of the code, and those by hand that no operator makes.
 
-A subject has `FAULTS`: what the fault is, in words, and then the file below `crates/`, or `line/`, the text that stands there once, what
-is put in its place, and the test that has to fail by it. What is put into the program has `@on`, which is true where the fault is on,
-and may have `@old`, the text that was there. So that faults can stand within one another, a text that holds another one's is told by
-`@old`.
+An operator leaves out a call, swaps two neighbours, changes a constant, turns a guard or leaves it out, ends a function early, or takes
+another variable of the same type. `slips_python.py`, `slips_rattle.py` and `slips_text.py` say where. By hand are the tables in
+`program.py` and `beside.py`: what the fault is, in words, and then the file, the text that stands there once, what is put in its place,
+and the test that has to fail by it. What is put into the program has `@on`, which is true where the fault is on, and may have `@old`,
+the text that was there.
 """
 
+import glob
 import importlib
+import os
 import typing
 
-SUBJECTS = ("words", "variables", "tables", "files", "places", "owners", "journals", "keeping", "waiting", "serving", "simulators",
-            "boards", "folders", "images", "answers", "faults", "hints", "json", "progress", "calls", "lower", "pairs")
-COMPANIONS = ("line", "behind", "trial", "words", "packaging")
+from planted import slips_python, slips_rattle, slips_text
+
+TOP = os.path.dirname(os.path.dirname(os.path.dirname(os.path.abspath(__file__))))
+CRATES = ("stm_words", "stm_files", "stm_work", "stmflash")
+GROUPS = ("program", "companions", "layers", "packages")
+# where slips are made, by group
+SOURCES = {
+    "program": [f"crates/{crate}/src/**/*.rt" for crate in CRATES],
+    "companions": ["line/stmflash-line", "line/stmflash-trial", "line/stm32flash", "line/*/*.py"],
+    "layers": ["arm64/layer.c", "web/memory.c", *(f"web/page/{name}.js" for name in (
+        "clock", "faults", "files", "image", "line", "memory", "program", "store", "wiring", "words"))],
+    "packages": ["Makefile", "packaging/deb*", "packaging/release", "packaging/*.service", "packaging/*.rules", "packaging/completions/*.bash"],
+}
 
 
 class Fault(typing.NamedTuple):
-    """A fault: its number, by which it is switched on, its subject and what it is, and the edit with its test."""
+    """A fault: its group and what it is, the part of a file that is replaced and what by, the block in which that stands, the test
+    that has to fail, if one is named, and the number by which it is switched on in the program."""
 
-    number: int
-    subject: str
+    group: str
     name: str
     file: str
+    start: int
+    end: int
     old: str
     new: str
+    block: str
     test: str
-
-    @property
-    def is_programs(self):
-        return not self.subject.startswith("line/")
+    number: int = 0
 
 
-def all_faults():
-    """All faults, in the order of the subjects, those of the program first; the numbers begin at 1."""
-    faults = []
-    for subject, module in [(it, f"planted.{it}") for it in SUBJECTS] + [(f"line/{it}", f"line_faults.{it}") for it in COMPANIONS]:
-        for name, edit in importlib.import_module(module).FAULTS.items():
-            faults.append(Fault(len(faults) + 1, subject, name, *edit))
-    return faults
+class Gone(Exception):
+    """A fault by hand has no place in the code."""
+
+
+def files(group):
+    """The files of a group, from the top."""
+    return sorted(it for pattern in SOURCES[group] for it in glob.glob(pattern, root_dir=TOP, recursive=True))
+
+
+def read(file):
+    with open(os.path.join(TOP, file), encoding="utf-8") as source:
+        return source.read()
+
+
+def made(group):
+    """The faults that operators make in a group. A name is told twice with its count."""
+    told = {}
+    for file in files(group):
+        text = read(file)
+        slips = slips_rattle.slips(text) if file.endswith(".rt") else slips_python.slips(text) if group == "companions" else slips_text.slips(file, text)
+        for start, end, new, what, block in slips:
+            name = f"{file}, {block.split('#')[0] or 'all'}: {' '.join(what.split())}"[:200]
+            told[name] = told.get(name, 0) + 1
+            yield Fault(group, name + (f" ({told[name]})" if told[name] > 1 else ""), file, start, end, text[start:end], new, block, "")
+
+
+def by_hand(group):
+    """The faults by hand in a group. Those of the program are in lower crates too."""
+    found = files(group)
+    for name, (file, old, new, test) in importlib.import_module("planted.program" if group == "program" else "planted.beside").FAULTS.items():
+        if file in found or group == "program" and file.startswith("crates/"):
+            text = read(file)
+            if text.count(old) != 1 or old == new or group == "program" and "@on" not in new:
+                raise Gone(f"{file} has {text.count(old)} times what is edited: {name}")
+            at = text.index(old)
+            yield Fault(group, name, file, at, at + len(old), old, new, "", test)
+
+
+def faults(groups=GROUPS, operators=True, hand=True):
+    """The faults of these groups, each with its number."""
+    found = [it for group in groups for kind in ([by_hand] * hand + [made] * operators) for it in kind(group)]
+    return [it._replace(number=number) for number, it in enumerate(found, 1)]

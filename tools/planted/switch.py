@@ -1,32 +1,39 @@
 """Plants faults in a tree of the code, each behind a switch, so that one build serves all of them.
 
 The switch is a function in C, one for each crate that has faults, for a build without a proof alone. It reads the numbers that are on
-from the name of the file that runs: of `m12-unproved` fault 12 is on, of `m3_12-unproved` 3 and 12 are, and of any other name none.
+from the name of the file that runs: of `m12-unproved` fault 12 is on, of `m3_12-unproved` 3 and 12 are, and of any other name none. Of
+a name as `r1-unproved` each number that is asked for is written once into a file of that name with `.reached` behind it.
 """
 
 import collections
 import os
 import re
 
+from planted import read
+
 # the switch in C; `NAME` is the crate's
-C = r"""#include <stdlib.h>
+C = r"""#include <fcntl.h>
+#include <stdio.h>
+#include <stdlib.h>
 #include <string.h>
 #include <unistd.h>
 
-/* Which faults are on: a place for each number. It is read once, from the name of the file that runs. */
-static unsigned char on[4096];
-static int is_read = 0;
+/* Which faults are on, and which were asked for: a place for each number. It is read once, from the name of the file that runs. */
+static unsigned char on[16384], asked[16384];
+static int is_read = 0, is_noted = 0;
+static char path[4096];
 
 static void read_name(void) {
-    char path[4096];
     char *name;
-    ssize_t length = readlink("/proc/self/exe", path, sizeof path - 1);
+    ssize_t length = readlink("/proc/self/exe", path, sizeof path - 16);
     is_read = 1;
     if (length <= 0)
         return;
     path[length] = 0;
     name = strrchr(path, '/');
     name = name == NULL ? path : name + 1;
+    is_noted = *name == 'r';
+    strcpy(path + length, is_noted ? ".reached" : "");
     if (*name != 'm')
         return;
     do {
@@ -36,9 +43,22 @@ static void read_name(void) {
     } while (*name == '_');
 }
 
+static void note(int number) {
+    char line[16];
+    int file = open(path, O_WRONLY | O_APPEND | O_CREAT | O_CLOEXEC, 0666);
+    asked[number] = 1;
+    if (file < 0)
+        return;
+    if (write(file, line, (size_t)sprintf(line, "%d\n", number)) < 0)
+        asked[number] = 0;
+    close(file);
+}
+
 int planted_in_NAME(int number) {
     if (!is_read)
         read_name();
+    if (is_noted && !asked[number])
+        note(number);
     return on[number];
 }
 """
@@ -59,22 +79,7 @@ OLD = "@old"
 
 
 class Misplaced(Exception):
-    """A fault has no place in the code."""
-
-
-def stands_once(text, fault):
-    """The text that a fault edits is there once."""
-    if text.count(fault.old) != 1:
-        raise Misplaced(f"{fault.file} has {text.count(fault.old)} times what is edited: {fault.name}")
-
-
-def find(text, fault):
-    """Where the text stands that a fault edits."""
-    stands_once(text, fault)
-    if not SWITCH.search(fault.new):
-        raise Misplaced(f"nothing is switched: {fault.name}")
-    at = text.index(fault.old)
-    return at, at + len(fault.old)
+    """A fault meets another one in the code: the fault."""
 
 
 def weave(text, at, edits):
@@ -83,12 +88,12 @@ def weave(text, at, edits):
     while edits:
         start, end, fault = edits[0]
         if start < done:
-            raise Misplaced(f"{fault.file}: two edits meet: {fault.name}")
+            raise Misplaced(fault)
         inner = [edit for edit in edits[1:] if edit[0] < end]
         edits = edits[1 + len(inner):]
         for _, last, other in inner:
             if last > end or OLD not in fault.new:
-                raise Misplaced(f"{fault.file}: two edits meet: {fault.name}; {other.name}")
+                raise Misplaced(other)
         new = SWITCH.sub(f"crate::planted::is_on({fault.number})", fault.new)
         if OLD in new:
             new = new.replace(OLD, weave(fault.old, start, inner))
@@ -98,40 +103,34 @@ def weave(text, at, edits):
 
 
 def place(text, faults):
-    """The text of a file with these faults, and what is wrong with those that have no place there."""
-    edits, wrong = [], []
-    for fault in faults:
+    """The text of a file with those of these faults that don't meet, and the others."""
+    left = []
+    while True:
+        edits = sorted(((it.start, it.end, it) for it in faults if it not in left), key=lambda edit: (edit[0], -edit[1], edit[2].number))
         try:
-            edits.append((*find(text, fault), fault))
+            return weave(text, 0, edits), left
         except Misplaced as why:
-            wrong.append(str(why))
-    edits.sort(key=lambda edit: (edit[0], -edit[1], edit[2].number))
-    try:
-        return weave(text, 0, edits), wrong
-    except Misplaced as why:
-        return text, [*wrong, str(why)]
+            left.append(why.args[0])
 
 
-def plant(crates, faults, writes=True):
-    """Plants the faults in the crates of this folder, and answers what is wrong with those that have no place there."""
-    files, wrong = collections.defaultdict(list), []
+def plant(top, faults):
+    """Plants those of these faults that don't meet in the crates of a tree, and answers the others."""
+    files, left = collections.defaultdict(list), []
     for fault in faults:
         files[fault.file].append(fault)
     for file, held in files.items():
-        path = os.path.join(crates, file)
-        if not os.path.exists(path):
-            wrong += [f"there is no {file}: {fault.name}" for fault in held]
-            continue
-        with open(path) as source:
+        path = os.path.join(top, file)
+        with open(path, encoding="utf-8") as source:
             text = source.read()
-        text, why = place(text, held)
-        wrong += why
-        if writes:
-            with open(path, "w") as source:
-                source.write(text)
-    for crate in sorted({file.split("/")[0] for file in files} if writes else ()):
-        add_switch(crates, crate)
-    return wrong
+        # what says that nothing is proved stands before all faults
+        moved = len(text) - len(read(file))
+        text, met = place(text, [it._replace(start=it.start + moved, end=it.end + moved) for it in held])
+        left += [it for it in held if it.number in {other.number for other in met}]
+        with open(path, "w", encoding="utf-8") as source:
+            source.write(text)
+    for crate in sorted({file.split("/")[1] for file in files}):
+        add_switch(os.path.join(top, "crates"), crate)
+    return left
 
 
 def add_switch(crates, crate):

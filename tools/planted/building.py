@@ -1,0 +1,99 @@
+"""One build of the program with many faults, each behind its switch, without proofs; what the build refuses by its type is left out.
+
+It stays in `bin/planted` for as long as nothing changes that it is made of.
+"""
+
+import glob
+import hashlib
+import os
+import re
+import shutil
+import subprocess
+import sys
+import tempfile
+import time
+
+from planted import TOP, switch
+
+sys.path.insert(0, os.path.join(TOP, "tools", "wrong-bodies"))
+
+KEPT = os.path.join(TOP, "bin", "planted")
+# where a fault of the code is told
+TOLD = re.compile(r"(crates/\w+/src/[\w/]+\.rt):(\d+)")
+
+
+def digest(top, faults):
+    """What a tree is made of, and what is planted in it, as one number."""
+    told = hashlib.sha256(repr([(it.number, it.file, it.start, it.new) for it in faults]).encode())
+    for folder, folders, names in os.walk(top):
+        folders.sort()
+        for name in sorted(names):
+            path = os.path.join(folder, name)
+            told.update(os.path.relpath(path, top).encode() + b"\n")
+            with open(path, "rb") as file:
+                told.update(hashlib.sha256(file.read()).digest())
+    return told.hexdigest()
+
+
+def blamed(said, top, faults):
+    """The faults in the lines that a build tells of: each whose switch stands there, or in the lines before, up to one that has any."""
+    found = set()
+    for file, line in set(TOLD.findall(said)):
+        path = os.path.join(top, file)
+        if os.path.exists(path):
+            with open(path, encoding="utf-8") as source:
+                lines = source.read().split("\n")
+            for at in range(int(line) - 1, max(int(line) - 9, -1), -1):
+                numbers = re.findall(r"planted::is_on\((\d+)\)", lines[at]) if at < len(lines) else []
+                if numbers:
+                    found |= set(map(int, numbers))
+                    break
+    return [it for it in faults if it.number in found]
+
+
+def link(top, room, program):
+    """Builds the program of a tree without checks on memory, which take twenty times as long; what is said where that can't be."""
+    import retarget
+    from kit import rt
+
+    module, said = retarget.make_module(rt, top, room)
+    if module is None:
+        return said
+    made, clang = os.path.join(room, "program.o"), f"{rt.KIT}/toolchain/bin/clang"
+    subprocess.run([clang, "--no-default-config", "-O0", "-fPIE", "-w", "-c", "-o", made, module], check=True)
+    switches = sorted(glob.glob(os.path.join(top, "crates", "*", "c", "planted.c")))
+    subprocess.run(["cc", "-O2", "-pie", "-o", program, made, *switches, f"{rt.KIT}/c/libos_c.a", f"{rt.KIT}/c/liblibc_c.a"], check=True)
+    return None
+
+
+def build(faults, name):
+    """The program with these faults, kept under a name, and the faults that are no faults: those that the build refuses."""
+    program, mark = os.path.join(KEPT, name), os.path.join(KEPT, name + ".of")
+    os.makedirs(KEPT, exist_ok=True)
+    with tempfile.TemporaryDirectory(prefix="mutants-") as sound:
+        subprocess.run([os.path.join(TOP, "tools", "unproved-sources"), sound], check=True)
+        of = digest(sound, faults)
+        if os.path.exists(program) and os.path.exists(mark):
+            with open(mark, encoding="utf-8") as file:
+                kept, *refused = file.read().split()
+            if kept == of:
+                return program, [it for it in faults if str(it.number) in refused]
+        begun, refused = time.monotonic(), []
+        while True:
+            with tempfile.TemporaryDirectory(prefix="mutants-") as room:
+                top = os.path.join(room, "top")
+                shutil.copytree(sound, top)
+                refused += switch.plant(top, [it for it in faults if it not in refused])
+                said = link(top, room, program + ".made")
+                if said is None:
+                    break
+                more = [it for it in blamed(said, top, faults) if it not in refused]
+                if not more:
+                    sys.exit(f"tools/mutants: no build:\n{said[-20000:]}")
+                refused += more
+        # one that runs meanwhile stays as it is
+        os.replace(program + ".made", program)
+        with open(mark, "w", encoding="utf-8") as file:
+            file.write(" ".join([of, *(str(it.number) for it in refused)]))
+    print(f"tools/mutants: the build took {(time.monotonic() - begun) / 60:.1f} min, {len(refused)} faults were refused by it", flush=True)
+    return program, refused

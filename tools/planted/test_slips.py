@@ -1,0 +1,102 @@
+"""What the operators make of small texts, what is chosen of it, and how the program with switches is woven.
+
+    python3 -m unittest discover -q -s tools/planted -t tools
+"""
+
+import unittest
+
+from planted import GROUPS, Fault, reach, slips_python, slips_rattle, slips_text, switch
+
+PYTHON = '''def use(port, name):
+    """Uses it."""
+    if port and not name:
+        return
+    port.open(3)
+    port.send(name)
+    if len(name) < 2:
+        port.close()
+'''
+RATTLE = """pub fn sum(at: u32, to: u32) -> Result<(), Fault>
+    ensures { IfOk result (at == to) }
+{
+    check(at, to)?;
+    if at != to && at > 7 {
+        put("text // 1");
+    }
+    Ok(())
+}
+"""
+
+
+def made(slips, text):
+    """Of each slip what it is, and what the text is then."""
+    return {what: text[:start] + new + text[end:] for start, end, new, what, _ in slips}
+
+
+class Slips(unittest.TestCase):
+    def test_of_python(self):
+        found = made(slips_python.slips(PYTHON), PYTHON)
+        for what, text in {
+            "no `port.open(3)`": "    pass\n    port.send(name)",
+            "`port.send(name)` before `port.open(3)`": "    port.send(name)\n    port.open(3)\n",
+            "never `port and not name`": "    if False:\n",
+            "without `port` (guard 1)": "    if ((not name)):\n",
+            "not `len(name) < 2`": "    if (not (len(name) < 2)):\n",
+            "`len(name) < 2` by one": "    if (len(name) <= 2):\n",
+            "`3` is 4": "port.open(4)\n",
+            "`name` for `port`": "    if name and not name:\n",
+        }.items():
+            with self.subTest(what):
+                self.assertIn(text, found[what])
+        for text in found.values():
+            compile(text, "", "exec")
+
+    def test_of_rattle(self):
+        found = made(slips_rattle.slips(RATTLE), RATTLE)
+        for what, text in {
+            "no `check(at, to)?;`": "if !@on {\n@old\n}\n",
+            "it ends at once": "{\n    if @on {\n    return Ok(());\n    }\n    check(",
+            "not `at != to && at > 7`": "    if ((@old) != @on) {\n",
+            "without `at != to`": "    if (@old || @on) && at > 7 {\n",
+            "`7` is 8 in `if at != to && at > 7 {`": "at > (if @on { 8 } else { @old }) {\n",
+            "`to` for `at` in `check(at, to)?;`": "check((if @on { to } else { @old }), to)?;\n",
+        }.items():
+            with self.subTest(what):
+                self.assertIn(text, found[what])
+        # no contract, no comment and no text has a slip of its own
+        self.assertFalse([what for what in found if "ensures" in what or "`1`" in what])
+
+    def test_of_texts(self):
+        for path, before, what, after in (
+                ("a.c", "int f(void) {\n    if (a < 3)\n        g(a);\n}\n", "not `a < 3`", "if (!(a < 3))"),
+                ("a.c", "int f(void) {\n    if (a < 3)\n        g(a);\n}\n", "`<=` for `<` in `if (a < 3)`", "if (a <= 3)"),
+                ("a.c", "int f(void) {\n    g(a);\n    h(a);\n}\n", "`h(a);` before `g(a);`", "    h(a);\n    g(a);\n"),
+                ("a.sh", "#!/bin/sh\nif [ -n \"$a\" ]; then\n    b\nfi\n", "`-z` for `-n` in `if [ -n \"$a\" ]; then`", "[ -z "),
+                ("Makefile", "install:\n\tinstall -m 644 a b\n", "`644` is 645 in `install -m 644 a b`", "645"),
+                ("a.rules", 'TAG=="a", ENV{B}="1"\n', 'no `ENV{B}="1"`', 'TAG=="a", \n'),
+                ("a.service", "[Service]\nUMask=0077\n", "no `UMask=0077`", "[Service]\n\n")):
+            with self.subTest(what):
+                self.assertIn(after, made(slips_text.slips(path, before), before)[what])
+
+    def test_blocks_note_that_they_are_reached(self):
+        text, names = slips_python.recording(PYTHON, 5, "noted")
+        self.assertEqual(names, ["#1", "use#1", "use#2", "use#3"])
+        self.assertEqual([text.count(f"_note({number})") for number in range(5, 9)], [1] * 4)
+        self.assertEqual([block for _, block in slips_rattle.notes(RATTLE)], ["sum#1", "sum#2"])
+
+    def test_faults_within_others_are_woven(self):
+        text = "a(b);\n"
+        outer = Fault(GROUPS[0], "outer", "", 0, 5, "a(b);", "if !@on { @old }", "", "", 1)
+        inner = Fault(GROUPS[0], "inner", "", 2, 3, "b", "(if @on { c } else { @old })", "", "", 2)
+        woven = "if !crate::planted::is_on(1) { a((if crate::planted::is_on(2) { c } else { b })); }\n"
+        self.assertEqual(switch.place(text, [inner, outer]), (woven, []))
+        other = inner._replace(end=6, number=3)
+        self.assertEqual(switch.place(text, [outer, other]), ("if !crate::planted::is_on(1) { a(b); }\n", [other]))
+
+    def test_numbers_are_told_as_ranges(self):
+        self.assertEqual(reach.told({1, 2, 3, 7, 9, 10}), "1-3,7,9-10")
+        self.assertEqual(reach.read_numbers("1-3,7,9-10"), {1, 2, 3, 7, 9, 10})
+
+
+if __name__ == "__main__":
+    unittest.main()
