@@ -23,7 +23,8 @@ TORN = re.compile(b"(%s|%s([123]( [0-9A-F]{0,4})?|3 [0-9A-F]{4} [0-9A-F]{0,64})?
 def is_foreign(held):
     """Whether a journal's file has bytes of a former file in the place of its header."""
     *lines, tail = held.split(b"\n")
-    return all(line.endswith(b"!") for line in lines) and not TORN.fullmatch(tail)
+    whole = [line for line in lines if not line.endswith(b"!")]
+    return not (whole[0].startswith(WORD) if whole else TORN.fullmatch(tail))
 
 
 def fault_of(said):
