@@ -196,6 +196,8 @@ const OPERATIONS = {
   holds('of two files of a name the newer one', contents(again), { a: 'newer' });
   again.remove('/boards/a');
   holds('and the older one doesn\'t come back', contents(new Store(disk)), {});
+  const { told } = machine({ store: again, line: { name: '/dev/board' } });
+  holds('no file is the line', again.pool.some((it) => it.ino === told(0, '/dev/board').ino), false);
 }
 {
   const store = new Store(disks(3)), open = store.open('/boards/a', { creates: true });

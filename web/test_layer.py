@@ -97,6 +97,7 @@ FAULTS = {
         "removed in memory alone": ("    slot.call('', this.count());\n    this.named.delete(whole);", "    this.named.delete(whole);"),
         "a place is never free again": ("close() { this.uses--; }", "close() {}"),
         "everything is a journal": ("whole.startsWith(`${JOURNALS}/`) ? this.pool", "true ? this.pool"),
+        "a journal is the line": ("  next = 2;", "  next = 1;"),
         "bytes lie over the heads": ("this.handle.write(bytes, { at: this.base + at })", "this.handle.write(bytes, { at })"),
     },
     "line.js": {

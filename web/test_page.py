@@ -8,6 +8,7 @@ flash.
 """
 
 import base64
+import hashlib
 import os
 import random
 import shutil
@@ -278,19 +279,43 @@ class Page(unittest.TestCase):
         self.assertTrue(tab.js("document.getElementById('told').innerText").startswith("Not done"))
         self.assertEqual(tab.js("stmflash.state.names"), [JOURNAL])
 
-    def test_offline_and_never_of_two_versions(self):
+    def test_offline(self):
         tab = self.tab()
         tab.js("navigator.serviceWorker.ready.then(() => 1)")
-        # another version is there in mid-write: the tab goes on with its own
-        with open(f"{self.folder}/page.css", "a", encoding="utf-8") as file:
-            file.write("/* another version */\n")
         self.do(tab, "#write")
         self.end_server()
         tab.close()
         again = self.browser.tab(self.address)
         again.until(READY, "the page isn't ready without its server")
         self.assertIn("1 can be undone", again.js("document.getElementById('journals').innerText"))
-        self.assertNotIn("another version", again.js("fetch('page.css').then((it) => it.text())"))
+
+    def test_an_update_in_mid_write(self):
+        """A tab goes on with the files that it began with. One that is opened then has all of either version, and undoes."""
+        names, marks = ("page.css", "words.js"), "Promise.all(['page.css', 'words.js'].map((it) => fetch(it).then((it) => it.text()).then((it) => it.includes('another version'))))"
+        self.tab().js("navigator.serviceWorker.ready.then(() => 1)")
+        self.browser.kill()
+        self.begin_browser()
+        tab = self.tab()
+        self.hold_write(tab)
+        made = held(f"{self.folder}/offline.js")
+        for name in names:
+            was = held(f"{self.folder}/{name}")
+            with open(f"{self.folder}/{name}", "wb") as file:
+                file.write(was + b"/* another version */\n")
+            made = made.replace(*(hashlib.sha256(it).hexdigest().encode() for it in (was, held(f"{self.folder}/{name}"))))
+        with open(f"{self.folder}/offline.js", "wb") as file:
+            file.write(made.replace(b"'stmflash-", b"'stmflash-another-"))
+        tab.js("navigator.serviceWorker.getRegistration().then((it) => it.update()).then(() => 1)")
+        tab.until("navigator.serviceWorker.getRegistration().then((it) => it.waiting !== null)", "the update isn't kept")
+        self.assertEqual(tab.js(marks), [False, False])
+        seen, ends = [False, False], time.monotonic() + PATIENCE
+        while seen != [True, True] and time.monotonic() < ends:
+            tab.close()
+            tab = self.tab()
+            seen = tab.js(marks)
+            self.assertIn(seen, ([False, False], [True, True]))
+        self.assertEqual(seen, [True, True], "the update never counts")
+        self.undo(tab, "behind an update")
 
     def test_each_control_has_a_name_and_fits(self):
         tab = self.tab()

@@ -105,7 +105,8 @@ class Slot {
 }
 
 export class Store {
-  next = 1;
+  // 1 is what the line and the streams have (files.js): a journal that had it too was taken for the line
+  next = 2;
   /** @type {Map<string, Slot>} */
   named = new Map();
   /** @type {Slot[]} */
