@@ -17,6 +17,8 @@ from planted import slips_python, slips_rattle, slips_text
 TOP = os.path.dirname(os.path.dirname(os.path.dirname(os.path.abspath(__file__))))
 CRATES = ("stm_words", "stm_files", "stm_work", "stmflash")
 GROUPS = ("program", "companions", "layers", "packages")
+# the group of a file by hand, by its folder; any other is of the packages
+GROUP_OF = {"crates": "program", "line": "companions", "arm64": "layers", "web": "layers"}
 # where slips are made, by group
 SOURCES = {
     "program": [f"crates/{crate}/src/**/*.rt" for crate in CRATES],
@@ -70,10 +72,9 @@ def made(group):
 
 
 def by_hand(group):
-    """The faults by hand in a group. Those of the program are in lower crates too."""
-    found = files(group)
+    """The faults by hand in a group."""
     for name, (file, old, new, test) in importlib.import_module("planted.program" if group == "program" else "planted.beside").FAULTS.items():
-        if file in found or group == "program" and file.startswith("crates/"):
+        if group == GROUP_OF.get(file.split("/")[0], "packages"):
             text = read(file)
             if text.count(old) != 1 or old == new or group == "program" and "@on" not in new:
                 raise Gone(f"{file} has {text.count(old)} times what is edited: {name}")
