@@ -26,6 +26,11 @@
 #               (gcc-aarch64-linux-gnu, libc6-dev-arm64-cross)
 #   make arm64-unproved
 #               the same code for 64-bit ARM without waiting for proofs, at bin/stmflash-arm64-unproved, which says so: three minutes
+#   make windows
+#               the proved program for Windows, at bin/stmflash.exe, over what `make` kept: its machine code is bin/stmflash's
+#               (gcc-mingw-w64-x86-64)
+#   make windows-unproved
+#               the same code for Windows without waiting for proofs, at bin/stmflash-unproved.exe, which says so: three minutes
 #   make web    over what `make` proved, a page that flashes from a browser, at bin/web: static files, with their sums
 #   make web-unproved
 #               the same page without waiting for proofs, which says so: two minutes. `web/serve` serves it, with a simulated board
@@ -65,7 +70,7 @@ WITHOUT ?=
 FORBIDDEN = "only root" "isn't allowed" "can't trace here"
 SOAKED = $(if $(wildcard bin/stmflash),bin/stmflash,bin/stmflash-unproved)
 
-.PHONY: all arm64 arm64-unproved web web-unproved demo tests check try test wrong-bodies soak install install-as-stm32flash deb release pages pictures bench beside clean
+.PHONY: all arm64 arm64-unproved web web-unproved windows windows-unproved demo tests check try test wrong-bodies soak install install-as-stm32flash deb release pages pictures bench beside clean
 
 all:
 	cd crates/stmflash && rt check
@@ -95,6 +100,12 @@ web:
 
 web-unproved:
 	@python3 -B web/build --unproved bin/web
+
+windows:
+	@python3 -B windows/build bin/stmflash.exe
+
+windows-unproved:
+	@python3 -B windows/build --unproved bin/stmflash-unproved.exe
 
 demo:
 	@sh tools/demo.sh

@@ -45,8 +45,8 @@ def is_slow(path=None):
 
 
 def is_unproved():
-    """Whether nothing was proved of the program, as its name says, also of one that is run by qemu (arm64/under-qemu)."""
-    return program().removesuffix("-under-qemu").endswith("-unproved")
+    """Whether nothing was proved of the program, as its name says, also of one that is run by qemu or wine."""
+    return program().removesuffix("-under-qemu").removesuffix("-under-wine").endswith("-unproved")
 
 
 def files(device="sim:0412:flash", journal="journal"):

@@ -1,0 +1,120 @@
+// A line over TCP: tcp:ADDRESS:PORT, of a simulator or of a port that another program serves.
+#include "layer.h"
+
+bool is_tcp(const char *name)
+{
+    return strncmp(name, "tcp:", 4) == 0;
+}
+
+static int failed_socket(void)
+{
+    return fail_of((DWORD)WSAGetLastError());
+}
+
+// Makes a socket, and the address that a name says; of a name without a port there is none.
+static int prepare(struct opened *it, const char *name, struct sockaddr_in *place)
+{
+    WSADATA told;
+    char host[128] = "";
+    const char *port = strrchr(name, ':') + 1;
+    if (port - name > 4)
+        memcpy(host, name + 4, (size_t)(port - name) - 5);
+    struct addrinfo wanted = {.ai_family = AF_INET, .ai_socktype = SOCK_STREAM}, *found;
+    if (port[0] == 0 || host[0] == 0 || port[strspn(port, "0123456789")] != 0)
+        return fail(L_EINVAL);
+    if (WSAStartup(MAKEWORD(2, 2), &told) != 0)
+        return fail(L_EAFNOSUPPORT);
+    if (getaddrinfo(host, port, &wanted, &found) != 0)
+        return fail(L_ENOENT);
+    memcpy(place, found->ai_addr, sizeof *place);
+    freeaddrinfo(found);
+    it->socket = socket(AF_INET, SOCK_STREAM, 0);
+    return it->socket == INVALID_SOCKET ? failed_socket() : 0;
+}
+
+// Each byte goes at once, as by a Unix socket.
+static void hurry(SOCKET socket)
+{
+    BOOL on = TRUE;
+    setsockopt(socket, IPPROTO_TCP, TCP_NODELAY, (char *)&on, sizeof on);
+}
+
+int connect_tcp(struct opened *it, const char *name)
+{
+    struct sockaddr_in place;
+    if (prepare(it, name, &place) < 0)
+        return -1;
+    hurry(it->socket);
+    if (connect(it->socket, (struct sockaddr *)&place, sizeof place) != 0)
+        return failed_socket();
+    it->kind = A_SOCKET;
+    return 0;
+}
+
+// An address that another program listens at is refused, which Windows by itself would share.
+int bind_tcp(struct opened *it, const char *name)
+{
+    struct sockaddr_in place;
+    if (prepare(it, name, &place) < 0)
+        return -1;
+    BOOL on = TRUE;
+    setsockopt(it->socket, SOL_SOCKET, SO_EXCLUSIVEADDRUSE, (char *)&on, sizeof on);
+    if (bind(it->socket, (struct sockaddr *)&place, sizeof place) != 0)
+        return failed_socket();
+    it->kind = A_SOCKET;
+    return 0;
+}
+
+ASKED(int, listen)(int number, int most)
+{
+    struct opened *it = at(number);
+    if (it == NULL || it->kind != A_SOCKET)
+        return fail(it == NULL ? L_EBADF : L_ENOTSOCK);
+    return listen(it->socket, most) == 0 ? 0 : failed_socket();
+}
+
+// accept4. Who connects is told as a Unix socket without a name.
+ASKED(int, accept4)(int number, unsigned char *address, unsigned *length, int flags)
+{
+    (void)flags;
+    struct opened *it = at(number), *client;
+    if (it == NULL || it->kind != A_SOCKET)
+        return fail(it == NULL ? L_EBADF : L_ENOTSOCK);
+    SOCKET socket = accept(it->socket, NULL, NULL);
+    if (socket == INVALID_SOCKET)
+        return failed_socket();
+    hurry(socket);
+    if ((client = made(A_SOCKET, NULL)) == NULL)
+        return closesocket(socket), fail(L_ENOMEM);
+    client->socket = socket;
+    address[0] = 1;
+    address[1] = 0;
+    *length = 2;
+    return numbered(client, 3);
+}
+
+// Whether something can be read, or written, within so many ms; 0: without an end.
+static bool is_ready(SOCKET socket, bool to_read, DWORD wait)
+{
+    fd_set set;
+    struct timeval time = {(long)(wait / 1000), (long)(wait % 1000 * 1000)};
+    FD_ZERO(&set);
+    FD_SET(socket, &set);
+    return wait == 0 || select(0, to_read ? &set : NULL, to_read ? NULL : &set, NULL, &time) != 0;
+}
+
+long long receive_tcp(struct opened *it, void *buf, size_t room)
+{
+    if (!is_ready(it->socket, true, it->read_wait))
+        return fail(L_EAGAIN);
+    int n = recv(it->socket, buf, (int)(room > 65536 ? 65536 : room), 0);
+    return n >= 0 ? n : failed_socket();
+}
+
+long long transmit_tcp(struct opened *it, const void *buf, size_t n)
+{
+    if (!is_ready(it->socket, false, it->write_wait))
+        return fail(L_EAGAIN);
+    int done = send(it->socket, buf, (int)(n > 65536 ? 65536 : n), 0);
+    return done >= 0 ? done : failed_socket();
+}

@@ -1,0 +1,558 @@
+// What the program asks of each function of windows/*.c, tried. It is linked with the layer, of which test_layer.py puts some of Windows'
+// functions into the hands of this file, and called in an empty folder as
+//   FIRST=one EMPTY= test_layer word '' 'zwei Wörter' 'a\b' --baud 57600 --wiring=dtr-reset,rts-boot0 end [COM5 COM6]
+// It prints what doesn't hold, and its status says whether all does.
+#include "layer.h"
+#include <time.h>
+#include <winternl.h>
+
+void read_words(void);
+
+static int tried_so_far, wrong;
+
+#define HOLDS(fact) (tried_so_far++, (fact) || (wrong++, printf("line %d: %s\n", __LINE__, #fact), false))
+#define FAILS(call, error) HOLDS((call) < 0 && sysv_rattle_errno() == (error))
+
+struct tried { bool ok; void *p; };
+struct when { long long sec; unsigned nsec; int none; };
+struct statx { unsigned mask, blksize; unsigned long long attributes; unsigned nlink, uid, gid; unsigned short mode, none0;
+    unsigned long long ino, size, blocks, more; struct when atime, btime, ctime, mtime; unsigned major, minor, dev_major, dev_minor;
+    unsigned long long none[14]; };
+ASKED(int, rattle_errno)(void);
+ASKED(void, rattle_set_errno)(int error);
+ASKED(int, __xpg_strerror_r)(int error, char *buf, size_t room);
+ASKED(struct tried, rattle_alloc)(size_t n, size_t a);
+ASKED(struct tried, rattle_realloc)(void *p, size_t kept, size_t n, size_t a);
+ASKED(void, rattle_dealloc)(void *p);
+ASKED(int, memcmp)(const void *one, const void *other, size_t n);
+ASKED(int, bcmp)(const void *one, const void *other, size_t n);
+ASKED(void *, memmove)(void *to, const void *from, size_t n);
+ASKED(void *, memcpy)(void *to, const void *from, size_t n);
+ASKED(void *, memset)(void *to, int byte, size_t n);
+ASKED(long long, rattle_arg)(size_t i, char *buf, size_t room);
+ASKED(long long, rattle_env)(const char *name, char *buf, size_t room);
+ASKED(long long, rattle_env_at)(size_t i, char *buf, size_t room);
+ASKED(int, clock_gettime)(int clock, long long *time);
+ASKED(int, open)(const char *name, int flags, unsigned mode);
+ASKED(int, close)(int number);
+ASKED(int, fcntl)(int number, int command, long long from);
+ASKED(long long, read)(int number, void *buf, size_t room);
+ASKED(long long, write)(int number, const void *buf, size_t n);
+ASKED(long long, lseek)(int number, long long offset, int whence);
+ASKED(int, ftruncate)(int number, long long length);
+ASKED(int, isatty)(int number);
+ASKED(int, fchmod)(int number, unsigned mode);
+ASKED(int, flock)(int number, int how);
+ASKED(int, fsync)(int number);
+ASKED(int, fdatasync)(int number);
+ASKED(int, statx)(int number, const char *name, int flags, unsigned mask, struct statx *found);
+ASKED(char *, realpath)(const char *name, char *resolved);
+ASKED(int, unlink)(const char *name);
+ASKED(int, rename)(const char *from, const char *to);
+ASKED(int, link)(const char *from, const char *to);
+ASKED(int, rattle_open_dir_at)(int folder, const char *name);
+ASKED(long long, getdents64)(int number, unsigned char *buf, size_t room);
+ASKED(int, socket)(int family, int type, int protocol);
+ASKED(int, connect)(int number, const unsigned char *address, unsigned length);
+ASKED(int, bind)(int number, const unsigned char *address, unsigned length);
+ASKED(int, listen)(int number, int most);
+ASKED(int, accept4)(int number, unsigned char *address, unsigned *length, int flags);
+ASKED(int, setsockopt)(int number, int level, int name, const void *value, unsigned length);
+ASKED(long long, send)(int number, const void *buf, size_t n, int flags);
+ASKED(long long, recv)(int number, void *buf, size_t room, int flags);
+
+// --- what of Windows is in our hands: each is done, and taken down; POSIX's way may be there or not
+
+static int flushes, through;
+static ULONG flushed_by; // the rights of the handle
+static ULONGLONG locked;
+static int option;
+static DCB state;
+static bool has_posix;
+static DWORD posix_flags;
+static char signals[64];
+
+static BOOL WINAPI tried_flush(HANDLE handle)
+{
+    PUBLIC_OBJECT_BASIC_INFORMATION told = {0};
+    flushes++;
+    NtQueryObject(handle, ObjectBasicInformation, &told, sizeof told, NULL);
+    flushed_by = told.GrantedAccess;
+    return FlushFileBuffers(handle);
+}
+
+static BOOL WINAPI tried_lock(HANDLE handle, DWORD how, DWORD none, DWORD low, DWORD high, OVERLAPPED *place)
+{
+    locked = (ULONGLONG)place->OffsetHigh << 32 | place->Offset;
+    return LockFileEx(handle, how, none, low, high, place);
+}
+
+static int WINAPI tried_option(SOCKET socket, int level, int name, const char *value, int length)
+{
+    option = level == SOL_SOCKET ? name : option;
+    return setsockopt(socket, level, name, value, length);
+}
+
+static BOOL WINAPI tried_state(HANDLE port, DCB *set)
+{
+    state = *set;
+    return SetCommState(port, set);
+}
+
+static BOOL WINAPI tried_set(HANDLE handle, FILE_INFO_BY_HANDLE_CLASS what, void *value, DWORD size)
+{
+    static wchar_t path[PATH_ROOM];
+    struct { DWORD flags; HANDLE root; DWORD length; wchar_t name[1]; } *renamed = value;
+    if (what != 21 && what != 22)
+        return SetFileInformationByHandle(handle, what, value, size);
+    SetLastError(ERROR_INVALID_PARAMETER);
+    if (!has_posix || (what == 22 && (renamed->flags & 0x40)))
+        return FALSE;
+    posix_flags = what == 22 ? renamed->flags : *(DWORD *)value;
+    FILE_DISPOSITION_INFO remove = {.DeleteFile = posix_flags & 1};
+    if (what == 21)
+        return SetFileInformationByHandle(handle, FileDispositionInfo, &remove, sizeof remove);
+    if (renamed->root != NULL || renamed->length != wcslen(renamed->name) * sizeof(wchar_t) || GetFinalPathNameByHandleW(handle, path, PATH_ROOM, 0) == 0)
+        return FALSE;
+    return MoveFileExW(path, renamed->name, MOVEFILE_REPLACE_EXISTING);
+}
+
+static BOOL WINAPI tried_move(const wchar_t *from, const wchar_t *to, DWORD flags)
+{
+    through += (flags & MOVEFILE_WRITE_THROUGH) != 0;
+    return MoveFileExW(from, to, flags);
+}
+
+static BOOL WINAPI tried_signal(HANDLE port, DWORD what)
+{
+    (void)port;
+    snprintf(signals + strlen(signals), sizeof signals - strlen(signals), "%s ", what == SETRTS ? "rts" : what == CLRRTS ? "-rts" : what == SETDTR ? "dtr" : "-dtr");
+    return TRUE;
+}
+
+static void WINAPI tried_sleep(DWORD millis)
+{
+    if (millis != 0 && millis != 50)
+        snprintf(signals + strlen(signals), sizeof signals - strlen(signals), "%lu ", millis);
+    Sleep(millis);
+}
+
+void *__imp_tried_flush = tried_flush, *__imp_tried_set = tried_set, *__imp_tried_move = tried_move, *__imp_tried_signal = tried_signal,
+    *__imp_tried_sleep = tried_sleep, *__imp_tried_lock = tried_lock, *__imp_tried_option = tried_option, *__imp_tried_state = tried_state;
+
+// --- helpers
+
+static int put_file(const char *name, const char *text)
+{
+    int number = sysv_open(name, 01101, 0666);
+    bool done = sysv_write(number, text, strlen(text)) == (long long)strlen(text);
+    return sysv_close(number) == 0 && done ? 0 : -1;
+}
+
+static bool holds(const char *name, const char *text)
+{
+    char buf[256] = "";
+    int number = sysv_open(name, 0, 0);
+    long long n = number < 0 ? -1 : sysv_read(number, buf, 255);
+    sysv_close(number);
+    return n == (long long)strlen(text) && strcmp(buf, text) == 0;
+}
+
+static bool is_put(long long answer, const char *buf, const char *text)
+{
+    return answer == (long long)strlen(text) && memcmp(buf, text, strlen(text)) == 0 && buf[strlen(text)] == '#';
+}
+
+static struct statx told(const char *name, int flags)
+{
+    struct statx found;
+    memset(&found, 0x55, sizeof found);
+    if (sysv_statx(-100, name, flags, 0xfff, &found) < 0)
+        memset(&found, 0, sizeof found);
+    return found;
+}
+
+// --- noun by noun
+
+static void test_errors(void)
+{
+    char text[64];
+    static const struct { int error; const char *text; } said[] = {{2, "No such file or directory"}, {5, "Input/output error"},
+        {27, "File too large"}, {28, "No space left on device"}, {111, "Connection refused"}, {16, "another program has it open"}, {77, "Unknown error"}};
+    for (size_t i = 0; i < sizeof said / sizeof *said; i++)
+        HOLDS(sysv___xpg_strerror_r(said[i].error, text, sizeof text) == 0 && strcmp(text, said[i].text) == 0);
+    sysv_rattle_set_errno(77);
+    HOLDS(sysv_rattle_errno() == 77);
+    static const struct { DWORD windows; int error; } same[] = {{ERROR_FILE_NOT_FOUND, 2}, {ERROR_PATH_NOT_FOUND, 2}, {ERROR_ACCESS_DENIED, 13},
+        {ERROR_SHARING_VIOLATION, 16}, {ERROR_LOCK_VIOLATION, 11}, {ERROR_FILE_EXISTS, 17}, {ERROR_ALREADY_EXISTS, 17}, {ERROR_DISK_FULL, 28},
+        {ERROR_NOT_SAME_DEVICE, 18}, {ERROR_WRITE_PROTECT, 30}, {ERROR_TOO_MANY_OPEN_FILES, 24}, {WSAECONNREFUSED, 111}, {WSAECONNRESET, 104},
+        {WSAETIMEDOUT, 110}, {WSAEADDRINUSE, 98}, {ERROR_CRC, 5}};
+    for (size_t i = 0; i < sizeof same / sizeof *same; i++)
+        FAILS(fail_of(same[i].windows), same[i].error);
+}
+
+static void test_memory(void)
+{
+    char one[64], other[64];
+    for (size_t n = 0; n < 200; n++) {
+        struct tried got = sysv_rattle_alloc(n, 16), beside = sysv_rattle_alloc(n, 1);
+        HOLDS(got.ok && beside.ok && got.p != NULL && got.p != beside.p && (uintptr_t)got.p % 16 == 0);
+        memset(got.p, 7, n);
+        struct tried more = sysv_rattle_realloc(got.p, n, n + 5000, 16);
+        HOLDS(more.ok && (n == 0 || (((char *)more.p)[0] == 7 && ((char *)more.p)[n - 1] == 7)));
+        sysv_rattle_dealloc(more.p);
+        sysv_rattle_dealloc(beside.p);
+    }
+    struct tried none = sysv_rattle_alloc((size_t)1 << 62, 16), empty = sysv_rattle_realloc(sysv_rattle_alloc(8, 8).p, 0, 0, 8);
+    HOLDS(!none.ok && none.p != NULL && empty.ok && empty.p != NULL);
+    none = sysv_rattle_realloc(empty.p, 0, (size_t)1 << 62, 8);
+    HOLDS(!none.ok && none.p != NULL);
+    for (int i = 0; i < 64; i++)
+        one[i] = (char)i;
+    HOLDS(sysv_memcpy(other, one, 64) == other && sysv_memcmp(one, other, 64) == 0 && sysv_bcmp(one, other, 64) == 0);
+    HOLDS(sysv_memmove(one + 3, one, 32) == one + 3 && memcmp(one + 3, other, 32) == 0 && one[2] == 2 && one[35] == 35);
+    HOLDS(sysv_memset(one, 9, 10) == one && one[9] == 9 && sysv_memcmp(one, other, 3) > 0 && sysv_memcmp(other, one, 3) < 0 && sysv_bcmp(one, other, 3) != 0);
+}
+
+static void test_words(void)
+{
+    static const char *const given[] = {"stmflash", "word", "", "zwei Wörter", "a/b", "--baud", "57600", "end"};
+    char buf[64];
+    for (size_t i = 0; i < sizeof given / sizeof *given; i++) {
+        memset(buf, '#', sizeof buf);
+        HOLDS(is_put(sysv_rattle_arg(i, buf, 60), buf, given[i]));
+    }
+    memset(buf, '#', sizeof buf);
+    HOLDS(sysv_rattle_arg(1, buf, 3) == -2 && memcmp(buf, "wor#", 4) == 0 && sysv_rattle_arg(1, buf, 4) == 4 && sysv_rattle_arg(2, NULL, 0) == 0);
+    HOLDS(sysv_rattle_arg(SIZE_MAX, buf, 60) == -1 && strcmp(asked_speed, "57600") == 0 && strcmp(asked_wiring, "dtr-reset,rts-boot0") == 0);
+    memset(buf, '#', sizeof buf);
+    HOLDS(is_put(sysv_rattle_env("FIRST", buf, 60), buf, "one") && sysv_rattle_env("FIRS", buf, 60) == -1);
+    long long n = sysv_rattle_env("XDG_CONFIG_HOME", buf, 60);
+    HOLDS(n > 3 && memcmp(buf + 1, ":/", 2) == 0 && n == sysv_rattle_env("APPDATA", buf, 60) && memchr(buf, '\\', (size_t)n) == NULL);
+    HOLDS(sysv_rattle_env("HOME", buf, 60) > 0);
+    bool is_there = false;
+    HOLDS(SetEnvironmentVariableW(L"=Q:", L"Q:\\"));
+    static char entry[32768];
+    for (size_t i = 0; (n = sysv_rattle_env_at(i, entry, sizeof entry)) != -1; i++) {
+        is_there |= n == 9 && memcmp(entry, "FIRST=one", 9) == 0;
+        HOLDS(n > 0 && entry[0] != '=');
+    }
+    HOLDS(is_there && sysv_rattle_env_at(100000, entry, 9) == -1);
+}
+
+static void test_clock(void)
+{
+    long long before[2], after[2], day[2];
+    HOLDS(sysv_clock_gettime(1, before) == 0);
+    Sleep(40);
+    HOLDS(sysv_clock_gettime(1, after) == 0 && after[1] >= 0 && after[1] < 1000000000);
+    long long took = (after[0] - before[0]) * 1000000000 + after[1] - before[1];
+    HOLDS(took > 30000000 && took < 20000000000LL);
+    HOLDS(sysv_clock_gettime(0, day) == 0 && llabs(day[0] - (long long)time(NULL)) < 5 && day[1] >= 0 && day[1] < 1000000000);
+}
+
+static void test_paths(void)
+{
+    static wchar_t path[PATH_ROOM];
+    static char name[5000], real[5000], other[5000];
+    static const char *const refused[] = {"CON", "con.txt", "folder/AUX", "com1.log", "LPT9", "file:b", "C:/a:b", "\xff\xfe", "PRN.x.y", "//?/C:/x/con.txt"};
+    for (size_t i = 0; i < sizeof refused / sizeof *refused; i++)
+        if (!HOLDS(!widen(refused[i], path) && sysv_rattle_errno() == 22))
+            printf("    %s\n", refused[i]);
+    HOLDS(!widen("", path) && sysv_rattle_errno() == 2);
+    static const char *const taken[] = {"console", "com", "com10x", "COMB.journal", "auxiliary.txt", "C:/x", "NUL"};
+    for (size_t i = 0; i < sizeof taken / sizeof *taken; i++)
+        HOLDS(widen(taken[i], path));
+    HOLDS(widen("C:/a/../b", path) && wcscmp(path, L"C:\\b") == 0);
+    HOLDS(widen("//server/share/x", path) && wcscmp(path, L"\\\\server\\share\\x") == 0);
+    memset(name, 'y', 400);
+    memcpy(name, "//server/share/", 15);
+    HOLDS(widen(name, path) && wcsncmp(path, L"\\\\?\\UNC\\server\\share\\yyy", 24) == 0 && wcslen(path) == 406);
+    // a path of 400 characters, by folders of 100
+    char folder[101] = "";
+    memset(folder, 'd', 100);
+    *name = 0;
+    for (int i = 0; i < 4; i++) {
+        strcat(strcat(name, i ? "/" : ""), folder);
+        HOLDS(widen(name, path) && (CreateDirectoryW(path, NULL) || GetLastError() == ERROR_ALREADY_EXISTS));
+    }
+    strcat(name, "/file");
+    HOLDS(put_file(name, "far") == 0 && holds(name, "far") && told(name, 0).size == 3);
+    HOLDS(sysv_realpath(name, real) == real && strlen(real) > 400 && strstr(real, "/file") != NULL && strchr(real, '\\') == NULL && real[0] != '/');
+    HOLDS(sysv_realpath("./", other) == other && strncmp(real, other, strlen(other)) == 0);
+    HOLDS(sysv_realpath("none", real) == NULL && sysv_rattle_errno() == 2);
+    HOLDS(sysv_realpath("/dev/stdin", real) == real && strcmp(real, "/dev/stdin") == 0);
+    // names in every script, and case that counts for nothing
+    static const char *const scripts[] = {"näme ü", "имя", "名前", "\xf0\x9f\x93\x9f", "اسم"};
+    for (size_t i = 0; i < sizeof scripts / sizeof *scripts; i++)
+        HOLDS(put_file(scripts[i], "x") == 0 && told(scripts[i], 0).size == 1);
+    HOLDS(put_file("Board.journal", "x") == 0);
+    struct statx one = told("Board.journal", 0), two = told("BOARD.JOURNAL", 0);
+    HOLDS(one.ino != 0 && one.ino == two.ino && one.dev_minor == two.dev_minor && one.ino != told("име", 0).ino);
+    HOLDS((one.mode & 0170000) == 0100000 && one.nlink == 1 && one.size == 1 && llabs(one.mtime.sec - (long long)time(NULL)) < 30);
+    HOLDS((told(".", 0).mode & 0170000) == 0040000 && (told("tcp:127.0.0.1:1", 0).mode & 0170000) == 0140000);
+    HOLDS(told("tcp:127.0.0.1:1", 0).ino != told("tcp:127.0.0.1:2", 0).ino && (told("NUL", 0).mode & 0170000) == 0020000);
+    static const char *const ports[] = {"COM3", "com12", "//./COM3", "COM3:57600", "//./com77:9600"}, *const others[] = {"COM", "COM3x", "COM3:", "COM3:x", "tcp:1", "XCOM3"};
+    struct statx none;
+    for (int i = 0; i < 5; i++) {
+        HOLDS(is_port(ports[i]));
+        FAILS(sysv_statx(-100, ports[i], 0, 0, &none), 2);
+    }
+    for (int i = 0; i < 6; i++)
+        HOLDS(!is_port(others[i]));
+    HOLDS(standard_of("/dev/fd/2") == 2 && standard_of("/dev/stdout") == 1 && standard_of("/dev/fd/3") == -1);
+}
+
+static void test_files(void)
+{
+    char buf[64];
+    FAILS(sysv_open("none", 0, 0), 2);
+    FAILS(sysv_open("none/none", 0101, 0666), 2);
+    int one = sysv_open("one", 0302, 0666);
+    HOLDS(one == 3 && sysv_write(one, "abcdef", 6) == 6 && sysv_lseek(one, 2, 0) == 2 && sysv_read(one, buf, 3) == 3 && memcmp(buf, "cde", 3) == 0);
+    HOLDS(sysv_lseek(one, -1, 1) == 4 && sysv_lseek(one, 0, 2) == 6 && sysv_read(one, buf, 3) == 0);
+    FAILS(sysv_lseek(one, -1, 0), 22);
+    FAILS(sysv_open("one", 0301, 0666), 17);
+    FAILS(sysv_open(".", 1, 0), 21);
+    HOLDS(sysv_ftruncate(one, 3) == 0 && told("one", 0).size == 3 && sysv_lseek(one, 0, 1) == 6);
+    // another number of the same, from one on
+    int same = sysv_fcntl(one, 1030, 20);
+    HOLDS(same == 20 && sysv_lseek(same, 1, 0) == 1 && sysv_lseek(one, 0, 1) == 1 && sysv_close(one) == 0 && sysv_read(same, buf, 9) == 2 && sysv_close(same) == 0);
+    FAILS(sysv_close(same), 9);
+    FAILS(sysv_fcntl(3, 1030, 0), 9);
+    FAILS(sysv_read(3, buf, 1), 9);
+    FAILS(sysv_write(-1, buf, 1), 9);
+    // what is added goes to the end, also beside another that adds
+    int first = sysv_open("added", 02102, 0600), second = sysv_open("added", 02001, 0);
+    HOLDS(first == 3 && second == 4 && sysv_write(first, "1", 1) == 1 && sysv_write(second, "2", 1) == 1 && sysv_write(first, "3", 1) == 1);
+    HOLDS(sysv_lseek(first, 0, 0) == 0 && sysv_read(first, buf, 9) == 3 && memcmp(buf, "123", 3) == 0);
+    FAILS(sysv_read(second, buf, 1), 13);
+    HOLDS(sysv_close(first) == 0 && sysv_close(second) == 0 && put_file("added", "x") == 0 && holds("added", "x"));
+    int folder = sysv_open(".", 0, 0);
+    FAILS(sysv_read(folder, buf, 1), 21);
+    HOLDS(folder == 3 && !sysv_isatty(folder) && sysv_close(folder) == 0);
+    // 512 numbers, and what has none is closed
+    int last = 0, count = 0;
+    for (int number; (number = sysv_open("one", 0, 0)) >= 0; count++)
+        last = number;
+    HOLDS(sysv_rattle_errno() == 24 && last == 511 && count == 509);
+    for (int number = 3; number < 512; number++)
+        HOLDS(sysv_close(number) == 0);
+    HOLDS(sysv_unlink("one") == 0);
+    int nothing = sysv_open("NUL", 1, 0);
+    HOLDS(nothing == 3 && sysv_write(nothing, "x", 1) == 1);
+    FAILS(sysv_lseek(nothing, 0, 0), 29);
+    HOLDS(sysv_close(nothing) == 0);
+}
+
+static void test_rights(void)
+{
+    int one = sysv_open("private", 0302, 0600);
+    struct statx found;
+    HOLDS(one == 3 && sysv_statx(one, "", 0x1000, 0, &found) == 0 && (found.mode & 0777) == 0600 && (told("private", 0).mode & 0777) == 0600);
+    HOLDS(put_file("public", "x") == 0 && (told("public", 0).mode & 0777) == 0666);
+    HOLDS(sysv_fchmod(one, 0600) == 0 && (told("private", 0).mode & 0777) == 0600 && sysv_fchmod(one, 0666) == 0 && (told("private", 0).mode & 0777) == 0666);
+    HOLDS(sysv_fchmod(one, 0444) == 0 && (told("private", 0).mode & 0222) == 0 && sysv_close(one) == 0);
+    FAILS(sysv_fchmod(77, 0600), 9);
+}
+
+static void test_locks_and_syncs(void)
+{
+    char buf[4];
+    HOLDS(put_file("lock", "abc") == 0);
+    int one = sysv_open("lock", 2, 0), two = sysv_open("lock", 2, 0), same = sysv_fcntl(one, 1030, 3);
+    HOLDS(sysv_flock(one, 2 | 4) == 0 && locked > (ULONGLONG)1 << 62);
+    FAILS(sysv_flock(two, 2 | 4), 11);
+    FAILS(sysv_flock(two, 1 | 4), 11);
+    HOLDS(sysv_read(two, buf, 3) == 3 && sysv_write(two, "d", 1) == 1 && holds("lock", "abcd"));
+    HOLDS(sysv_close(one) == 0 && sysv_flock(two, 2 | 4) < 0 && sysv_close(same) == 0 && sysv_flock(two, 2 | 4) == 0);
+    one = sysv_open("lock", 0, 0);
+    HOLDS(sysv_flock(two, 8) == 0 && sysv_flock(two, 1 | 4) == 0 && sysv_flock(one, 1 | 4) == 0 && sysv_flock(one, 8) == 0 && sysv_flock(two, 8) == 0);
+    FAILS(sysv_flock(99, 2), 9);
+    int folder = sysv_open(".", 0, 0), before = flushes;
+    HOLDS(sysv_fsync(two) == 0 && flushes == before + 1 && sysv_fdatasync(two) == 0 && flushes == before + 2 && sysv_fsync(folder) == 0 && flushes == before + 3);
+    HOLDS((flushed_by & FILE_WRITE_DATA) != 0);
+    FAILS(sysv_fsync(99), 9);
+    CloseHandle(table[one]->handle);
+    table[one]->handle = INVALID_HANDLE_VALUE;
+    FAILS(sysv_fsync(one), 9);
+    HOLDS(sysv_close(one) == 0 && sysv_close(two) == 0 && sysv_close(folder) == 0);
+}
+
+static DWORD WINAPI let_go_soon(void *handle)
+{
+    Sleep(300);
+    return CloseHandle(handle);
+}
+
+static void test_names(bool posix)
+{
+    has_posix = posix;
+    through = 0;
+    HOLDS(put_file("old", "old") == 0 && put_file("new", "new") == 0);
+    int before = flushes;
+    HOLDS(sysv_rename("new", "old") == 0 && holds("old", "new") && told("new", 0).nlink == 0);
+    HOLDS(posix ? posix_flags == 3 && flushes == before + 1 && through == 0 : through == 1);
+    // over one that this program has open, and its lock
+    HOLDS(put_file("new", "2") == 0);
+    int open = sysv_open("old", 2, 0);
+    HOLDS(sysv_flock(open, 6) == 0 && sysv_rename("new", "old") == 0 && holds("old", "2") && sysv_close(open) == 0);
+    FAILS(sysv_rename("none", "old"), 2);
+    FAILS(sysv_rename("old", "none/none"), 2);
+    HOLDS(holds("old", "2"));
+    // another program has it for a moment, and for longer
+    HOLDS(put_file("new", "3") == 0);
+    HANDLE other = CreateFileW(L"old", GENERIC_READ, FILE_SHARE_READ, NULL, OPEN_EXISTING, 0, NULL), thread = CreateThread(NULL, 0, let_go_soon, other, 0, NULL);
+    HOLDS(sysv_rename("new", "old") == 0 && holds("old", "3"));
+    WaitForSingleObject(thread, INFINITE);
+    // a name goes at once, also of what is open
+    open = sysv_open("old", 0, 0);
+    HOLDS(sysv_unlink("old") == 0 && (posix || told("old", 0).nlink == 0));
+    HOLDS(!posix || posix_flags == 0x13);
+    HOLDS(sysv_close(open) == 0 && told("old", 0).nlink == 0);
+    FAILS(sysv_unlink("old"), 2);
+    HOLDS(put_file("old", "x") == 0);
+    if (posix)
+        HOLDS(sysv_link("old", "second") == 0 && told("second", 0).ino == told("old", 0).ino && told("old", 0).nlink == 2 && sysv_unlink("second") == 0 && holds("old", "x"));
+    else
+        FAILS(sysv_link("old", "second"), 1);
+    FAILS(sysv_link("none", "second"), 2);
+    HOLDS(told("second", 0).nlink == 0 && sysv_unlink("old") == 0 && sysv_unlink("tcp:127.0.0.1:9") == 0);
+}
+
+static void test_folder(void)
+{
+    char name[32];
+    unsigned char buf[4096];
+    HOLDS(CreateDirectoryW(L"many", NULL));
+    for (int i = 0; i < 120; i++) {
+        snprintf(name, sizeof name, "many/%d-ü", i);
+        HOLDS(put_file(name, "") == 0);
+    }
+    for (size_t room = 100; room <= sizeof buf; room += 1998) {
+        bool seen[120] = {false};
+        int folder = sysv_rattle_open_dir_at(-100, "many"), entries = 0, files = 0;
+        long long n;
+        while ((n = sysv_getdents64(folder, buf, room)) > 0)
+            for (long long at = 0; at < n; at += buf[at + 16] | buf[at + 17] << 8, entries++) {
+                int i = atoi((char *)buf + at + 19);
+                snprintf(name, sizeof name, "%d-ü", i);
+                bool is_file = strcmp(name, (char *)buf + at + 19) == 0 && i >= 0 && i < 120 && !seen[i];
+                HOLDS(buf[at] != 0 && (is_file || buf[at + 19] == '.'));
+                if (is_file)
+                    seen[i] = true, files++;
+            }
+        HOLDS(n == 0 && files == 120 && entries == 122 && sysv_getdents64(folder, buf, room) == 0 && sysv_close(folder) == 0);
+    }
+    int folder = sysv_rattle_open_dir_at(-100, "many");
+    FAILS(sysv_getdents64(folder, buf, 8), 22);
+    HOLDS(sysv_close(folder) == 0);
+    FAILS(sysv_rattle_open_dir_at(-100, "many/1-ü"), 20);
+    FAILS(sysv_rattle_open_dir_at(-100, "none"), 2);
+    int file = sysv_open("many/1-ü", 0, 0);
+    FAILS(sysv_getdents64(file, buf, sizeof buf), 20);
+    HOLDS(sysv_close(file) == 0);
+}
+
+static int by_name(__attribute__((sysv_abi)) int (*how)(int, const unsigned char *, unsigned), int number, const char *name)
+{
+    unsigned char address[110] = {1, 0};
+    strcpy((char *)address + 2, name);
+    return how(number, address, (unsigned)strlen(name) + 3);
+}
+
+static void wait_for(int number, long long millis)
+{
+    long long parts[2] = {millis / 1000, millis % 1000 * 1000}, writes[2] = {9, 0};
+    HOLDS(sysv_setsockopt(number, 1, 20, parts, sizeof parts) == 0 && sysv_setsockopt(number, 1, 21, writes, sizeof writes) == 0);
+}
+
+static void test_tcp(void)
+{
+    char name[40], buf[16];
+    unsigned char who[128];
+    unsigned length = sizeof who;
+    int server = sysv_socket(1, 1, 0), port = 20000 + (int)(GetCurrentProcessId() * 37 + GetTickCount()) % 20000;
+    FAILS(sysv_socket(2, 1, 0), 97);
+    static const char *const bad[] = {"tcp:", "tcp:127.0.0.1", "tcp:127.0.0.1:", "tcp:127.0.0.1:x", "tcp::9"};
+    for (int i = 0; i < 5; i++)
+        FAILS(by_name(sysv_connect, server, bad[i]), 22);
+    FAILS(by_name(sysv_bind, server, "board"), 97);
+    FAILS(by_name(sysv_connect, server, "board"), 2);
+    FAILS(sysv_listen(server, 1), 88);
+    snprintf(name, sizeof name, "tcp:127.0.0.1:%d", port);
+    HOLDS(by_name(sysv_bind, server, name) == 0 && sysv_listen(server, 1) == 0 && option == SO_EXCLUSIVEADDRUSE);
+    int second = sysv_socket(1, 1, 0), client = sysv_socket(1, 1, 0);
+    FAILS(by_name(sysv_bind, second, name), 98);
+    HOLDS(by_name(sysv_connect, client, name) == 0);
+    int served = sysv_accept4(server, who, &length, 0);
+    HOLDS(served >= 0 && length == 2 && who[0] == 1);
+    struct statx found;
+    HOLDS(sysv_statx(client, "", 0x1000, 0, &found) == 0 && (found.mode & 0170000) == 0140000);
+    HOLDS(sysv_send(client, "\x7f", 1, 0) == 1 && sysv_recv(served, buf, 16, 0) == 1 && buf[0] == 0x7f && sysv_write(served, "ab", 2) == 2 && sysv_read(client, buf, 16) == 2);
+    wait_for(client, 120);
+    ULONGLONG begun = GetTickCount64();
+    FAILS(sysv_recv(client, buf, 1, 0), 11);
+    HOLDS(GetTickCount64() - begun >= 90 && GetTickCount64() - begun < 5000 && sysv_close(served) == 0);
+    HOLDS(sysv_recv(client, buf, 1, 0) == 0 && sysv_close(client) == 0 && sysv_close(server) == 0 && sysv_close(second) == 0);
+    client = sysv_socket(1, 1, 0);
+    FAILS(by_name(sysv_connect, client, name), 111);
+    FAILS(sysv_send(client, "x", 1, 0), 88);
+    HOLDS(sysv_close(client) == 0);
+}
+
+// Behind both ports is somebody who answers 7F by 79, and `e` by nothing. (A pseudo-terminal takes a parity once.)
+static void test_port(const char *port, const char *other)
+{
+    char name[32], buf[16];
+    int line = sysv_socket(1, 1, 0);
+    FAILS(by_name(sysv_connect, line, "COM88"), 2);
+    HOLDS(by_name(sysv_connect, line, port) == 0 && strcmp(signals, "-rts dtr 100 -dtr 200 ") == 0);
+    HOLDS(state.fParity && state.Parity == EVENPARITY && state.ByteSize == 8 && state.StopBits == ONESTOPBIT && state.fAbortOnError && state.fBinary);
+    HOLDS(!state.fOutX && !state.fInX && !state.fNull && !state.fOutxCtsFlow && !state.fOutxDsrFlow);
+    wait_for(line, 5000);
+    HOLDS(sysv_send(line, "\x7f", 1, 0) == 1 && sysv_recv(line, buf, 16, 0) == 1 && buf[0] == 0x79);
+    wait_for(line, 150);
+    ULONGLONG begun = GetTickCount64();
+    HOLDS(sysv_write(line, "e", 1) == 1);
+    FAILS(sysv_read(line, buf, 16), 11);
+    HOLDS(GetTickCount64() - begun >= 100 && GetTickCount64() - begun < 5000);
+    signals[0] = 0;
+    int before = flushes;
+    HOLDS(sysv_close(line) == 0 && strcmp(signals, "rts dtr 100 -dtr ") == 0 && flushes > before);
+    line = sysv_socket(1, 1, 0);
+    asked_wiring = "nothing";
+    FAILS(by_name(sysv_connect, line, other), 22);
+    asked_wiring = "inverted-rts-reset";
+    signals[0] = 0;
+    snprintf(name, sizeof name, "//./%s:19200", other);
+    HOLDS(by_name(sysv_connect, line, name) == 0 && strcmp(signals, "-rts 100 rts 200 ") == 0);
+    wait_for(line, 5000);
+    HOLDS(sysv_send(line, "\x7f", 1, 0) == 1 && sysv_recv(line, buf, 16, 0) == 1);
+    signals[0] = 0;
+    HOLDS(sysv_close(line) == 0 && signals[0] == 0);
+}
+
+int main(int count, char **given)
+{
+    setvbuf(stdout, NULL, _IONBF, 0);
+    read_words();
+    for (int i = 0; i < 3; i++)
+        numbered(made(A_FILE, CreateFileW(L"NUL", GENERIC_READ | GENERIC_WRITE, SHARED, NULL, OPEN_EXISTING, 0, NULL)), i);
+    test_errors();
+    test_memory();
+    test_words();
+    test_clock();
+    test_paths();
+    test_files();
+    test_rights();
+    test_locks_and_syncs();
+    test_names(true);
+    test_names(false);
+    test_folder();
+    test_tcp();
+    if (strncmp(given[count - 1], "COM", 3) == 0)
+        test_port(given[count - 2], given[count - 1]);
+    printf("%d of %d hold\n", tried_so_far - wrong, tried_so_far);
+    return wrong != 0;
+}

@@ -1,0 +1,282 @@
+"""Tries windows/*.c under wine, sound and with each of many planted faults, and what looks whether an object fits Windows.
+
+    python3 -m unittest discover -s windows
+
+test_layer.c says what each function has to do. What of Windows it takes down, and what wine hasn't (a name as POSIX takes it), it
+answers itself.
+"""
+
+import concurrent.futures
+import glob
+import itertools
+import os
+import re
+import shutil
+import subprocess
+import tempfile
+import termios
+import threading
+import tty
+import unittest
+
+import fits
+import wine
+
+HERE = os.path.dirname(os.path.abspath(__file__))
+COMPILER = "x86_64-w64-mingw32-gcc"
+STRICT = ["-O2", "-Wall", "-Wextra", "-Werror", "-mno-red-zone"]
+INSTEAD = {"FlushFileBuffers": "flush", "SetFileInformationByHandle": "set", "MoveFileExW": "move", "EscapeCommFunction": "signal", "Sleep": "sleep",
+           "LockFileEx": "lock", "setsockopt": "option", "SetCommState": "state"}
+ASKED_BITS = termios.CSIZE | termios.CSTOPB
+WORDS = ["word", "", "zwei Wörter", "a\\b", "--baud", "57600", "--wiring=dtr-reset,rts-boot0", "end"]
+# what is planted, by file: a text, which is there once, and the one in its place
+FAULTS = {
+    "errors.c": {
+        "a fault is forgotten": ("    error_now = error;\n    return -1;", "    (void)error;\n    return -1;"),
+        "errno isn't set": ("    error_now = error;\n}", "    (void)error;\n}"),
+        "a lock that another has is any fault": ("{ERROR_LOCK_VIOLATION, L_EAGAIN},", ""),
+        "a full disk is any fault": ("{ERROR_DISK_FULL, L_ENOSPC}, ", ""),
+        "faults have no text": ("text = texts[i].text;", "text = texts[0].text;"),
+    },
+    "memory.c": {
+        "no memory is an address all the same": ("{false, &nothing}", "{true, &nothing}"),
+        "no memory has no address": ("{false, &nothing}", "{false, NULL}"),
+        "a block of no bytes is freed by a realloc": ("realloc(p, n != 0 ? n : a)", "realloc(p, n)"),
+        "what overlaps is lost": ("return memmove(to, from, n);", "for (size_t i = 0; i < n; i++) ((char *)to)[i] = ((const char *)from)[i];\n    return to;"),
+    },
+    "text.c": {
+        "slashes stay": ("*text = '/';", "*text = '\\\\';"),
+        "no variable is an empty one": ("        return NULL;\n    wchar_t *value", "        return _strdup(\"\");\n    wchar_t *value"),
+    },
+    "words.c": {
+        "a text that fits just so is too long": ("length <= room", "length < room"),
+        "the 0 behind a text is put too": ("memcpy(buf, text, fits ? length : room)", "memcpy(buf, text, fits ? length + 1 : room)"),
+        "words are counted from the first": ("words[i] : NULL", "words[i + 1] : NULL"),
+        "entries are counted from 1": ("i-- == 0", "i-- == 1"),
+        "the command line's own are entries": ("*it != L'=' && ", ""),
+        "the speed is taken from the program": ('asked("--baud", false)', 'asked("--baud", true)'),
+        "the wiring is the program's": ('asked("--wiring", true)', 'asked("--wiring", false)'),
+        "no settings": ('variable("APPDATA")', 'variable("APPDAT")'),
+    },
+    "clock.c": {
+        "both clocks are one": ("if (clock == 1)", "if (clock == 0)"),
+        "nanoseconds are hundreds": ("ticks % 10000000 * 100", "ticks % 10000000 * 1000"),
+        "the counter has no parts of a second": ("now.QuadPart % second.QuadPart * 1000000000 / second.QuadPart", "0 * now.QuadPart"),
+    },
+    "paths.c": {
+        "a device is a file": (" || is_device(path) || is_device(given)", ""),
+        "a stream is a file": (" || colon != NULL", ""),
+        "a long path is a short one": ("n >= 248 && !is_long", "n >= 60000 && !is_long"),
+        "a share has two heads": ('L"\\\\\\\\?\\\\UNC"', 'L"\\\\\\\\?\\\\"'),
+        "no text is a name": ("MB_ERR_INVALID_CHARS", "0"),
+        "files aren't told apart": ("found->ino = (unsigned long long)told.nFileIndexHigh << 32 | told.nFileIndexLow;", ""),
+        "a link more isn't told": ("found->nlink = told.nNumberOfLinks;", ""),
+        "sizes aren't told": ("found->size = (unsigned long long)told.nFileSizeHigh << 32 | told.nFileSizeLow;", ""),
+        "a file that may not be written may be": ("who & 0444 : who", "who : who"),
+        "a folder is a file": ("is & FILE_ATTRIBUTE_DIRECTORY ? L_FOLDER", "0 ? L_FOLDER"),
+        "a port is there": ("    if (is_port(name))\n        return fail(L_ENOENT);\n", "    if (is_port(name))\n        return tell_mode(found, L_CHARACTERS);\n"),
+        "all places are one": ("found->ino = found->ino * 31 + (unsigned char)*p;", ""),
+        "a path has its prefix": ("        path += 4;\n", "        path += 0;\n"),
+    },
+    "files.c": {
+        "any number": ("for (int number = from;", "for (int number = from + 1;"),
+        "a number that is gone is there": ("    table[number] = NULL;\n    if (--", "    if (--"),
+        "a copy closes the file": ("if (--it->numbers == 0)", "if (--it->numbers >= 0)"),
+        "each file is made": ("!creates ? OPEN_EXISTING :", ""),
+        "a new file is an old one": ("flags & L_EXCLUSIVE ? CREATE_NEW : OPEN_ALWAYS", "OPEN_ALWAYS"),
+        "a file isn't emptied": ("(flags & L_TRUNCATES) &&", "0 &&"),
+        "what is added lies anywhere": ("flags & L_APPENDS ? FILE_APPEND_DATA | FILE_WRITE_ATTRIBUTES | SYNCHRONIZE : GENERIC_WRITE", "GENERIC_WRITE"),
+        "a folder is written": ("folder && writes ? fail(L_EISDIR) :", ""),
+        "a private file is anybody's": ("is_private ? for_user_alone() : NULL", "NULL"),
+        "a folder can't be synced": ("access | GENERIC_WRITE", "access"),
+        "a place on no disk": (" || GetFileType(it->handle) != FILE_TYPE_DISK", ""),
+        "others may not use it": ("(path, access, SHARED,", "(path, access, 0,"),
+    },
+    "rights.c": {
+        "everybody is the user": ("EqualSid(who, user())", "(EqualSid(who, user()) || 1)"),
+        "nobody is alone": ("    bool alone = list != NULL", "    bool alone = false && list != NULL"),
+        "it stays private": ("(mode & 077) != 0 && is_alone", "0 && is_alone"),
+        "it may be written": ("told.FileAttributes |= FILE_ATTRIBUTE_READONLY;", ""),
+    },
+    "locks.c": {
+        "the lock is on the first byte": ("{.Offset = 0xfffffffe, .OffsetHigh = 0x7fffffff}", "{0}"),
+        "two have it": ("how & 2 ? LOCKFILE_EXCLUSIVE_LOCK : 0", "0"),
+        "it waits for ever": ("how & 4 ? LOCKFILE_FAIL_IMMEDIATELY", "0 ? LOCKFILE_FAIL_IMMEDIATELY"),
+        "it is never let go": ("if (how & 8)\n        return UnlockFileEx(it->handle, 0, 1, 0, &place) ? 0 : failed();", "if (how & 8)\n        return 0;"),
+    },
+    "syncs.c": {
+        "a sync is left out": ("FlushFileBuffers(it->handle) || it->kind == A_FOLDER", "1"),
+        "a sync that failed is done": ("|| it->kind == A_FOLDER ? 0 : failed()", "|| true ? 0 : failed()"),
+        "a sync of data is left out": ("return sysv_fsync(number);", "return at(number) ? 0 : -1;"),
+        "a folder's is left out": ("return FlushFileBuffers(it->handle) ||", "return it->kind != A_FOLDER ? (FlushFileBuffers(it->handle) ? 0 : failed()) :"),
+    },
+    "names.c": {
+        "POSIX's way isn't asked for": ("how.flags = REPLACES | POSIX_WAY;", "how.flags = REPLACES;"),
+        "the length is in units": ("wcslen(to) * sizeof *to", "wcslen(to)"),
+        "a name isn't on the disk": ("        FlushFileBuffers(handle);\n", "        ;\n"),
+        "a move isn't on the disk": ("MOVEFILE_REPLACE_EXISTING | MOVEFILE_WRITE_THROUGH", "MOVEFILE_REPLACE_EXISTING"),
+        "no file is replaced": ("MOVEFILE_REPLACE_EXISTING | MOVEFILE_WRITE_THROUGH", "MOVEFILE_WRITE_THROUGH"),
+        "a scanner ends a write": ("++*tries > 40", "++*tries > 0"),
+        "what is removed goes later": ("DELETES | POSIX_WAY | ALSO_READ_ONLY", "DELETES"),
+        "a name that stays": ("MoveFileExW(room_one, room_two, MOVEFILE_WRITE_THROUGH)", "0 && room_two[0]"),
+        "a link that can't be given up": ("return !is_posix ? fail(L_EPERM) :", "return"),
+    },
+    "folder.c": {
+        "a name that has no room is lost": ("        if (!fits)\n            return used != 0 ? (long long)used : fail(L_EINVAL);\n", ""),
+        "an entry is as long as its name": ("(19 + strlen(name) + 1 + 7) / 8 * 8", "(19 + strlen(name))"),
+        "lengths are below 256": ("buf[used] = 1;", "buf[used] = 0;"),
+        "a file is a folder": ("!(is & FILE_ATTRIBUTE_DIRECTORY) ||", ""),
+        "it begins anew": ("listing->is_over = true;", "{ FindClose(listing->finding); listing->finding = INVALID_HANDLE_VALUE; return (long long)used; }"),
+    },
+    "line.c": {
+        "any socket": ("family != 1 ?", "0 ?"),
+        "a wait has no microseconds": (" + (parts[1] + 999) / 1000", ""),
+        "the time to write is that to read": ("name == 20 ? &it->read_wait : &it->write_wait", "name == 21 ? &it->read_wait : &it->write_wait"),
+        "a socket that isn't connected sends": ("L_ENOTSOCK);\n    return it->kind == A_PORT ? transmit_port", "L_EIO);\n    return it->kind == A_PORT ? transmit_port"),
+    },
+    "tcp.c": {
+        "an address is shared": ("SO_EXCLUSIVEADDRUSE", "SO_REUSEADDR"),
+        "a port is any text": (' || port[strspn(port, "0123456789")] != 0', ""),
+        "nothing in time is an end": ("if (!is_ready(it->socket, true, it->read_wait))\n        return fail(L_EAGAIN);", "if (!is_ready(it->socket, true, it->read_wait))\n        return 0;"),
+        "a read waits for ever": ("return wait == 0 ||", "return true ||"),
+    },
+    "port.c": {
+        "no parity": (".Parity = EVENPARITY", ".Parity = NOPARITY"),
+        "parity isn't looked at": (".fParity = TRUE, ", ""),
+        "another speed": ("(DWORD)atoi(speed) : 115200", "115200 : 115200"),
+        "two stop bits": ("ONESTOPBIT", "TWOSTOPBITS"),
+        "a raised signal is high": ("high == inverted ?", "high != inverted ?"),
+        "no reset": ("            reset(port, wiring, true);\n", "            ;\n"),
+        "it stays in its bootloader": ('if (pin(wiring, "boot0", false) != 0)', 'if (0)'),
+        "what was sent is cut": ("    FlushFileBuffers(it->handle);\n", ""),
+        "any wiring": ('pin(wiring, "reset", true) == 0', '0'),
+        "a read waits for ever": (".ReadTotalTimeoutConstant = it->read_wait, ", ""),
+        "nothing in time is a fault": ("n != 0 ? (long long)n + more : fail(L_EAGAIN)", "n != 0 ? (long long)n + more : fail(L_EIO)"),
+    },
+}
+
+# those whose names begin so; all of them where nothing is said
+ONLY = os.environ.get("STMFLASH_WINDOWS_FAULT", "")
+
+
+class Port:
+    """A port of wine: a pseudo-terminal, behind which somebody answers 7F by 79. `settings` are those that it had with each 7F."""
+
+    numbers = itertools.count(40)
+
+    def __init__(self):
+        self.master, self.slave = os.openpty()
+        tty.setraw(self.slave)
+        self.name, self.settings = f"COM{next(Port.numbers)}", []
+        self.link = f"{wine.PREFIX}/dosdevices/{self.name.lower()}"
+        if os.path.lexists(self.link):
+            os.remove(self.link)
+        os.symlink(os.ttyname(self.slave), self.link)
+        threading.Thread(target=self.answer, daemon=True).start()
+
+    def answer(self):
+        while True:
+            if b"\x7f" in os.read(self.master, 64):
+                self.settings.append(termios.tcgetattr(self.slave))
+                os.write(self.master, b"\x79")
+
+    def close(self):
+        os.remove(self.link)
+
+
+class Layer(unittest.TestCase):
+    @classmethod
+    def setUpClass(cls):
+        wine.begin()
+        cls.room = tempfile.TemporaryDirectory()
+        cls.addClassCleanup(cls.room.cleanup)
+        cls.objects = {}
+        for source in sorted(glob.glob(f"{HERE}/*.c")):
+            cls.objects[os.path.basename(source)] = cls.compiled(source, f"{cls.room.name}/{os.path.basename(source)}.o")
+
+    @classmethod
+    def compiled(cls, source, to, flags=()):
+        instead = [] if source.endswith("test_layer.c") else [f"-D{name}=tried_{other}" for name, other in INSTEAD.items()]
+        subprocess.run([COMPILER, *STRICT, *flags, "-DTRIED", f"-I{HERE}", *instead, "-c", source, "-o", to], check=True)
+        return to
+
+    def ran(self, objects, ports=()):
+        """What the test says of a layer of these objects, in a folder of its own."""
+        with tempfile.TemporaryDirectory() as room:
+            program = f"{room}/test_layer.exe"
+            subprocess.run([COMPILER, "-o", program, *objects.values(), "-lws2_32", "-lshell32", "-ladvapi32", "-lntdll"], check=True)
+            os.mkdir(f"{room}/empty")
+            words = [program, *WORDS, *(it.name for it in ports)]
+            return wine.run(words, cwd=f"{room}/empty", env={"FIRST": "one", "EMPTY": ""}, timeout=60)
+
+    def ran_with_ports(self, objects):
+        """The same with two ports, and with what these were set to: speed, bits and parity."""
+        ports = [Port(), Port()]
+        try:
+            ran = self.ran(objects, ports)
+        finally:
+            for port in ports:
+                port.close()
+        return ran, [(it[4], it[2] & ASKED_BITS) for port in ports for it in port.settings]
+
+    SET = [(termios.B57600, termios.CS8), (termios.B19200, termios.CS8)]
+
+    def test_holds(self):
+        ran, were = self.ran_with_ports(self.objects)
+        self.assertEqual((ran.returncode, were), (0, self.SET), ran.stdout[:2000])
+        self.assertRegex(ran.stdout, r"\A(\d{4}) of \1 hold\s*\Z")
+
+    def found(self, name, fault, old, new):
+        """What is wrong where a fault is planted and not found; None: it is found."""
+        with open(f"{HERE}/{name}", encoding="utf-8") as file:
+            text = file.read()
+        if text.count(old) != 1:
+            return f"{name}, {fault}: the text is there {text.count(old)} times"
+        with tempfile.TemporaryDirectory() as room:
+            with open(f"{room}/{name}", "w", encoding="utf-8") as file:
+                file.write(text.replace(old, new))
+            made = self.compiled(f"{room}/{name}", f"{room}/changed.o", ["-w"])
+            objects, were = {**self.objects, name: made}, self.SET
+            try:
+                ran, were = self.ran_with_ports(objects) if name == "port.c" else (self.ran(objects), self.SET)
+            except subprocess.TimeoutExpired:
+                return None
+        return None if ran.returncode or were != self.SET else f"{name}, {fault}: not found"
+
+    def test_finds_each_fault(self):
+        with concurrent.futures.ThreadPoolExecutor(3) as pool:
+            going = [pool.submit(self.found, name, fault, *how) for name, faults in FAULTS.items() for fault, how in faults.items()
+                     if fault.startswith(ONLY)]
+            self.assertEqual([it for it in (one.result() for one in going) if it], [])
+
+
+class Fits(unittest.TestCase):
+    """windows/fits.py, of functions that gcc makes here."""
+
+    FITS = "int sum(const int *a, int n) { int s = 0; for (int i = 0; i < n; i++) s += a[i]; return s; }"
+    NOT = {"is below the stack": ("int red(int a) { volatile int x[4] = {a}; return x[1] + x[a & 3]; }", []),
+           "takes stack without a touch": ("void use(char *); void big(void) { char x[20000]; use(x); }", []),
+           "is a thread's": ("__thread int x; int own(void) { return x; }", [])}
+
+    def faults(self, text, flags):
+        with tempfile.TemporaryDirectory() as room:
+            with open(f"{room}/a.c", "w", encoding="utf-8") as file:
+                file.write(text)
+            subprocess.run(["gcc", "-O1", "-fcf-protection=none", "-fno-stack-protector", *flags, "-c", f"{room}/a.c", "-o", f"{room}/a.o"], check=True)
+            return fits.faults(f"{room}/a.o")
+
+    def test_refuses_what_windows_cannot_take(self):
+        for frame in ("-fomit-frame-pointer", "-fno-omit-frame-pointer"):
+            self.assertEqual(self.faults(self.FITS, [frame]), [])
+            for what, (text, flags) in self.NOT.items():
+                with self.subTest(what=what, frame=frame):
+                    self.assertIn(what, " ".join(self.faults(text, [*flags, frame])))
+
+    def test_takes_the_same_without_a_red_zone_and_with_touches(self):
+        for frame in ("-fomit-frame-pointer", "-fno-omit-frame-pointer"):
+            self.assertEqual(self.faults(self.NOT["is below the stack"][0], ["-mno-red-zone", frame]), [])
+        self.assertEqual(self.faults(self.NOT["takes stack without a touch"][0], ["-fstack-clash-protection"]), [])
+
+
+if __name__ == "__main__":
+    unittest.main()

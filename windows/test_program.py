@@ -1,0 +1,171 @@
+"""Uses the program for Windows under wine, beside the one for this machine: the same words have to have the same answers, and leave the
+same files. STMFLASH_WINDOWS names the first, a link to windows/under-wine, and STMFLASH the other; STMFLASH_WINDOWS_KILLS is how many
+kills there are.
+
+    python3 -m unittest discover -s windows -p test_program.py
+"""
+
+import os
+import random
+import re
+import socket
+import subprocess
+import sys
+import tempfile
+import time
+import unittest
+
+import wine
+
+TOP = os.path.dirname(os.path.dirname(os.path.abspath(__file__)))
+sys.path[:0] = [f"{TOP}/tests", f"{TOP}/line"]
+HERE = os.environ.get("STMFLASH_WINDOWS", f"{TOP}/bin/stmflash-unproved-under-wine")
+LINUX = os.environ.get("STMFLASH", f"{TOP}/bin/stmflash-unproved")
+KILLS = int(os.environ.get("STMFLASH_WINDOWS_KILLS", "8"))
+FILES = ("--table", "table", "--device", "sim:0412:flash", "--journal", "journal")
+# what is called, one after the other
+CALLS = [("--help",), (), ("nonsense",), ("write", "--help"), ("info", *FILES), ("info", *FILES, "--json"), ("erase", *FILES, "--stop", "3190", "5"),
+         ("log", "--journal", "journal"), ("log", "--journal", "journal", "--json"), ("undo", *FILES), ("write", *FILES, "-v", "image"),
+         ("read", *FILES, "out"), ("read", *FILES, "--hex", "--skip-blank", "/dev/stdout"), ("verify", *FILES, "image"), ("crc", *FILES),
+         ("write", *FILES, "--stop", "9000", "-v", "other"), ("log", "--journal", "journal", "--check"), ("undo", *FILES, "1"), ("undo", *FILES, "-v", "--json"),
+         ("write", *FILES, "--keep-to", "kept", "image"), ("undo", *FILES[:4], "--journal", "kept"), ("keep", "--journal", "journal", "elsewhere"),
+         ("write", *FILES, "--progress", "image"), ("keep", "--journal", "journal", "--last", "1"), ("write", *FILES, "missing"), ("write", *FILES, "/dev/stdin"),
+         ("log", "--journal", "none"), ("info", "--table", "none", *FILES[2:]), ("read", *FILES, "none/out"), ("read", *FILES, "näme ü"),
+         ("write", "--table", "table", "--device", "sim:0412:flash", "--journals", "folder", "image"), ("undo", *FILES)]
+
+
+def call(program, folder, *words, given=b"", **more):
+    ran = subprocess.run(["stmflash", *words], executable=program, cwd=folder, input=given, capture_output=True, timeout=300, env={"PATH": "/usr/bin:/bin", **more})
+    return ran.returncode, ran.stdout, ran.stderr
+
+
+def held(folder):
+    """The bytes of each file below a folder."""
+    found = {}
+    for at, _, names in os.walk(folder):
+        for name in names:
+            with open(os.path.join(at, name), "rb") as file:
+                found[os.path.relpath(os.path.join(at, name), folder)] = file.read()
+    return found
+
+
+def listens(port):
+    """Whether a program on this machine waits for others at a port of TCP."""
+    with open("/proc/net/tcp", encoding="ascii") as file:
+        rows = [line.split() for line in file.readlines()[1:]]
+    return any(row[1].endswith(f":{port:04X}") and row[3] == "0A" for row in rows)
+
+
+class Place(unittest.TestCase):
+    def setUp(self):
+        wine.begin()
+        self.random = random.Random(5)
+        self.folder = self.made()
+
+    def made(self, seed=5):
+        folder = tempfile.TemporaryDirectory(prefix="stmflash-")
+        self.addCleanup(folder.cleanup)
+        chance = random.Random(seed)
+        with open(f"{TOP}/chips.toml", "rb") as chips:
+            files = {"table": chips.read(), "image": chance.randbytes(6000), "other": chance.randbytes(9000), "flash": chance.randbytes(32768)}
+        for name, data in files.items():
+            with open(f"{folder.name}/{name}", "wb") as file:
+                file.write(data)
+        return folder.name
+
+
+class Program(Place):
+    def test_says_and_leaves_what_the_one_for_linux_does(self):
+        beside = self.made()
+        for words in CALLS:
+            with self.subTest(words=words):
+                ours, theirs = call(HERE, self.folder, *words, given=b":00000001FF\n"), call(LINUX, beside, *words, given=b":00000001FF\n")
+                self.assertEqual(ours, theirs)
+                self.assertEqual(held(self.folder), held(beside))
+
+    def test_does_what_the_readme_shows(self):
+        with open(f"{TOP}/README.md", encoding="utf-8") as file:
+            page = file.read()
+        block = page[page.index("    export PATH="):]
+        block = block[:block.index("\n\n")]
+        variables = dict(re.findall(r"(STMFLASH_\w+)=(\S+)", block))
+        self.assertEqual(sorted(variables), ["STMFLASH_DEVICE", "STMFLASH_JOURNAL", "STMFLASH_TABLE"])
+        os.rename(f"{self.folder}/table", f"{self.folder}/chips.toml")
+        with open(f"{self.folder}/firmware.bin", "wb") as file:
+            file.write(bytes(int(re.search(r"head -c (\d+) /dev/zero > firmware.bin", block)[1])))
+        said = "".join(call(HERE, self.folder, *words.split(), **variables)[1].decode() for words in re.findall(r"^    stmflash (.*?) +#", block, re.M))
+        self.assertEqual(said, "".join(f"{it}\n" for it in re.findall(r"# (.*)", block)))
+
+    def test_a_table_lies_beside_the_program(self):
+        program = f"{self.folder}/bin/stmflash"
+        os.mkdir(f"{self.folder}/bin")
+        os.link(os.path.realpath(HERE.replace("-under-wine", ".exe")), f"{program}.exe")
+        os.symlink(f"{TOP}/windows/under-wine", f"{program}-under-wine")
+        words = ("info", "--device", "sim:0412:flash", "--journal", "journal")
+        self.assertNotEqual(call(f"{program}-under-wine", self.folder, *words)[0], 0)
+        os.rename(f"{self.folder}/table", f"{self.folder}/bin/chips.toml")
+        self.assertEqual(call(f"{program}-under-wine", self.folder, *words)[0], 0)
+
+    def test_a_simulator_over_tcp(self):
+        with socket.socket() as free:
+            free.bind(("127.0.0.1", 0))
+            port = free.getsockname()[1]
+        place = f"tcp:127.0.0.1:{port}"
+        at = ("--table", "table", "--device", place, "--journal", "journal", "--wait", "1000")
+        self.assertIn(b"cannot connect", call(HERE, self.folder, "info", *at)[2])
+        before = held(self.folder)["flash"]
+        serve = ["stmflash", "sim", "--table", "table", "--id", "0412", "--flash", "flash", "--socket", place, "--clients", "1"]
+        for words, status in ((("info", *at), 0), (("write", *at, "-v", "image"), 0), (("undo", *at, "-v"), 0)):
+            with subprocess.Popen(serve, executable=HERE, cwd=self.folder, env={"PATH": "/usr/bin:/bin"}, stdout=subprocess.DEVNULL, stderr=subprocess.DEVNULL) as board:
+                until = time.monotonic() + 60
+                while not listens(port) and time.monotonic() < until:
+                    time.sleep(0.05)
+                self.assertEqual(call(HERE, self.folder, *words)[0], status, words)
+                board.wait(60)
+        self.assertEqual(held(self.folder)["flash"], before)
+
+    def test_a_board_at_a_port(self):
+        import pty_boards
+
+        board = pty_boards.PtyBoard(LINUX, f"{self.folder}/tty", "0412", f"{self.folder}/table")
+        self.addCleanup(board.stop)
+        link = f"{wine.PREFIX}/dosdevices/com33"
+        self.addCleanup(lambda: os.path.lexists(link) and os.remove(link))
+        before = board.store()
+        at = ("--table", "table", "--give-up", "20", "--journal", "journal", "--device")
+        for words in (("info", *at, "COM33"), ("write", *at, "COM33:57600", "-v", "image"), ("undo", *at, "//./COM33", "-v")):
+            board.renew()
+            if os.path.lexists(link):
+                os.remove(link)
+            os.symlink(os.path.realpath(f"{self.folder}/tty"), link)
+            said = call(HERE, self.folder, *words)
+            self.assertEqual((said[0], said[2]), (0, b""), words)
+        self.assertEqual(board.store(), before)
+
+
+class Killed(Place):
+    def test_an_undo_gives_back_what_was_there(self):
+        """Writes and erases that end amid, as by TerminateProcess, and undos that end so too."""
+        before = held(self.folder)["flash"]
+        begun = time.monotonic()
+        self.assertEqual(call(HERE, self.folder, "write", *FILES, "image")[0], 0)
+        took = time.monotonic() - begun
+        self.assertEqual(call(HERE, self.folder, "undo", *FILES)[0], 0)
+        os.remove(f"{self.folder}/journal")
+        for kill in range(KILLS):
+            words = self.random.choice((("write", *FILES, "image"), ("erase", *FILES, "3-9"), ("write", *FILES, "-v", "other")))
+            for these in (words, ("undo", *FILES))[:self.random.choice((1, 1, 2))]:
+                with subprocess.Popen(["stmflash", *these], executable=HERE, cwd=self.folder, env={"PATH": "/usr/bin:/bin"}, stdin=subprocess.DEVNULL,
+                                      stdout=subprocess.DEVNULL, stderr=subprocess.DEVNULL) as ran:
+                    time.sleep(self.random.uniform(0, took * 1.2))
+                    ran.kill()
+            status, _, said = call(HERE, self.folder, "undo", *FILES)
+            is_early = not os.path.exists(f"{self.folder}/journal")
+            self.assertTrue(status == 0 or is_early, (kill, words, said))
+            self.assertEqual(held(self.folder)["flash"], before, (kill, words))
+            if not is_early:
+                os.remove(f"{self.folder}/journal")
+
+
+if __name__ == "__main__":
+    unittest.main()
