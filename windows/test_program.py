@@ -49,6 +49,13 @@ def held(folder):
     return found
 
 
+def listens(port):
+    """Whether a program on this machine waits for others at a port of TCP."""
+    with open("/proc/net/tcp", encoding="ascii") as file:
+        rows = [line.split() for line in file.readlines()[1:]]
+    return any(row[1].endswith(f":{port:04X}") and row[3] == "0A" for row in rows)
+
+
 class Place(unittest.TestCase):
     def setUp(self):
         wine.begin()
@@ -102,14 +109,17 @@ class Program(Place):
     def test_a_simulator_over_tcp(self):
         with socket.socket() as free:
             free.bind(("127.0.0.1", 0))
-            place = f"tcp:127.0.0.1:{free.getsockname()[1]}"
+            port = free.getsockname()[1]
+        place = f"tcp:127.0.0.1:{port}"
         at = ("--table", "table", "--device", place, "--journal", "journal", "--wait", "1000")
         self.assertIn(b"cannot connect", call(HERE, self.folder, "info", *at)[2])
         before = held(self.folder)["flash"]
         serve = ["stmflash", "sim", "--table", "table", "--id", "0412", "--flash", "flash", "--socket", place, "--clients", "1"]
         for words, status in ((("info", *at), 0), (("write", *at, "-v", "image"), 0), (("undo", *at, "-v"), 0)):
             with subprocess.Popen(serve, executable=HERE, cwd=self.folder, env={"PATH": "/usr/bin:/bin"}, stdout=subprocess.DEVNULL, stderr=subprocess.DEVNULL) as board:
-                time.sleep(3)
+                until = time.monotonic() + 60
+                while not listens(port) and time.monotonic() < until:
+                    time.sleep(0.05)
                 self.assertEqual(call(HERE, self.folder, *words)[0], status, words)
                 board.wait(60)
         self.assertEqual(held(self.folder)["flash"], before)
