@@ -49,7 +49,8 @@ fn find_bad(
 
 /// The lines before this one.
 fn before(bytes: &[u8], line: u64) -> &[u8] {
-    &bytes[..lines_size(bytes, line.saturating_sub(1))]
+    let size = lines_size(bytes, line.saturating_sub(1));
+    bytes.get(..size).unwrap_or(bytes)
 }
 
 /// How many bytes an append to a journal of this chip has at most, with a torn line in front.
@@ -60,7 +61,7 @@ fn longest_append(chip: Option<&Chip>) -> u64 {
             longest = longest.max(u64::from(chip.page_size(page)));
         }
     }
-    2 * longest + WORDS
+    longest.saturating_mul(2).saturating_add(WORDS)
 }
 
 /// Whether a line is as long as one that keeps a page of the chip, whole: a digit of it rotted.
@@ -99,8 +100,8 @@ fn find_end(alloc: Global, bytes: &[u8], table: &Table) -> Result<Option<End>, J
     let Some(at) = unsynced_end(bytes, line, longest_append(chip)) else {
         return Ok(None);
     };
-    let rest = &bytes[at..];
-    if is_whole_page(&rest[..lines_size(rest, 1)], chip) {
+    let rest = bytes.get(at..).unwrap_or(&[]);
+    if is_whole_page(before(rest, 2), chip) {
         return Ok(None);
     }
     Ok(Some(End { line, at }))
@@ -135,7 +136,7 @@ pub fn recover<'a, R: Locks + AllocGlobal, E: Write>(
     };
     match journal.cut_off(name, bytes.as_slice(), end.at) {
         Ok(beside) => {
-            let count = bytes.len() - end.at;
+            let count = bytes.len().saturating_sub(end.at);
             let _ = writeln!(
                 err,
                 "note: journal {} cut before line {}: {count} bytes that no session counts on are in {}",

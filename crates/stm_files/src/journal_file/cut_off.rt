@@ -15,11 +15,12 @@ impl<'a, R: Locks + AllocGlobal> JournalFile<'a, R> {
         bytes: &[u8],
         at: usize,
     ) -> io::Result<Rescued<'n>> {
-        if self.end != bytes.len() as u64 {
-            return Err(moved());
-        }
+        let rest = match bytes.get(at..) {
+            Some(rest) if self.end == bytes.len() as u64 => rest,
+            _ => return Err(moved()),
+        };
         self.check_unchanged()?;
-        let beside = rescue(self.rt, name, "cut", &bytes[at..])?;
+        let beside = rescue(self.rt, name, "cut", rest)?;
         if let Err(e) = self.shorten(at as u64) {
             let _ = fs::remove_file(self.rt, format!(in self.rt.alloc(); "{beside}")?.as_str());
             return Err(e);

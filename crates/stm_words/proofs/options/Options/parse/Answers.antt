@@ -14,4 +14,6 @@ returns c = (
   search rules,
   search rules,
   search rules,
+  search rules,
+  record { flag = search rules; one = search rules },
 )
