@@ -70,14 +70,16 @@ fn is_whole_page(line: &[u8], chip: Option<&Chip>) -> bool {
         return false;
     };
     for page in 0..chip.pages() {
-        let number: u64 = if page < 10 {
-            1
+        // the word, its blanks and the LF, beside its number
+        let words = if page < 10 {
+            8
         } else if page < 100 {
-            2
+            9
         } else {
-            3
+            10
         };
-        if line.len() as u64 == 7 + number + 2 * u64::from(chip.page_size(page)) {
+        let digits = u64::from(chip.page_size(page)).saturating_mul(2);
+        if line.len() as u64 == digits.saturating_add(words) {
             return line.starts_with(b"page ");
         }
     }
