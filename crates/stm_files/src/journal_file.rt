@@ -201,7 +201,7 @@ impl<'a, R: Locks + AllocGlobal> JournalFile<'a, R> {
             None => self.read(),
         };
         match text {
-            Ok(text) if !text.is_empty() => rescue(self.rt, name, "rescued", text.as_slice()).ok(),
+            Ok(text) if !text.is_empty() => rescue(self.rt, name, false, text.as_slice()).ok(),
             _ => None,
         }
     }

@@ -16,15 +16,17 @@ const NAMES: u32 = 100;
 #[derive(Clone, Copy, Debug)]
 pub struct Rescued<'n> {
     name: &'n str,
-    ending: &'static str,
+    /// Whether it has what was cut off, of a journal that is still there.
+    is_cut: bool,
     number: u32,
 }
 
 impl Display for Rescued<'_> {
     fn fmt<W: fmt::Write>(&self, f: &mut Formatter<W>) -> fmt::Result {
+        let ending = if self.is_cut { "cut" } else { "rescued" };
         match self.number {
-            0 => write!(f, "{}.{}", self.name, self.ending),
-            number => write!(f, "{}.{}{number}", self.name, self.ending),
+            0 => write!(f, "{}.{ending}", self.name),
+            number => write!(f, "{}.{ending}{number}", self.name),
         }
     }
 }
@@ -34,12 +36,12 @@ impl Display for Rescued<'_> {
 pub fn rescue<'n, R: Files + AllocGlobal>(
     rt: &R,
     name: &'n str,
-    ending: &'static str,
+    is_cut: bool,
     bytes: &[u8],
 ) -> io::Result<Rescued<'n>> {
-    match rescue_beside(rt, name, ending, bytes) {
+    match rescue_beside(rt, name, is_cut, bytes) {
         Err(e) if e.kind() == ErrorKind::NotFound => match Path::new(name).file_name() {
-            Some(last) => rescue_beside(rt, last, ending, bytes),
+            Some(last) => rescue_beside(rt, last, is_cut, bytes),
             None => Err(e),
         },
         done => done,
@@ -50,13 +52,13 @@ pub fn rescue<'n, R: Files + AllocGlobal>(
 fn rescue_beside<'n, R: Files + AllocGlobal>(
     rt: &R,
     name: &'n str,
-    ending: &'static str,
+    is_cut: bool,
     bytes: &[u8],
 ) -> io::Result<Rescued<'n>> {
     for number in 0..NAMES {
         let new = Rescued {
             name,
-            ending,
+            is_cut,
             number,
         };
         match write_new(rt, format!(in rt.alloc(); "{new}")?.as_str(), bytes) {

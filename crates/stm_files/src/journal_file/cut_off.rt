@@ -20,7 +20,7 @@ impl<'a, R: Locks + AllocGlobal> JournalFile<'a, R> {
             _ => return Err(moved()),
         };
         self.check_unchanged()?;
-        let beside = rescue(self.rt, name, "cut", rest)?;
+        let beside = rescue(self.rt, name, true, rest)?;
         if let Err(e) = self.shorten(at as u64) {
             let _ = fs::remove_file(self.rt, format!(in self.rt.alloc(); "{beside}")?.as_str());
             return Err(e);
