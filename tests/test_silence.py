@@ -100,7 +100,7 @@ class Silence(Served):
         self.serve(len(cases), number="0410")
         for name, words, wait, silence in cases:
             with self.subTest(name=name, words=words):
-                self.store("journal", b"")
+                self.store("journal", BEFORE if name == "undo" else b"")
                 self.assertEqual(self.limits(*words, name=name), (wait, [silence]))
         self.assertServed()
 
@@ -178,7 +178,7 @@ class Silence(Served):
             time.sleep(0.2)
             return replies
 
-        self.assertEqual(self.behind(late, whole, "info"), [whole, LOOK, LONG, LOOK, whole, LOOK, LONG])
+        self.assertEqual(self.behind(late, whole, "info"), [whole, LOOK, 10 * whole, LOOK, whole, LOOK, 10 * whole])
 
     def test_a_device_said_to_be_fresh_is_in_contact_without_a_whole_wait(self):
         """It owes nothing, and one 7F is put. So the silence behind its 79 is waited for as long as that took, and Get is out
