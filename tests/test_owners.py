@@ -165,8 +165,7 @@ class Owners(Served):
     def test_a_user_trusts_root_and_no_variable(self):
         """What sudo says counts for root alone."""
         if place.program().endswith("-under-qemu"):
-            # (what runs a program of another processor has its files where another user may not read)
-            return
+            return  # (what runs a program of another processor has its files where another user may not read)
         program = self.path("program")
         shutil.copy(place.program(), program)
         for name in (".", "table"):
