@@ -13,6 +13,7 @@ import sys
 import tempfile
 import time
 
+import unproved
 from planted import TOP, switch
 
 sys.path.insert(0, os.path.join(TOP, "tools", "wrong-bodies"))
@@ -23,16 +24,8 @@ TOLD = re.compile(r"(crates/\w+/src/[\w/]+\.rt):(\d+)")
 
 
 def digest(top, faults):
-    """What a tree is made of, and what is planted in it, as one number."""
-    told = hashlib.sha256(repr([(it.number, it.file, it.start, it.new) for it in faults]).encode())
-    for folder, folders, names in os.walk(top):
-        folders.sort()
-        for name in sorted(names):
-            path = os.path.join(folder, name)
-            told.update(os.path.relpath(path, top).encode() + b"\n")
-            with open(path, "rb") as file:
-                told.update(hashlib.sha256(file.read()).digest())
-    return told.hexdigest()
+    """What a tree is made of, the kit, and what is planted in it, as one number."""
+    return hashlib.sha256(repr([unproved.digest(top), *((it.number, it.file, it.start, it.new) for it in faults)]).encode()).hexdigest()
 
 
 def blamed(said, top, faults):
