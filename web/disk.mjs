@@ -3,11 +3,12 @@
 //     node --experimental-wasm-memory64 web/disk.mjs MODULE WORD..
 //     node --experimental-wasm-memory64 web/disk.mjs --serve SOCKET MODULE
 //
-// It stands where web/page/worker.js stands in a browser; all else is the page's own. There is no line: a device is sim:ID:FILE. With
+// It stands where web/page/worker.js stands in a browser; all else is the page's own. A device is sim:ID:FILE, or a socket. With
 // --serve each client hands over its folder, words, variables and input, and gets the status and both streams: so the module is
 // compiled once for many calls (web/under-node, web/rows).
 import * as fs from 'node:fs';
 import * as net from 'node:net';
+import { MessageChannel, Worker, isMainThread, receiveMessageOnPort, workerData } from 'node:worker_threads';
 import { E, Fault } from './page/faults.js';
 import { run } from './page/program.js';
 
@@ -48,8 +49,53 @@ const store = {
   rename: (from, to) => of(() => fs.renameSync(from, to)),
 };
 
+/** A line to a socket, whose calls wait by themselves: a thread beside has the socket. */
+class Line {
+  left = [];
+
+  constructor(name) { this.name = name; }
+
+  connect() {
+    const { port1, port2 } = new MessageChannel(), turn = new Int32Array(new SharedArrayBuffer(4));
+    Object.assign(this, { port: port1, turn, thread: new Worker(new URL(import.meta.url), { workerData: { name: this.name, port: port2, turn }, transferList: [port2] }) });
+    if (this.next(0) === null) throw new Fault(E.CONNREFUSED);
+  }
+
+  /** What the thread says next; nothing where that is nothing in so many milliseconds, 0: never. */
+  next(millis) {
+    for (const ends = performance.now() + (millis || Infinity);;) {
+      const seen = Atomics.load(this.turn, 0), it = receiveMessageOnPort(this.port), more = ends - performance.now();
+      if (it) return it.message;
+      if (more <= 0) return undefined;
+      Atomics.wait(this.turn, 0, seen, more);
+    }
+  }
+
+  receive(most, millis) {
+    const it = this.left.shift() ?? this.next(millis);
+    if (it === null) throw new Fault(E.IO);
+    // an end stays one
+    if (it && (it.length > most || !it.length)) this.left.unshift(it.subarray(most));
+    return it?.subarray(0, most);
+  }
+
+  send(bytes) { this.port.postMessage(bytes); }
+
+  close() { this.port?.postMessage(null); }
+}
+
+/** The thread of a line. It says nothing once it is there, what comes, nothing at the end, and null where the line failed. */
+function carry({ name, port, turn }) {
+  const tell = (it) => { port.postMessage(it); Atomics.add(turn, 0, 1); Atomics.notify(turn, 0); }, socket = net.connect(name, () => tell(new Uint8Array()));
+  socket.on('data', (it) => tell(new Uint8Array(it))).on('end', () => tell(new Uint8Array())).on('error', () => tell(null)).on('close', () => port.close());
+  port.on('message', (it) => (it ? socket.write(it) : socket.end()));
+}
+
 /** Runs the module once: its status. */
-const once = (module, words, variables, input, say) => run(module, { words: ['stmflash', ...words], variables, store, input, say });
+function once(module, words, variables, input, say) {
+  const name = words[words.indexOf('--device') + 1 || words.length] ?? variables.STMFLASH_DEVICE, isLine = name && fs.existsSync(name) && fs.statSync(name).isSocket();
+  return run(module, { words: ['stmflash', ...words], variables, store, input, say, line: isLine ? new Line(name) : undefined });
+}
 const compiled = (name) => new WebAssembly.Module(fs.readFileSync(name));
 
 /** Each call by itself: they share this process's folder. */
@@ -74,7 +120,9 @@ function serve(socket, module) {
 }
 
 const [first, ...rest] = process.argv.slice(2);
-if (first === '--serve') {
+if (!isMainThread) {
+  carry(workerData);
+} else if (first === '--serve') {
   serve(rest[0], compiled(rest[1]));
 } else {
   const isPiped = rest.includes('/dev/stdin');

@@ -30,7 +30,7 @@ const bytesOf = (text) => new TextEncoder().encode(text);
 
 // The calls over a memory of one page, and names and texts in it.
 function machine({ words = ['stmflash'], variables = {}, store = new Store([]), line, input } = {}) {
-  const out = [], { memory, env } = callsOf({ words, variables, store, line, input, say: (stream, bytes) => out.push([stream, ...bytes]) }, Boolean(line));
+  const out = [], { memory, env } = callsOf({ words, variables, store, line, input, say: (stream, bytes) => out.push([stream, ...bytes]) });
   memory.of = { buffer: new ArrayBuffer(65536) };
   const path = (name, at = 100n) => { memory.bytes(at, 4096).fill(0); memory.put(name, at, 4000n); return at; };
   return { env, memory, store, out, path, fault: () => env.rattle_errno(), open: (name, flags) => env.open(path(name), flags, 0n),
@@ -95,9 +95,9 @@ const disks = (count) => Array.from({ length: count }, () => inMemory());
   holds('a folder', [it.told(0, '/boards').mode, it.open('/boards', 1), it.fault(), env.rattle_open_dir_at(-100, it.path('/boards/a')), it.fault()], [4, -1, E.ISDIR, -1, E.NOTDIR]);
   const second = it.open('/boards/second', 2 | CREATE);
   holds('another file', [it.told(second).ino !== it.told(more).ino, it.told(0, '/boards/second').ino === it.told(second).ino], [true, true]);
-  const list = env.rattle_open_dir_at(-100, it.path('/boards')), got = Number(env.getdents64(list, 30000n, 1000n)), names = [];
-  for (let at = 30000; at < 30000 + got; at += it.memory.view().getUint16(at + 16, true)) names.push(it.memory.text(BigInt(at + 19)));
-  holds('its names, once', [names, env.getdents64(list, 30000n, 1000n)], [['a', 'second'], 0n]);
+  const [list, top] = ['/boards', '/'].map((folder) => env.rattle_open_dir_at(-100, it.path(folder))), names = [], view = it.memory.view();
+  for (const fd of [list, top]) for (let at = 30000, end = at + Number(env.getdents64(fd, 30000n, 1000n)); at < end; at += view.getUint16(at + 16, true)) names.push([view.getUint8(at + 18), it.memory.text(BigInt(at + 19))]);
+  holds('names and kinds, once', [names, env.getdents64(list, 30000n, 1000n)], [[[8, 'a'], [8, 'second'], [4, 'boards']], 0n]);
   holds('no room for a name', [env.getdents64(env.rattle_open_dir_at(-100, it.path('/boards')), 30000n, 4n), it.fault()], [-1n, E.INVAL]);
   holds('a real path', [env.realpath(it.path('boards//./a'), 40000n), it.memory.text(40000n)], [40000n, '/boards/a']);
   holds('none of none', [env.realpath(it.path('boards/none'), 40000n), it.fault()], [0n, E.NOENT]);
@@ -259,7 +259,7 @@ function port() {
   const copy = env.fcntl(fd, 1030, 0n);
   await env.close(copy);
   holds('open as long as one has it', board.told.includes('closed'), false);
-  holds('closed', [await ends(env.close(fd)), board.told.at(-1)], [0, 'closed']);
+  holds('closed, which isn\'t why it ended', [await ends(env.close(fd)), board.told.at(-1), line.ended], [0, 'closed', undefined]);
   holds('and all that was sent went out before', board.sent, [0x7f, 0, 255]);
 }
 for (const [what, over, sum] of [['a wrong parity', (board) => board.into.error(new DOMException('x', 'ParityError')), -1n], ['a lost adapter', (board) => board.into.error(new DOMException('x', 'NetworkError')), -1n],
@@ -296,16 +296,18 @@ for (const [what, over, sum] of [['a wrong parity', (board) => board.into.error(
   // two segments, stored elsewhere than they run; the second one over an end of 64 KiB
   const elf = new Uint8Array(200), head = new DataView(elf.buffer);
   elf.set([0x7f, 0x45, 0x4c, 0x46, 1, 1]);
-  for (const [at, value] of [[28, 52], [42, 32 << 0], [44, 2]]) head.setUint16(at, value, true);
+  for (const [at, value] of [[18, 40], [28, 52], [42, 32], [44, 2]]) head.setUint16(at, value, true);
   [[1, 120, 0x20000000, 0x08000010, 3], [1, 130, 0x20000100, 0x0800FFFE, 4]].forEach((words, i) => words.forEach((it, k) => head.setUint32(52 + 32 * i + 4 * k, it, true)));
   elf.set([1, 2, 3], 120);
   elf.set([4, 5, 6, 7], 130);
   holds('ELF becomes HEX', new TextDecoder().decode(imageOf('a.elf', elf).bytes),
     ':020000040800F2\n:03001000010203E7\n:020000040800F2\n:02FFFE000405F8\n:020000040801F1\n:020000000607F1\n:00000001FF\n');
-  let why = '';
+  const why = (it) => { try { return imageOf('a', it).says; } catch (thrown) { return thrown.message; } };
+  elf[18] = 243;
+  holds('an ELF for RISC-V is refused', why(elf), 'this ELF isn\'t for ARM');
   elf[4] = 2;
-  try { imageOf('a.elf', elf); } catch (thrown) { why = thrown.message; }
-  holds('a 64-bit ELF is refused', why, 'this ELF isn\'t one of 32 bits with the low byte first');
+  holds('a 64-bit ELF is refused', why(elf), 'this ELF isn\'t one of 32 bits with the low byte first');
+  holds('so is what nothing can be', [why(new Uint8Array()), why(new Uint8Array(2 ** 21)), why(new Uint8Array(2 ** 21 + 1))], ['it has no bytes', 'a: 2097152 raw bytes', 'it is larger than any flash of these chips']);
 }
 
 if (process.argv[3]) {

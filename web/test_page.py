@@ -1,4 +1,5 @@
-"""Tries the page in a headless Chromium, on a simulated board: stops of any kind, full disks, two tabs, and what a reader sees.
+"""Tries the page in a headless Chromium, and in a headless Firefox where there is one, on a simulated board: stops of any kind, full
+disks, two tabs, and what a reader sees.
 
     python3 web/test_page.py
 
@@ -8,6 +9,7 @@ flash.
 """
 
 import base64
+import concurrent.futures
 import hashlib
 import os
 import random
@@ -23,7 +25,8 @@ HERE = os.path.dirname(os.path.abspath(__file__))
 TOP = os.path.dirname(HERE)
 sys.path.insert(0, HERE)
 
-from browser import PATIENCE, Browser
+from browser import PATIENCE, Browser, Firefox
+from test_layer import elf
 
 PAGE = f"{TOP}/bin/web"
 PROGRAM = os.path.abspath(os.environ.get("STMFLASH") or f"{TOP}/bin/stmflash-unproved")
@@ -49,11 +52,13 @@ def named(given):
     return f"new File([Uint8Array.from(atob('{base64.b64encode(data).decode()}'), (it) => it.charCodeAt(0))], '{name}')"
 
 
-class Page(unittest.TestCase):
-    """A board, a server and a browser for each test."""
+class InFirefox(unittest.TestCase):
+    """A board, a server and a browser for each test: what both browsers do."""
+
+    browser_of, samples = Firefox, SAMPLES // 3
 
     def setUp(self):
-        for what, is_there in (("chromium", shutil.which("chromium")), ("bin/web", os.path.exists(f"{PAGE}/stmflash.wasm")), ("program", os.path.exists(PROGRAM)),
+        for what, is_there in ((self.browser_of.program, shutil.which(self.browser_of.program)), ("bin/web", os.path.exists(f"{PAGE}/stmflash.wasm")), ("program", os.path.exists(PROGRAM)),
                                ("python3-aiohttp", subprocess.run(["/usr/bin/python3", "-c", "import aiohttp"], capture_output=True).returncode == 0)):
             if not is_there:
                 self.skipTest(f"there is no {what}")
@@ -74,10 +79,6 @@ class Page(unittest.TestCase):
         self.begin_browser()
         self.addCleanup(lambda: self.browser.kill())
 
-    def shortDescription(self):
-        """It stands above each fault."""
-        return f"seed {SEED}"
-
     def end_server(self):
         if self.server.poll() is None:
             self.server.terminate()
@@ -89,13 +90,15 @@ class Page(unittest.TestCase):
         self.server.stdout.close()
 
     def begin_browser(self):
-        self.browser = Browser(f"{self.room}/profile")
+        self.browser = self.browser_of(f"{self.room}/profile")
 
-    def tab(self):
-        tab = self.browser.tab(self.address)
+    def tab(self, **context):
+        return self.ready(self.browser.tab(self.address, **context))
+
+    def ready(self, tab):
         tab.until(READY, "the page isn't ready")
         # a machine that is busy with other things answers late
-        tab.js(f"stmflash.state.wait = {WAIT}; stmflash.take({named(('a.bin', self.image))})")
+        tab.js(f"stmflash.state.wait = {WAIT}, stmflash.take({named(('a.bin', self.image))})")
         return tab
 
     def assertFlash(self, wanted, why=""):
@@ -106,7 +109,7 @@ class Page(unittest.TestCase):
         self.assertTrue(held(self.flash) == wanted, f"{why}: the flash is another at {[i for i, (one, two) in enumerate(zip(held(self.flash), wanted)) if one != two][:20]}")
 
     def click(self, tab, selector):
-        tab.js(f"document.getElementById('told').hidden = true; document.querySelector({selector!r}).click()")
+        tab.js(f"document.getElementById('told').hidden = true, document.querySelector({selector!r}).click()")
 
     def do(self, tab, selector, wanted="^Done: ", why=""):
         """Clicks, and waits until all is done; what was told then, which has to be so."""
@@ -115,6 +118,9 @@ class Page(unittest.TestCase):
         told = tab.js("document.getElementById('told').innerText")
         self.assertRegex(told, wanted, f"{why}; the page says: {tab.said()}")
         return told
+
+    def journal_of(self, tab):
+        return base64.b64decode(tab.js(f"stmflash.ask('get', {{ path: '/boards/{JOURNAL}' }}).then((it) => btoa(String.fromCharCode(...it.bytes)))"))
 
     def hold_write(self, tab):
         """Begins a write, and waits until the board has sent so many bytes of it, and then no more: it is in the middle of its pages."""
@@ -130,7 +136,7 @@ class Page(unittest.TestCase):
 
     def stopped(self, end):
         """Stops a write at any moment: in the midst of its pages, or behind one of its steps. What undoes it is another tab's."""
-        for i in range(SAMPLES):
+        for i in range(self.samples):
             tab, moment = self.tab(), self.some.randrange(2 * PAGES)
             if i % 2:
                 self.stop_write(tab, moment)
@@ -175,20 +181,6 @@ class Page(unittest.TestCase):
         tab.until(QUIET + " && document.getElementById('told').innerText.includes('undone 1')")
         self.assertFlash(self.before)
 
-    def test_hex_and_elf_are_written_where_they_say(self):
-        from test_layer import elf
-
-        tab = self.tab()
-        for name, data, at in (("a.hex", b":020000040800F2\n:0404000001020304EE\n:00000001FF\n", (0x400, b"\1\2\3\4")), ("a.elf", elf([(0x08000803, 0x20000000, b"stored")]), (0x803, b"stored"))):
-            with self.subTest(name):
-                tab.js(f"stmflash.take({named((name, data))})")
-                self.assertTrue(tab.js("document.getElementById('start').hidden"))
-                self.do(tab, "#write", "^Done: segment")
-                self.assertFlash(self.before[:at[0]] + at[1] + self.before[at[0] + len(at[1]):])
-                self.undo(tab, name)
-        tab.js(f"stmflash.take({named(('b.elf', elf([])[:60]))})")
-        self.assertEqual(tab.js("document.getElementById('write').disabled"), True)
-
     def test_the_tab_is_closed_at_any_moment(self):
         self.stopped(lambda tab: tab.close())
 
@@ -199,23 +191,10 @@ class Page(unittest.TestCase):
 
         self.stopped(end)
 
-    def test_a_board_that_another_client_has(self):
-        """A page that comes meanwhile isn't let in to be answered too late: its line opens once the board is free."""
-        tab = self.tab()
-        with socket.socket(socket.AF_UNIX, socket.SOCK_STREAM) as other:
-            other.connect(self.socket)
-            tab.js("void (window.line = new WebSocket(stmflash.state.line.url))")
-            for _ in range(3):
-                self.assertEqual(tab.js("fetch('no-such-file').then((it) => [it.status, line.readyState])"), [404, 0])
-        tab.until("line.readyState === 1")
-        tab.js("line.close()")
-        self.do(tab, "#write")
-        self.undo(tab, "behind another client")
-
     def test_a_wrong_byte_and_a_lost_port(self):
         tab = self.tab()
         for kind, says in (("wrongAt", "A byte came wrong"), ("lostAt", "The adapter is gone")):
-            for i in range(SAMPLES):
+            for i in range(self.samples):
                 at = self.some.randrange(20, 10 * 1024)
                 with self.subTest(f"{kind} {at}"):
                     tab.js(f"stmflash.state.plan = {{ {kind}: {at} }}")
@@ -234,50 +213,11 @@ class Page(unittest.TestCase):
         self.assertIn("1 can be undone", two.js("document.getElementById('journals').innerText"))
         self.undo(two, "two tabs")
 
-    def test_a_full_origin(self):
-        """Whatever room there is: a write that can't be journalled ends with a word, and is undone, if need be with room again."""
-        tab = self.tab()
-        origin = self.address.partition("/?")[0]
-        for room in [0, *(self.some.randrange(0, 2 * 1024 * (PAGES + 1)) for _ in range(SAMPLES))]:
-            with self.subTest(f"room {room}"):
-                used = tab.js("navigator.storage.estimate().then((it) => it.usage)")
-                tab.call("Storage.overrideQuotaForOrigin", origin=origin, quotaSize=used + room)
-                told = self.do(tab, "#write", "(?s)^%sNot done: (cannot write|.*No space|.*room)" % ("Done: |^" if room else ""))
-                tab.call("Storage.overrideQuotaForOrigin", origin=origin)
-                self.undo(tab, f"room {room}: {told}")
 
-    def test_a_journal_to_the_command_line_and_back(self):
-        tab = self.tab()
-        self.do(tab, "#write")
-        get = f"stmflash.ask('get', {{ path: '/boards/{JOURNAL}' }}).then((it) => btoa(String.fromCharCode(...it.bytes)))"
-        path = f"{self.room}/{JOURNAL}"
-        with open(path, "wb") as file:
-            file.write(base64.b64decode(tab.js(get)))
-        self.assertFlash(self.after)
-        with open(f"{self.room}/image", "wb") as file:
-            file.write(self.image)
+class Page(InFirefox):
+    """And what is tried in Chromium alone, more often."""
 
-        def call(*words):
-            ran = subprocess.run([PROGRAM, *words[:1], "--table", f"{TOP}/chips.toml", "--device", self.socket, "--wait", str(WAIT), "--journal", path, *words[1:]],
-                                 stdin=subprocess.DEVNULL, capture_output=True, text=True, timeout=PATIENCE)
-            self.assertEqual(ran.returncode, 0, ran.stderr)
-
-        call("undo", "1", "-v")
-        self.assertFlash(self.before)
-        # what the command line writes is undone in the page, by the same bytes
-        call("write", "-v", f"{self.room}/image")
-        self.assertFlash(self.after)
-        journal = held(path)
-        tab.js(f"stmflash.ask('remove', {{ path: '/boards/{JOURNAL}' }})")
-        tab.js(f"stmflash.journals().then(() => stmflash.takeJournal({named((JOURNAL, journal))}))")
-        self.assertEqual(base64.b64decode(tab.js(get)), journal)
-        self.undo(tab, "of the command line")
-        # another file of its name is refused, and so is what is no journal
-        tab.js(f"stmflash.takeJournal({named((JOURNAL, b''))})")
-        self.assertIn("already", tab.js("document.getElementById('told').innerText"))
-        tab.js(f"stmflash.takeJournal({named(('b.journal', b'no journal'))})")
-        self.assertTrue(tab.js("document.getElementById('told').innerText").startswith("Not done"))
-        self.assertEqual(tab.js("stmflash.state.names"), [JOURNAL])
+    browser_of, samples = Browser, SAMPLES
 
     def test_offline(self):
         tab = self.tab()
@@ -285,9 +225,11 @@ class Page(unittest.TestCase):
         self.do(tab, "#write")
         self.end_server()
         tab.close()
-        again = self.browser.tab(self.address)
-        again.until(READY, "the page isn't ready without its server")
-        self.assertIn("1 can be undone", again.js("document.getElementById('journals').innerText"))
+        for address in (self.address, self.address.replace("/?", "/index.html?")):
+            again = self.browser.tab(address)
+            again.until(READY, "the page isn't ready without its server")
+            self.assertIn("1 can be undone", again.js("document.getElementById('journals').innerText"))
+            again.close()
 
     def test_an_update_in_mid_write(self):
         """A tab goes on with the files that it began with. One that is opened then has all of either version, and undoes."""
@@ -317,9 +259,82 @@ class Page(unittest.TestCase):
         self.assertEqual(seen, [True, True], "the update never counts")
         self.undo(tab, "behind an update")
 
+    def test_hex_and_elf_are_written_where_they_say(self):
+        tab = self.tab()
+        for name, data, at in (("a.hex", b":020000040800F2\n:0404000001020304EE\n:00000001FF\n", (0x400, b"\1\2\3\4")), ("a.elf", elf([(0x08000803, 0x20000000, b"stored")]), (0x803, b"stored"))):
+            with self.subTest(name):
+                tab.js(f"stmflash.take({named((name, data))})")
+                self.assertTrue(tab.js("document.getElementById('start').hidden"))
+                self.do(tab, "#write", "^Done: segment")
+                self.assertFlash(self.before[:at[0]] + at[1] + self.before[at[0] + len(at[1]):])
+                self.undo(tab, name)
+
+    def test_a_board_that_another_client_has(self):
+        """A page that comes meanwhile isn't let in to be answered too late: its line opens once the board is free."""
+        tab = self.tab()
+        with socket.socket(socket.AF_UNIX, socket.SOCK_STREAM) as other:
+            other.connect(self.socket)
+            # it has the board once that answers
+            other.sendall(b"\x7f")
+            self.assertEqual(len(other.recv(1)), 1)
+            tab.js("void (window.line = new WebSocket(stmflash.state.line.url))")
+            for _ in range(3):
+                self.assertEqual(tab.js("fetch('no-such-file').then((it) => [it.status, line.readyState])"), [404, 0])
+        tab.until("line.readyState === 1")
+        tab.js("line.close()")
+        self.do(tab, "#write")
+        self.undo(tab, "behind another client")
+
+    def test_a_full_origin(self):
+        """Whatever room there is: a write that can't be journalled ends with a word, and is undone, if need be with room again."""
+        tab = self.tab()
+        origin = self.address.partition("/?")[0]
+        for room in [0, *(self.some.randrange(0, 2 * 1024 * (PAGES + 1)) for _ in range(self.samples))]:
+            with self.subTest(f"room {room}"):
+                used = tab.js("navigator.storage.estimate().then((it) => it.usage)")
+                tab.call("Storage.overrideQuotaForOrigin", origin=origin, quotaSize=used + room)
+                told = self.do(tab, "#write", "(?s)^%sNot done: (cannot write|.*No space|.*room)" % ("Done: |^" if room else ""))
+                tab.call("Storage.overrideQuotaForOrigin", origin=origin)
+                self.undo(tab, f"room {room}: {told}")
+
+    def test_a_journal_to_the_command_line_and_back(self):
+        tab = self.tab()
+        self.do(tab, "#write")
+        path = f"{self.room}/{JOURNAL}"
+        with open(path, "wb") as file:
+            file.write(self.journal_of(tab))
+        self.assertFlash(self.after)
+        with open(f"{self.room}/image", "wb") as file:
+            file.write(self.image)
+
+        def call(*words):
+            ran = subprocess.run([PROGRAM, *words[:1], "--table", f"{TOP}/chips.toml", "--device", self.socket, "--wait", str(WAIT), "--journal", path, *words[1:]],
+                                 stdin=subprocess.DEVNULL, capture_output=True, text=True, timeout=PATIENCE)
+            self.assertEqual(ran.returncode, 0, ran.stderr)
+
+        call("undo", "1", "-v")
+        self.assertFlash(self.before)
+        # what the command line writes is undone in the page, by the same bytes
+        call("write", "-v", f"{self.room}/image")
+        self.assertFlash(self.after)
+        journal = held(path)
+        tab.js(f"stmflash.ask('remove', {{ path: '/boards/{JOURNAL}' }})")
+        tab.js(f"stmflash.journals().then(() => stmflash.takeJournal({named((JOURNAL, journal))}))")
+        self.assertEqual(self.journal_of(tab), journal)
+        self.undo(tab, "of the command line")
+        # another file of its name is refused, and so is what is no journal
+        tab.js(f"stmflash.takeJournal({named((JOURNAL, b''))})")
+        self.assertIn("already", tab.js("document.getElementById('told').innerText"))
+        tab.js(f"stmflash.takeJournal({named(('b.journal', b'no journal'))})")
+        self.assertTrue(tab.js("document.getElementById('told').innerText").startswith("Not done"))
+        self.assertEqual(tab.js("stmflash.state.names"), [JOURNAL])
+
     def test_each_control_has_a_name_and_fits(self):
         tab = self.tab()
         self.do(tab, "#write")
+        self.assertEqual(tab.js("[...document.querySelectorAll('.real')].filter((it) => it.offsetParent).length"), 0)
+        # those of a port too, which a simulated board hides
+        tab.js("document.body.className = ''")
         nodes = tab.call("Accessibility.getFullAXTree")["nodes"]
         controls = [it for it in nodes if it.get("role", {}).get("value") in ("button", "checkbox", "textbox", "combobox", "DisclosureTriangle", "progressbar", "list")
                     and not it.get("ignored")]
@@ -342,19 +357,93 @@ class Page(unittest.TestCase):
         wanted = ["port", "baud", "wiring", "fresh", "ask", "file", "address", "write", "compare", "upload", "read", "form"]
         self.assertEqual([it for it in reached if it in wanted], wanted)
 
+    def test_a_file_that_is_no_image(self):
+        """It is refused before anything is sent; and so is one that was changed since it was chosen, or has a place that is none."""
+        tab = self.tab()
+        for name, data, says in (("a.s19", b"S00600004844521B\n", "S-record"), ("a.hex", b"\xef\xbb\xbf:00000001FF\n", "byte order mark"), ("a.bin", b"", "no bytes"),
+                                 ("b.bin", bytes(1 + (2 << 20)), "larger than any flash"), ("a.elf", b"\x7fELF\2\1" + bytes(60), "32 bits"),
+                                 ("b.elf", b"\x7fELF\1\1" + bytes(60), "for ARM"), ("c.elf", elf([])[:60], "too soon")):
+            with self.subTest(name):
+                tab.js(f"stmflash.take({named((name, data))})")
+                if tab.js("document.getElementById('write').disabled"):
+                    self.assertIn(says, tab.js("document.getElementById('image').innerText"))
+                else:
+                    self.do(tab, "#write", f"^Not done: .*{says}")
+        path = f"{self.room}/a.bin"
+        with open(path, "wb") as file:
+            file.write(self.image)
+        tab.call("DOM.setFileInputFiles", files=[path], objectId=tab.call("Runtime.evaluate", expression="document.getElementById('file')")["result"]["objectId"])
+        tab.until("document.getElementById('image').innerText.includes('5020')")
+        for field, text in (("address", "0x8"), ("name", "a b")):
+            tab.js(f"document.getElementById('{field}').value = '{text}'")
+            self.do(tab, "#write", "^Not done: The ")
+            tab.js(f"document.getElementById('{field}').value = document.getElementById('{field}').defaultValue")
+        with open(path, "ab") as file:
+            file.write(b"more")
+        self.do(tab, "#write", "^Not done: a.bin: .*changed or removed")
+        self.assertEqual((held(self.flash), tab.js("stmflash.state.names")), (self.before, []))
+        # one that misses its place is taken, and not opened in the place of the page
+        self.assertFalse(tab.js(f"""(() => {{ const data = new DataTransfer(); data.items.add({named(('b.bin', self.image))});
+            return document.body.dispatchEvent(new DragEvent('drop', {{ dataTransfer: data, bubbles: true, cancelable: true }})); }})()"""))
+        tab.until("document.getElementById('image').innerText.startsWith('b.bin: 5020')")
 
-def run(suite):
-    return unittest.TextTestRunner(verbosity=0).run(suite)
+    def test_cleared_files(self):
+        """Whoever clears the data of the site takes a journal away under an open page: it is told, and the journal can be downloaded."""
+        told = "^Not done: what this page has on the disk was cleared"
+        for is_in_mid_write in (False, True):
+            tab = self.tab()
+            if is_in_mid_write:
+                self.hold_write(tab)
+            tab.call("Storage.clearDataForOrigin", origin=self.address.partition("/?")[0], storageTypes="all")
+            if is_in_mid_write:
+                tab.until(QUIET + " && !document.getElementById('told').hidden")
+                self.assertRegex(tab.js("document.getElementById('told').innerText"), f"(?s){told}.*Download {JOURNAL}")
+                kept = self.journal_of(tab)
+            else:
+                self.do(tab, "#write", told)
+                self.assertEqual(tab.js("stmflash.state.names"), [])
+            tab.close()
+        tab = self.tab()
+        self.assertEqual(tab.js("stmflash.state.names"), [])
+        tab.js(f"stmflash.takeJournal({named((JOURNAL, kept))})")
+        self.undo(tab, "by the journal that was downloaded")
+
+    def test_a_private_window_and_a_page_that_is_loaded_again(self):
+        """What is in a private window goes with it, which is said. A reload in mid-write is a stop as any."""
+        context = self.browser.call("Target.createBrowserContext")
+        tab = self.tab(**context)
+        self.assertIn("may clear the journals", tab.js("document.getElementById('state').innerText"))
+        self.hold_write(tab)
+        tab.reload()
+        self.ready(tab)
+        self.do(tab, "#write", "^Not done: unfinished or bad: [^-]*; undo first")
+        self.undo(tab, "in a private window")
+        self.assertNotIn('{"', tab.js("document.getElementById('said').textContent"))
+        self.browser.call("Target.disposeBrowserContext", **context)
+        self.assertEqual(self.tab().js("stmflash.state.names"), [])
+
+
+def run(name):
+    """Runs one test, tells what came of it, and answers its name where it failed."""
+    began, ended = time.monotonic(), unittest.TestResult()
+    unittest.defaultTestLoader.loadTestsFromName(name, sys.modules["__main__"]).run(ended)
+    wrong = [text for _, text in ended.failures + ended.errors] + [f"left out: {why}" for _, why in ended.skipped]
+    print("\n".join([f"{'FAILED' if wrong else 'passed'} {time.monotonic() - began:5.1f} s: {name}", *wrong]), flush=True)
+    return name if wrong else None
 
 
 def main():
-    """Each hears a board in time: one that failed is run once more when all have ended, as tests/run does, and this is told."""
-    ended = run(unittest.defaultTestLoader.loadTestsFromTestCase(Page))
-    failed = sorted({getattr(it, "test_case", it).id() for it, _ in ended.failures + ended.errors})
-    if failed:
-        print(f"once more: {', '.join(failed)}", file=sys.stderr, flush=True)
-        ended = run(unittest.defaultTestLoader.loadTestsFromNames(failed))
-    sys.exit(0 if ended.wasSuccessful() and ended.testsRun else 1)
+    """Two at once, since each mostly waits. One that failed is run once more when all have ended, with nothing beside it, and this is told."""
+    os.environ["STMFLASH_WEB_SEED"] = str(SEED)
+    print(f"web/test_page: seed {SEED}", flush=True)
+    kinds = [it for it in (Page, InFirefox) if it is Page or shutil.which(it.browser_of.program)]
+    if len(kinds) == 1:
+        print(f"left out: the page in Firefox, there is no {Firefox.program}", flush=True)
+    failed = [f"{kind.__name__}.{it}" for kind in kinds for it in unittest.defaultTestLoader.getTestCaseNames(kind)]
+    for at_once in (2, 1):
+        with concurrent.futures.ProcessPoolExecutor(at_once) as pool:
+            failed = list(filter(None, pool.map(run, failed)))
+    sys.exit(1 if failed else 0)
 
 
 if __name__ == "__main__":

@@ -13,6 +13,7 @@ function record(kind, offset, data) {
 export function segmentsOf(bytes) {
   const view = new DataView(bytes.buffer, bytes.byteOffset, bytes.length);
   if (bytes.length < 52 || bytes[4] !== 1 || bytes[5] !== 1) throw new Error('this ELF isn\'t one of 32 bits with the low byte first');
+  if (view.getUint16(18, true) !== 40) throw new Error('this ELF isn\'t for ARM');
   const found = [];
   for (let i = 0, at = view.getUint32(28, true); i < view.getUint16(44, true); i++, at += view.getUint16(42, true)) {
     const [kind, from, , to, size] = [0, 4, 8, 12, 16].map((it) => view.getUint32(at + it, true));
@@ -58,6 +59,8 @@ function rangeOfHex(text) {
  * @param {string} name @param {Uint8Array} bytes */
 export function imageOf(name, bytes) {
   const isElf = [0x7f, 0x45, 0x4c, 0x46].every((it, i) => bytes[i] === it), isHex = bytes[0] === 0x3a;
+  if (!bytes.length) throw new Error('it has no bytes');
+  if (!isElf && !isHex && bytes.length > 2 ** 21) throw new Error('it is larger than any flash of these chips');
   if (!isElf && !isHex) return { bytes, isRaw: true, says: `${name}: ${bytes.length} raw bytes` };
   const text = isElf ? hexOf(segmentsOf(bytes)) : new TextDecoder().decode(bytes), { count, low, high } = rangeOfHex(text);
   const where = count ? ` from ${hex(low)} to ${hex(high - 1)}` : '';

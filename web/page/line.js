@@ -51,7 +51,7 @@ export class Line {
   async take(reader) {
     try {
       for (let it; !(it = await reader.read()).done; this.wake()) this.came.push(it.value);
-      this.end('closed');
+      if (this.isOpen) this.end('closed');
     } catch (thrown) {
       this.end(/** @type {any} */ (thrown)?.name ?? 'failed');
     }
@@ -105,14 +105,16 @@ export class Line {
  * @param {import('./memory.js').Memory} memory @param {import('./files.js').Files} files @param {Line | undefined} line */
 export function lineCalls(memory, files, line) {
   const none = () => { throw new Fault(E.NOSYS); };
+  // a line in node has calls that wait by themselves, and no promises (disk.mjs)
+  const after = (/** @type {any} */ it, /** @type {(it: any) => any} */ next, /** @type {() => void} */ failed = () => {}) =>
+    (it instanceof Promise ? it.then(next, failed) : next(it));
   return {
     socket: () => files.add({ kind: 'line', at: 0, access: 2, appends: false, number: 0, left: [], uses: 1, wait: 0 }),
-    connect: async (/** @type {number} */ number, /** @type {bigint} */ address, /** @type {number} */ size) => {
+    connect: (/** @type {number} */ number, /** @type {bigint} */ address, /** @type {number} */ size) => {
       files.at(number, 'line');
       const name = new TextDecoder().decode(memory.bytes(address, size).slice(2)).replace(/\0.*$/s, '');
       if (name !== line?.name) throw new Fault(E.CONNREFUSED);
-      await line.connect().catch(() => { throw new Fault(E.CONNREFUSED); });
-      return 0;
+      return after(line.connect(), () => 0, () => { throw new Fault(E.CONNREFUSED); });
     },
     // a read waits so long; nothing that is sent waits
     setsockopt: (/** @type {number} */ number, /** @type {number} */ level, /** @type {number} */ name, /** @type {bigint} */ value) => {
@@ -125,16 +127,12 @@ export function lineCalls(memory, files, line) {
       line?.send(memory.bytes(at, size).slice());
       return size;
     },
-    recv: async (/** @type {number} */ number, /** @type {bigint} */ at, /** @type {bigint} */ size) => {
-      const it = files.at(number, 'line'), got = await line?.receive(Number(size), it.wait);
+    recv: (/** @type {number} */ number, /** @type {bigint} */ at, /** @type {bigint} */ size) => after(line?.receive(Number(size), files.at(number, 'line').wait), (got) => {
       if (!got) throw new Fault(E.AGAIN);
       memory.bytes(at, size).set(got);
       return BigInt(got.length);
-    },
-    close: async (/** @type {number} */ number) => {
-      if (files.close(number) === 'line') await line?.close();
-      return 0;
-    },
+    }, () => { throw new Fault(E.IO); }),
+    close: (/** @type {number} */ number) => after(files.close(number) === 'line' && line?.close(), () => 0),
     // a page serves nobody
     bind: none,
     listen: none,

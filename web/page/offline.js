@@ -21,6 +21,6 @@ self_.addEventListener('install', (/** @type {any} */ event) => event.waitUntil(
 self_.addEventListener('activate', (/** @type {any} */ event) => event.waitUntil(caches.keys().then((names) =>
   Promise.all(names.filter((it) => it.startsWith('stmflash-') && it !== KEPT).map((it) => caches.delete(it))))));
 self_.addEventListener('fetch', (/** @type {any} */ event) => {
-  if (event.request.method === 'GET') event.respondWith(caches.open(KEPT).then((cache) => cache.match(event.request, { ignoreSearch: true }))
+  if (event.request.method === 'GET') event.respondWith(caches.open(KEPT).then((cache) => cache.match(event.request.url.replace(/index\.html(?=$|[?#])/, ''), { ignoreSearch: true }))
     .then((kept) => kept ?? fetch(event.request)));
 });

@@ -7,18 +7,24 @@ import { WIRINGS } from './wiring.js';
 
 const $ = (/** @type {string} */ id) => /** @type {any} */ (document.getElementById(id));
 const FOLDER = 'boards', ENDING = '.journal', DEVICE = '/dev/board';
+// what the program says in words of the command line, in the page's
+/** @type {[RegExp, string][]} */
+const MEANT = [[/; say --board .* say --fresh$/, '; undo first, or reset the board, and say above that you did'], [/: undo --recover.*/, ': download it, and undo by the command line, with --recover'],
+  [/: --journal names its journal$/, ': give its journal a name, above'], [/; now: undo 1 --fresh$/, '; reset it, say above that you did, and undo']];
 // why a line ended, as Web Serial names it
 /** @type {Record<string, string>} */
 const ENDED = { ParityError: 'A byte came wrong: look at the speed, the wiring and ground.', FramingError: 'A byte came wrong: look at the speed, the wiring and ground.',
   BreakError: 'A break came: look at the wiring and ground.', BufferOverrunError: 'Bytes came faster than this PC took them.',
   NetworkError: 'The adapter is gone: plug it in again.', closed: 'The line was closed.' };
 
+// a module with a memory of 64 bits
+const WIDE = Uint8Array.of(0, 97, 115, 109, 1, 0, 0, 0, 5, 3, 1, 4, 1);
 const worker = new Worker('worker.js', { type: 'module' });
 /** @type {Map<number, (answer: any) => void>} */
 const asked = new Map();
-/** @type {{ busy: boolean, ready: boolean, isKept: boolean, names: string[], unfinished: string[], image?: ReturnType<typeof imageOf>, line?: any,
- *   last?: any, plan?: any, wait?: number, isHeld?: boolean, compiled?: number }} */
-const state = { busy: false, ready: false, isKept: false, names: [], unfinished: [] };
+/** @type {{ busy: boolean, ready: boolean, isKept: boolean, isQuiet: boolean, names: string[], unfinished: string[], file?: File,
+ *   image?: ReturnType<typeof imageOf>, line?: any, last?: any, plan?: any, wait?: number, isHeld?: boolean, compiled?: number }} */
+const state = { busy: false, ready: false, isKept: false, isQuiet: false, names: [], unfinished: [] };
 let count = 0;
 
 /** @param {string} act @param {object} [given] @returns {Promise<any>} */
@@ -42,6 +48,7 @@ function say(id, text) { $(id).textContent = text; }
 /** What a run says: progress moves the bar, and all of it can be read.
  * @param {number} stream @param {string} text */
 function hear(stream, text) {
+  if (state.isQuiet) return;
   const steps = [...text.matchAll(/^page \d+ (\w+), (\d+) of (\d+) pages$/gm)], last = steps.at(-1);
   if (last) {
     const [, what, at, all] = last;
@@ -70,10 +77,10 @@ function element(kind, ...content) {
   return it;
 }
 
-/** @param {string} text @param {() => void} act @param {string} about */
+/** @param {string} text @param {() => void} act @param {string} [about] */
 function button(text, act, about) {
   const it = /** @type {HTMLButtonElement} */ (element('button', text));
-  it.setAttribute('aria-label', `${text}: ${about}`);
+  if (about) it.setAttribute('aria-label', `${text}: ${about}`);
   it.onclick = act;
   return it;
 }
@@ -96,36 +103,49 @@ function isSure(head, lines, says, yes) {
 /** One call of the program.
  * @param {string[]} words @param {{ onBoard?: boolean, isQuiet?: boolean }} [how] */
 async function run(words, how = {}) {
-  const { onBoard = false, isQuiet = false } = how;
-  if (state.busy) return { status: 1, out: '', err: '' };
-  const baud = Number($('baud').value), wiring = $('wiring').value;
-  if (onBoard && !state.line && !(await choose())) return { status: 1, out: '', err: 'stmflash: no port was chosen\n' };
-  const fresh = [...(wiring || $('fresh').checked ? ['--fresh'] : []), ...(state.wait ? ['--wait', String(state.wait)] : [])];
-  const all = onBoard ? [words[0], '--table', '/chips.toml', '--device', DEVICE, '--baud', String(baud), ...fresh, ...words.slice(1)] : words;
-  state.busy = true;
+  const { onBoard = false, isQuiet = false } = how, none = { status: 1, out: '', err: '' };
+  if (state.busy) return none;
+  const typed = onBoard && (wrong('name') || (words.includes('-S') && wrong('address')));
+  if (typed) return { ...none, err: `stmflash: ${typed}\n` };
+  Object.assign(state, { busy: true, isQuiet });
   shows();
-  if (!isQuiet) {
-    say('step', 'Connecting');
-    $('bar').removeAttribute('value');
-    $('doing').hidden = false;
-    $('doing').scrollIntoView({ block: 'nearest' });
-    $('told').hidden = true;
-    $('said').append(`> stmflash ${all.join(' ')}\n`);
-  }
-  const answer = await ask('run', { words: all, line: onBoard ? { ...state.line, baud, wiring, plan: state.plan } : undefined });
+  let answer = none;
+  if (!onBoard || state.line || await choose()) {
+    const baud = Number($('baud').value), wiring = $('wiring').value;
+    const fresh = [...(wiring || $('fresh').checked ? ['--fresh'] : []), ...(state.wait ? ['--wait', String(state.wait)] : [])];
+    const all = onBoard ? [words[0], '--table', '/chips.toml', '--device', DEVICE, '--baud', String(baud), ...fresh, ...words.slice(1)] : words;
+    // what is sent from here on counts: the board isn't fresh any more
+    if (onBoard) $('fresh').checked = false;
+    if (!isQuiet) {
+      say('step', 'Connecting');
+      $('bar').removeAttribute('value');
+      $('doing').hidden = false;
+      $('doing').scrollIntoView({ block: 'nearest' });
+      $('told').hidden = true;
+      $('said').append(`> stmflash ${all.join(' ')}\n`);
+    }
+    answer = await ask('run', { words: all, line: onBoard ? { ...state.line, baud, wiring, plan: state.plan } : undefined });
+  } else answer = { ...none, err: 'stmflash: no port was chosen\n' };
   state.busy = false;
   $('doing').hidden = true;
-  // what was sent since counts: it isn't fresh any more
-  if (onBoard) $('fresh').checked = false;
   shows();
-  return { status: 1, out: '', err: '', ...answer };
+  return { ...none, ...answer };
+}
+
+/** What is wrong in a field, which is shown then; '' where nothing is.
+ * @param {string} id */
+function wrong(id) {
+  if ($(id).validity.valid) return '';
+  $(id).closest('details')?.setAttribute('open', '');
+  $(id).focus();
+  return $(id).title;
 }
 
 /** Why a run ended, in the program's words, and what Web Serial said.
  * @param {any} it */
 function whyNot(it) {
   const lines = `${it.err}`.split('\n').filter((line) => line.startsWith('stmflash: ') || line.startsWith('hint: '));
-  return [...(it.error ? [it.error] : []), ...lines.map((line) => line.replace(/^stmflash: /, '')), ...(ENDED[it.ended] ? [ENDED[it.ended]] : [])];
+  return [...(it.error ? [it.error] : []), ...lines.map((line) => MEANT.reduce((it, [from, to]) => it.replace(from, to), line.replace(/^stmflash: /, ''))), ...(ENDED[it.ended] ? [ENDED[it.ended]] : [])];
 }
 
 /** Which journal a board has: its own by its unique id, or the one that was named. */
@@ -147,6 +167,16 @@ function save(name, bytes) {
   setTimeout(() => URL.revokeObjectURL(link.href), 60000);
 }
 
+/** A call on the image, as its file is by now.
+ * @param {string} act @param {string[]} how @param {(it: any) => string[]} done */
+async function onImage(act, how, done) {
+  await take(state.file);
+  if (!state.image) return tell('bad', [$('image').textContent]);
+  const { bytes, isRaw } = state.image, put = await ask('put', { path: '/image', bytes });
+  const it = put.error ? put : await run([act, ...named(), ...how, ...(isRaw ? ['-S', `0x${$('address').value}`] : []), '/image'], { onBoard: true });
+  return end(it, it.status === 0 ? done(it) : []);
+}
+
 const acts = {
   async ask() {
     const it = await run(['info', ...named()], { onBoard: true });
@@ -156,19 +186,8 @@ const acts = {
     $('chip').hidden = false;
     return end(it, ['The board answered.']);
   },
-  async write() {
-    const put = await ask('put', { path: '/image', bytes: state.image?.bytes });
-    if (put.error) return end(put, []);
-    const at = state.image?.isRaw ? ['-f', '-S', `0x${$('address').value}`] : [];
-    const it = await run(['write', ...named(), '--progress', '-v', ...at, '/image'], { onBoard: true });
-    return end(it, it.out.trim().split('\n'));
-  },
-  async compare() {
-    const put = await ask('put', { path: '/image', bytes: state.image?.bytes });
-    if (put.error) return end(put, []);
-    const at = state.image?.isRaw ? ['-f', '-S', `0x${$('address').value}`] : [];
-    return end(await run(['verify', ...named(), ...at, '/image'], { onBoard: true }), ['The board has just these bytes.']);
-  },
+  write: () => onImage('write', ['--progress', '-v'], (it) => it.out.trim().split('\n')),
+  compare: () => onImage('verify', [], () => ['The board has just these bytes.']),
   async read() {
     const form = $('form').value, path = `/flash.${form}`, it = await run(['read', ...named(), ...(form === 'hex' ? ['--hex'] : []), path], { onBoard: true });
     if (!it.status) save(path.slice(1), (await ask('get', { path })).bytes);
@@ -206,9 +225,9 @@ async function says(name) {
 async function end(it, done) {
   state.last = it;
   await journals();
-  const more = it.status === 0 && !state.isKept ? state.names.map((/** @type {string} */ name) => button('Download the journal', () => download(name), name)) : [];
-  if (it.status === 0) tell('good', done, more);
-  else tell('bad', whyNot(it).length ? whyNot(it) : ['The program ended.']);
+  const more = it.error || !state.isKept ? state.names.map((/** @type {string} */ name) => button(`Download ${name}`, () => download(name))) : [];
+  if (it.status === 0 && !it.error) tell('good', done, more);
+  else tell('bad', whyNot(it).length ? whyNot(it) : ['The program ended.'], more);
   return it;
 }
 
@@ -253,20 +272,21 @@ async function choose() {
     takePort(await /** @type {any} */ (navigator).serial.requestPort());
     return true;
   } catch {
-    say('chosen', 'No port is chosen.');
-    return false;
+    return Boolean(state.line);
   }
 }
 
 /** @param {File | undefined} file */
 async function take(file) {
   if (!file) return;
+  state.file = file;
   try {
     state.image = imageOf(file.name, new Uint8Array(await file.arrayBuffer()));
     say('image', `${state.image.says}.`);
   } catch (thrown) {
     state.image = undefined;
-    say('image', `${file.name}: ${/** @type {Error} */ (thrown).message}.`);
+    const { name, message } = /** @type {Error} */ (thrown);
+    say('image', `${file.name}: ${name === 'NotReadableError' ? 'it was changed or removed: choose it again' : name === 'RangeError' ? 'it ends too soon' : message}.`);
   }
   shows();
 }
@@ -296,16 +316,22 @@ $('compare').onclick = acts.compare;
 $('read').onclick = acts.read;
 $('stopped-undo').onclick = () => acts.undo(state.unfinished[0], true);
 $('file').onchange = () => take($('file').files[0]);
-$('drop').ondragover = (/** @type {DragEvent} */ it) => { it.preventDefault(); $('drop').className = 'over'; };
-$('drop').ondragleave = () => { $('drop').className = ''; };
-$('drop').ondrop = (/** @type {DragEvent} */ it) => { it.preventDefault(); $('drop').className = ''; void take(it.dataTransfer?.files[0]); };
+// a file that misses its place would be opened in the place of the page
+for (const kind of ['dragover', 'dragleave', 'drop']) addEventListener(kind, (/** @type {any} */ it) => {
+  it.preventDefault();
+  $('drop').className = kind === 'dragover' ? 'over' : '';
+  if (kind === 'drop' && !state.busy) void take(it.dataTransfer?.files[0]);
+});
+// the same file may be chosen again
+for (const id of ['file', 'upload']) $(id).onclick = () => { $(id).value = ''; };
 $('upload').onchange = () => takeJournal($('upload').files[0]);
 addEventListener('beforeunload', (it) => { if (state.busy) it.preventDefault(); });
 
 /** @returns {Promise<string>} */
 async function begin() {
   const { serial, storage } = /** @type {any} */ (navigator), simulated = new URLSearchParams(location.search).get('line');
-  const lacks = [[/** @type {any} */ (WebAssembly).Suspending, 'calls of WebAssembly that wait (JSPI)'], [serial || simulated, 'Web Serial'],
+  if (!isSecureContext) throw new Error('it has to come by HTTPS, or from this machine itself');
+  const lacks = [[WebAssembly.validate(WIDE), 'WebAssembly with 64 bits'], [/** @type {any} */ (WebAssembly).Suspending, 'calls of WebAssembly that wait (JSPI)'], [serial || simulated, 'Web Serial'],
     [storage?.getDirectory, 'files of its own']].filter(([has]) => !has).map(([, what]) => what);
   if (lacks.length) throw new Error(`this browser lacks ${lacks.join(', ')}. Chrome and Edge have them, from 137 on`);
   shows();
@@ -313,7 +339,8 @@ async function begin() {
   state.ready = true;
   if (simulated) {
     state.line = { url: new URL(simulated, location.href.replace(/^http/, 'ws')).href };
-    say('chosen', 'A simulated board of whoever serves this page.');
+    document.body.className = 'simulated';
+    say('chosen', 'A simulated board of whoever serves this page, in its bootloader.');
   } else {
     const ports = await serial.getPorts();
     if (ports.length === 1) takePort(ports[0]);

@@ -4,7 +4,7 @@ import { clockCalls } from './clock.js';
 import { Files } from './files.js';
 import { lineCalls } from './line.js';
 import { Memory } from './memory.js';
-import { E, Fault, numberOf } from './faults.js';
+import { numberOf } from './faults.js';
 import { wordCalls } from './words.js';
 
 // those that answer a number of 64 bits
@@ -15,8 +15,8 @@ const WAITS = ['connect', 'recv', 'close'];
 /** @typedef {{ words: string[], variables?: Record<string, string>, store: import('./files.js').Store, line?: import('./line.js').Line,
  *   input?: Uint8Array, say: (stream: number, bytes: Uint8Array) => void }} Given */
 
-/** @param {Given} given @param {boolean} mayWait */
-export function callsOf({ words, variables = {}, store, line, input, say }, mayWait) {
+/** @param {Given} given */
+export function callsOf({ words, variables = {}, store, line, input, say }) {
   const memory = new Memory(), files = new Files(memory, store, say, input, line?.name), { calls, last } = wordCalls(memory, words, variables);
   /** A call's answer; or -1, and the number of its fault.
    * @param {string} name @param {(...given: any[]) => any} call */
@@ -34,10 +34,6 @@ export function callsOf({ words, variables = {}, store, line, input, say }, mayW
     }
   };
   const system = { ...clockCalls(memory), ...files.calls(), ...lineCalls(memory, files, line) };
-  if (!mayWait) {
-    const refused = () => { throw new Fault(E.CONNREFUSED); };
-    Object.assign(system, { connect: refused, recv: refused, close: (/** @type {number} */ number) => { files.close(number); return 0; } });
-  }
   return { memory, env: { ...calls, ...Object.fromEntries(Object.entries(system).map(([name, call]) => [name, guarded(name, call)])) } };
 }
 
@@ -46,7 +42,7 @@ export function callsOf({ words, variables = {}, store, line, input, say }, mayW
 export async function run(module, given) {
   const { Suspending, promising } = /** @type {any} */ (WebAssembly);
   /** @type {{ memory: Memory, env: Record<string, any> }} */
-  const { memory, env } = callsOf(given, Boolean(Suspending));
+  const { memory, env } = callsOf(given);
   if (Suspending) for (const name of WAITS) env[name] = new Suspending(env[name]);
   const { exports } = /** @type {WebAssembly.Instance} */ (/** @type {unknown} */ (await WebAssembly.instantiate(module, { env })));
   memory.of = /** @type {WebAssembly.Memory} */ (exports.memory);

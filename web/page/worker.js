@@ -82,16 +82,22 @@ async function portOf(info) {
   throw new Error(same.length ? 'two adapters of this kind are plugged in: unplug the other one' : 'the adapter is gone: plug it in, and choose it again');
 }
 
+/** What is said where whoever clears the data of the site took the pool's folder away under an open page; '' where it is there. */
+const cleared = async () => navigator.storage.getDirectory().then((it) => it.getDirectoryHandle(FOLDER)).then(() => '', () =>
+  'what this page has on the disk was cleared: download each journal now, then open the page again');
+
 /** @type {Record<string, (given: any) => Promise<object>>} */
 const acts = {
   async run({ words, line, input }) {
+    const gone = line && await cleared();
+    if (gone) throw new Error(gone);
     const port = line && (line.url ? new SocketPort(line.url, { ...line.plan, held: () => postMessage({ held: true }) }) : await portOf(line.info));
     const on = port && new Line(port, line.baud, line.wiring && stepsOf(line.wiring)), began = performance.now();
     const said = ['', '', ''];
     try {
       const status = await run(module, { words: ['stmflash', ...words], store, line: on, input,
         say: (stream, bytes) => { said[stream] += decoder.decode(bytes); postMessage({ stream, text: decoder.decode(bytes) }); } });
-      return { status, out: said[1], err: said[2], ended: on?.ended, millis: performance.now() - began };
+      return { status, out: said[1], err: said[2], ended: on?.ended, millis: performance.now() - began, error: line && await cleared() };
     } finally {
       await on?.close();
     }
