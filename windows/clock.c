@@ -5,33 +5,25 @@
 // clock_gettime, by the counter that never goes back (1) and by the time of day, each in seconds and nanoseconds.
 ASKED(int, clock_gettime)(int clock, long long *time)
 {
-    if (clock == 1) {
-        LARGE_INTEGER now, second;
-        QueryPerformanceCounter(&now);
-        QueryPerformanceFrequency(&second);
-        time[0] = now.QuadPart / second.QuadPart;
-        time[1] = now.QuadPart % second.QuadPart * 1000000000 / second.QuadPart;
-        return 0;
-    }
     FILETIME now;
-    GetSystemTimePreciseAsFileTime(&now);
-    long long ticks = ((long long)now.dwHighDateTime << 32 | now.dwLowDateTime) - 116444736000000000LL;
-    time[0] = ticks / 10000000;
-    time[1] = ticks % 10000000 * 100;
+    LARGE_INTEGER ticks, second;
+    QueryPerformanceCounter(&ticks);
+    QueryPerformanceFrequency(&second);
+    if (clock != 1) {
+        GetSystemTimePreciseAsFileTime(&now);
+        ticks.QuadPart = ticks_of(now);
+        second.QuadPart = 10000000;
+    }
+    time[0] = ticks.QuadPart / second.QuadPart;
+    time[1] = ticks.QuadPart % second.QuadPart * 1000000000 / second.QuadPart;
     return 0;
 }
 
 // signal: of a line or a pipe that was closed Windows tells by an error alone.
-ASKED(long long, __sysv_signal)(int signal, long long how)
-{
-    (void)signal, (void)how;
-    return 0;
-}
+ASKED(long long, __sysv_signal)(int, long long) { return 0; }
 
 // glibc's: what CPUID says in the leaves 1, 7 and 80000001, and how much of it may be used. A proved program asks at its start.
-struct features {
-    unsigned is[4], usable[4];
-};
+struct features { unsigned is[4], usable[4]; };
 
 ASKED(const struct features *, __x86_get_cpuid_feature_leaf)(unsigned leaf)
 {

@@ -45,12 +45,6 @@ int numbered(struct opened *it, int from)
     return fail(L_EMFILE);
 }
 
-static bool is_folder(HANDLE handle)
-{
-    BY_HANDLE_FILE_INFORMATION told;
-    return GetFileInformationByHandle(handle, &told) && (told.dwFileAttributes & FILE_ATTRIBUTE_DIRECTORY);
-}
-
 // open. What is added to a file goes to its end in one step (FILE_APPEND_DATA), also beside other programs. A new file for its user
 // alone has rights that say so; any other has its folder's. A folder is opened to be synced, for which it has to be one that may be
 // written; where that is refused, it is open all the same.
@@ -69,29 +63,27 @@ ASKED(int, open)(const char *name, int flags, unsigned mode)
     if (is_private)
         access |= WRITE_DAC;
     DWORD how = !creates ? OPEN_EXISTING : flags & L_EXCLUSIVE ? CREATE_NEW : OPEN_ALWAYS;
-    HANDLE handle = INVALID_HANDLE_VALUE;
     DWORD is = writes ? INVALID_FILE_ATTRIBUTES : GetFileAttributesW(path);
+    HANDLE handle = INVALID_HANDLE_VALUE;
     if (is != INVALID_FILE_ATTRIBUTES && (is & FILE_ATTRIBUTE_DIRECTORY))
         handle = CreateFileW(path, access | GENERIC_WRITE, SHARED, NULL, how, FILE_FLAG_BACKUP_SEMANTICS, NULL);
     if (handle == INVALID_HANDLE_VALUE)
         handle = CreateFileW(path, access, SHARED, is_private ? for_user_alone() : NULL, how, FILE_FLAG_BACKUP_SEMANTICS, NULL);
     if (handle == INVALID_HANDLE_VALUE)
         return failed();
-    bool folder = is_folder(handle);
+    BY_HANDLE_FILE_INFORMATION told;
+    bool folder = GetFileInformationByHandle(handle, &told) && (told.dwFileAttributes & FILE_ATTRIBUTE_DIRECTORY);
     int status = folder && writes ? fail(L_EISDIR) : (flags & L_TRUNCATES) && !SetEndOfFile(handle) ? failed() : 0;
-    if (status < 0) {
-        CloseHandle(handle);
-        return status;
-    }
-    return numbered(made(folder ? A_FOLDER : A_FILE, handle), 3);
+    if (status == 0)
+        return numbered(made(folder ? A_FOLDER : A_FILE, handle), 3);
+    CloseHandle(handle);
+    return status;
 }
 
 // close: what is open is closed with the last of its numbers, and so are its locks.
 ASKED(int, close)(int number)
 {
-    struct opened *it = at(number);
-    if (it == NULL)
-        return fail(L_EBADF);
+    OPENED(it, number);
     table[number] = NULL;
     if (--it->numbers == 0)
         end(it);
@@ -101,25 +93,21 @@ ASKED(int, close)(int number)
 // fcntl, of which the program asks for another number of what is open (F_DUPFD_CLOEXEC).
 ASKED(int, fcntl)(int number, int command, long long from)
 {
-    struct opened *it = at(number);
-    return it == NULL ? fail(L_EBADF) : command != 1030 ? fail(L_EINVAL) : numbered(it, (int)from);
+    OPENED(it, number);
+    return command != 1030 ? fail(L_EINVAL) : numbered(it, (int)from);
 }
 
 // read: up to 1 GiB. The end of a pipe is an error for Windows. A console ends its lines by CR LF.
 ASKED(long long, read)(int number, void *buf, size_t room)
 {
-    struct opened *it = at(number);
+    OPENED(it, number);
     DWORD n = 0, most = room > 0x40000000 ? 0x40000000 : (DWORD)room;
-    if (it == NULL)
-        return fail(L_EBADF);
     if (it->kind == A_SOCKET || it->kind == A_PORT)
         return it->kind == A_PORT ? receive_port(it, buf, room) : receive_tcp(it, buf, room);
     if (it->kind == A_FOLDER)
         return fail(L_EISDIR);
-    if (!ReadFile(it->handle, buf, most, &n, NULL)) {
-        DWORD error = GetLastError();
-        return error == ERROR_BROKEN_PIPE || error == ERROR_HANDLE_EOF ? 0 : fail_of(error);
-    }
+    if (!ReadFile(it->handle, buf, most, &n, NULL))
+        return GetLastError() == ERROR_BROKEN_PIPE || GetLastError() == ERROR_HANDLE_EOF ? 0 : failed();
     char *text = buf, *to = buf;
     for (DWORD i = 0; it->kind == A_CONSOLE && i < n; i++)
         if (text[i] != '\r')
@@ -130,28 +118,21 @@ ASKED(long long, read)(int number, void *buf, size_t room)
 // write: up to 1 GiB, and it answers how many bytes went.
 ASKED(long long, write)(int number, const void *buf, size_t n)
 {
-    struct opened *it = at(number);
+    OPENED(it, number);
     DWORD done = 0, most = n > 0x40000000 ? 0x40000000 : (DWORD)n;
-    if (it == NULL)
-        return fail(L_EBADF);
     if (it->kind == A_SOCKET || it->kind == A_PORT)
         return it->kind == A_PORT ? transmit_port(it, buf, n) : transmit_tcp(it, buf, n);
     return WriteFile(it->handle, buf, most, &done, NULL) ? (long long)done : failed();
 }
 
 // glibc's other name of it, which a proved program calls where its processor is too old.
-ASKED(long long, __write)(int number, const void *buf, size_t n)
-{
-    return sysv_write(number, buf, n);
-}
+ASKED(long long, __write)(int number, const void *buf, size_t n) { return sysv_write(number, buf, n); }
 
 // lseek, of a file on a disk.
 ASKED(long long, lseek)(int number, long long offset, int whence)
 {
-    struct opened *it = at(number);
+    OPENED(it, number);
     LARGE_INTEGER to = {.QuadPart = offset}, now;
-    if (it == NULL)
-        return fail(L_EBADF);
     if (it->kind != A_FILE || GetFileType(it->handle) != FILE_TYPE_DISK)
         return fail(L_ESPIPE);
     return SetFilePointerEx(it->handle, to, &now, (DWORD)whence) ? now.QuadPart : failed();
@@ -160,14 +141,9 @@ ASKED(long long, lseek)(int number, long long offset, int whence)
 // ftruncate: the place where it is read and written stays.
 ASKED(int, ftruncate)(int number, long long length)
 {
-    struct opened *it = at(number);
+    OPENED(it, number);
     FILE_END_OF_FILE_INFO to = {.EndOfFile.QuadPart = length};
-    if (it == NULL)
-        return fail(L_EBADF);
     return SetFileInformationByHandle(it->handle, FileEndOfFileInfo, &to, sizeof to) ? 0 : failed();
 }
 
-ASKED(int, isatty)(int number)
-{
-    return at(number) != NULL && at(number)->kind == A_CONSOLE;
-}
+ASKED(int, isatty)(int number) { return at(number) != NULL && at(number)->kind == A_CONSOLE; }

@@ -6,12 +6,11 @@ struct listing {
     HANDLE finding;
     WIN32_FIND_DATAW next;
     bool is_over;
-    wchar_t path[];
 };
 
 void end_listing(struct listing *listing)
 {
-    if (listing != NULL && listing->finding != INVALID_HANDLE_VALUE)
+    if (listing != NULL)
         FindClose(listing->finding);
     free(listing);
 }
@@ -20,24 +19,21 @@ void end_listing(struct listing *listing)
 ASKED(int, rattle_open_dir_at)(int folder, const char *name)
 {
     static wchar_t path[PATH_ROOM];
-    if (folder != L_HERE)
-        return fail(L_EINVAL);
-    if (!widen(name, path))
-        return -1;
+    if (folder != L_HERE || !widen(name, path))
+        return folder != L_HERE ? fail(L_EINVAL) : -1;
     DWORD is = GetFileAttributesW(path);
     if (is == INVALID_FILE_ATTRIBUTES)
         return failed();
     if (!(is & FILE_ATTRIBUTE_DIRECTORY) || (is & FILE_ATTRIBUTE_REPARSE_POINT))
         return fail(L_ENOTDIR);
-    struct listing *listing = calloc(1, sizeof *listing + (wcslen(path) + 3) * sizeof *path);
-    struct opened *it = listing != NULL ? made(A_FOLDER, INVALID_HANDLE_VALUE) : NULL;
-    if (it == NULL) {
-        free(listing);
-        return fail(L_ENOMEM);
-    }
-    wcscat(wcscpy(listing->path, path), L"\\*");
-    listing->finding = INVALID_HANDLE_VALUE;
-    it->listing = listing;
+    struct listing first = {.is_over = false};
+    first.finding = FindFirstFileW(wcscat(path, L"\\*"), &first.next);
+    if (first.finding == INVALID_HANDLE_VALUE)
+        return failed();
+    struct opened *it = made(A_FOLDER, NULL);
+    if (it == NULL || (it->listing = malloc(sizeof first)) == NULL)
+        return FindClose(first.finding), free(it), fail(L_ENOMEM);
+    *it->listing = first;
     return numbered(it, 3);
 }
 
@@ -45,24 +41,13 @@ ASKED(int, rattle_open_dir_at)(int folder, const char *name)
 // FindNextFile, where one that is made or removed meanwhile may be told or not, as on Linux.
 ASKED(long long, getdents64)(int number, unsigned char *buf, size_t room)
 {
-    struct opened *it = at(number);
-    size_t used = 0;
-    if (it == NULL)
-        return fail(L_EBADF);
+    OPENED(it, number);
     struct listing *listing = it->listing;
-    if (listing == NULL)
-        return fail(L_ENOTDIR);
-    if (listing->finding == INVALID_HANDLE_VALUE) {
-        listing->finding = FindFirstFileW(listing->path, &listing->next);
-        if (listing->finding == INVALID_HANDLE_VALUE)
-            return failed();
-    }
-    while (!listing->is_over) {
+    size_t used = 0;
+    while (listing != NULL && !listing->is_over) {
         char *name = narrow(listing->next.cFileName);
-        if (name == NULL)
-            return fail(L_ENOMEM);
-        size_t length = (19 + strlen(name) + 1 + 7) / 8 * 8;
-        bool fits = used + length <= room;
+        size_t length = name != NULL ? (19 + strlen(name) + 1 + 7) / 8 * 8 : 0;
+        bool fits = length != 0 && used + length <= room;
         if (fits) {
             memset(buf + used, 0, length);
             buf[used] = 1;
@@ -73,12 +58,10 @@ ASKED(long long, getdents64)(int number, unsigned char *buf, size_t room)
         }
         free(name);
         if (!fits)
-            return used != 0 ? (long long)used : fail(L_EINVAL);
-        if (!FindNextFileW(listing->finding, &listing->next)) {
-            if (GetLastError() != ERROR_NO_MORE_FILES)
-                return failed();
-            listing->is_over = true;
-        }
+            return used != 0 ? (long long)used : fail(length == 0 ? L_ENOMEM : L_EINVAL);
+        listing->is_over = !FindNextFileW(listing->finding, &listing->next);
+        if (listing->is_over && GetLastError() != ERROR_NO_MORE_FILES)
+            return failed();
     }
-    return (long long)used;
+    return listing == NULL ? fail(L_ENOTDIR) : (long long)used;
 }

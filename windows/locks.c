@@ -5,12 +5,8 @@
 // our own by another handle; so it is on one byte that no file reaches. It ends with the handle, also where the program is killed.
 ASKED(int, flock)(int number, int how)
 {
-    struct opened *it = at(number);
+    OPENED(it, number);
     OVERLAPPED place = {.Offset = 0xfffffffe, .OffsetHigh = 0x7fffffff};
-    if (it == NULL)
-        return fail(L_EBADF);
-    if (how & 8)
-        return UnlockFileEx(it->handle, 0, 1, 0, &place) ? 0 : failed();
     DWORD flags = (how & 2 ? LOCKFILE_EXCLUSIVE_LOCK : 0) | (how & 4 ? LOCKFILE_FAIL_IMMEDIATELY : 0);
-    return LockFileEx(it->handle, flags, 0, 1, 0, &place) ? 0 : failed();
+    return (how & 8 ? UnlockFileEx(it->handle, 0, 1, 0, &place) : LockFileEx(it->handle, flags, 0, 1, 0, &place)) ? 0 : failed();
 }

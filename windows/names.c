@@ -6,14 +6,14 @@ enum { DISPOSITION_EX = 21, RENAME_EX = 22, REPLACES = 1, DELETES = 1, POSIX_WAY
 
 static wchar_t room_one[PATH_ROOM], room_two[PATH_ROOM];
 
-static HANDLE to_change(const wchar_t *path, DWORD more)
-{
-    return CreateFileW(path, DELETE | SYNCHRONIZE | more, SHARED, NULL, OPEN_EXISTING, FILE_FLAG_BACKUP_SEMANTICS | FILE_FLAG_OPEN_REPARSE_POINT, NULL);
-}
-
 static bool set(HANDLE handle, int what, void *value, DWORD size)
 {
     return SetFileInformationByHandle(handle, (FILE_INFO_BY_HANDLE_CLASS)what, value, size);
+}
+
+static HANDLE to_change(const wchar_t *path, DWORD more)
+{
+    return CreateFileW(path, DELETE | SYNCHRONIZE | more, SHARED, NULL, OPEN_EXISTING, FILE_FLAG_BACKUP_SEMANTICS | FILE_FLAG_OPEN_REPARSE_POINT, NULL);
 }
 
 // Whether it was a virus scanner or an indexer that has a file open for a moment: it is tried again for two seconds.
@@ -30,10 +30,8 @@ static bool is_brief(DWORD error, int *tries)
 ASKED(int, unlink)(const char *name)
 {
     static unsigned count;
-    if (is_tcp(name))
-        return 0;
-    if (!widen(name, room_one))
-        return -1;
+    if (is_tcp(name) || !widen(name, room_one))
+        return is_tcp(name) ? 0 : -1;
     HANDLE handle = to_change(room_one, 0);
     if (handle == INVALID_HANDLE_VALUE)
         return failed();
@@ -43,11 +41,8 @@ ASKED(int, unlink)(const char *name)
     if (done)
         return 0;
     int n = _snwprintf(room_two, PATH_ROOM, L"%ls.%lx-%x.gone", room_one, GetCurrentProcessId(), count++);
-    if (n > 0 && n < PATH_ROOM && MoveFileExW(room_one, room_two, MOVEFILE_WRITE_THROUGH)) {
-        DeleteFileW(room_two);
-        return 0;
-    }
-    return DeleteFileW(room_one) ? 0 : failed();
+    bool is_aside = n > 0 && n < PATH_ROOM && MoveFileExW(room_one, room_two, MOVEFILE_WRITE_THROUGH);
+    return DeleteFileW(is_aside ? room_two : room_one) || is_aside ? 0 : failed();
 }
 
 // Closes what this program has open of the file of this path. (Its numbers stay, and answer that there is no such handle.)
@@ -55,14 +50,11 @@ static void let_go(const wchar_t *path)
 {
     BY_HANDLE_FILE_INFORMATION named, other;
     HANDLE handle = CreateFileW(path, FILE_READ_ATTRIBUTES, SHARED, NULL, OPEN_EXISTING, 0, NULL);
-    if (handle == INVALID_HANDLE_VALUE)
-        return;
     bool told = GetFileInformationByHandle(handle, &named);
     CloseHandle(handle);
     for (int i = 3; told && i < NUMBERS; i++)
-        if (table[i] != NULL && table[i]->kind == A_FILE && GetFileInformationByHandle(table[i]->handle, &other)
-            && named.dwVolumeSerialNumber == other.dwVolumeSerialNumber && named.nFileIndexHigh == other.nFileIndexHigh
-            && named.nFileIndexLow == other.nFileIndexLow) {
+        if (table[i] != NULL && table[i]->kind == A_FILE && GetFileInformationByHandle(table[i]->handle, &other) && named.nFileIndexLow == other.nFileIndexLow
+            && named.nFileIndexHigh == other.nFileIndexHigh && named.dwVolumeSerialNumber == other.dwVolumeSerialNumber) {
             CloseHandle(table[i]->handle);
             table[i]->handle = INVALID_HANDLE_VALUE;
         }
@@ -73,18 +65,12 @@ static bool rename_posix(const wchar_t *from, const wchar_t *to)
 {
     static struct { DWORD flags; HANDLE root; DWORD length; wchar_t name[PATH_ROOM]; } how;
     HANDLE handle = to_change(from, GENERIC_WRITE);
-    if (handle == INVALID_HANDLE_VALUE)
-        handle = to_change(from, 0);
-    if (handle == INVALID_HANDLE_VALUE)
-        return false;
+    handle = handle != INVALID_HANDLE_VALUE ? handle : to_change(from, 0);
     how.flags = REPLACES | POSIX_WAY | ALSO_READ_ONLY_RENAMED;
-    how.length = (DWORD)(wcslen(to) * sizeof *to);
-    wcscpy(how.name, to);
+    how.length = (DWORD)(wcslen(wcscpy(how.name, to)) * sizeof *to);
     bool done = set(handle, RENAME_EX, &how, sizeof how);
-    if (!done) { // (1607 knows no flag for files that may not be written)
-        how.flags = REPLACES | POSIX_WAY;
-        done = set(handle, RENAME_EX, &how, sizeof how);
-    }
+    how.flags = REPLACES | POSIX_WAY; // (1607 knows no flag for files that may not be written)
+    done = done || set(handle, RENAME_EX, &how, sizeof how);
     if (done) // NTFS' log reaches the disk as far as this file's last change
         FlushFileBuffers(handle);
     CloseHandle(handle);
@@ -98,18 +84,15 @@ ASKED(int, rename)(const char *from, const char *to)
 {
     if (!widen(from, room_one) || !widen(to, room_two))
         return -1;
-    if (rename_posix(room_one, room_two))
-        return 0;
     int tries = 0;
-    for (;;) {
-        if (MoveFileExW(room_one, room_two, MOVEFILE_REPLACE_EXISTING | MOVEFILE_WRITE_THROUGH))
-            return 0;
+    while (!rename_posix(room_one, room_two) && !MoveFileExW(room_one, room_two, MOVEFILE_REPLACE_EXISTING | MOVEFILE_WRITE_THROUGH)) {
         DWORD error = GetLastError();
         if (tries == 0)
             let_go(room_two);
         if (!is_brief(error, &tries))
             return fail_of(error);
     }
+    return 0;
 }
 
 // link: a second name, on NTFS. Where a name can't be removed at once from a file that is open, the program couldn't give the first up

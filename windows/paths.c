@@ -3,33 +3,25 @@
 
 static wchar_t path_room[PATH_ROOM], final_room[PATH_ROOM];
 
-// Where Linux has these, Windows has a file beside the program, and nothing.
-static const char *installed(const char *name)
+// The table that Linux has at this name lies beside the program.
+static const wchar_t *beside_program(const char *name)
 {
-    static char beside[PATH_ROOM];
-    if (strcmp(name, "/usr/share/stmflash/chips.toml") != 0)
-        return name;
-    DWORD n = GetModuleFileNameW(NULL, final_room, PATH_ROOM);
-    char *program = n != 0 && n < PATH_ROOM ? narrow(final_room) : NULL;
-    turn_slashes(program);
-    char *slash = program != NULL ? strrchr(program, '/') : NULL;
-    if (slash != NULL)
-        snprintf(beside, sizeof beside, "%.*schips.toml", (int)(slash + 1 - program), program);
-    free(program);
-    return slash != NULL ? beside : name;
+    DWORD n = strcmp(name, "/usr/share/stmflash/chips.toml") == 0 ? GetModuleFileNameW(NULL, final_room, PATH_ROOM - 16) : 0;
+    wchar_t *slash = n != 0 && n < PATH_ROOM - 16 ? wcsrchr(final_room, L'\\') : NULL;
+    return slash != NULL ? wcscpy(slash + 1, L"chips.toml"), final_room : NULL;
 }
 
 // Whether the last part of a path is a device's name (CON, aux.txt, COM1), which Windows before 11 opens in any folder.
 static bool is_device(const wchar_t *path)
 {
-    static const wchar_t *const names[] = {L"CON", L"PRN", L"AUX", L"CONIN$", L"CONOUT$"};
+    static const wchar_t *const names[] = {L"CON", L"PRN", L"AUX", L"CONIN$", L"CONOUT$", L"COM", L"LPT"};
     const wchar_t *last = wcsrchr(path, L'\\');
     last = last != NULL ? last + 1 : path;
-    size_t n = wcscspn(last, L".: ");
+    size_t all = wcscspn(last, L".: "), n = all == 4 && last[3] >= L'1' && last[3] <= L'9' ? 3 : all;
     for (size_t i = 0; i < sizeof names / sizeof *names; i++)
-        if (n == wcslen(names[i]) && _wcsnicmp(last, names[i], n) == 0)
+        if (n == wcslen(names[i]) && _wcsnicmp(last, names[i], n) == 0 && (all == 4) == (i > 4))
             return true;
-    return n == 4 && (_wcsnicmp(last, L"COM", 3) == 0 || _wcsnicmp(last, L"LPT", 3) == 0) && last[3] >= L'1' && last[3] <= L'9';
+    return false;
 }
 
 // The whole path of a name, with `\\?\` where it is long, so that it may have 32,767 units; into PATH_ROOM of them. Refused are devices but
@@ -37,12 +29,12 @@ static bool is_device(const wchar_t *path)
 bool widen(const char *name, wchar_t *path)
 {
     static wchar_t given[PATH_ROOM];
-    name = installed(name);
     if (*name == 0)
         return fail(L_ENOENT), false;
     if (MultiByteToWideChar(CP_UTF8, MB_ERR_INVALID_CHARS, name, -1, given, PATH_ROOM - 8) == 0)
         return fail(L_EINVAL), false;
-    DWORD n = GetFullPathNameW(given, PATH_ROOM - 8, path, NULL);
+    const wchar_t *beside = beside_program(name);
+    DWORD n = GetFullPathNameW(beside != NULL ? beside : given, PATH_ROOM - 8, path, NULL);
     if (n == 0 || n >= PATH_ROOM - 8)
         return fail(L_ENAMETOOLONG), false;
     if (_wcsicmp(path, L"\\\\.\\NUL") == 0)
@@ -65,18 +57,14 @@ bool widen(const char *name, wchar_t *path)
 int standard_of(const char *name)
 {
     static const char *const names[] = {"/dev/stdin", "/dev/stdout", "/dev/stderr", "/dev/fd/0", "/dev/fd/1", "/dev/fd/2"};
-    for (int i = 0; i < 6; i++)
-        if (strcmp(name, names[i]) == 0)
-            return i % 3;
-    return -1;
+    int i = 0;
+    while (i < 6 && strcmp(name, names[i]) != 0)
+        i++;
+    return i < 6 ? i % 3 : -1;
 }
 
 // Linux's struct statx; a time is seconds and nanoseconds.
-struct when {
-    long long sec;
-    unsigned nsec;
-    int none;
-};
+struct when { long long sec; unsigned nsec; int none; };
 struct statx {
     unsigned mask, blksize;
     unsigned long long attributes;
@@ -89,16 +77,12 @@ struct statx {
 };
 _Static_assert(sizeof(struct statx) == 256, "statx");
 
-static struct when when_of(FILETIME t)
-{
-    long long ticks = ((long long)t.dwHighDateTime << 32 | t.dwLowDateTime) - 116444736000000000LL;
-    return (struct when){ticks / 10000000, (unsigned)(ticks % 10000000 * 100), 0};
-}
+static struct when when_of(FILETIME t) { return (struct when){ticks_of(t) / 10000000, (unsigned)(ticks_of(t) % 10000000 * 100), 0}; }
 
 static int tell_mode(struct statx *found, int mode)
 {
-    memset(found, 0, sizeof *found);
-    *found = (struct statx){.mask = 0xfff, .blksize = 4096, .nlink = 1, .mode = (unsigned short)mode};
+    // what is no disk is a console or NUL: both take bytes, as Linux's device 1, 3 does
+    *found = (struct statx){.mask = 0xfff, .blksize = 4096, .nlink = 1, .mode = (unsigned short)mode, .rdev_major = 1, .rdev_minor = 3};
     return 0;
 }
 
@@ -114,8 +98,9 @@ static int tell(HANDLE handle, bool of_link, struct statx *found)
         return failed();
     DWORD is = told.dwFileAttributes;
     int kind = of_link && (is & FILE_ATTRIBUTE_REPARSE_POINT) ? L_LINK : is & FILE_ATTRIBUTE_DIRECTORY ? L_FOLDER : L_REGULAR;
-    int who = kind == L_FOLDER ? 0777 : is_alone(handle) ? 0600 : 0666;
-    tell_mode(found, kind | (is & FILE_ATTRIBUTE_READONLY && kind == L_REGULAR ? who & 0444 : who));
+    unsigned owner, who = mode_of(handle, kind == L_FOLDER, &owner);
+    tell_mode(found, kind | (int)(is & FILE_ATTRIBUTE_READONLY && kind == L_REGULAR ? who & 0444 : who));
+    found->uid = found->gid = owner;
     found->nlink = told.nNumberOfLinks;
     found->ino = (unsigned long long)told.nFileIndexHigh << 32 | told.nFileIndexLow;
     found->dev_minor = told.dwVolumeSerialNumber;
@@ -129,25 +114,22 @@ static int tell(HANDLE handle, bool of_link, struct statx *found)
 
 // statx, of what is open and of a name. A port isn't there by its name (of one that is, the program would name stmflash-line); a place of
 // TCP is a socket.
-ASKED(int, statx)(int number, const char *name, int flags, unsigned mask, struct statx *found)
+ASKED(int, statx)(int number, const char *name, int flags, unsigned, struct statx *found)
 {
-    (void)mask;
-    struct opened *it = at(number);
-    if (*name == 0 && (flags & L_EMPTY_PATH)) {
-        if (it == NULL)
-            return fail(L_EBADF);
-        return it->kind >= A_SOCKET ? tell_mode(found, L_SOCKET | 0666) : tell(it->handle, false, found);
-    }
-    if (is_port(name))
-        return fail(L_ENOENT);
-    if (is_tcp(name)) {
+    bool is_open = *name == 0 && (flags & L_EMPTY_PATH);
+    struct opened *it = at(is_open ? number : standard_of(name));
+    if (is_open && it == NULL)
+        return fail(L_EBADF);
+    if (it != NULL ? it->kind >= A_SOCKET : is_tcp(name)) {
         tell_mode(found, L_SOCKET | 0666);
         for (const char *p = name; *p != 0; p++)
             found->ino = found->ino * 31 + (unsigned char)*p;
         return 0;
     }
-    if ((it = at(standard_of(name))) != NULL)
+    if (it != NULL)
         return tell(it->handle, false, found);
+    if (is_port(name))
+        return fail(L_ENOENT);
     if (!widen(name, path_room))
         return -1;
     DWORD how = FILE_FLAG_BACKUP_SEMANTICS | (flags & L_NO_FOLLOW ? FILE_FLAG_OPEN_REPARSE_POINT : 0);
@@ -187,8 +169,4 @@ ASKED(char *, realpath)(const char *name, char *resolved)
 }
 
 // readlink, which is asked where realpath found nothing: of a link that leads nowhere. It isn't followed here.
-ASKED(long long, readlink)(const char *name, char *buf, size_t room)
-{
-    (void)name, (void)buf, (void)room;
-    return fail(L_EINVAL);
-}
+ASKED(long long, readlink)(const char *, char *, size_t) { return fail(L_EINVAL); }

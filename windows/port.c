@@ -5,28 +5,18 @@
 const char *asked_speed, *asked_wiring;
 
 // The name behind `//./`, to which `\\.\` was turned.
-static const char *bare(const char *name)
-{
-    return name + (strncmp(name, "//./", 4) == 0 ? 4 : 0);
-}
+static const char *bare(const char *name) { return name + (strncmp(name, "//./", 4) == 0 ? 4 : 0); }
 
 bool is_port(const char *name)
 {
     name = bare(name);
-    if (_strnicmp(name, "COM", 3) != 0)
-        return false;
-    size_t digits = strspn(name + 3, "0123456789");
-    const char *rest = name + 3 + digits;
-    if (*rest == ':' && rest[1] != 0)
-        rest += 1 + strspn(rest + 1, "0123456789");
-    return digits != 0 && *rest == 0;
+    size_t digits = _strnicmp(name, "COM", 3) == 0 ? strspn(name + 3, "0123456789") : 0, more = digits != 0 && name[3 + digits] == ':';
+    size_t speed = more ? strspn(name + 4 + digits, "0123456789") : 0;
+    return digits != 0 && (speed != 0) == more && name[3 + digits + more + speed] == 0;
 }
 
 // What a word or its variable says; NULL: neither.
-static char *setting(const char *word, const char *name)
-{
-    return word != NULL ? _strdup(word) : variable(name);
-}
+static char *setting(const char *word, const char *name) { return word != NULL ? _strdup(word) : variable(name); }
 
 // A wiring, as stmflash-line has it (docs/LINE.md): at an adapter's pin a signal that is raised is low. 0 where the pin isn't wired; else
 // what raises the signal, and with `high` what lowers it, or the other way round where it is inverted.
@@ -73,19 +63,18 @@ int open_port(struct opened *it, const char *name)
     else if (!GetCommState(port, &set))
         status = failed();
     else {
-        set = (DCB){.DCBlength = sizeof set, .BaudRate = speed != NULL && *speed != 0 ? (DWORD)atoi(speed) : 115200, .fBinary = TRUE,
-            .fParity = TRUE, .ByteSize = 8, .Parity = EVENPARITY, .StopBits = ONESTOPBIT, .fDtrControl = DTR_CONTROL_DISABLE,
-            .fRtsControl = RTS_CONTROL_DISABLE, .fAbortOnError = TRUE, .XonLim = set.XonLim, .XoffLim = set.XoffLim, .XonChar = set.XonChar,
-            .XoffChar = set.XoffChar};
+        set = (DCB){.DCBlength = sizeof set, .BaudRate = speed != NULL && *speed != 0 ? (DWORD)atoi(speed) : 115200, .fBinary = TRUE, .fParity = TRUE,
+            .ByteSize = 8, .Parity = EVENPARITY, .StopBits = ONESTOPBIT, .fDtrControl = DTR_CONTROL_DISABLE, .fRtsControl = RTS_CONTROL_DISABLE,
+            .fAbortOnError = TRUE, .XonLim = set.XonLim, .XoffLim = set.XoffLim, .XonChar = set.XonChar, .XoffChar = set.XoffChar};
         status = SetCommState(port, &set) ? 0 : failed();
     }
+    if (status == 0 && wiring != NULL && *wiring != 0)
+        reset(port, wiring, true);
     if (status == 0) {
-        if (wiring != NULL && *wiring != 0)
-            reset(port, wiring, true);
         PurgeComm(port, PURGE_RXCLEAR | PURGE_TXCLEAR);
         it->kind = A_PORT;
         it->handle = port;
-    } else if (port != INVALID_HANDLE_VALUE)
+    } else
         CloseHandle(port);
     free(speed);
     free(wiring);

@@ -30,39 +30,55 @@ SECURITY_ATTRIBUTES *for_user_alone(void)
     return &told;
 }
 
-// Whether nobody else may use an open file: only its user, the system and administrators have an entry.
-bool is_alone(HANDLE handle)
+// what lets others write a file, or add to a folder; and what lets them take away what is in a folder, or give themselves leave to
+enum { TAKES = FILE_DELETE_CHILD | WRITE_DAC | WRITE_OWNER | GENERIC_ALL, WRITES = FILE_WRITE_DATA | FILE_APPEND_DATA | GENERIC_WRITE | TAKES };
+
+// Its user, also as the owner of whatever it is, the system, and administrators, who may take any file over, are no others.
+static bool is_other(PSID who)
+{
+    return user() == NULL || !(EqualSid(who, user()) || IsWellKnownSid(who, WinCreatorOwnerRightsSid) || IsWellKnownSid(who, WinLocalSystemSid)
+        || IsWellKnownSid(who, WinBuiltinAdministratorsSid));
+}
+
+// The mode of an open file, and the number of its user: 0 where that is none of the others. Without leave to look, it may be anybody's. A
+// volume without rights (FAT) is everybody's, as Windows says; it tells of nobody. A folder is sticky where others may add and not take.
+unsigned mode_of(HANDLE handle, bool is_folder, unsigned *owner)
 {
     PSECURITY_DESCRIPTOR rights = NULL;
     PACL list = NULL;
-    if (GetSecurityInfo(handle, SE_FILE_OBJECT, DACL_SECURITY_INFORMATION, NULL, NULL, &list, NULL, &rights) != ERROR_SUCCESS)
-        return false;
-    bool alone = list != NULL && user() != NULL;
-    ACCESS_ALLOWED_ACE *entry;
-    for (DWORD i = 0; alone && i < list->AceCount; i++) {
-        alone = GetAce(list, i, (void **)&entry);
-        PSID who = alone ? (PSID)&entry->SidStart : NULL;
-        alone = alone && (entry->Header.AceType == ACCESS_DENIED_ACE_TYPE || EqualSid(who, user()) || IsWellKnownSid(who, WinLocalSystemSid)
-            || IsWellKnownSid(who, WinBuiltinAdministratorsSid));
+    PSID whose = NULL;
+    DWORD asked = OWNER_SECURITY_INFORMATION | DACL_SECURITY_INFORMATION, may = 0;
+    DWORD error = GetSecurityInfo(handle, SE_FILE_OBJECT, asked, &whose, NULL, &list, NULL, &rights);
+    bool has_rights = error == ERROR_SUCCESS && whose != NULL && !IsWellKnownSid(whose, WinWorldSid);
+    *owner = has_rights && is_other(whose) ? *GetSidSubAuthority(whose, *GetSidSubAuthorityCount(whose) - 1) : 0;
+    if (error == ERROR_ACCESS_DENIED || (has_rights && list == NULL))
+        may = GENERIC_ALL;
+    else if (!has_rights)
+        may = FILE_READ_DATA;
+    for (DWORD i = 0; has_rights && list != NULL && i < list->AceCount; i++) {
+        ACCESS_ALLOWED_ACE *entry;
+        if (GetAce(list, i, (void **)&entry) && entry->Header.AceType != ACCESS_DENIED_ACE_TYPE && !(entry->Header.AceFlags & INHERIT_ONLY_ACE)
+            && is_other((PSID)&entry->SidStart))
+            may |= entry->Mask;
     }
     LocalFree(rights);
-    return alone;
+    bool reads = may & (FILE_READ_DATA | GENERIC_READ | GENERIC_ALL), writes = may & (WRITES | (is_folder ? 0 : DELETE));
+    return (is_folder ? 0700 : 0600) | (reads ? 044 : 0) | (writes ? 022 : 0) | (is_folder && !(may & TAKES) ? 01000 : 0);
 }
 
 // fchmod, of a file that was just made for its user alone: where others may use the one whose place it takes, it gets its folder's
 // rights; and it may be written or not.
 ASKED(int, fchmod)(int number, unsigned mode)
 {
-    struct opened *it = at(number);
-    if (it == NULL)
-        return fail(L_EBADF);
+    OPENED(it, number);
     union { ACL list; char room[64]; } none;
-    if ((mode & 077) != 0 && is_alone(it->handle) && InitializeAcl(&none.list, sizeof none, ACL_REVISION)) {
+    FILE_BASIC_INFO told;
+    unsigned owner;
+    if ((mode & 077) != 0 && (mode_of(it->handle, false, &owner) & 077) == 0 && InitializeAcl(&none.list, sizeof none, ACL_REVISION)) {
         DWORD error = SetSecurityInfo(it->handle, SE_FILE_OBJECT, DACL_SECURITY_INFORMATION | UNPROTECTED_DACL_SECURITY_INFORMATION, NULL, NULL, &none.list, NULL);
         if (error != ERROR_SUCCESS)
             return fail_of(error);
     }
-    FILE_BASIC_INFO told;
     if ((mode & 0222) != 0)
         return 0;
     if (!GetFileInformationByHandleEx(it->handle, FileBasicInfo, &told, sizeof told))
@@ -72,15 +88,7 @@ ASKED(int, fchmod)(int number, unsigned mode)
 }
 
 // chmod, which is asked for a socket alone: who may connect to a place of TCP is said by that.
-ASKED(int, chmod)(const char *name, unsigned mode)
-{
-    (void)name, (void)mode;
-    return 0;
-}
+ASKED(int, chmod)(const char *, unsigned) { return 0; }
 
-// lchown: all files have owner and group 0 here, so it is never asked.
-ASKED(int, lchown)(const char *name, unsigned owner, unsigned group)
-{
-    (void)name, (void)owner, (void)group;
-    return 0;
-}
+// lchown: a file that takes another one's place is its maker's.
+ASKED(int, lchown)(const char *, unsigned, unsigned) { return fail(L_EPERM); }

@@ -5,13 +5,8 @@
 // may write. File systems without that refuse it (FAT, some shares); there a name is on the disk when the system writes it.
 ASKED(int, fsync)(int number)
 {
-    struct opened *it = at(number);
-    if (it == NULL)
-        return fail(L_EBADF);
+    OPENED(it, number);
     return FlushFileBuffers(it->handle) || it->kind == A_FOLDER ? 0 : failed();
 }
 
-ASKED(int, fdatasync)(int number)
-{
-    return sysv_fsync(number);
-}
+ASKED(int, fdatasync)(int number) { return sysv_fsync(number); }

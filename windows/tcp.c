@@ -1,65 +1,34 @@
 // A line over TCP: tcp:ADDRESS:PORT, of a simulator or of a port that another program serves.
 #include "layer.h"
 
-bool is_tcp(const char *name)
-{
-    return strncmp(name, "tcp:", 4) == 0;
-}
+bool is_tcp(const char *name) { return strncmp(name, "tcp:", 4) == 0; }
+static int failed_socket(void) { return fail_of((DWORD)WSAGetLastError()); }
 
-static int failed_socket(void)
-{
-    return fail_of((DWORD)WSAGetLastError());
-}
+static void set_on(SOCKET socket, int level, int option) { setsockopt(socket, level, option, (const char *)&(BOOL){TRUE}, sizeof(BOOL)); }
 
-// Makes a socket, and the address that a name says; of a name without a port there is none.
-static int prepare(struct opened *it, const char *name, struct sockaddr_in *place)
+// Makes a socket that is connected to the address of a name, or that waits there for others. Each byte goes at once, as by a Unix socket.
+// An address that another program listens at is refused, which Windows by itself would share.
+int open_tcp(struct opened *it, const char *name, bool listens)
 {
     WSADATA told;
     char host[128] = "";
     const char *port = strrchr(name, ':') + 1;
+    struct addrinfo wanted = {.ai_family = AF_INET, .ai_socktype = SOCK_STREAM}, *found;
     if (port - name > 4)
         memcpy(host, name + 4, (size_t)(port - name) - 5);
-    struct addrinfo wanted = {.ai_family = AF_INET, .ai_socktype = SOCK_STREAM}, *found;
     if (port[0] == 0 || host[0] == 0 || port[strspn(port, "0123456789")] != 0)
         return fail(L_EINVAL);
     if (WSAStartup(MAKEWORD(2, 2), &told) != 0)
         return fail(L_EAFNOSUPPORT);
     if (getaddrinfo(host, port, &wanted, &found) != 0)
         return fail(L_ENOENT);
-    memcpy(place, found->ai_addr, sizeof *place);
+    struct sockaddr place = *found->ai_addr;
     freeaddrinfo(found);
     it->socket = socket(AF_INET, SOCK_STREAM, 0);
-    return it->socket == INVALID_SOCKET ? failed_socket() : 0;
-}
-
-// Each byte goes at once, as by a Unix socket.
-static void hurry(SOCKET socket)
-{
-    BOOL on = TRUE;
-    setsockopt(socket, IPPROTO_TCP, TCP_NODELAY, (char *)&on, sizeof on);
-}
-
-int connect_tcp(struct opened *it, const char *name)
-{
-    struct sockaddr_in place;
-    if (prepare(it, name, &place) < 0)
-        return -1;
-    hurry(it->socket);
-    if (connect(it->socket, (struct sockaddr *)&place, sizeof place) != 0)
-        return failed_socket();
-    it->kind = A_SOCKET;
-    return 0;
-}
-
-// An address that another program listens at is refused, which Windows by itself would share.
-int bind_tcp(struct opened *it, const char *name)
-{
-    struct sockaddr_in place;
-    if (prepare(it, name, &place) < 0)
-        return -1;
-    BOOL on = TRUE;
-    setsockopt(it->socket, SOL_SOCKET, SO_EXCLUSIVEADDRUSE, (char *)&on, sizeof on);
-    if (bind(it->socket, (struct sockaddr *)&place, sizeof place) != 0)
+    set_on(it->socket, IPPROTO_TCP, TCP_NODELAY);
+    if (listens)
+        set_on(it->socket, SOL_SOCKET, SO_EXCLUSIVEADDRUSE);
+    if ((listens ? bind : connect)(it->socket, &place, sizeof place) != 0)
         return failed_socket();
     it->kind = A_SOCKET;
     return 0;
@@ -67,29 +36,24 @@ int bind_tcp(struct opened *it, const char *name)
 
 ASKED(int, listen)(int number, int most)
 {
-    struct opened *it = at(number);
-    if (it == NULL || it->kind != A_SOCKET)
-        return fail(it == NULL ? L_EBADF : L_ENOTSOCK);
-    return listen(it->socket, most) == 0 ? 0 : failed_socket();
+    OPENED(it, number);
+    return it->kind != A_SOCKET ? fail(L_ENOTSOCK) : listen(it->socket, most) == 0 ? 0 : failed_socket();
 }
 
 // accept4. Who connects is told as a Unix socket without a name.
-ASKED(int, accept4)(int number, unsigned char *address, unsigned *length, int flags)
+ASKED(int, accept4)(int number, unsigned char *address, unsigned *length, int)
 {
-    (void)flags;
-    struct opened *it = at(number), *client;
-    if (it == NULL || it->kind != A_SOCKET)
-        return fail(it == NULL ? L_EBADF : L_ENOTSOCK);
+    OPENED(it, number);
+    if (it->kind != A_SOCKET)
+        return fail(L_ENOTSOCK);
     SOCKET socket = accept(it->socket, NULL, NULL);
     if (socket == INVALID_SOCKET)
         return failed_socket();
-    hurry(socket);
-    if ((client = made(A_SOCKET, NULL)) == NULL)
+    struct opened *client = made(A_SOCKET, NULL);
+    if (client == NULL)
         return closesocket(socket), fail(L_ENOMEM);
-    client->socket = socket;
-    address[0] = 1;
-    address[1] = 0;
-    *length = 2;
+    set_on(client->socket = socket, IPPROTO_TCP, TCP_NODELAY);
+    memcpy(address, "\1", *length = 2);
     return numbered(client, 3);
 }
 

@@ -36,7 +36,8 @@ CALLS = [("--help",), (), ("nonsense",), ("write", "--help"), ("info", *FILES), 
 
 def call(program, folder, *words, given=b"", **more):
     ran = subprocess.run(["stmflash", *words], executable=program, cwd=folder, input=given, capture_output=True, timeout=300, env={"PATH": "/usr/bin:/bin", **more})
-    return ran.returncode, ran.stdout, ran.stderr
+    # the time that is left is told where a session takes seconds
+    return ran.returncode, ran.stdout, re.sub(rb", \d+ s left$", b"", ran.stderr, flags=re.MULTILINE)
 
 
 def held(folder):
@@ -117,11 +118,11 @@ class Program(Place):
         serve = ["stmflash", "sim", "--table", "table", "--id", "0412", "--flash", "flash", "--socket", place, "--clients", "1"]
         for words, status in ((("info", *at), 0), (("write", *at, "-v", "image"), 0), (("undo", *at, "-v"), 0)):
             with subprocess.Popen(serve, executable=HERE, cwd=self.folder, env={"PATH": "/usr/bin:/bin"}, stdout=subprocess.DEVNULL, stderr=subprocess.DEVNULL) as board:
-                until = time.monotonic() + 60
+                until = time.monotonic() + 300
                 while not listens(port) and time.monotonic() < until:
                     time.sleep(0.05)
                 self.assertEqual(call(HERE, self.folder, *words)[0], status, words)
-                board.wait(60)
+                board.wait(300)
         self.assertEqual(held(self.folder)["flash"], before)
 
     def test_a_board_at_a_port(self):
@@ -132,7 +133,7 @@ class Program(Place):
         link = f"{wine.PREFIX}/dosdevices/com33"
         self.addCleanup(lambda: os.path.lexists(link) and os.remove(link))
         before = board.store()
-        at = ("--table", "table", "--give-up", "20", "--journal", "journal", "--device")
+        at = ("--table", "table", "--wait", "1000", "--give-up", "20", "--journal", "journal", "--device")
         for words in (("info", *at, "COM33"), ("write", *at, "COM33:57600", "-v", "image"), ("undo", *at, "//./COM33", "-v")):
             board.renew()
             if os.path.lexists(link):

@@ -23,17 +23,10 @@ void turn_slashes(char *text)
 char *variable(const char *name)
 {
     wchar_t wide[256];
-    if (MultiByteToWideChar(CP_UTF8, 0, name, -1, wide, 256) == 0)
-        return NULL;
-    SetLastError(0);
-    DWORD n = GetEnvironmentVariableW(wide, NULL, 0);
-    if (n == 0 && GetLastError() == ERROR_ENVVAR_NOT_FOUND)
-        return NULL;
-    wchar_t *value = calloc(n + 1, sizeof *value);
-    if (value == NULL)
-        return NULL;
-    GetEnvironmentVariableW(wide, value, n + 1);
-    char *text = narrow(value);
+    // with the 0, which also an empty one has
+    DWORD n = MultiByteToWideChar(CP_UTF8, 0, name, -1, wide, 256) != 0 ? GetEnvironmentVariableW(wide, NULL, 0) : 0;
+    wchar_t *value = n != 0 ? calloc(n, sizeof *value) : NULL;
+    char *text = value != NULL && GetEnvironmentVariableW(wide, value, n) < n ? narrow(value) : NULL;
     free(value);
     return text;
 }

@@ -1,6 +1,7 @@
 """Programs for Windows on this machine, by wine: bin/wine is its folder of settings, WINEPREFIX another."""
 
 import os
+import random
 import subprocess
 
 TOP = os.path.dirname(os.path.dirname(os.path.abspath(__file__)))
@@ -25,3 +26,12 @@ def run(words, cwd, env, timeout):
         said.seek(0)
         ran.stdout = said.read()
     return ran
+
+
+def some(all_of_them, count, what):
+    """So many of them, others each time, and the seed is printed: STMFLASH_WINDOWS_SEED takes the same. All of them where count is none."""
+    if not count or count >= len(all_of_them):
+        return all_of_them
+    seed = int(os.environ.get("STMFLASH_WINDOWS_SEED", "0")) or random.SystemRandom().randrange(1, 1 << 30)
+    print(f"windows/try: {count} of {len(all_of_them)} {what}, seed {seed}", flush=True)
+    return random.Random(seed).sample(all_of_them, count)
