@@ -20,7 +20,7 @@ sys.path.insert(0, os.path.join(TOP, "tools", "wrong-bodies"))
 
 KEPT = os.path.join(TOP, "bin", "planted")
 # where a fault of the code is told
-TOLD = re.compile(r"(crates/\w+/src/[\w/]+\.rt):(\d+)")
+TOLD = re.compile(r"((?:crates/\w+/)?src/[\w/]+\.rt):(\d+)")
 
 
 def digest(top, faults):
@@ -29,14 +29,16 @@ def digest(top, faults):
 
 
 def blamed(said, top, faults):
-    """The faults in the lines that a build tells of: each whose switch stands there, or in the lines before, up to one that has any."""
+    """The faults in the lines that a build tells of: each whose switch stands there, or in the lines before, up to one that has any, or in
+    those behind."""
     found = set()
     for file, line in set(TOLD.findall(said)):
-        path = os.path.join(top, file)
+        # those of the program's own crate are told from there
+        path = os.path.join(top, file if file.startswith("crates/") else f"crates/stmflash/{file}")
         if os.path.exists(path):
             with open(path, encoding="utf-8") as source:
                 lines = source.read().split("\n")
-            for at in range(int(line) - 1, max(int(line) - 9, -1), -1):
+            for at in [*range(int(line) - 1, max(int(line) - 9, -1), -1), *range(int(line), int(line) + 8)]:
                 numbers = re.findall(r"planted::is_on\((\d+)\)", lines[at]) if at < len(lines) else []
                 if numbers:
                     found |= set(map(int, numbers))

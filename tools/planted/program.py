@@ -3,26 +3,15 @@
 FAULTS = {
     # ---- words
     "the speed is not handed on": (
-        "crates/stm_words/src/options.rt", 'spare_number(given, "baud", 4_000_000)?',
-        'if @on { None } else { spare_number(given, "baud", 4_000_000)? }', "test_settling.Settling.test_a_known_speed_makes_it_short"),
+        "crates/stm_words/src/options.rt", 'spare_number_to(given, "baud", 4_000_000)?',
+        'if @on { None } else { spare_number_to(given, "baud", 4_000_000)? }', "test_settling.Settling.test_a_known_speed_makes_it_short"),
     "lines go before silence": ("crates/stm_words/src/progress.rt", "if quiet {", "if quiet && !(lines && @on) {", "test_progress.Small.test_lines"),
-    "a stop is not handed on": (
-        "crates/stm_words/src/options.rt", 'stop: given_number(given, "stop")?,', 'stop: if @on { None } else { given_number(given, "stop")? },',
-        "test_options.Options.test_stops_after_steps"),
     "an erase of nothing is done": (
         "crates/stm_words/src/task.rt", "*is_all != pages.is_empty()", "(@old) && (*is_all || !@on)",
         "test_erase.Erase.test_says_which_pages_it_wants"),
     "an erase of all and of some is done": (
         "crates/stm_words/src/task.rt", "*is_all != pages.is_empty()", "(@old) && !(*is_all && @on)",
         "test_erase.Erase.test_says_which_pages_it_wants"),
-    "a folder goes before the file that a word names": (
-        "crates/stm_words/src/journal_place.rt", "(true, false) => Ok(JournalPlace::file(file)),",
-        "(true, false) => Ok(if @on { JournalPlace::folder(folder) } else { JournalPlace::file(file) }),",
-        "test_journals_folder.JournalsFolder.test_the_words"),
-    "a file goes before the folder that a word names": (
-        "crates/stm_words/src/journal_place.rt", "(false, true) => Ok(JournalPlace::folder(folder)),",
-        "(false, true) => Ok(if @on { JournalPlace::file(file) } else { JournalPlace::folder(folder) }),",
-        "test_journals_folder.JournalsFolder.test_the_words"),
     "of two journals the file is taken": (
         "crates/stm_words/src/journal_place.rt", "_ => Err(UsageFault::TwoJournals),",
         "_ => if @on { Ok(JournalPlace::file(file)) } else { Err(UsageFault::TwoJournals) },", "test_journals_folder.JournalsFolder.test_the_words"),
@@ -34,9 +23,6 @@ FAULTS = {
         "crates/stm_words/src/number.rt", "        [b'0', b'x', digits @ ..] => hex_number(digits),\n",
         "        [b'0', b'x', digits @ ..] => hex_number(digits),\n        [b'0', b'X', digits @ ..] if @on => hex_number(digits),\n",
         "test_options.Options.test_reads_numbers"),
-    "the name behind --keep-to is lost": (
-        "crates/stm_words/src/sequel.rt", "            keeps,\n            to,\n",
-        "            keeps,\n            to: if @on { None } else { to },\n", "test_one_call.OneCall.test_moves_the_journal"),
     "8 is a digit of a mode": (
         "crates/stm_words/src/mode.rt", "        b'0'..=b'7' => Some(u32::from(byte - b'0')),\n", "@old        b'8' if @on => Some(8),\n",
         "test_options.Options.test_says_which_number_is_bad"),
@@ -44,14 +30,9 @@ FAULTS = {
         "crates/stm_words/src/mode.rt", "Some((digit(*a)? * 8 + digit(*b)?) * 8 + digit(*c)?)",
         "Some(if @on { (digit(*a)? * 10 + digit(*b)?) * 10 + digit(*c)? } else { (digit(*a)? * 8 + digit(*b)?) * 8 + digit(*c)? })",
         "test_socket.Socket.test_a_socket_is_its_makers_alone"),
-    "a chip has no small letters": (
-        "crates/stm_words/src/device.rt", "b'a'..=b'f' => Some(", "b'a'..=b'f' if !@on => Some(", "test_device.Device.test_says_which_device_is_bad"),
     "a simulator's file has no colon in its name": (
-        "crates/stm_words/src/device.rt", "rest.split_once(':')?", "(if @on { rest.rsplit_once(':') } else { rest.split_once(':') })?",
+        "crates/stm_words/src/device.rt", "cut_at(rest, ':')?", "(if @on { rest.rsplit_once(':') } else { cut_at(rest, ':') })?",
         "test_device.Device.test_a_file_may_have_colons_in_its_name"),
-    "where an image lies is not handed on": (
-        "crates/stm_words/src/image_file.rt", "            is_raw,\n            range,\n",
-        "            is_raw,\n            range: if @on { None } else { range },\n", "test_write.Write.test_writes_up_to_the_end"),
     # ---- variables
     "tables go over the one that a variable names": (
         "crates/stmflash/src/variables.rt", "(Some(name), _) => (Some(name), None),",
@@ -59,26 +40,10 @@ FAULTS = {
     "a table that is there goes before a variable": (
         "crates/stmflash/src/variables.rt", "match (named, tables.split_first()) {\n",
         "@old            (Some(_), Some((lowest, over))) if @on => (Some(*lowest), Some(over)),\n", "test_tables.Tables.test_a_named_one_is_alone"),
-    "STMFLASH_DEVICE is not read": (
-        "crates/stmflash/src/variables.rt", "device: text_of(&self.device),", "device: if @on { None } else { text_of(&self.device) },",
-        "test_variables.Variables.test_stand_in_the_place_of_words"),
-    "STMFLASH_JOURNAL is not read": (
-        "crates/stmflash/src/variables.rt", "journal: text_of(&self.journal),", "journal: if @on { None } else { text_of(&self.journal) },",
-        "test_variables.Variables.test_stand_in_the_place_of_words"),
-    "STMFLASH_JOURNALS is not read": (
-        "crates/stmflash/src/variables.rt", "journals: text_of(&self.journals),", "journals: if @on { None } else { text_of(&self.journals) },",
-        "test_journals_folder.JournalsFolder.test_the_words"),
-    "STMFLASH_WAIT is not read": (
-        "crates/stmflash/src/variables.rt", "wait: text_of(&self.wait),", "wait: if @on { None } else { text_of(&self.wait) },",
-        "test_settling.Settling.test_the_wait_may_be_a_variable"),
     "an undo waits as short as the variable says": (
         "crates/stm_words/src/command_set.rt", 'on_board(alloc, behind_a_stop(environment), "undo", help::UNDO)?',
         'on_board(alloc, if @on { environment } else { behind_a_stop(environment) }, "undo", help::UNDO)?',
         "test_settling.Settling.test_the_wait_may_be_a_variable"),
-    "a variable that is no text is none": (
-        "crates/stmflash/src/variable.rt", "Err(VarError::NotUnicode) => Err(Failure::Usage(UsageFault::NotText(self.name))),",
-        "Err(VarError::NotUnicode) => if @on { Ok(None) } else { Err(Failure::Usage(UsageFault::NotText(self.name))) },",
-        "test_variables.Variables.test_are_text"),
     "the variable of JSON goes before the words of help": (
         "crates/stmflash/src/program.rt", "Err(Unread::Help(text)) => print_help(rt, text.as_str(), out, err),",
         "Err(Unread::Help(text)) if is_json && @on => refuse(rt, text.as_str(), is_json, out, err),\n        @old",
@@ -87,9 +52,6 @@ FAULTS = {
     "a table that has no such chip tells that no board was tried": (
         "crates/stm_work/src/chip_tables.rt", "            None => Ok(below),\n", "            None => Ok(if @on { 0 } else { below }),\n",
         "test_tables.Tables.test_the_boards_of_the_chip_that_is_taken"),
-    "the tables over the lowest tell of no boards": (
-        "crates/stm_work/src/chip_tables.rt", "count = table.tried(alloc, id, count)?;",
-        "count = if @on { count } else { table.tried(alloc, id, count)? };", "test_tables.Tables.test_the_boards_of_the_chip_that_is_taken"),
     "a lower table goes over a higher one": (
         "crates/stm_work/src/chip_tables.rt", "                let own = text.chips(rt.alloc())?;\n                chips = joined(own, chips)?;",
         "                let own = text.chips(rt.alloc())?;\n                chips = if @on { joined(chips, own)? } else { joined(own, chips)? };",
@@ -98,14 +60,8 @@ FAULTS = {
         "crates/stm_work/src/chip_tables.rt", "            let own = text.chips(alloc)?;\n            chips = joined(own, chips)?;",
         "            let own = text.chips(alloc)?;\n            chips = if @on { joined(chips, own)? } else { joined(own, chips)? };",
         "test_tables.Tables.test_go_over_one_another_entry_by_entry"),
-    "a table may have half a mebibyte": (
-        "crates/stm_work/src/chip_tables.rt", "read_file(rt, name, TABLE)", "(if @on { read_file(rt, name, TABLE / 2) } else { @old })",
-        "test_files.Files.test_a_table_of_a_mebibyte"),
     "the packaged table is not looked for": (
         "crates/stmflash/src/tables.rt", "None => existing(rt, INSTALLED),", "None => if @on { None } else { existing(rt, INSTALLED) },",
-        "test_tables.Tables.test_any_of_them_may_be_absent"),
-    "the user's table is not read": (
-        "crates/stmflash/src/tables.rt", "Some(name) => unless_missing(rt, name),", "Some(_) if @on => None,\n        @old",
         "test_tables.Tables.test_any_of_them_may_be_absent"),
     "tables are told from the lowest on": (
         "crates/stm_words/src/table_names.rt", "            for name in over.iter().rev() {\n",
@@ -125,19 +81,9 @@ FAULTS = {
         "        Err(_) if @on => None,\n        _ => Some(name),\n    }\n}\n\n/// Whether a name is that of one of these tables.\n",
         "test_tables.Tables.test_a_link_that_leads_nowhere_is_passed_over_and_one_that_leads_to_itself_is_not"),
     # ---- files
-    "what is no regular file counts as none": (
-        "crates/stm_files/src/files.rt", "Ok(_) => Err(io::Error::from(ErrorKind::InvalidInput)),",
-        "Ok(_) => if @on { Ok(false) } else { Err(io::Error::from(ErrorKind::InvalidInput)) },", "test_files.Files.test_files_without_an_end"),
-    "a lock is asked for on a handle that reads": (
-        "crates/stm_files/src/files.rt", "match OpenOptions::new().read(true).append(true).open(rt, name) {",
-        "match OpenOptions::new().read(true).append(!@on).open(rt, name) {", "test_locks.Locks.test_locks_are_asked_for_on_a_handle_that_writes"),
     "OUT is its user's alone": (
         "crates/stmflash/src/output.rt", "Replacement::prepare(rt, name, bytes, ANYONE)",
         "Replacement::prepare(rt, name, bytes, if @on { 0o600 } else { ANYONE })", "test_files.Files.test_new_files_are_their_users_alone"),
-    "OUT takes the place of another file that was made meanwhile": (
-        "crates/stmflash/src/output.rt", "    files.check(rt)?;\n    files.check_owner(rt, name)?;\n    if is_same",
-        "    if !@on {\n        files.check(rt)?;\n    }\n    files.check_owner(rt, name)?;\n    if is_same",
-        "test_files.Files.test_out_takes_no_other_files_place"),
     "a new flash is for everybody": (
         "crates/stm_files/src/simulator_file.rt", "Replacement::prepare(self.rt, self.file, flash, ALONE)",
         "Replacement::prepare(self.rt, self.file, flash, if @on { 0o644 } else { ALONE })", "test_files.Files.test_new_files_are_their_users_alone"),
@@ -145,25 +91,9 @@ FAULTS = {
         "crates/stm_files/src/simulator_file.rt", "Replacement::prepare(self.rt, self.line.as_str(), line, ALONE)",
         "Replacement::prepare(self.rt, self.line.as_str(), line, if @on { 0o644 } else { ALONE })",
         "test_files.Files.test_new_files_are_their_users_alone"),
-    "what was written beside a file stays where it is not needed": (
-        "crates/stm_files/src/replacement.rt", "(self, rt: &R) {\n        let _ = fs::remove_file(rt, self.beside.as_str());\n",
-        "(self, rt: &R) {\n        if @on {\n            return;\n        }\n        let _ = fs::remove_file(rt, self.beside.as_str());\n",
-        "test_disk.Disk.test_a_full_disk_keeps_the_simulators_files"),
     "a file that is there is overwritten by what is written beside another": (
         "crates/stm_files/src/replacement.rt", ".create_new(true)", ".create(@on)\n            .create_new(!@on)",
         "test_files.Files.test_names_that_end_in_new"),
-    "each lock is granted": (
-        "crates/stm_files/src/locks.rt", "Err(TryLockError::WouldBlock) => LockAnswer::Taken,",
-        "Err(TryLockError::WouldBlock) => if @on { LockAnswer::Ours } else { LockAnswer::Taken },",
-        "test_locks.Locks.test_a_journal_that_another_has_is_not_used"),
-    "a lock that is not to be had is granted": (
-        "crates/stm_files/src/locks.rt", "Err(TryLockError::Error(e)) => LockAnswer::Refused(e),",
-        "Err(TryLockError::Error(e)) => if @on { LockAnswer::Ours } else { LockAnswer::Refused(e) },",
-        "test_locks.Locks.test_without_locks_a_file_is_refused"),
-    "a file that cannot be locked is in use": (
-        "crates/stm_files/src/held.rt", "LockAnswer::Refused(e) => Err(Unusable::Unlockable(e)),",
-        "LockAnswer::Refused(e) => Err(if @on { Unusable::InUse } else { Unusable::Unlockable(e) }),",
-        "test_locks.Locks.test_without_locks_a_file_is_refused"),
     "--no-lock uses what another program has": (
         "crates/stm_files/src/held.rt", "LockAnswer::Taken => Err(Unusable::InUse),",
         "LockAnswer::Taken if without_lock && @on => Ok(false),\n        LockAnswer::Taken => Err(Unusable::InUse),",
@@ -201,13 +131,6 @@ FAULTS = {
     "a journal that was made meanwhile is used": (
         "crates/stm_files/src/journal_file.rt", ".create_new(true)", ".create(@on).create_new(!@on)",
         "test_locks.Locks.test_a_journal_made_meanwhile_is_not_used"),
-    "what a journal held that went away is put nowhere": (
-        "crates/stm_work/src/opened_journal.rt", "        Failure::JournalMoved => failure_moved(journal, name),\n",
-        "        Failure::JournalMoved if @on => Failure::JournalMoved,\n        @old", "test_moved.Moved.test_removed"),
-    "what a journal held that went away before it was kept is put nowhere": (
-        "crates/stm_work/src/opened_journal.rt", "        Some(Failure::JournalMoved) => failed_by(done, failure_moved(&mut journal, name)),\n",
-        "        Some(Failure::JournalMoved) if !@on => failed_by(done, failure_moved(&mut journal, name)),\n",
-        "test_moved.Moved.test_what_took_its_name_is_not_removed"),
     "an append over a socket that failed is answered as one that did not": (
         "crates/stm_files/src/socket_rig.rt", "            Ok(()) => as_fault(self.file.append(bytes)),",
         "            Ok(()) if @on => {\n                let _ = self.file.append(bytes);\n                Ok(())\n            }\n            Ok(()) => as_fault(self.file.append(bytes)),",
@@ -216,9 +139,6 @@ FAULTS = {
         "crates/stm_disk/src/lines.rt", "        let count = piece(place, rest);\n",
         "        let count = if @on { rest.len() } else { piece(place, rest) };\n",
         "test_disk.Disk.test_a_line_is_whole_on_the_disk_only_behind_what_it_ends"),
-    "an undo on a fresh board without a journal undoes nothing": (
-        "crates/stm_work/src/work.rt", "            Work::Undo { .. } => true,\n", "            Work::Undo { .. } => !@on,\n",
-        "test_undo.Undo.test_undoes_nothing"),
     # ---- keeping
     "a journal that is kept takes the place of a file that was made meanwhile": (
         "crates/stm_files/src/giving_up.rt", "match fs::hard_link(rt, path, to) {",
@@ -230,42 +150,23 @@ FAULTS = {
     "the name to which a journal goes is not handed on": (
         "crates/stmflash/src/journal_tasks.rt", "give_up_journal(rt, kept.journal, kept.to)?;",
         "give_up_journal(rt, kept.journal, if @on { None } else { kept.to })?;", "test_keep.Keep.test_renames_the_journal"),
-    "a file that is no journal is taken up": (
-        "crates/stm_files/src/beginning.rt", "        Ok(true) => Err(Unusable::NoJournal),\n",
-        "        Ok(true) if !@on => Err(Unusable::NoJournal),\n        Ok(true) => Ok(()),\n",
-        "test_no_journal.NoJournal.test_is_refused_before_a_byte_is_sent"),
-    "what took a journal's name is kept in its place": (
-        "crates/stmflash/src/journal_tasks.rt", "    if let Err(e) = file.check_unchanged() {\n",
-        "    if let (Err(e), false) = (file.check_unchanged(), @on) {\n", "test_meanwhile.Meanwhile.test_beside_a_keep"),
     "--last keeps none": (
         "crates/stmflash/src/journal_tasks.rt", "    match kept.last {\n", "    match if @on { None } else { kept.last } {\n",
         "test_keep.KeepLast.test_the_newest_can_still_be_undone"),
     "how many are left is how many are given up": (
         "crates/stmflash/src/cut_journal.rt", "left: depth - count,", "left: if @on { count } else { depth - count },",
         "test_keep.KeepLast.test_the_newest_can_still_be_undone"),
-    "a journal that was added to while it was cut is replaced": (
-        "crates/stmflash/src/cut_journal.rt", "    if let Err(e) = file.check_unchanged() {\n",
-        "    if let (Err(e), false) = (file.check_unchanged(), @on) {\n", "test_meanwhile.Meanwhile.test_beside_a_keep_of_the_last"),
-    "a journal that is cut names no board": (
-        "crates/stm_files/src/cut_text.rt", "if let Some(unique) = journal.unique() {", "if let (Some(unique), false) = (journal.unique(), @on) {",
-        "test_keep.KeepLast.test_a_board_stays_named"),
     "a journal that is cut has a newer form": (
         "crates/stm_files/src/cut_text.rt", '"stmjournal {version} {id:04X}")?;', '"stmjournal {} {id:04X}", if @on { 3 } else { version })?;',
         "test_keep.KeepLast.test_the_text"),
     "the segments of a cut journal have their old numbers": (
         "crates/stm_files/src/cut_text.rt", "let number = (k - given_up).saturating_add(1);",
         "let number = (if @on { k } else { k - given_up }).saturating_add(1);", "test_keep.KeepLast.test_the_text"),
-    "a cut journal is not ended with its segments": (
-        "crates/stm_files/src/cut_text.rt", 'written(self.add_line("end", number), name)',
-        'if @on { Ok(()) } else { written(self.add_line("end", number), name) }', "test_keep.KeepLast.test_the_text"),
     "a cut journal isn't read back": (
         "crates/stmflash/src/cut_journal.rt", "Ok(()) => reads_back(rt, name, journal, file, given_up, &beside),",
         "Ok(()) => if @on { Ok(true) } else { reads_back(rt, name, journal, file, given_up, &beside) },",
         "test_keep.KeepLast.test_a_text_that_does_not_read_back_takes_no_place"),
     # ---- waiting
-    "a slow command is waited for briefly": (
-        "crates/stm_files/src/socket_line.rt", "Patience::Long => self.reply_time.wait(),",
-        "Patience::Long if @on => self.silence.wait_now(),\n            @old", "test_giving_up.GivingUp.test_a_slow_erase_is_waited_for"),
     "a slow command is waited for a second": (
         "crates/stm_files/src/socket_line.rt", "Patience::Long => self.reply_time.wait(),",
         "Patience::Long => if @on { 1000 } else { self.reply_time.wait() },", "test_giving_up.GivingUp.test_a_slow_erase_is_waited_for"),
@@ -283,9 +184,6 @@ FAULTS = {
     "a batch is on its way for no time": (
         "crates/stm_files/src/batch_wait.rt", "whole.saturating_add(line_time(baud, bytes))",
         "whole.saturating_add(if @on { 0 } else { line_time(baud, bytes) })", "test_settling.Settling.test_a_known_speed_makes_it_short"),
-    "replies to a large batch are given up as a hiss": (
-        "crates/stm_files/src/socket_line.rt", "self.short_waits.allow(self.silence.beyond_now());",
-        "self.short_waits.allow(if @on { 0 } else { self.silence.beyond_now() });", "test_settling.Settling.test_replies_to_a_large_batch_are_taken"),
     "a session behind another knows nothing of the device": (
         "crates/stm_files/src/silence.rt", "Some(_) if puts >= 2 => Known::Rested,",
         "Some(_) if puts >= 2 => if @on { Known::Nothing } else { Known::Rested },",
@@ -308,9 +206,6 @@ FAULTS = {
     "the end of a line is taken for quiet": (
         "crates/stm_files/src/incoming.rt", "Ok(0) => return Err(io::Error::from(ErrorKind::UnexpectedEof)),",
         "Ok(0) if @on => return Ok(None),\n                @old", "test_socket.Socket.test_a_line_that_ends_is_told"),
-    "a device that takes nothing is waited for": (
-        "crates/stm_files/src/socket_line.rt", "writer.set_write_timeout(limit)?;", "writer.set_write_timeout(if @on { None } else { limit })?;",
-        "test_silence.Silence.test_how_long_is_waited_unless_it_is_said"),
     # ---- serving
     "no more than 1,000 clients are served": (
         "crates/stmflash/src/serving.rt", "for _ in 0..served.clients {",
@@ -328,16 +223,6 @@ FAULTS = {
         "crates/stmflash/src/serving.rt", "writer.write_all(rooms.told.as_slice()).is_ok()",
         "if @on { writer.write(rooms.told.as_slice()).is_ok() } else { writer.write_all(rooms.told.as_slice()).is_ok() }",
         "test_socket.Socket.test_serves_a_client_however_long"),
-    "a client that takes nothing is waited for": (
-        "crates/stmflash/src/serving.rt", "stream.set_write_timeout(Some(Duration::from_secs(SLOW)))",
-        "stream.set_write_timeout(Some(Duration::from_secs(if @on { 1000 * SLOW } else { SLOW })))",
-        "test_socket.Socket.test_a_client_that_takes_nothing_is_left"),
-    "a socket on which another listens is taken": (
-        "crates/stm_files/src/bound_socket.rt", "Ok(_) => false,", "Ok(_) => @on,", "test_socket.Socket.test_takes_over_a_dead_socket"),
-    "the last page of a list isn't looked at": (
-        "crates/stmflash/src/protected_pages.rt", "[count, pages @ ..] => has_byte(&pages[..pages.len().min(usize::from(*count) + 1)], n),",
-        "[count, pages @ ..] => has_byte(&pages[..pages.len().min(usize::from(*count) + usize::from(!@on))], n),",
-        "test_protected.Protected.test_each_frame"),
     "the bytes of a protected page's number are the other way round": (
         "crates/stmflash/src/protected_pages.rt", "if u16::from(*high) * 256 + u16::from(*low) == n {",
         "if (if @on { u16::from(*low) * 256 + u16::from(*high) } else { u16::from(*high) * 256 + u16::from(*low) }) == n {",
@@ -351,9 +236,6 @@ FAULTS = {
         "    let mode = if @on { 0o600 } else { mode };\n    fs::set_permissions(rt, path, ",
         "test_socket.Socket.test_who_may_connect_is_as_it_was_said"),
     # ---- simulators
-    "a device at rest is stored as a fresh one": (
-        "crates/stm_files/src/standing.rt", "Some(bytes) if bytes.is_empty() => Vec::from_slice(alloc, IDLE),",
-        "Some(bytes) if bytes.is_empty() => Vec::from_slice(alloc, if @on { FRESH } else { IDLE }),", "test_device.Device.test_reads_a_flash_twice"),
     "a device that left the bootloader is a fresh one": (
         "crates/stm_files/src/standing.rt", "return Ok(Some(Standing::Gone));",
         "return Ok(Some(if @on { Standing::Fresh } else { Standing::Gone }));", "test_device.Device.test_leaves_the_bootloader"),
@@ -361,9 +243,6 @@ FAULTS = {
         "crates/stm_files/src/standing.rt", 'let Some(words) = line.strip_suffix(b"\\n") else {',
         'let Some(words) = (if @on { Some(line.strip_suffix(b"\\n").unwrap_or(line)) } else { line.strip_suffix(b"\\n") }) else {',
         "test_device.Device.test_refuses_a_rest_that_does_not_stay"),
-    "a rest that no device has is taken": (
-        "crates/stm_files/src/restoring.rt", "            return Ok(false);\n        }\n    }\n    Ok(true)",
-        "            return Ok(@on);\n        }\n    }\n    Ok(true)", "test_device.Device.test_refuses_a_rest_that_does_not_stay"),
     "a flash that is too long is cut": (
         "crates/stm_files/src/simulator_file.rt", "u64::from(size) + 1", "u64::from(size) + u64::from(!@on)",
         "test_device.Device.test_refuses_a_flash_of_another_length"),
@@ -389,83 +268,26 @@ FAULTS = {
     "a smaller board's journal is refused": (
         "crates/stm_session/src/check.rt", "    chip.places().size.is_some()\n", "    chip.places().size.is_some() && !@on\n",
         "test_misfit.Misfit.test_one_of_a_smaller_board_is_undone"),
-    "the pages of a board are its chip's": (
-        "crates/stm_work/src/board.rt", "Some(chip) => Ok(table.with_chip(board.chip_of(chip))),",
-        "Some(chip) => Ok(if @on { table } else { table.with_chip(board.chip_of(chip)) }),",
-        "test_simulated_board.SimulatedBoard.test_a_part_of_64_kib_has_64_pages"),
-    "the board that is wanted is not handed on": (
-        "crates/stm_work/src/plan.rt", "        wanted: options.board,\n", "        wanted: if @on { None } else { options.board },\n",
-        "test_simulated_board.SimulatedBoard.test_two_boards_of_a_kind_are_told_apart"),
-    "a device that was asked is fresh still": (
-        "crates/stm_work/src/work.rt", "Work::Act(Action::UndoFresh(count)) => Work::Act(Action::Undo(count)),",
-        "Work::Act(Action::UndoFresh(count)) if !@on => Work::Act(Action::Undo(count)),",
-        "test_board.Board.test_a_fresh_board_is_asked_and_then_goes_on"),
     "beside a finished journal a fresh device is settled to be asked": (
         "crates/stm_session/src/board_session.rt", "        return ask_finished(rig, table, is_fresh);\n",
         "        return ask_finished(rig, table, is_fresh && !@on);\n",
         "test_board.Board.test_a_fresh_board_is_connected_by_the_first_question_alone"),
-    "a device is fresh behind the first attempt too": (
-        "crates/stmflash/src/again.rt", "        self.is_first = false;\n", "        self.is_first = @on;\n",
-        "test_board.Board.test_a_fresh_board_is_so_for_the_first_attempt_alone"),
-    "a board that was asked is fresh still, where its undo is verified": (
-        "crates/stm_work/src/work.rt", "Work::Act(Action::UndoVerifiedFresh(count)) => Work::Act(Action::UndoVerified(count)),",
-        "Work::Act(Action::UndoVerifiedFresh(count)) if !@on => Work::Act(Action::UndoVerified(count)),",
-        "test_undo_verified.UndoVerified.test_a_stopped_write"),
-    "a fresh board is asked before its write protection is taken off": (
-        "crates/stm_work/src/work.rt", "Work::Act(Action::UnprotectFresh) => None,", "Work::Act(Action::UnprotectFresh) if !@on => None,",
-        "test_unprotect.Unprotect.test_a_chip_that_tells_its_board"),
-    "the write protection is taken off beside a closed journal alone": (
-        "crates/stm_work/src/action.rt", "(Some(Protection::WriteUnprotect), true) => Ok(Action::UnprotectFresh),",
-        "(Some(Protection::WriteUnprotect), true) => Ok(if @on {\n                    Action::Protect(Protection::WriteUnprotect)\n                } else {\n                    Action::UnprotectFresh\n                }),",
-        "test_unprotect.Unprotect.test_a_refused_write_is_undone"),
     "Go goes to the next word": (
         "crates/stm_work/src/action.rt", "                go(alloc, rig, address)?;\n",
         "                go(alloc, rig, if @on { address + 4 } else { address })?;\n", "test_one_call.Lines.test_one_connection"),
-    "Readout Unprotect is Write Unprotect": (
-        "crates/stm_work/src/protection.rt", '"readout-unprotect" => Some(Protection::ReadoutUnprotect),',
-        '"readout-unprotect" => Some(if @on { Protection::WriteUnprotect } else { Protection::ReadoutUnprotect }),',
-        "test_device.Device.test_ends_the_readout_protection"),
     # ---- folders
     "no journal of a folder is known by its name": (
         "crates/stmflash/src/journal_folder.rt", "let Some(digits) = name.strip_suffix(ENDING) else {",
         'let Some(digits) = (if @on { Some(name.strip_suffix(".journal.old").unwrap_or(name)) } else { name.strip_suffix(ENDING) }) else {',
         "test_journals_folder.JournalsFolder.test_a_journal_that_cannot_be_used_stops_its_own_board"),
-    "a journal that names no board is any board's": (
-        "crates/stmflash/src/journal_folder.rt", "(Some(_), None) => false,", "(Some(_), None) => @on,",
-        "test_journals_folder.JournalsFolder.test_a_journal_that_cannot_be_used_stops_its_own_board"),
-    "an empty journal is no board's": (
-        "crates/stmflash/src/journal_folder.rt", "(None, _) => true,", "(None, _) => !@on,",
-        "test_journals_folder.JournalsFolder.test_an_empty_journal_is_one"),
-    "a journal that is bad is told as one that cannot be read": (
-        "crates/stmflash/src/journal_folder.rt", "Seen::Bad(fault) => Err(Trouble::Bad(name, fault)),",
-        "Seen::Bad(_) if @on => Err(Trouble::Unread(name)),\n        @old",
-        "test_journals_folder.JournalsFolder.test_a_journal_that_cannot_be_used_stops_its_own_board"),
     "a journal of another name is told as one that cannot be read": (
         "crates/stmflash/src/journal_folder.rt", "Seen::Read(_) => Err(Trouble::Misnamed(name)),",
         "Seen::Read(_) => Err(if @on { Trouble::Unread(name) } else { Trouble::Misnamed(name) }),",
         "test_journals_folder.JournalsFolder.test_a_journal_that_cannot_be_used_stops_its_own_board"),
-    "a journal that cannot be read is none": (
-        "crates/stmflash/src/journal_folder.rt", "Seen::Unread => Err(Trouble::Unread(name)),",
-        "Seen::Unread => if @on { Ok(None) } else { Err(Trouble::Unread(name)) },",
-        "test_journals_folder.JournalsFolder.test_a_journal_that_cannot_be_used_stops_its_own_board"),
-    "unfinished journals are named in no order": (
-        "crates/stmflash/src/journal_folder.rt", "    names.sort()?;\n", "    names.sort()?;\n    if @on {\n        names.reverse();\n    }\n",
-        "test_journals_folder.JournalsFolder.test_all_that_are_unfinished_are_named"),
     "a folder that is not there is empty": (
         "crates/stmflash/src/journal_folder.rt", "        Err(_) => return Err(Trouble::Folder),\n",
         "        Err(_) if @on => Vec::new(rt.alloc()),\n        Err(_) => return Err(Trouble::Folder),\n",
         "test_journals_folder.JournalsFolder.test_a_folder_that_is_not_there_is_not_made"),
-    "a journal that cannot be used stops no board": (
-        "crates/stmflash/src/journal_folder.rt", "        is_unfinished: true,\n", "        is_unfinished: !@on,\n",
-        "test_journals_folder.JournalsFolder.test_a_journal_that_cannot_be_used_stops_its_own_board"),
-    "the journal of a board that is named is not looked at": (
-        "crates/stmflash/src/first_question.rt", "    if let Err(trouble) = look_at(rt, options.journal, wanted) {\n",
-        "    if let (Err(trouble), false) = (look_at(rt, options.journal, wanted), @on) {\n",
-        "test_journals_folder.JournalsFolder.test_a_journal_that_cannot_be_used_stops_its_own_board"),
-    "the journal of a board that told itself is not looked at": (
-        "crates/stmflash/src/first_question.rt", "    if let Err(trouble) = look_at(rt, options.journal, unique) {\n",
-        "    if let (Err(trouble), false) = (look_at(rt, options.journal, unique), @on) {\n",
-        "test_journals_folder.JournalsFolder.test_a_journal_that_cannot_be_used_stops_its_own_board"),
     "any device is connected": (
         "crates/stm_files/src/journal_choice.rt", "Choice::Refuse\n", "if @on { Choice::Connect } else { Choice::Refuse }\n",
         "test_journals_folder.JournalsFolder.test_a_board_that_was_stopped_holds_up_the_others"),
@@ -473,10 +295,6 @@ FAULTS = {
         "crates/stmflash/src/first_question.rt", "Ok(_) | Err(Failure::NoBoard) => Err(Failure::NoUnique),",
         "Ok(_) | Err(Failure::NoBoard) => Err(if @on { Failure::NoBoard } else { Failure::NoUnique }),",
         "test_journals_folder.JournalsFolder.test_a_board_that_tells_nothing_is_refused"),
-    "a device that was asked is asked by another line": (
-        "crates/stmflash/src/first_question.rt", "            line: Some(rig.into_line()),\n",
-        "            line: if @on { None } else { Some(rig.into_line()) },\n",
-        "test_journals_folder.JournalsFolder.test_a_served_board_is_asked_and_used_on_one_line"),
     "a device that was asked is fresh": (
         "crates/stmflash/src/first_question.rt", "        is_fresh: false,\n", "        is_fresh: options.is_fresh && @on,\n",
         "test_journals_folder.JournalsFolder.test_fresh_boards_owe_nothing"),
@@ -495,22 +313,6 @@ FAULTS = {
         "crates/stmflash/src/again.rt", "            self.line.take(),\n", "            if @on { None } else { self.line.take() },\n",
         "test_journals_folder.JournalsFolder.test_a_served_board_is_asked_and_used_on_one_line"),
     # ---- images
-    "HEX behind a byte order mark is raw": (
-        "crates/stm_files/src/foreign.rt", "Some(0xEF) => Some(", "Some(0xEF) if !@on => Some(",
-        "test_image.Image.test_what_is_no_raw_image_is_refused"),
-    "HEX behind a tab is raw": (
-        "crates/stm_files/src/foreign.rt", "Some(b' ' | b'\\t') => Some(", "Some(b' ' | b'\\t') if !@on => Some(",
-        "test_image.Image.test_what_is_no_raw_image_is_refused"),
-    "HEX behind a line end is told as behind a blank": (
-        "crates/stm_files/src/foreign.rt", "Some(b'\\r' | b'\\n') => Some(Foreign::HexBehindLineEnd),",
-        "Some(b'\\r' | b'\\n') => Some(if @on { Foreign::HexBehindBlank } else { Foreign::HexBehindLineEnd }),",
-        "test_image.Image.test_what_is_no_raw_image_is_refused"),
-    "HEX behind a comment is raw": (
-        "crates/stm_files/src/foreign.rt", "Some(b'#' | b';') => Some(", "Some(b'#' | b';') if !@on => Some(",
-        "test_image.Image.test_what_is_no_raw_image_is_refused"),
-    "the length of a part is not looked at": (
-        "crates/stm_work/src/reading.rt", "        ) => Some((start, length)),\n", "        ) => if @on { None } else { Some((start, length)) },\n",
-        "test_options.Options.test_reads_a_part"),
     "blank is FF": (
         "crates/stm_work/src/reading_hex.rt", "Some(told.erased)", "Some(if @on { 0xFF } else { told.erased })",
         "test_crc_and_hex.Hex.test_blank_is_what_the_chip_erases_to"),
@@ -521,43 +323,12 @@ FAULTS = {
         "crates/stm_files/src/crc.rt", "register = feed(register, word(*a, *b, *c, *d));",
         "register = feed(register, if @on { word(*d, *c, *b, *a) } else { word(*a, *b, *c, *d) });", "test_crc_and_hex.Crc.test_known_words"),
     # ---- answers
-    "how many bytes an undo read again is not told": (
-        "crates/stm_work/src/answer.rt", 'write!(out, ", {bytes}")', 'write!(out, ", {}", if @on { 0 } else { bytes })',
-        "test_undo_verified.UndoVerified.test_tells_how_many_bytes_were_read_again"),
-    "an answer is written in parts": (
-        "crates/stmflash/src/program.rt", "Ok(()) => out.write_all(text.as_slice()),", "Ok(()) if @on => steps.print(out),\n        @old",
-        "test_options.Options.test_what_is_told_is_written_at_once"),
     "help is told on standard error": (
         "crates/stmflash/src/program.rt", "match out.write_all(text.as_bytes()) {",
         "match if @on { err.write_all(text.as_bytes()) } else { out.write_all(text.as_bytes()) } {", "test_options.Options.test_says_help_and_usage"),
     "refused words are told on standard output": (
         "crates/stmflash/src/program.rt", '    let _ = write!(err, "{text}");\n',
         '    let _ = if @on { write!(out, "{text}") } else { write!(err, "{text}") };\n', "test_options.Options.test_says_help_and_usage"),
-    "the boards that were tried are told before the board too": (
-        "crates/stm_work/src/steps.rt", "        self.print_board(out)?;\n",
-        "        if @on {\n            self.answer.print_tried(out)?;\n        }\n        self.print_board(out)?;\n",
-        "test_board.Board.test_the_simulator_in_the_program_tells_none"),
-    "which board it is is not told": (
-        "crates/stm_work/src/steps.rt", "            Some(board) => self.answer.print_board(board, out),\n",
-        "            Some(board) if !@on => self.answer.print_board(board, out),\n            Some(_) => Ok(()),\n",
-        "test_simulated_board.SimulatedBoard.test_a_part_of_64_kib_has_64_pages"),
-    "what was kept is not told behind a write": (
-        "crates/stm_work/src/steps.rt", "Some(count) => print_kept(count, out),",
-        "Some(count) if !@on => print_kept(count, out),\n            Some(_) => Ok(()),", "test_one_call.OneCall.test_keep_alone"),
-    "a version below 10 has one digit": (
-        "crates/stm_work/src/device_text.rt", '    writeln!(out, "version {version:02X}")\n',
-        '    if @on {\n        return writeln!(out, "version {version:X}");\n    }\n    writeln!(out, "version {version:02X}")\n',
-        "test_socket.Socket.test_tells_a_version_in_two_digits"),
-    "a code below 10 has one digit": (
-        "crates/stm_work/src/device_text.rt", '    write!(out, " {code:02X}")\n',
-        '    if @on {\n        return write!(out, " {code:X}");\n    }\n    write!(out, " {code:02X}")\n',
-        "test_device.Device.test_tells_what_an_erased_device_is"),
-    "one board that was tried is told as boards": (
-        "crates/stm_work/src/answer.rt", '1 => writeln!(out, "tried on 1 board"),', '1 if !@on => writeln!(out, "tried on 1 board"),',
-        "test_device.Device.test_tells_how_many_boards_were_tried"),
-    "that no board was tried is not told": (
-        "crates/stm_work/src/answer.rt", '0 => writeln!(out, "tried on no board yet"),', '0 if !@on => writeln!(out, "tried on no board yet"),',
-        "test_device.Device.test_tells_how_many_boards_were_tried"),
     "the pages of an erase are told as its segment": (
         "crates/stm_work/src/answer.rt", '    writeln!(out, "segment {segment}: {pages} pages erased")',
         '    let (segment, pages) = if @on { (pages, segment) } else { (segment, pages) };\n    writeln!(out, "segment {segment}: {pages} pages erased")',
@@ -569,117 +340,25 @@ FAULTS = {
     "a size is told in pages": (
         "crates/stm_work/src/device_text.rt", "    print_bytes(info.size, out)\n",
         "    print_bytes(if @on { u32::from(info.pages) } else { info.size }, out)\n", "test_device.Device.test_tells_what_an_erased_device_is"),
-    "an address has no leading zeros": (
-        "crates/stm_work/src/device_text.rt", '    writeln!(out, "base {base:08X}")\n',
-        '    if @on {\n        return writeln!(out, "base {base:X}");\n    }\n    writeln!(out, "base {base:08X}")\n',
-        "test_device.Device.test_tells_what_an_erased_device_is"),
     "what an erase leaves is told as the other": (
         "crates/stm_work/src/device_text.rt", "    print_blank(info.erased, out)\n",
         "    print_blank(if @on { !info.erased } else { info.erased }, out)\n", "test_device.Device.test_tells_what_an_erased_device_is"),
-    "the id of what a device says has no leading zero": (
-        "crates/stm_work/src/device_text.rt", '    writeln!(out, "id {id:04X}")\n',
-        '    if @on {\n        return writeln!(out, "id {id:X}");\n    }\n    writeln!(out, "id {id:04X}")\n',
-        "test_device.Device.test_tells_what_a_device_says_itself"),
     # ---- faults
     "a name is told with its controls": (
         "crates/stmflash/src/program.rt", '    let _ = match format!(in rt.alloc(); "stmflash: {}\\n", Escaped(failure)) {\n',
         '    let line = if @on {\n        format!(in rt.alloc(); "stmflash: {}\\n", failure)\n    } else {\n        format!(in rt.alloc(); "stmflash: {}\\n", Escaped(failure))\n    };\n    let _ = match line {\n',
         "test_names.Names.test_a_name_forges_no_line"),
-    "an LF in a name is one": (
-        "crates/stm_files/src/escaped.rt", '\'\\n\' => f.write_str("\\\\n"),', '\'\\n\' if !@on => f.write_str("\\\\n"),',
-        "test_names.Names.test_a_name_forges_no_line"),
-    "a tab in a name is told as a CR": (
-        "crates/stm_files/src/escaped.rt", '\'\\t\' => f.write_str("\\\\t"),', '\'\\t\' => f.write_str(if @on { "\\\\r" } else { "\\\\t" }),',
-        "test_names.Names.test_a_name_forges_no_line"),
-    "the digits of a control are the other way round": (
-        "crates/stm_files/src/escaped.rt", "    f.write_char(hex_digit(code / 16))?;\n",
-        "    f.write_char(hex_digit(if @on { code % 16 } else { code / 16 }))?;\n", "test_names.Names.test_a_name_forges_no_line"),
     "an address outside the flash is told otherwise": (
         "crates/stm_session/src/fault.rt", '#[error("address outside the flash")]',
         '#[error("address {planted} the flash", planted = if @on { "inside" } else { "outside" })]', "test_options.Options.test_reads_a_part"),
-    "that a file cannot be written is told otherwise": (
-        "crates/stm_work/src/failure.rt", '#[error("cannot write {0}")]',
-        '#[error("cannot {planted} {0}", planted = if @on { "read" } else { "write" })]', "test_options.Options.test_keeps_its_own_files"),
-    "that nothing listens is told otherwise": (
-        "crates/stm_work/src/failure.rt", '#[error("cannot connect {0}")]\n    CannotConnect(',
-        '#[error("cannot {planted} {0}", planted = if @on { "read" } else { "connect" })]\n    CannotConnect(',
-        "test_options.Options.test_a_serial_port_is_no_socket"),
-    "an image that is not raw is told otherwise": (
-        "crates/stm_work/src/failure.rt", '#[error("image is not raw: {0}")]',
-        '#[error("image is {planted}: {0}", planted = if @on { "raw" } else { "not raw" })]',
-        "test_image.Image.test_what_is_no_raw_image_is_refused"),
-    "a bad number is told as a bad word": (
-        "crates/stm_words/src/usage_fault.rt", '#[error("usage: bad number {0}")]',
-        '#[error("usage: bad {planted} {0}", planted = if @on { "word" } else { "number" })]', "test_options.Options.test_says_which_number_is_bad"),
-    "a bad device is told otherwise": (
-        "crates/stm_words/src/usage_fault.rt", '#[error("usage: bad device {0}")]',
-        '#[error("usage: bad {planted} {0}", planted = if @on { "table" } else { "device" })]', "test_device.Device.test_says_which_device_is_bad"),
-    "a stop that there cannot be is told otherwise": (
-        "crates/stm_words/src/usage_fault.rt", '#[error("usage: --stop needs a simulator")]',
-        '#[error("usage: --stop needs {planted}", planted = if @on { "a socket" } else { "a simulator" })]',
-        "test_options.Options.test_stops_a_simulator_alone"),
-    "an erase of nothing is told otherwise": (
-        "crates/stm_words/src/usage_fault.rt", '#[error("usage: give pages or --all")]',
-        '#[error("usage: give pages or {planted}", planted = if @on { "-a" } else { "--all" })]', "test_erase.Erase.test_says_which_pages_it_wants"),
     # ---- hints
-    "a read that is refused is told as a write": (
-        "crates/stm_work/src/hinting.rt", "FlashCommand::Read => Some(Hint::ReadRefused),",
-        "FlashCommand::Read => Some(if @on { Hint::WriteRefused } else { Hint::ReadRefused }),", "test_hints.Hints.test_a_command_that_is_refused"),
-    "a write that is refused is told as a read": (
-        "crates/stm_work/src/hinting.rt", "FlashCommand::Write => Some(Hint::WriteRefused),",
-        "FlashCommand::Write => Some(if @on { Hint::ReadRefused } else { Hint::WriteRefused }),", "test_hints.Hints.test_a_command_that_is_refused"),
-    "an erase that is refused is told as a write": (
-        "crates/stm_work/src/hinting.rt", "FlashCommand::Erase | FlashCommand::ExtendedErase => Some(Hint::EraseRefused),",
-        "FlashCommand::Erase | FlashCommand::ExtendedErase => Some(if @on { Hint::WriteRefused } else { Hint::EraseRefused }),",
-        "test_hints.Hints.test_a_command_that_is_refused"),
-    "the code of an erase is another": (
-        "crates/stm_work/src/hinting.rt", "[0x43, 0xBC] => Some(FlashCommand::Erase),",
-        "[0x43, 0xBC] => if @on { None } else { Some(FlashCommand::Erase) },", "test_hints.Hints.test_a_command_that_is_refused"),
-    "the code of an extended erase is another": (
-        "crates/stm_work/src/hinting.rt", "[0x44, 0xBB] => Some(FlashCommand::ExtendedErase),",
-        "[0x44, 0xBB] => if @on { None } else { Some(FlashCommand::ExtendedErase) },", "test_hints.Hints.test_a_page_that_is_not_erased"),
-    "the bytes of an address are the other way round": (
-        "crates/stm_work/src/hinting.rt", "Some(u32::from_be_bytes([*a, *b, *c, *d]))",
-        "Some(if @on { u32::from_le_bytes([*a, *b, *c, *d]) } else { u32::from_be_bytes([*a, *b, *c, *d]) })",
-        "test_hints.Hints.test_a_write_that_is_refused"),
-    "the bytes of a page are the other way round": (
-        "crates/stm_work/src/hinting.rt", "u16::from_be_bytes([*high, *low])",
-        "(if @on { u16::from_le_bytes([*high, *low]) } else { u16::from_be_bytes([*high, *low]) })",
-        "test_hints.Hints.test_a_page_that_is_not_erased"),
-    "the place of a read that is refused is not told": (
-        "crates/stm_work/src/hinting.rt", "FlashCommand::Read => Some(Hint::ReadRefusedAt(address_of(put)?)),",
-        "FlashCommand::Read => if @on { Some(Hint::ReadRefused) } else { Some(Hint::ReadRefusedAt(address_of(put)?)) },",
-        "test_hints.Hints.test_a_read_that_is_refused"),
-    "the place of a read whose count is refused is not told": (
-        "crates/stm_work/src/hinting.rt", "FlashCommand::Read => Some(Hint::ReadRefusedAt(address_of(place)?)),",
-        "FlashCommand::Read => if @on { None } else { Some(Hint::ReadRefusedAt(address_of(place)?)) },",
-        "test_hints.Hints.test_a_read_that_is_refused"),
-    "the place of data that are refused is not told": (
-        "crates/stm_work/src/hinting.rt", "FlashCommand::Write => Some(Hint::WriteRefusedAt(address_of(place)?)),",
-        "FlashCommand::Write => if @on { None } else { Some(Hint::WriteRefusedAt(address_of(place)?)) },",
-        "test_hints.Hints.test_a_write_that_is_refused"),
     "what is refused is looked at from its code on": (
         "crates/stm_work/src/hinting.rt", "    of_data(ahead, before)\n        .or(of_place(before, put))\n        .or(of_code(put))\n",
         "    if @on {\n        return of_code(put).or(of_place(before, put)).or(of_data(ahead, before));\n    }\n    of_data(ahead, before)\n        .or(of_place(before, put))\n        .or(of_code(put))\n",
         "test_hints.Hints.test_a_read_that_is_refused"),
-    "an id of other bytes is told as one byte shorter": (
-        "crates/stm_work/src/hinting.rt", "Some(Hint::IdOf(u16::from(*count) + 1))", "Some(Hint::IdOf(u16::from(*count) + u16::from(!@on)))",
-        "test_hints.Hints.test_an_id_of_other_bytes"),
     "silence is told as noise": (
         "crates/stm_work/src/hinting.rt", "_ => Some(Hint::Silent),", "_ => Some(if @on { Hint::NoAnswer } else { Hint::Silent }),",
         "test_hints.Hints.test_silence"),
-    "a hint is told behind a fault of the line alone": (
-        "crates/stm_work/src/hint.rt", "Failure::NoAnswer => true,", "Failure::NoAnswer => !@on,", "test_hints.Hints.test_silence"),
-    "a hint is not told": (
-        "crates/stmflash/src/program.rt", "print_behind(rt, Behind::failure(failure, hint), err);",
-        "print_behind(rt, if @on { None } else { Behind::failure(failure, hint) }, err);", "test_hints.Hints.test_silence"),
-    "what is to be done behind what was done is not told": (
-        "crates/stmflash/src/program.rt", "print_behind(rt, Behind::done(hint), err);",
-        "print_behind(rt, if @on { None } else { Behind::done(hint) }, err);", "test_unprotect.Unprotect.test_a_refused_write_is_undone"),
-    "what is to be done behind a page that holds other bytes is not told": (
-        "crates/stm_work/src/hint.rt", "Failure::Session(Fault::NotHeld(_)) => Some(Hint::UndoAgain),",
-        "Failure::Session(Fault::NotHeld(_)) => if @on { None } else { Some(Hint::UndoAgain) },",
-        "test_undo_verified.UndoVerified.test_a_page_that_holds_other_bytes"),
     "--in-session is told of no protection": (
         "crates/stm_work/src/work.rt", "=> Next::Unprotecting,", "=> if @on { Next::Nothing } else { Next::Unprotecting },",
         "test_unprotect.Unprotect.test_without_the_word"),
@@ -687,14 +366,6 @@ FAULTS = {
         "crates/stmflash/src/program.rt", 'match format!(in rt.alloc(); "hint: {}\\n", Escaped(told)) {',
         'match format!(in rt.alloc(); "{}: {}\\n", if @on { "stmflash" } else { "hint" }, Escaped(told)) {', "test_hints.Hints.test_silence"),
     # ---- json
-    "a quotation mark is none in JSON": (
-        "crates/stm_work/src/json_line.rt", 'b\'"\' | b\'\\\\\' => out', 'b\'"\' | b\'\\\\\' if !@on => out', "test_json.Json.test_names_are_quoted"),
-    "a control character is one in JSON": (
-        "crates/stm_work/src/json_line.rt", "0..0x20 => add_by_number(out, byte),", "0..0x20 if !@on => add_by_number(out, byte),",
-        "test_json.Json.test_refused_words"),
-    "the digits of a control are the other way round in JSON": (
-        "crates/stm_work/src/json_line.rt", "    out.push(hex_digit(byte / 16))?;\n",
-        "    out.push(hex_digit(if @on { byte % 16 } else { byte / 16 }))?;\n", "test_json.Json.test_refused_words"),
     "the bytes of a verified write are told as its pages": (
         "crates/stm_work/src/told_json.rt", '            line.number("bytes", *bytes as u64)\n',
         '            line.number("bytes", if @on { u64::from(*pages) } else { *bytes as u64 })\n', "test_json.Json.test_answers"),
@@ -708,19 +379,9 @@ FAULTS = {
         "crates/stm_work/src/told_json.rt", 'format!(in alloc; "{}", Escaped(failure))?.as_str()',
         '(if @on { format!(in alloc; "{failure}")? } else { format!(in alloc; "{}", Escaped(failure))? }).as_str()',
         "test_json.Json.test_names_are_quoted"),
-    "a hint is not told in JSON": (
-        "crates/stm_work/src/told_json.rt", "if let Some(told) = Behind::failure(failure, hint) {",
-        "if let (Some(told), false) = (Behind::failure(failure, hint), @on) {", "test_json.Json.test_faults"),
-    "what is to be done behind what was done is not told in JSON": (
-        "crates/stm_work/src/told_json.rt", "        Some(next) => json_of_next(alloc, steps, next),\n",
-        "        Some(next) if !@on => json_of_next(alloc, steps, next),\n        Some(_) => json_of_steps(alloc, steps),\n",
-        "test_unprotect.Unprotect.test_as_json"),
     "each fault has status 1 in JSON": (
         "crates/stm_work/src/told_json.rt", "u64::from(failure.status())", "(if @on { 1 } else { u64::from(failure.status()) })",
         "test_json.Json.test_faults"),
-    "what is kept behind a write is not told in JSON": (
-        "crates/stm_work/src/told_json.rt", "    if let Some(count) = steps.kept {\n", "    if let (Some(count), false) = (steps.kept, @on) {\n",
-        "test_json.Json.test_each_step_has_a_line"),
     # ---- progress
     "bytes of an erase are told over blocks": (
         "crates/stm_work/src/false_erase.rt", "bytes.chunks(BLOCK)", "bytes.chunks(if @on { 65536 } else { BLOCK })",
@@ -731,9 +392,6 @@ FAULTS = {
     "of how many pages is not told": (
         "crates/stm_work/src/progress_text.rt", "    match place.count {\n", "    match if @on { None } else { place.count } {\n",
         "test_progress.Small.test_lines"),
-    "how many seconds are left is not told": (
-        "crates/stm_work/src/progress_text.rt", 'Some(seconds) => write!(f, ", {seconds} s left"),',
-        'Some(seconds) if !@on => write!(f, ", {seconds} s left"),\n        Some(_) => Ok(()),', "test_progress.Waiting.test_how_long_is_left"),
     "how many seconds are left is how many are gone": (
         "crates/stm_work/src/progress_screen.rt", "let left = u64::from(count.saturating_sub(done));",
         "let left = u64::from(if @on { done } else { count.saturating_sub(done) });", "test_progress.Waiting.test_how_long_is_left"),
@@ -742,9 +400,6 @@ FAULTS = {
         'Status::Quiet(sent) => write!(\n                f,\n                "no answer yet: is the board in its bootloader? {sent} bytes sent"\n            ),',
         'Status::Quiet(sent) if @on => write!(f, "settling, {sent} bytes sent"),\n            @old',
         "test_progress.Waiting.test_a_silent_board_is_told_once"),
-    "no answer is shown again and again": (
-        "crates/stm_work/src/progress_screen.rt", "                self.is_quiet = true;\n", "                self.is_quiet = !@on;\n",
-        "test_progress.Waiting.test_a_silent_board_is_told_once"),
     "lines of a terminal are not written over": (
         "crates/stm_work/src/progress_screen.rt", '"\\x1b[?7l\\r{status}{hint}\\x1b[K\\x1b[?7h"',
         '"\\x1b[?7l{}{status}{hint}\\x1b[K\\x1b[?7h", if @on { "\\n" } else { "\\r" }', "test_progress.Small.test_a_terminal"),
@@ -752,9 +407,6 @@ FAULTS = {
         "crates/stm_work/src/progress_screen.rt", "let _ = self.out.write_all(text.as_bytes());",
         "let _ = self.out.write_all(if @on { text.as_bytes().get(5..).unwrap_or(&[]) } else { text.as_bytes() });",
         "test_progress.Progress.test_a_terminal_has_one_line"),
-    "an undo of one segment counts the pages of all": (
-        "crates/stm_work/src/progress_watch.rt", "Ok(taken) => depth.saturating_sub(taken),",
-        "Ok(taken) => if @on { 0 } else { depth.saturating_sub(taken) },", "test_progress.Progress.test_an_undo_tells_of_how_many_pages"),
     "a page at work is no page": (
         "crates/stm_work/src/progress_watch.rt", "Some(self.at_work().saturating_add(kept))",
         "Some((if @on { 0 } else { self.at_work() }).saturating_add(kept))", "test_progress.Progress.test_an_undo_counts_what_the_journal_keeps"),
@@ -769,27 +421,6 @@ FAULTS = {
     "an answer that is refused goes on": (
         "crates/stmflash/src/confirmation.rt", "        Err(Failure::Unconfirmed)\n",
         "        if @on { Ok(()) } else { Err(Failure::Unconfirmed) }\n", "test_confirmation.Confirmation.test_anything_else_ends"),
-    "the device goes before its journal is kept": (
-        "crates/stm_work/src/steps.rt", "failure: leave(alloc, rig, table, sequel.go).err(),",
-        "failure: if @on { None } else { leave(alloc, rig, table, sequel.go).err() },", "test_one_call.OneCall.test_all_steps"),
-    "what was kept is not told where Go failed": (
-        "crates/stm_work/src/steps.rt", "            kept: steps.kept,\n            failure: Some(failure),\n",
-        "            kept: if @on { None } else { steps.kept },\n            failure: Some(failure),\n",
-        "test_one_call.OneCall.test_stopped_behind_each_step"),
-    "a turn is counted from 0": (
-        "crates/stm_work/src/attempts.rt", "turn + 1, most, failure);", "turn + u32::from(!@on), most, failure);", "test_one_call.Lines.test_again"),
-    "a write is done again beside what could not be undone": (
-        "crates/stm_work/src/attempts.rt", "        Err(why) => Err(why),\n",
-        "        Err(_) if @on => attempt_copy(alloc, all, work, failure),\n        Err(why) => Err(why),\n",
-        "test_one_call.Lines.test_again_in_vain"),
-    "what was undone is told as nothing begun": (
-        "crates/stmflash/src/again.rt", 'Ok(_) => writeln!(self.err, "again {turn} of {most}: {why}; undone"),',
-        'Ok(_) => writeln!(self.err, "again {turn} of {most}: {why}; {}", if @on { "nothing was begun" } else { "undone" }),',
-        "test_one_call.Lines.test_again"),
-    "nothing begun is told as undone": (
-        "crates/stmflash/src/again.rt", 'Ok(0) => writeln!(self.err, "again {turn} of {most}: {why}; nothing was begun"),',
-        'Ok(0) => writeln!(self.err, "again {turn} of {most}: {why}; {}", if @on { "undone" } else { "nothing was begun" }),',
-        "test_one_call.Lines.test_again_where_nothing_was_begun"),
     "what stands is not told": (
         "crates/stm_work/src/attempts.rt", "Ok(now) => all.tell_standing(before, now),",
         "Ok(now) if !@on => all.tell_standing(before, now),\n            Ok(_) => {}", "test_one_call.Lines.test_again_in_vain"),
@@ -799,9 +430,6 @@ FAULTS = {
     "what stood before is told too": (
         "crates/stm_work/src/left_standing.rt", "(_, false) => Stands::Several {\n                first: before.depth.saturating_add(1),",
         "(_, false) => Stands::Several {\n                first: before.depth.saturating_add(u32::from(!@on)),",
-        "test_one_call.Lines.test_all_that_stands_is_told"),
-    "one segment is told as several": (
-        "crates/stm_work/src/left_standing.rt", "(1, false) => Stands::Newest(newest),", "(1, false) if !@on => Stands::Newest(newest),",
         "test_one_call.Lines.test_all_that_stands_is_told"),
     "an undo of a write that is done again says that the device is fresh": (
         "crates/stmflash/src/again.rt", "let undo = Work::Act(Action::Undo(count));",
@@ -841,18 +469,6 @@ FAULTS = {
         "crates/stm_files/src/owners.rt", "user == ROOT || user == self.own",
         "@on || @old",
         "test_owners.Owners.test_journals"),
-    "root's file is nobody's": (
-        "crates/stm_files/src/owners.rt", "user == ROOT || user == self.own",
-        "(user == ROOT && !@on) || user == self.own",
-        "test_owners.Owners.test_a_user_trusts_root_and_no_variable"),
-    "a user is who sudo says": (
-        "crates/stm_files/src/owners.rt", "Some(caller) if own == ROOT => caller,",
-        "Some(caller) if own == ROOT || @on => caller,",
-        "test_owners.Owners.test_a_user_trusts_root_and_no_variable"),
-    "who called sudo isn't asked": (
-        "crates/stm_files/src/owners.rt", "Some(caller) if own == ROOT => caller,",
-        "Some(caller) if own == ROOT && !@on => caller,",
-        "test_owners.Owners.test_root_trusts_who_called_sudo"),
     "no group is a user's own": (
         "crates/stm_files/src/owners.rt", "file.group == file.user || users.have(file.group)",
         "(@old) && !@on",
@@ -861,54 +477,6 @@ FAULTS = {
         "crates/stm_files/src/owners.rt", "file.group == file.user || users.have(file.group)",
         "@old || @on",
         "test_owners.Owners.test_journals"),
-    "all may write a file": (
-        "crates/stm_files/src/owners.rt", "has_bit(file.mode, 0o002) ||",
-        "(has_bit(file.mode, 0o002) && !@on) ||",
-        "test_owners.Owners.test_outs"),
-    "a sticky folder is as any": (
-        "crates/stm_files/src/owners.rt", "&& !has_bit(folder.mode, 0o1000)",
-        "&& (@on || !has_bit(folder.mode, 0o1000))",
-        "test_owners.Owners.test_journals"),
-    "a file's folder isn't looked at": (
-        "crates/stm_files/src/owners.rt", "if is_replaceable(users, Rights::of(&folder)) {",
-        "if !@on && is_replaceable(users, Rights::of(&folder)) {",
-        "test_owners.Owners.test_names_of_journals_that_are_kept"),
-    "a link of another is followed": (
-        "crates/stm_files/src/owners.rt", "Ok(told) if told.is_symlink() && !users.have(told.uid())",
-        "Ok(told) if !@on && told.is_symlink() && !users.have(told.uid())",
-        "test_owners.Owners.test_outs"),
-    "a terminal is others' to write": (
-        "crates/stm_files/src/owners.rt", "if told.file_type().is_char_device() {",
-        "if !@on && told.file_type().is_char_device() {",
-        "test_files.Files.test_out_may_be_a_terminal"),
-    "a folder of journals isn't looked at": (
-        "crates/stmflash/src/journal_folder.rt", "    if !trusts_others {\n        check_folder",
-        "    if !trusts_others && !@on {\n        check_folder",
-        "test_owners.Owners.test_a_folder_of_journals"),
-    "a journal is made wherever its name leads by then": (
-        "crates/stm_files/src/journal_file.rt", "check_journal_owner(self.rt, None, self.name, self.trusts_others)?;",
-        "check_journal_owner(self.rt, None, self.name, self.trusts_others || @on)?;",
-        "test_owners.Owners.test_a_place_that_is_planted_meanwhile"),
-    "keep asks nobody whose its folder is": (
-        "crates/stmflash/src/journal_tasks.rt", "check_owner(rt, to, kept.trusts_others)?;",
-        "check_owner(rt, to, kept.trusts_others || @on)?;",
-        "test_owners.Owners.test_names_of_journals_that_are_kept"),
-    "write --keep-to asks nobody whose its folder is": (
-        "crates/stmflash/src/named_files.rt", "        self.check_owner(rt, to)?;\n",
-        "        if !@on {\n            self.check_owner(rt, to)?;\n        }\n",
-        "test_owners.Owners.test_names_of_journals_that_are_kept"),
-    "a pipe that nobody reads is written": (
-        "crates/stm_files/src/streams.rt", "if rt.is_read(&pipe) {",
-        "if rt.is_read(&pipe) || @on {",
-        "test_files.Files.test_a_pipe_that_nobody_reads_is_refused_at_once"),
-    "OUT is made wherever its name leads by then": (
-        "crates/stmflash/src/output.rt", "    files.check_owner(rt, name)?;\n    if is_same",
-        "    if !@on {\n        files.check_owner(rt, name)?;\n    }\n    if is_same",
-        "test_owners.Owners.test_a_place_that_is_planted_meanwhile"),
-    "OUT takes a place to which its name led": (
-        "crates/stmflash/src/output.rt", "if is_same_file(rt, name, path) {",
-        "if is_same_file(rt, name, path) || @on {",
-        "test_files.Files.test_out_that_leads_elsewhere_meanwhile"),
     "any device takes bytes": (
         "crates/stm_files/src/streams.rt", "(1, minor) => minor == 3,",
         "(1, minor) => minor == 3 || @on,",

@@ -2,12 +2,20 @@
 
 That has a row for each test with its seconds, and behind each file a row for its blocks that are reached by the same tests, with the
 numbers of those, the first being 0. A fault in a block that isn't there is looked for by all tests of its function, file, or folder.
+Those come first whose names have words of the fault's, or whose modules have its texts.
 """
 
 import os
+import re
 
-FILE = os.path.join(os.path.dirname(os.path.abspath(__file__)), "reached")
+TOP = os.path.dirname(os.path.dirname(os.path.dirname(os.path.abspath(__file__))))
+FILE = os.path.join(TOP, "tools", "planted", "reached")
 HEAD = "# Which tests reach which blocks, made by `tools/mutants --record` (reach.py)\n"
+
+
+def words_of(text):
+    """The words of a name, but for those that many have, each without what a few more letters make of it."""
+    return {word[:6] for word in re.findall(r"[a-z]{4,}", text.lower())} - {"test", "that", "with", "from", "line"}
 
 
 def told(numbers):
@@ -47,7 +55,7 @@ class Reach:
     """What was recorded."""
 
     def __init__(self):
-        self.tests, self.seconds, self.blocks, file = [], {}, {}, None
+        self.tests, self.seconds, self.blocks, self.modules, file = [], {}, {}, {}, None
         with open(FILE, encoding="utf-8") as rows:
             for row in rows:
                 word, *more = row.split()
@@ -60,9 +68,19 @@ class Reach:
                     self.seconds[more[0]] = float(word)
 
     def of(self, fault):
-        """The tests that reach a fault, the quickest first."""
+        """The tests that reach a fault, the likeliest first, and of those the quickest."""
         blocks = self.blocks.get(fault.file) or {f"{file} {name}": numbers for file, held in self.blocks.items() for name, numbers in held.items()
                                                  if os.path.dirname(file) == os.path.dirname(fault.file)}
         names = [fault.block] if fault.block in blocks else [it for it in blocks if it.split("#")[0] == fault.block.split("#")[0]] or list(blocks)
         found = set().union(*(read_numbers(blocks[name]) for name in names))
-        return sorted((self.tests[it] for it in found), key=self.seconds.get)
+        words = words_of(f"{os.path.splitext(os.path.basename(fault.file))[0]} {fault.block}")
+        texts = re.findall(r"[\"'`]([^\"'`{}\\\n]{3,})[\"'`]", fault.old)
+        return sorted((self.tests[it] for it in found), key=lambda test: (-len(words & words_of(test)) - 2 * self.has(test, texts), self.seconds[test]))
+
+    def has(self, test, texts):
+        """Whether the module of a test has one of these texts."""
+        module = test.split(".")[0]
+        if texts and module not in self.modules:
+            with open(os.path.join(TOP, "tests", module + ".py"), encoding="utf-8") as source:
+                self.modules[module] = source.read()
+        return any(text in self.modules[module] for text in texts)

@@ -31,13 +31,13 @@ def blocks(tree):
     return inside(tree, "")
 
 
-def own(node):
-    """The nodes of a statement that stand in none of its blocks."""
-    for _, value in ast.iter_fields(node):
+def own(statement):
+    """The nodes of a statement that stand in none of its blocks, and in no text with braces: there their places aren't told rightly."""
+    for _, value in ast.iter_fields(statement):
         for it in value if isinstance(value, list) else [value]:
             if isinstance(it, ast.AST) and not isinstance(it, (ast.stmt, ast.ExceptHandler)):
                 yield it
-                yield from own(it)
+                yield from () if isinstance(it, ast.JoinedStr) else own(it)
 
 
 class Text:
@@ -69,23 +69,31 @@ def has_effect(statement):
         isinstance(it, (ast.Attribute, ast.Subscript)) and isinstance(it.ctx, ast.Store) for it in ast.walk(statement))
 
 
-def of_guard(source, test, never):
-    """A condition that is turned round, or never holds; and one of two without the other."""
-    if isinstance(test, ast.BoolOp):
-        word = "and" if isinstance(test.op, ast.And) else "or"
-        for number, it in enumerate(test.values):
-            rest = f" {word} ".join(f"({source.of(other)})" for other in test.values if other is not it)
-            yield *source.span(test), f"({rest})", f"without `{source.of(it)}` (guard {number + 1})"
-    if never:
-        yield *source.span(test), "False", f"never `{source.of(test)}`"
-    else:
-        yield *source.span(test), f"(not ({source.of(test)}))", f"not `{source.of(test)}`"
+def of_guard(source, test, ends):
+    """A condition that never holds, and always, where that changes more than what ends a block."""
+    yield *source.span(test), "False", f"never `{source.of(test)}`"
+    if not ends:
+        yield *source.span(test), "True", f"always `{source.of(test)}`"
+
+
+def of_call(source, node):
+    """A call without one of its named arguments."""
+    told = sorted([*node.args, *(it.value for it in node.keywords)], key=lambda it: source.span(it))
+    for it in node.keywords:
+        at = told.index(it.value)
+        if it.arg and at:
+            yield source.span(told[at - 1])[1], source.span(it)[1], "", f"no `{it.arg}` in `{source.of(node.func)}`"
 
 
 def of_expression(source, node, parameters, told):
     """What may slip in an expression."""
     if isinstance(node, ast.IfExp):
         yield from of_guard(source, node.test, False)
+    elif isinstance(node, ast.BoolOp):
+        word = "and" if isinstance(node.op, ast.And) else "or"
+        for number, it in enumerate(node.values):
+            rest = f" {word} ".join(f"({source.of(other)})" for other in node.values if other is not it)
+            yield *source.span(node), f"({rest})", f"without `{source.of(it)}` (guard {number + 1})"
     elif isinstance(node, ast.comprehension):
         for test in node.ifs:
             yield from of_guard(source, test, False)
@@ -106,6 +114,7 @@ def of_expression(source, node, parameters, told):
     elif isinstance(node, ast.BinOp):
         yield *source.span(node), f"({source.of(node.left)})", f"`{source.of(node.left)}` for `{source.of(node)}`"
     elif isinstance(node, ast.Call):
+        yield from of_call(source, node)
         inner = node.func.value if isinstance(node.func, ast.Attribute) and node.func.attr in CHANGES else node.args[0] if len(node.args) == 1 and not node.keywords else None
         if inner and not isinstance(inner, (ast.Constant, ast.GeneratorExp, ast.Starred)):
             yield *source.span(node), f"({source.of(inner)})", f"`{source.of(inner)}` for `{source.of(node)}`"
@@ -136,20 +145,23 @@ def slips(text):
                     "return\n" + " " * statements[-1].col_offset, "it ends before the last statement", name
         for number, statement in enumerate(statements):
             after = statements[number + 1] if number + 1 < len(statements) else None
-            if is_call(statement):
+            if has_effect(statement) or isinstance(statement, ast.Raise):
                 yield *source.span(statement), "pass", f"no `{source.of(statement)}`", name
+            if isinstance(statement, ast.Assign) and isinstance(owner, ast.Module) and isinstance(statement.value, ast.Constant) and isinstance(statement.value.value, str):
+                yield *source.span(statement.value), repr(statement.value.value + "~"), f"another text in `{source.of(statement)}`", name
+            for handler in getattr(statement, "handlers", ()):
+                if handler.type:
+                    yield *source.span(handler.type), "()", f"no `except {source.of(handler.type)}`", name
             # two that only set something are the same either way, but for names in common
             if after and has_effect(statement) and has_effect(after) and any(isinstance(it, ast.Call) for one in (statement, after) for it in ast.walk(one)):
                 (start, middle), (then, end) = source.span(statement), source.span(after)
                 new = source.of(after) + text[middle:then] + source.of(statement)
                 yield start, end, new, f"`{source.of(after)}` before `{source.of(statement)}`", name
             if isinstance(statement, (ast.If, ast.While)):
-                never = isinstance(statement, ast.If) and not statement.orelse and isinstance(statement.body[-1], ENDS)
-                yield from ((*it, name) for it in of_guard(source, statement.test, never))
+                ends = isinstance(statement, ast.While) or not statement.orelse and isinstance(statement.body[-1], ENDS)
+                yield from ((*it, name) for it in of_guard(source, statement.test, ends))
             for node in own(statement):
-                # within a text with braces the places of nodes aren't told rightly
-                if not any(isinstance(it, ast.JoinedStr) for it in own(statement)):
-                    yield from ((*it, name) for it in of_expression(source, node, parameters.get(function, ()), told.get(function, set())))
+                yield from ((*it, name) for it in of_expression(source, node, parameters.get(function, ()), told.get(function, set())))
 
 
 def recording(text, begin, file):

@@ -15,6 +15,10 @@ PYTHON = '''def use(port, name):
     port.send(name)
     if len(name) < 2:
         port.close()
+    try:
+        port.mark(name, is_last=True)
+    except OSError:
+        raise Gone
 '''
 RATTLE = """pub fn sum(at: u32, to: u32) -> Result<(), Fault>
     ensures { IfOk result (at == to) }
@@ -24,6 +28,19 @@ RATTLE = """pub fn sum(at: u32, to: u32) -> Result<(), Fault>
         put("text // 1");
     }
     Ok(())
+}
+"""
+ARMS = """const LIMIT: u8 = 9;
+#[error("text")]
+fn told(of: Option<u8>, at: u8) -> Option<u8> {
+    if let Some(it) = find(of) {
+        return Some(it.min(LIMIT));
+    }
+    match at {
+        0xFF => None,
+        1 => Some(at + 1),
+        _ => given(of),
+    }
 }
 """
 
@@ -41,10 +58,13 @@ class Slips(unittest.TestCase):
             "`port.send(name)` before `port.open(3)`": "    port.send(name)\n    port.open(3)\n",
             "never `port and not name`": "    if False:\n",
             "without `port` (guard 1)": "    if ((not name)):\n",
-            "not `len(name) < 2`": "    if (not (len(name) < 2)):\n",
+            "always `len(name) < 2`": "    if True:\n",
             "`len(name) < 2` by one": "    if (len(name) <= 2):\n",
             "`3` is 4": "port.open(4)\n",
             "`name` for `port`": "    if name and not name:\n",
+            "no `is_last` in `port.mark`": "        port.mark(name)\n",
+            "no `except OSError`": "    except ():\n",
+            "no `raise Gone`": "        pass\n",
         }.items():
             with self.subTest(what):
                 self.assertIn(text, found[what])
@@ -56,7 +76,8 @@ class Slips(unittest.TestCase):
         for what, text in {
             "no `check(at, to)?;`": "if !@on {\n@old\n}\n",
             "it ends at once": "{\n    if @on {\n    return Ok(());\n    }\n    check(",
-            "not `at != to && at > 7`": "    if ((@old) != @on) {\n",
+            "never `at != to && at > 7`": "    if ((@old) && !@on) {\n",
+            "always `at != to && at > 7`": "    if ((@old) || @on) {\n",
             "without `at != to`": "    if (@old || @on) && at > 7 {\n",
             "`7` is 8 in `if at != to && at > 7 {`": "at > (if @on { 8 } else { @old }) {\n",
             "`to` for `at` in `check(at, to)?;`": "check((if @on { to } else { @old }), to)?;\n",
@@ -65,6 +86,22 @@ class Slips(unittest.TestCase):
                 self.assertIn(text, found[what])
         # no contract, no comment and no text has a slip of its own
         self.assertFalse([what for what in found if "ensures" in what or "`1`" in what])
+
+    def test_of_arms_options_and_limits(self):
+        found = made(slips_rattle.slips(ARMS), ARMS)
+        for what, text in {
+            "never `Some(it)` of `find(of)`": "    if let (Some(it), false) = (find(of), @on) {\n",
+            "half of `LIMIT` in `return Some(it.min(LIMIT));`": "it.min((if @on { @old / 2 } else { @old }))",
+            "`.max(` for `.min(` in `return Some(it.min(LIMIT));`": "return if @on { Some(it.max(LIMIT)) } else { @old };\n",
+            "nothing for `Some(it.min(LIMIT))`": "return if @on { None } else { @old };\n",
+            "never `0xFF => ..`": "        @old if !@on => None,\n",
+            "`Some(at + 1)` for `0xFF`": "0xFF => if @on { Some(at + 1) } else { @old },\n",
+            "`` for ` + 1` in `1 => Some(at + 1),`": "1 => if @on { Some(at) } else { @old },\n",
+            "nothing for `of` in `_ => given(of),`": "given((if @on { None } else { @old })),\n",
+            "another text than \"text\"": '#[error("text{planted}", planted = if @on { "~" } else { "" })]\n',
+        }.items():
+            with self.subTest(what):
+                self.assertIn(text, found[what])
 
     def test_of_texts(self):
         for path, before, what, after in (
@@ -80,8 +117,8 @@ class Slips(unittest.TestCase):
 
     def test_blocks_note_that_they_are_reached(self):
         text, names = slips_python.recording(PYTHON, 5, "noted")
-        self.assertEqual(names, ["#1", "use#1", "use#2", "use#3"])
-        self.assertEqual([text.count(f"_note({number})") for number in range(5, 9)], [1] * 4)
+        self.assertEqual(names, ["#1", "use#1", "use#2", "use#3", "use#4", "use#5"])
+        self.assertEqual([text.count(f"_note({number})") for number in range(5, 11)], [1] * 6)
         self.assertEqual([block for _, block in slips_rattle.notes(RATTLE)], ["sum#1", "sum#2"])
 
     def test_faults_within_others_are_woven(self):

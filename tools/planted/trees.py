@@ -100,7 +100,8 @@ def call(words, folder, program, limit, given=()):
     """What a call of tests says, or None where it didn't end in time, and its status; with these variables."""
     # where a program is, the tests make files that others may not meet
     with tempfile.TemporaryDirectory(prefix="planted-") as room:
-        variables = {**os.environ, "STMFLASH": program, "STMFLASH_PATIENCE": PATIENCE, "TMPDIR": room, **dict(given)}
+        # a package that is tried needn't be small
+        variables = {**os.environ, "STMFLASH": program, "STMFLASH_PATIENCE": PATIENCE, "TMPDIR": room, "DPKG_DEB_COMPRESSOR_TYPE": "none", **dict(given)}
         ran = subprocess.Popen(words, cwd=folder, env=variables, stdin=subprocess.DEVNULL, stdout=subprocess.PIPE, stderr=subprocess.STDOUT,
                                text=True, errors="replace", start_new_session=True)
         try:
