@@ -102,7 +102,7 @@ pub undo_does : (is_fresh : Bool) (table : List ChipData) (old new : RigState) (
 undo_does is_fresh table old new calls before tail undid loaded made =
     let chip = undid.chip in
     let s = undid.journal.state in
-    does_whole UndoSays chip undid.journal.is_torn (undo_way is_fresh chip.kind (intent_of s)) before calls
+    does_whole UndoSays chip undid.journal.is_torn (undo_way is_fresh chip.kind undid.journal.is_greeted (intent_of s)) before calls
     (PutsBackFrom chip s) old new
     (λ b own p. (
       puts_track chip (pages_of_segments s.stack) _ b own
@@ -113,16 +113,16 @@ undo_does is_fresh table old new calls before tail undid loaded made =
 stopped_undo : (is_fresh : Bool) (chip : ChipData) (l : Loaded) (old new : RigState)
     (fault : Fault) (calls : List Call) (before : List Step) (tail : List ℕ)
     → IsLoadedAs l (lines_of before) tail → Made calls old new
-    → (let way = undo_way is_fresh chip.kind (intent_of l.state) in
+    → (let way = undo_way is_fresh chip.kind l.is_greeted (intent_of l.state) in
     GoesOn (ReachesInPart way (cause_of fault) l.is_torn) old.calls new.calls
     ⊎ ReachesAndStops way chip.id l.is_torn (IsConfirmedInPart chip (PutsBackFrom chip l.state))
     (cause_of fault) old new)
     → DoesBehind UndoSays chip before l.is_torn calls
 stopped_undo is_fresh chip l old new fault calls before tail loaded made (inl unreached) =
-    does_unreached UndoSays chip l.is_torn (undo_way is_fresh chip.kind (intent_of l.state)) before calls
+    does_unreached UndoSays chip l.is_torn (undo_way is_fresh chip.kind l.is_greeted (intent_of l.state)) before calls
     (cause_of fault) old new made unreached
 stopped_undo is_fresh chip l old new fault calls before tail loaded made (inr stops) =
-    does_stopped UndoSays chip l.is_torn (undo_way is_fresh chip.kind (intent_of l.state)) before calls
+    does_stopped UndoSays chip l.is_torn (undo_way is_fresh chip.kind l.is_greeted (intent_of l.state)) before calls
     (PutsBackFrom chip l.state) (cause_of fault) old new
     (λ b own p. (
       puts_track chip (pages_of_segments l.state.stack) _ b own (same_pages l before tail loaded) p,

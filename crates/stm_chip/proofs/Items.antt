@@ -40,9 +40,6 @@ stops says vs i v xs h e =
     ap (joined xs) (items_at says vs i v h ∙ ap (λ o. with_first o (each_of says (items_view (drop (i + 1) vs)))) e)
     ∙ none_more xs (each_of says (items_view (drop (i + 1) vs)))
 
-past : (vs : List Value) (i : ℕ) → length vs ≤ i → drop i vs ≡ []
-past vs i h = drop_all i vs h
-
 none_left : {T : Type 0} (says : Data → Option T) → each_of says no_items ≡ Some []
 unfolding each_of
 none_left says = refl
@@ -50,4 +47,4 @@ none_left says = refl
 pub ends : {T : Type 0} (says : Data → Option T) (vs : List Value) (i : ℕ) (xs : List T) → length vs ≤ i
     → joined xs (each_of says (items_view (drop i vs))) ≡ Some xs
 ends says vs i xs h =
-    ap (λ l. joined xs (each_of says (items_view l))) (past vs i h) ∙ ap (joined xs) (none_left says) ∙ ap (λ l. Some l) (search rules)
+    ap (λ l. joined xs (each_of says (items_view l))) (drop_all i vs h) ∙ ap (joined xs) (none_left says) ∙ ap (λ l. Some l) (search rules)

@@ -1,5 +1,5 @@
 -- Where a text is a table, each of its entries has keys, and its chips have the ids of its entries.
-use Rattle.std.proofs.Common.{◌≡◌, ◌≢◌, ◌∙◌, ℕ, ℤ, pos, ◌<◌, List, [], ◌∷◌, ◌++◌, length, map, refl, Option, Some, None, All, Contains, codes, option_map, option_and_then, sym, ap, subst, arith}
+use Rattle.std.proofs.Common.{◌≡◌, ◌≢◌, ◌∙◌, ℕ, ℤ, pos, ◌<◌, List, [], ◌∷◌, ◌++◌, length, map, refl, Option, Some, None, All, Contains, codes, option_map, option_and_then, ap, subst, arith}
 use Rattle.std.proofs.lemmas.List.{get_or-map, length-map}
 use Rattle.std.proofs.lemmas.List.Elements.{All-map, All-pop, All-push}
 use Rattle.toml.specs.Data.{Data, Members, as_integer, get}

@@ -1,5 +1,5 @@
 -- What an entry says of the boards that were tried.
-use Rattle.std.specs.Prelude.{ℕ, Bool, true, false, ◌&&◌, nat_le, not, List, [], length, count_by}
+use Rattle.std.specs.Prelude.{ℕ, Bool, false, ◌&&◌, nat_le, not, List, [], length, count_by}
 use Rattle.std.specs.Prelude.{Option, None, Some, codes, option_and_then, option_map}
 use Rattle.toml.specs.Data.{Data, as_array, as_bool, as_str, get}
 use Rattle.stm_chip.specs.Items.{each_of}

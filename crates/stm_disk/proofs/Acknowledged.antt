@@ -6,13 +6,13 @@ use Rattle.std.proofs.lemmas.Bool.{cases_Bool}
 use Rattle.std.proofs.lemmas.List.{length-take-le, take-take, take-append-drop}
 use Rattle.std.proofs.lemmas.List.Sums.{fold-append}
 use Rattle.stm_journal.specs.declared.entry.Entry.{Entry}
-use Rattle.stm_journal.specs.States.{StateData, allows, after_entry}
+use Rattle.stm_journal.specs.States.{StateData, allows}
 use Rattle.stm_journal.specs.Text.{Text, text_of, in_front, is_void}
 use Rattle.stm_journal.specs.Entries.{entry_of}
 use Rattle.stm_journal.specs.Journals.{JournalData, good, bad, Reading, read_line, reading_of, start, journal_of}
 use Rattle.stm_journal.specs.Journals.{after_line, after_said}
-use Rattle.stm_disk.specs.UnsyncedEnd.{lines_size, IsLeftOfSynced, CutsKeepAcknowledged}
-use Rattle.stm_disk.proofs.Stopping.{lines_in_front, more_in_front, lines-cons}
+use Rattle.stm_disk.specs.UnsyncedEnd.{lines_size, CutsKeepAcknowledged}
+use Rattle.stm_disk.proofs.Stopping.{lines_in_front, lines-cons}
 
 -- the tail is empty only where a line is behind the byte
 front-whole : (b : ℕ) (lines : List (List ℕ)) (tail : List ℕ)

@@ -1,10 +1,10 @@
 -- Pieces that are added one after another, each synced before the next, leave a beginning of lines.
 use Rattle.std.proofs.Common.{◌≡◌, ◌+◌, ◌-◌, ◌≤◌, ◌^◌, ℕ, List, [], ◌++◌, Result, Ok, Err}
-use Rattle.std.proofs.Common.{length, take, drop, sym, ap, subst, ◌∙◌, inl, inr, arith, OnOk, OnErr}
+use Rattle.std.proofs.Common.{length, take, drop, sym, ap, subst, ◌∙◌, arith, OnOk, OnErr}
 use Rattle.std.specs.Result.{IsErrAnd}
-use Rattle.std.proofs.lemmas.Bool.{cases_lt}
-use Rattle.std.proofs.lemmas.List.{append-nil, append_assoc, length-append, length-take, length-take-le, take-take, take_all}
+use Rattle.std.proofs.lemmas.List.{append-nil, append_assoc, length-append, length-take-le, take_all}
 use Rattle.std.proofs.Math.Seq.{take-add}
+use Rattle.stm_sim.specs.lemmas.Honest.{take-of-take}
 use Rattle.stm_disk.specs.Sectors.{LinesEndWhole}
 use Rattle.stm_disk.specs.Crash.{MayBeLeft}
 use Rattle.stm_disk.specs.GrowingFile.{FileState, GrowsHonestly, SyncsHonestly, FollowsFileModel}
@@ -46,8 +46,7 @@ pub unsynced_leaves : (at : ℕ) (piece : List ℕ) (a b : FileState) → LinesE
     → (left : List ℕ) → MayBeLeft b.synced b.seen left → LeftByAdding a.seen piece left
 unsynced_leaves at piece a b whole s seen synced left m =
     piece_leaves at piece a whole s left
-    (subst (λ (n : ℕ). MayBeLeft n (a.seen ++ piece) left) synced
-    (subst (λ (xs : List ℕ). MayBeLeft b.synced xs left) seen m))
+    (rw synced at (subst (λ (xs : List ℕ). MayBeLeft b.synced xs left) seen m))
 
 -- its sync
 pub piece_at_sync : {T E : Type 0} (result : Result T E) (at : ℕ) (piece : List ℕ)
@@ -115,21 +114,13 @@ piece_added result at piece a b c model_a model_b model_c whole s seen synced fi
   time = piece_at_sync result at piece a b c model_b whole s seen synced first by;
 }
 
--- a beginning of a beginning
-beginning_of : (n count : ℕ) (xs : List ℕ) → (m : ℕ) × (take n (take count xs) ≡ take m xs)
-beginning_of n count xs = elim (cases_lt n count) as
-    (λ _. (m : ℕ) × (take n (take count xs) ≡ take m xs)) [
-      | inl lt ↦ (n, take-take n count xs (omega (arith, lt)))
-      | inr le ↦ (count, take_all n (take count xs) (omega (arith, le, length-take count xs)))
-    ]
-
 -- what the next piece leaves is a beginning of the whole
 next_leaves : (old bytes mid piece left : List ℕ) (done count : ℕ) → mid ≡ old ++ take done bytes
     → piece ≡ take count (drop done bytes) → LeftByAdding mid piece left
     → LeftByAdding old bytes left
 next_leaves old bytes mid piece left done count before is by =
     let tail = by.1 in
-    let some = beginning_of by.0 count (drop done bytes) in
+    let some = take-of-take by.0 count (drop done bytes) in
     let front : List ℕ = take done bytes in
     let more : List ℕ = take some.0 (drop done bytes) in
     let begun : take by.0 piece ≡ more = ap (λ (xs : List ℕ). take by.0 xs) is ∙ some.1 in (
@@ -148,7 +139,7 @@ pub next_there : (done count : ℕ) (bytes piece : List ℕ) (a b c : FileState)
     → piece ≡ take count (drop done bytes) → b.seen ≡ a.seen ++ take done bytes
     → (n : ℕ) × (c.seen ≡ b.seen ++ take n piece) → (n : ℕ) × (c.seen ≡ a.seen ++ take n bytes)
 next_there done count bytes piece a b c is before by =
-    let some = beginning_of by.0 count (drop done bytes) in
+    let some = take-of-take by.0 count (drop done bytes) in
     let more : List ℕ = take some.0 (drop done bytes) in
     let begun : take by.0 piece ≡ more = ap (λ (xs : List ℕ). take by.0 xs) is ∙ some.1 in (
       done + some.0,
@@ -166,12 +157,12 @@ pub record SoFar (done : ℕ) (bytes : List ℕ) (a b : FileState) : Type 0 wher
 
 pub so_far_none : (at : ℕ) (bytes : List ℕ) (a : FileState) → FollowsFileModel a → a.is_honest
     → IsSynced at a → SoFar 0 bytes a a
-so_far_none at bytes a model honest s = record {
-  honest = honest;
-  seen = sym (append-nil a.seen);
-  synced = s.synced;
-  time = started (LeftByAdding a.seen bytes) a model (settled_leaves bytes at a s);
-}
+so_far_none at bytes a model honest s = assumption (
+  honest,
+  sym (append-nil a.seen),
+  s,
+  started (LeftByAdding a.seen bytes) a model (settled_leaves bytes at a s),
+)
 
 -- the end of the file, where the place of the next piece is no more than a number can be
 pub so_far_settled : (at place done : ℕ) (bytes : List ℕ) (a b : FileState) → FollowsFileModel b

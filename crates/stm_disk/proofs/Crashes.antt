@@ -24,12 +24,6 @@ last_LF (b ∷ xs) = elim (last_LF xs) as (λ _. LastLF (b ∷ xs)) [
   | inr last ↦ inr (suc last.0, omega (arith, last.1), last.2, last.3)
 ]
 
--- behind the old bytes
-rest_at : (old piece left : List ℕ) (k x : ℕ) → get_or (old ++ piece) (length old + k) 0 ≡ x
-    → get_or left (length old + k) 0 ≡ get_or (old ++ piece) (length old + k) 0
-    → get_or (drop (length old) left) k 0 ≡ x
-rest_at old piece left k x is same = get_or-drop (length old) left k 0 ∙ same ∙ is
-
 -- each byte up to an LF that is there was written
 each_same : (old piece left : List ℕ) → LinesEndWhole (length old) piece
     → MayBeLeft (length old) (old ++ piece) left

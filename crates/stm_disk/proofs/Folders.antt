@@ -1,7 +1,6 @@
 -- Programs that add to a file only while they hold its lock add one behind the other.
-use Rattle.std.proofs.Common.{◌≡◌, ◌≤◌, ◌⊎◌, inl, inr, ℕ, List, [], ◌∷◌, ◌++◌, length}
-use Rattle.std.proofs.Common.{map, true, true≢false}
-use Rattle.std.proofs.Common.{Option, Some, None, is_none, refl, sym, ◌∙◌, ap, subst, arith}
+use Rattle.std.proofs.Common.{◌≡◌, ◌≤◌, ◌⊎◌, inl, inr, ℕ, List, [], ◌∷◌, ◌++◌, length, map, true}
+use Rattle.std.proofs.Common.{true≢false, Option, Some, None, is_none, refl, sym, ◌∙◌, ap, arith}
 use Rattle.std.proofs.lemmas.Bool.{cases_Bool}
 use Rattle.std.specs.Option.{option_map}
 use Rattle.stm_disk.specs.Crash.{MayBeLeft}
@@ -218,12 +217,10 @@ pub programs_are_one : ProgramsAreOne
 programs_are_one [] f h = (tt, refl)
 programs_are_one (x ∷ steps) f h =
     let rest = programs_are_one steps (done x.who x.doing f) h.1 in
-    let same = one_done x.who x.doing f in
-    let H : Folder → Type 0 = λ g. CanHappen (map of_one steps) g in (
+    let same = one_done x.who x.doing f in (
       (
         (one_let x.who x.doing f h.0.0, one_careful x.who x.doing f h.0.1),
-        subst H (sym same)
-            rest.0,
+        rw same rest.0,
       ),
       ap (λ (g : Folder). after (map of_one steps) g) same ∙ rest.1,
     )

@@ -1,17 +1,14 @@
 -- Appends that follow one another leave what one append of all their bytes leaves.
 use Rattle.std.proofs.Common.{◌≡◌, ℕ, ◌+◌, List, [], ◌∷◌, ◌++◌, Result, Ok, Err}
 use Rattle.std.proofs.Common.{length, take, sym, ap, subst, ◌∙◌, inl, inr, arith, OnOk, OnErr}
-use Rattle.std.specs.Result.{IsErrAnd}
 use Rattle.std.proofs.lemmas.Bool.{cases_lt}
 use Rattle.std.proofs.lemmas.List.{append_assoc, take_all, take-append-le}
 use Rattle.std.proofs.Math.Seq.{take-append-add}
-use Rattle.stm_disk.specs.Crash.{MayBeLeft}
-use Rattle.stm_disk.specs.GrowingFile.{FileState, SyncsHonestly, FollowsFileModel}
+use Rattle.stm_disk.specs.GrowingFile.{FileState}
 use Rattle.stm_disk.specs.Moments.{CrashLeavesOnly}
 use Rattle.stm_disk.specs.Lines.{LeftByAdding, StaysOnDisk, AddsHonestly}
-use Rattle.stm_disk.specs.Appends.{all_bytes, AppendsAreOne, IsAppendBegun, IsTakenUp}
-use Rattle.stm_disk.specs.Appends.{LeftByAll, StoppedAppendsFollow, TakesUp}
-use Rattle.stm_disk.proofs.Times.{joined, elapsed}
+use Rattle.stm_disk.specs.Appends.{all_bytes, AppendsAreOne, LeftByAll, StoppedAppendsFollow}
+use Rattle.stm_disk.proofs.Times.{joined}
 
 -- a beginning of the first is one of both
 first_begun : (n : ℕ) (bytes more : List ℕ) → (m : ℕ) × (take n bytes ≡ take m (bytes ++ more))
@@ -89,26 +86,6 @@ both_added result bytes more a b c stays time by = record {
       (λ left p. second_left a.seen bytes more b.seen left stays.seen p);
 }
 
--- the first has failed, and the second wasn't begun
-pub first_failed : {T E : Type 0} (result : Result T E) (Q : E → Type 0) (bytes more : List ℕ)
-    (a b : FileState) → IsErrAnd result Q → (n : ℕ) × (b.seen ≡ a.seen ++ take n bytes)
-    → CrashLeavesOnly (LeftByAdding a.seen bytes) a b → AddsHonestly (bytes ++ more) result a b
-first_failed (Ok x) Q bytes more a b failed some time = absurd failed
-first_failed (Err e) Q bytes more a b failed some time =
-    let begun = first_begun some.0 bytes more in
-    record {
-      ok = tt;
-      err = (begun.0, some.1 ∙ ap (λ (xs : List ℕ). a.seen ++ xs) begun.1);
-      time = record {
-        later = time.later;
-        each = λ left since. first_left a.seen bytes more left (time.each left since);
-        before = λ t left le since. elim (time.before t left le since) [
-          | inl was ↦ inl was
-          | inr is ↦ inr (first_left a.seen bytes more left is)
-        ];
-      };
-    }
-
 pub appends_are_one : (F E : Type 0) (view : F → FileState) → AppendsAreOne F E view
 appends_are_one F E view [] last result a z by = by
 appends_are_one F E view (bytes ∷ more) last result a z by =
@@ -132,32 +109,3 @@ stopped_appends_follow F view (bytes ∷ more) last a z by =
     (stopped_appends_follow F view more last by.0 z by.2)
     (λ left p. inl p)
     (λ left p. rest_left bytes more last old mid left by.1.begun.some p)
-
--- a sync adds nothing to what a crash may leave
-synced_begun : {T E : Type 0} (result : Result T E) (bytes : List ℕ) (a b c : FileState)
-    → FollowsFileModel b → IsAppendBegun bytes a b → SyncsHonestly result b c → IsAppendBegun bytes a c
-synced_begun result bytes a b c model begun by =
-    let P : List ℕ → Type 0 = LeftByAdding a.seen bytes in
-    let here : (left : List ℕ) → MayBeLeft b.synced b.seen left → P left =
-    λ left m. begun.time.each left (model.counts_now a.moment left begun.time.later m) in
-    record {
-      some = (begun.some.0, by.seen ∙ begun.some.1);
-      time = joined P P P a b c begun.time
-          (elapsed (MayBeLeft b.synced b.seen) P b c model by.time here here)
-          (λ left p. p) (λ left p. p);
-    }
-
-synced_taken_up : {T E : Type 0} (result : Result T E) (bytes : List ℕ) (a b c : FileState)
-    → SyncsHonestly result b c → IsAppendBegun bytes a c → OnOk result (IsTakenUp bytes a c)
-synced_taken_up (Ok x) bytes a b c by begun = record {
-  honest = by.honest;
-  begun = begun;
-  synced = by.ok ∙ ap (λ (xs : List ℕ). length xs) (sym by.seen);
-}
-synced_taken_up (Err e) bytes a b c by begun = tt
-
-pub taken_up : {F T E : Type 0} (view : F → FileState) (result : Result T E) (b c : F)
-    → FollowsFileModel (view b) → SyncsHonestly result (view b) (view c) → TakesUp view result b c
-taken_up view result b c model by bytes a begun =
-    let still = synced_begun result bytes (view a) (view b) (view c) model begun by in
-    (still, synced_taken_up result bytes (view a) (view b) (view c) by still)

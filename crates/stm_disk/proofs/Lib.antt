@@ -6,6 +6,5 @@ pub mod Stopping
 pub mod Remembering
 pub mod OnDisk
 pub mod Folders
-pub mod Locked
 pub mod Acknowledged
 pub mod LineSizes

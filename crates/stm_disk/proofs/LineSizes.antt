@@ -1,8 +1,9 @@
 -- How many bytes so many lines have, one line after the other.
 use Rattle.std.proofs.Common.{◌≡◌, ◌≤◌, ◌<◌, ℕ, zero, suc, ◌+◌, ◌-◌, Bool, true, false, ◌==◌, nat_lt, if◌then◌else◌}
-use Rattle.std.proofs.Common.{List, [], ◌∷◌, length, drop, get_or, Option, Some, None, refl, sym, ◌∙◌, ap, arith, length-drop}
+use Rattle.std.proofs.Common.{List, [], ◌∷◌, length, drop, get_or, Some, None, refl, sym, ◌∙◌, ap, arith, length-drop}
 use Rattle.std.specs.List.{position, position_or_len}
 use Rattle.std.proofs.lemmas.Bool.Decides.{nat_tests}
+use Rattle.std.proofs.lemmas.List.{drop-drop}
 use Rattle.std.proofs.lemmas.List.Sums.{fails_before_first}
 use Rattle.std.proofs.lemmas.List.Quantifiers.{position-Some}
 use Rattle.stm_disk.specs.UnsyncedEnd.{lines_size}
@@ -39,17 +40,6 @@ never-at xs is k lt = fails_before_first (λ b. b == 10) xs k 0 (omega (arith, l
     far : (a b : ℕ) → nat_lt a b ≡ false → b ≤ a
     far a b h = grind (arith, nat_tests)
 
-drop-further : (at n : ℕ) (xs : List ℕ) → drop n (drop at xs) ≡ drop (at + n) xs
-drop-further zero n xs = let e : 0 + n ≡ n = omega arith in ap (λ (k : ℕ). drop k xs) (sym e)
-drop-further (suc at) n [] = nothing n ∙ sym (nothing (suc at + n))
-  where
-    nothing : (k : ℕ) → drop k (let xs : List ℕ = [] in xs) ≡ []
-    nothing zero = refl
-    nothing (suc k) = refl
-drop-further (suc at) n (x ∷ xs) =
-    let e : suc at + n ≡ suc (at + n) = omega arith in
-    drop-further at n xs ∙ sym (ap (λ (k : ℕ). drop k (x ∷ xs)) e)
-
 -- one line more ends here
 pub next_line : (bytes : List ℕ) (lines at left lf : ℕ) → 0 < left → at ≤ length bytes
     → at + lines_size left (drop at bytes) ≡ lines_size lines bytes
@@ -64,7 +54,7 @@ next_line bytes lines at left lf some within so_far is =
     let size : lines_size left (drop at bytes) ≡ suc lf + lines_size (left - 1) (drop (at + (lf + 1)) bytes) =
     ap (λ (n : ℕ). lines_size n (drop at bytes)) (sym e) ∙ first
     ∙ ap (λ (xs : List ℕ). suc lf + lines_size (left - 1) xs)
-    (ap (λ (n : ℕ). drop n (drop at bytes)) e2 ∙ drop-further at (lf + 1) bytes) in
+    (ap (λ (n : ℕ). drop n (drop at bytes)) e2 ∙ drop-drop (lf + 1) at bytes) in
     (omega (arith, p.0, within, length-drop at bytes), omega (arith, size, so_far))
 
 -- there is none, so that all bytes are of those lines

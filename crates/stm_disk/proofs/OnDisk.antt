@@ -1,24 +1,23 @@
 -- What the calls of a Rig with its journal on a disk promise, from what its line and file do.
-use Rattle.std.proofs.Common.{◌≡◌, inl, inr, ◌+◌, ◌-◌, ◌^◌, ◌≤◌, ℕ, List, [], ◌∷◌, ◌++◌}
-use Rattle.std.proofs.Common.{length, take}
-use Rattle.std.proofs.Common.{Bool, true, false, not, is_ok, true≢false, Option, Some, None}
-use Rattle.std.proofs.Common.{Result, Ok, Err, OnOk}
-use Rattle.std.proofs.Common.{refl, sym, ◌∙◌, ap, subst, arith, append-nil, take_all, length-append}
+use Rattle.std.proofs.Common.{◌≡◌, inl, inr, ◌+◌, ◌-◌, ◌^◌, ◌≤◌, ℕ, List, [], ◌∷◌, ◌++◌, length}
+use Rattle.std.proofs.Common.{take, Bool, true, false, not, is_ok, true≢false, Option, Some, None}
+use Rattle.std.proofs.Common.{Result, Ok, Err, OnOk, refl, sym, ◌∙◌, ap, subst, arith, append-nil}
+use Rattle.std.proofs.Common.{take_all, length-append}
 use Rattle.std.specs.Result.{IsErr}
 use Rattle.std.proofs.Math.Seq.{take-append-add, take-append_seam}
+use Rattle.stm_sim.specs.lemmas.HonestLine.{still}
 use Rattle.stm_wire.specs.Call.{Call, Append, Fetch, Get, Put}
 use Rattle.stm_wire.specs.declared.fault.RigFault.{RigFault}
 use Rattle.stm_wire.specs.declared.rig.Patience.{Patience}
 use Rattle.stm_wire.specs.declared.rig.Patience.TheVariants.{Brief, Long}
 use Rattle.stm_wire.specs.Device.{Device, LosesOwed}
-use Rattle.stm_wire.specs.Rig.{RigState, IsModel, Elapses, LeftByPut, LeftByGet, LeftByAppend}
-use Rattle.stm_wire.specs.Rig.{PutsHonestly, GetsHonestly, AppendsHonestly, FetchesHonestly}
+use Rattle.stm_wire.specs.Rig.{RigState, IsModel, LeftByPut, LeftByGet, LeftByAppend}
+use Rattle.stm_wire.specs.Rig.{PutsHonestly, AppendsHonestly, FetchesHonestly}
 use Rattle.stm_wire.specs.Rig.{HasCause, PutsAside, Records, RecordsAppend, TellsBehind, waited}
 use Rattle.stm_journal.specs.Text.{text_of}
 use Rattle.stm_journal.specs.Journals.{journal_of}
 use Rattle.stm_disk.specs.Crash.{MayBeLeft}
-use Rattle.stm_disk.specs.GrowingFile.{FileState}
-use Rattle.stm_disk.specs.GrowingFile.{FollowsFileModel as IsFileModel}
+use Rattle.stm_disk.specs.GrowingFile.{FileState, FollowsFileModel as IsFileModel}
 use Rattle.stm_disk.specs.Lines.{LeftByAdding, StaysOnDisk}
 use Rattle.stm_disk.specs.RigCalls.{PutsAsRig, GetsAsRig, AppendsAsRig, FetchesAsRig}
 use Rattle.stm_disk.specs.DiskRig.{DiskState, HoldsJournal, IsDisk, IsOnDisk, SameLines}
@@ -26,82 +25,6 @@ use Rattle.stm_disk.specs.DiskRig.{disk_rig_state, LeftByCall, CrashesAreStopsIn
 use Rattle.stm_disk.specs.DiskRig.{CrashesAreStopsHere, CrashesInSessionsAreStops}
 use Rattle.stm_disk.proofs.Crashes.{settled_left}
 use Rattle.stm_disk.proofs.Stopping.{crashes_are_stops}
-
--- no call reads the counts
-elapses : (P Q : Device → List ℕ → Type 0) (old new : DiskState)
-    → ((d : Device) (journal : List ℕ) → P d journal → Q d journal)
-    → Elapses P old.line new.line → Elapses Q (disk_rig_state old) (disk_rig_state new)
-elapses P Q old new weaken time = record {
-  later = time.later;
-  nothing_else = λ t d journal le left. elim (time.nothing_else t d journal le left) [
-    | inl was ↦ inl was
-    | inr is ↦ inr (weaken d journal is)
-  ];
-  keeps = time.keeps;
-}
-
-idle : (P : Device → List ℕ → Type 0) (old new : DiskState) → new.line ≡ old.line
-    → Elapses P (disk_rig_state old) (disk_rig_state new)
-idle P old new same =
-    let G : RigState → Type 0 = λ r.
-    Elapses P (disk_rig_state old) (disk_rig_state (record new { line = r })) in
-    subst G (sym same) (record {
-      later = omega arith;
-      nothing_else = λ t d journal le left. inl left;
-      keeps = λ t d journal le left. left;
-    })
-
-puts : (byte : ℕ) (result : Result (Unit {0}) RigFault) (old new : DiskState) → IsDisk new
-    → PutsHonestly byte result old.line new.line
-    → PutsHonestly byte result (disk_rig_state old) (disk_rig_state new)
-puts byte result old new is p = record {
-  honest = is;
-  ok = p.ok;
-  err = p.err;
-  time =
-      elapses (LeftByPut byte old.line) (LeftByPut byte (disk_rig_state old)) old new
-      (λ d journal left. left) p.time;
-}
-
-gets : (result : Result (Option ℕ) RigFault) (old new : DiskState) → IsDisk new
-    → GetsHonestly result old.line new.line
-    → GetsHonestly result (disk_rig_state old) (disk_rig_state new)
-gets result old new is g = record {
-  honest = is;
-  ok = g.ok;
-  journal = g.journal;
-  err = g.err;
-  time =
-      elapses (LeftByGet old.line) (LeftByGet (disk_rig_state old)) old new
-      (λ d journal left. left) g.time;
-}
-
-appends : (bytes : List ℕ) (result : Result (Unit {0}) RigFault) (old new : DiskState)
-    → IsDisk new → AppendsHonestly bytes result old.line new.line
-    → AppendsHonestly bytes result (disk_rig_state old) (disk_rig_state new)
-appends bytes result old new is by = record {
-  honest = is;
-  ok = by.ok;
-  err = by.err;
-  time =
-      elapses (LeftByAppend bytes old.line) (LeftByAppend bytes (disk_rig_state old)) old new
-      (λ d journal left. left) by.time;
-  beginnings = by.beginnings;
-}
-
-fetches : (at : ℕ) (buf after_buf : List ℕ) (result : Result ℕ RigFault) (old new : DiskState)
-    → IsDisk new → FetchesHonestly at buf after_buf result old.line new.line
-    → FetchesHonestly at buf after_buf result (disk_rig_state old) (disk_rig_state new)
-fetches at buf after_buf result old new is f = record {
-  honest = is;
-  ok = f.ok;
-  bytes = f.bytes;
-  more = f.more;
-  err = f.err;
-  time =
-      elapses (LeftByGet old.line) (LeftByGet (disk_rig_state old)) old new
-      (λ d journal left. left) f.time;
-}
 
 -- counts of a line and of what was refused
 pub causes : {T : Type 0} (before now refused : ℕ) (result : Result T RigFault)
@@ -119,16 +42,9 @@ causes before now refused (Err e) h = record {
 
 pub refusal_causes : {T : Type 0} (count before now : ℕ) (result : Result T RigFault)
     → HasCause before now result → HasCause (count + before) (count + now) result
-refusal_causes count before now (Ok x) h = record {
-  later = omega (arith, h.later);
-  done = ap (λ (n : ℕ). count + n) h.done;
-  failed = tt;
-}
-refusal_causes count before now (Err e) h = record {
-  later = omega (arith, h.later);
-  done = tt;
-  failed = omega (arith, h.failed);
-}
+refusal_causes count before now result h =
+    let e : (n : ℕ) → count + n ≡ n + count = λ n. omega arith in
+    rw (e before, e now) (causes before now count result h)
 
 -- waits aren't counted
 pub not_waited : (patience : Patience) → None ≡ waited patience None
@@ -167,9 +83,7 @@ pub put_refused : (byte : ℕ) (result : Result (Unit {0}) RigFault) (refused : 
 put_refused byte (Ok x) refused old new same failed count = absurd (true≢false (sym failed))
 put_refused byte (Err e) refused old new same failed count =
     let rig = old.line in
-    let G : DiskState → Type 0 = λ d.
-    PutsAsRig byte (Err e) (disk_rig_state old) (disk_rig_state d) in
-    subst G (sym same) (record {
+    rw same (record {
       cause = refusal_causes rig.line_failures old.refused refused (Err e) count;
       journal_count = refl;
       recorded = unrecorded {T = Unit {0}} (Put byte) (Err e) rig.calls failed;
@@ -179,7 +93,7 @@ put_refused byte (Err e) refused old new same failed count =
         honest = record { line = is.line; file = is.file };
         ok = tt;
         err = (refl, (rig.device, inl refl, (0, refl)));
-        time = idle (LeftByPut byte (disk_rig_state old)) old (record old { refused = refused }) refl;
+        time = assumption (still (LeftByPut byte rig) rig);
       };
     })
 
@@ -190,9 +104,7 @@ pub get_refused : (patience : Patience) (result : Result (Option ℕ) RigFault) 
 get_refused patience (Ok x) refused old new same failed count = absurd (true≢false (sym failed))
 get_refused patience (Err e) refused old new same failed count =
     let rig = old.line in
-    let G : DiskState → Type 0 = λ d.
-    GetsAsRig patience (Err e) (disk_rig_state old) (disk_rig_state d) in
-    subst G (sym same) (record {
+    rw same (record {
       cause = refusal_causes rig.line_failures old.refused refused (Err e) count;
       journal_count = refl;
       recorded = unrecorded {T = Option ℕ} (Get None) (Err e) rig.calls failed;
@@ -203,7 +115,7 @@ get_refused patience (Err e) refused old new same failed count =
         ok = tt;
         journal = refl;
         err = (refl, (0, refl));
-        time = idle (LeftByGet (disk_rig_state old)) old (record old { refused = refused }) refl;
+        time = assumption (still (LeftByGet rig) rig);
       };
     })
 
@@ -215,9 +127,7 @@ append_refused bytes (Ok x) failures old new same failed count model =
     absurd (true≢false (sym failed))
 append_refused bytes (Err e) failures old new same failed count model =
     let rig = old.line in
-    let G : DiskState → Type 0 = λ d.
-    AppendsAsRig bytes (Err e) (disk_rig_state old) (disk_rig_state d) in
-    subst G (sym same) (record {
+    rw same (record {
       cause = count;
       line_count = refl;
       recorded = unappended bytes e rig.calls;
@@ -227,12 +137,9 @@ append_refused bytes (Err e) failures old new same failed count model =
         honest = record { line = is.line; file = is.file };
         ok = tt;
         err = ((0, sym (append-nil rig.journal)), (0, refl));
-        time =
-            idle (LeftByAppend bytes (disk_rig_state old)) old
-            (record old { journal_failures = failures }) refl;
+        time = assumption (still (LeftByAppend bytes rig) rig);
         beginnings = λ t n d le above lost.
-            let J : List ℕ → Type 0 = λ j. rig.left_since t d j in
-            subst J (sym (take_all n rig.journal above)) ((model is.line).counts_now t d le lost);
+            rw (take_all n rig.journal above) ((model is.line).counts_now t d le lost);
       };
     })
 
@@ -243,9 +150,7 @@ pub fetch_refused : (at : ℕ) (buf : List ℕ) (result : Result ℕ RigFault) (
 fetch_refused at buf (Ok x) failures old new same failed count = absurd (true≢false (sym failed))
 fetch_refused at buf (Err e) failures old new same failed count =
     let rig = old.line in
-    let G : DiskState → Type 0 = λ d.
-    FetchesAsRig at buf buf (Err e) (disk_rig_state old) (disk_rig_state d) in
-    subst G (sym same) (record {
+    rw same (record {
       within = record { same_length = refl; within = tt; last = λ from. tt };
       cause = count;
       line_count = refl;
@@ -258,9 +163,7 @@ fetch_refused at buf (Err e) failures old new same failed count =
         bytes = tt;
         more = tt;
         err = (refl, (0, refl));
-        time =
-            idle (LeftByGet (disk_rig_state old)) old
-            (record old { journal_failures = failures }) refl;
+        time = assumption (still (LeftByGet rig) rig);
       };
     })
 
@@ -304,8 +207,7 @@ put_done byte result old line p = record {
   aside = record { long_gets = refl; told = p.aside.told };
   honest = λ is.
       let q = p.honest is.line in
-      puts byte result old (record old { line = line })
-      (kept_disk old line q.honest (put_keeps byte result old.line line q) is) q;
+      assumption (kept_disk old line q.honest (put_keeps byte result old.line line q) is, q);
 }
 
 pub get_done : (patience : Patience) (result : Result (Option ℕ) RigFault) (old : DiskState)
@@ -319,7 +221,7 @@ get_done patience result old line p = record {
   aside = record { long_gets = not_waited patience; told = p.aside.told };
   honest = λ is.
       let q = p.honest is.line in
-      gets result old (record old { line = line }) (kept_disk old line q.honest q.journal is) q;
+      assumption (kept_disk old line q.honest q.journal is, q);
 }
 
 pub fetch_done : (at : ℕ) (buf after_buf : List ℕ) (answer result : Result ℕ RigFault)
@@ -329,11 +231,8 @@ pub fetch_done : (at : ℕ) (buf after_buf : List ℕ) (answer result : Result �
     → FetchesAsRig at buf after_buf answer old.line line
     → FetchesAsRig at buf after_buf result (disk_rig_state old) (disk_rig_state new)
 fetch_done at buf after_buf answer result failures line old new same is_answer count by =
-    let F : Result ℕ RigFault → Type 0 = λ r. FetchesAsRig at buf after_buf r old.line line in
-    let p = subst F (sym is_answer) by in
-    let G : DiskState → Type 0 = λ d.
-    FetchesAsRig at buf after_buf result (disk_rig_state old) (disk_rig_state d) in
-    subst G (sym same) (record {
+    let p = rw (← is_answer) at by in
+    rw same (record {
       within = p.within;
       cause = count;
       line_count = ap (λ (n : ℕ). n + old.refused) p.line_count;
@@ -342,11 +241,8 @@ fetch_done at buf after_buf answer result failures line old new same is_answer c
       aside = record { long_gets = refl; told = p.aside.told };
       honest = λ is.
           let q = p.honest is.line in
-          let there : DiskState = record old { line = line; journal_failures = failures } in
-          let kept =
-          kept_disk old line q.honest (fetch_keeps at buf after_buf result old.line line q) is in
-          fetches at buf after_buf result old there
-          (record { line = kept.line; file = kept.file }) q;
+          let keeps = fetch_keeps at buf after_buf result old.line line q in
+          assumption (kept_disk old line q.honest keeps is, q);
     })
 
 -- the same bytes have the same lines
@@ -384,9 +280,7 @@ pub crashes_kept : (call : Call) (old new : DiskState) → new.file ≡ old.file
 crashes_kept call old new same model keeps is failed =
     let P = LeftByCall call (disk_rig_state old) in
     let held = is.file failed in
-    let F : FileState → Type 0 = λ f.
-    CrashesAreStopsHere P (disk_rig_state old) (disk_rig_state new) old.file f in
-    subst F (sym same) (kept_covers P old.size (disk_rig_state old) (disk_rig_state new) old.file
+    rw same (kept_covers P old.size (disk_rig_state old) (disk_rig_state new) old.file
     (model held.honest) held keeps)
 
 -- An append that the line didn't take, so that the file was left alone.
@@ -443,13 +337,10 @@ pub append_failed : (bytes : List ℕ) (answer result : Result (Unit {0}) RigFau
     (old new : RigState) → IsErr result → AppendsHonestly bytes answer old new
     → AppendsHonestly bytes result old new
 append_failed bytes answer (Ok x) old new failed a = absurd (true≢false (sym failed))
-append_failed bytes answer (Err fault) old new failed a = record {
-  honest = a.honest;
-  ok = tt;
-  err = left_by bytes answer old new a;
-  time = a.time;
-  beginnings = a.beginnings;
-}
+append_failed bytes answer (Err fault) old new failed a = assumption (
+  a,
+  left_by bytes answer old new a,
+)
 
 -- it stands in the record
 pub failed_recorded : (bytes : List ℕ) (answer result : Result (Unit {0}) RigFault)
@@ -511,8 +402,7 @@ added_disk : (bytes : List ℕ) (answer : Result (Unit {0}) RigFault) (old new :
 added_disk bytes (Ok x) old new failed size_is honest model on =
     let small : old.size + length bytes ≤ 2 ^ 64 - 1 =
     omega (arith, on.holds.settled.place, (model on.holds.honest).limit) in
-    let S : ℕ → Type 0 = λ n. HoldsJournal new.line.journal n new.file in
-    record { line = honest; file = λ e. subst S (sym (size_is refl small)) on.holds }
+    record { line = honest; file = λ e. rw (size_is refl small) on.holds }
 added_disk bytes (Err e) old new failed size_is honest model on = record {
   line = honest;
   file = λ e. absurd (true≢false (sym failed ∙ e));
@@ -521,8 +411,7 @@ added_disk bytes (Err e) old new failed size_is honest model on = record {
 pub cause_kept : (old kept new : ℕ) (answer result : Result (Unit {0}) RigFault) → kept ≡ old
     → result ≡ answer → HasCause kept new result → HasCause old new answer
 cause_kept old kept new answer result same is_answer cause =
-    let R : Result (Unit {0}) RigFault → Type 0 = λ r. HasCause old new r in
-    subst R is_answer (subst (λ (n : ℕ). HasCause n new result) same cause)
+    rw is_answer at (subst (λ (n : ℕ). HasCause n new result) same cause)
 
 pub append_done : (bytes : List ℕ) (answer result : Result (Unit {0}) RigFault)
     (old there new : DiskState) → new ≡ there → result ≡ answer
@@ -539,11 +428,7 @@ pub append_done : (bytes : List ℕ) (answer result : Result (Unit {0}) RigFault
     → AppendsAsRig bytes result (disk_rig_state old) (disk_rig_state new)
 append_done bytes answer result old there new same is_answer refused failed cause count recorded
     aside honest size_is model on =
-    let G : DiskState → Type 0 = λ d.
-    AppendsAsRig bytes result (disk_rig_state old) (disk_rig_state d) in
-    let R : Result (Unit {0}) RigFault → Type 0 = λ r.
-    AppendsAsRig bytes r (disk_rig_state old) (disk_rig_state there) in
-    subst G (sym same) (subst R (sym is_answer) (record {
+    rw same (rw is_answer (record {
       cause = cause;
       line_count = omega (arith, refused, count);
       recorded = recorded;
@@ -551,8 +436,7 @@ append_done bytes answer result old there new same is_answer refused failed caus
       aside = record { long_gets = refl; told = aside.told };
       honest = λ is.
           let by = honest is.line in
-          appends bytes answer old there
-          (added_disk bytes answer old there failed size_is by.honest model (on is)) by;
+          assumption (added_disk bytes answer old there failed size_is by.honest model (on is), by);
     }))
 
 pub append_crashes : (bytes : List ℕ) (old there new : DiskState) → new ≡ there
@@ -560,8 +444,7 @@ pub append_crashes : (bytes : List ℕ) (old there new : DiskState) → new ≡ 
     → CrashesAreStopsHere (LeftByAppend bytes old.line) old.line there.line old.file there.file)
     → CrashesAreStopsIn (Append bytes) old new
 append_crashes bytes old there new same crashes =
-    let G : DiskState → Type 0 = λ d. CrashesAreStopsIn (Append bytes) old d in
-    subst G (sym same) crashes
+    rw same crashes
 
 pub stays_kept : (bytes : List ℕ) (answer result : Result (Unit {0}) RigFault) (size : ℕ)
     (journal : List ℕ) (f file f2 : FileState) → result ≡ answer → f2 ≡ file

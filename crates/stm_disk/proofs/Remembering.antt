@@ -83,15 +83,13 @@ recorded P bytes more synced now past h here =
           (λ _. CrashLeftSince bytes synced past t left ⊎ P left) [
             | inl lt ↦
                 inr (here left (now_left (bytes ++ more) now left
-                (subst (λ (sizes : ℕ × ℕ). LeftAt (bytes ++ more) sizes left)
-                (last since.0 lt) since.2)))
+                (rw (last since.0 lt) at since.2)))
             | inr before ↦
                 inl (
                   since.0,
                   since.1,
                   front_of bytes more (old since.0) left (h.grew since.0)
-                      (subst (λ (sizes : ℕ × ℕ). LeftAt (bytes ++ more) sizes left)
-                      (same since.0 before) since.2),
+                      (rw (same since.0 before) at since.2),
                 )
           ];
       keeps = λ t left le since. elim (cases_lt (length past) since.0) as
@@ -99,20 +97,14 @@ recorded P bytes more synced now past h here =
             | inl lt ↦ (
               length past,
               le,
-              subst (λ (sizes : ℕ × ℕ). LeftAt (bytes ++ more) sizes left)
-                  (sym (same (length past) (omega arith)))
-                  (front_on bytes more (old (length past)) left (h.grew (length past))
-                  (subst (λ (sizes : ℕ × ℕ). LeftAt bytes sizes left)
-                  (get_or_past past since.0 (synced, length bytes) (omega (arith, lt))
-                  ∙ sym (get_or_past past (length past) (synced, length bytes) (omega arith)))
-                  since.2)),
+              rw (same (length past) (omega arith)) (front_on bytes more (old (length past)) left (h.grew (length past))
+                  (rw (get_or_past past since.0 (synced, length bytes) (omega (arith, lt))
+                  ∙ sym (get_or_past past (length past) (synced, length bytes) (omega arith))) at since.2)),
             )
             | inr before ↦ (
               since.0,
               since.1,
-              subst (λ (sizes : ℕ × ℕ). LeftAt (bytes ++ more) sizes left)
-                  (sym (same since.0 before))
-                  (front_on bytes more (old since.0) left (h.grew since.0) since.2),
+              rw (same since.0 before) (front_on bytes more (old since.0) left (h.grew since.0) since.2),
             )
           ];
     }
@@ -134,9 +126,7 @@ recorded_honestly bytes more synced now past h within limit =
                 (sym (get_or_past (pushed bytes synced past) k (now, length (bytes ++ more))
                 (omega (arith, lt, length_push past (synced, length bytes))))) (omega arith)
             | inr before ↦
-                subst (λ (sizes : ℕ × ℕ). sizes.1 ≤ length (bytes ++ more))
-                (sym (push_at past (synced, length bytes) (now, length (bytes ++ more)) k before))
-                (omega (arith, h.grew k, long))
+                rw (push_at past (synced, length bytes) (now, length (bytes ++ more)) k before) (omega (arith, h.grew k, long))
           ];
     }
 

@@ -45,15 +45,3 @@ elapsed P R a b model time here p =
       before = λ t left le since.
           ⊎_elim (λ l. inl l) (λ r. inr (p left r)) (time.nothing_else t left le since);
     }
-
--- what holds of less
-pub weaker : (P R : List ℕ → Type 0) (a b : FileState) → CrashLeavesOnly P a b
-    → ((left : List ℕ) → P left → R left) → CrashLeavesOnly R a b
-weaker P R a b l r =
-    record {
-      later = l.later;
-      each = λ left since. r left (l.each left since);
-      before =
-          λ t left le since.
-          ⊎_elim (λ x. inl x) (λ x. inr (r left x)) (l.before t left le since);
-    }

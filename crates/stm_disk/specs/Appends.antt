@@ -1,6 +1,5 @@
 -- Appends to one file, one behind the other.
-use Rattle.std.specs.Prelude.{◌≡◌, ◌⊎◌, ℕ, List, [], ◌∷◌, ◌++◌, length, take}
-use Rattle.std.specs.Prelude.{Result, Ok, OnOk}
+use Rattle.std.specs.Prelude.{◌≡◌, ◌⊎◌, ℕ, List, [], ◌∷◌, ◌++◌, length, take, Result, Ok}
 use Rattle.stm_disk.specs.GrowingFile.{FileState}
 use Rattle.stm_disk.specs.Moments.{CrashLeavesOnly}
 use Rattle.stm_disk.specs.Lines.{LeftByAdding, AddsHonestly}
@@ -54,10 +53,3 @@ abbrev pub StoppedAppendsFollow : (F : Type 0) → (F → FileState) → Type 0
 StoppedAppendsFollow F view = (parts : List (List ℕ)) (last : List ℕ) (a z : F)
     → TakenUpInTurn view parts last a z
     → CrashLeavesOnly (LeftByAll (view a).seen parts last) (view a) (view z)
-
--- From whatever state, a sync that answered takes up an append that was stopped there, and one that
--- didn't leaves nothing else.
-abbrev pub TakesUp : {F T E : Type 0} → (F → FileState) → Result T E → F → F → Type 0
-TakesUp {F} view result old new = (bytes : List ℕ) (first : F)
-    → IsAppendBegun bytes (view first) (view old)
-    → IsAppendBegun bytes (view first) (view new) × OnOk result (IsTakenUp bytes (view first) (view new))

@@ -10,5 +10,4 @@ pub mod UnsyncedEnd
 pub mod RigCalls
 pub mod DiskRig
 pub mod Folder
-pub mod LockedFile
 pub mod lemmas

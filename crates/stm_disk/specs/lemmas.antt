@@ -1,3 +1,2 @@
 pub mod MemoryFileLaws
 pub mod DiskRigLaws
-pub mod LockedFileLaws

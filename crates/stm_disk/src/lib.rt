@@ -1,17 +1,14 @@
 //! A file of lines on a disk, and what a crash of the PC leaves of lines that were being added.
 #![tactic(auto)]
 
-mod appends;
 mod crash_end;
 mod disk_in_memory;
 mod disk_rig;
 mod growing_file;
 mod laws;
 mod lines;
-mod locked_file;
 mod memory_file;
 
-pub use appends::{add_both, take_up};
 pub use crash_end::{lines_size, unsynced_end};
 pub use disk_in_memory::memory_disk;
 pub use disk_rig::DiskRig;
@@ -23,5 +20,4 @@ pub use laws::{
     stopped_appends_follow,
 };
 pub use lines::add_lines;
-pub use locked_file::LockedFile;
 pub use memory_file::MemoryFile;

@@ -1,9 +1,9 @@
-// Lines that are added to a file, in pieces and one append behind the other.
+// Lines that are added to a file, in pieces.
 use crate::failing_file::FileCall::{Append, Sync};
 use crate::failing_file::{FailingFile, FileCall};
 use std::alloc::Global;
 use std::test::Fail;
-use stm_disk::{GrowingFile, add_both, add_lines, take_up};
+use stm_disk::add_lines;
 
 /// So many bytes, each x, and then these.
 fn line(alloc: Global, count: usize, end: &[u8]) -> Result<Vec<u8>, Fail> {
@@ -39,38 +39,5 @@ fn first_other(alloc: Global) -> Result<Option<usize>, Fail> {
 #[test]
 fn no_lf_is_on_the_disk_before_its_line(rt: HostRuntime) -> Result<(), Fail> {
     assert_eq!(rt; first_other(rt.alloc())?, None);
-    Ok(())
-}
-
-/// Which call fails, and what is there of "ab\n" and "cd\n" then.
-const BOTH: [(usize, &[u8]); 5] = [
-    (0, b"ab\ncd\n"),
-    (1, b"ab"),
-    (2, b"ab\n"),
-    (3, b"ab\ncd"),
-    (4, b"ab\ncd\n"),
-];
-
-#[test]
-fn the_second_comes_behind_the_first(rt: HostRuntime) -> Result<(), Fail> {
-    for (fails, left) in BOTH {
-        let mut file = FailingFile::new(rt.alloc(), fails);
-        let is_ok = add_both(&mut file, 0, b"ab\n", b"cd\n").is_ok();
-        assert_eq!(rt; (is_ok, file.bytes()), (fails == 0, left), "call {fails}");
-    }
-    Ok(())
-}
-
-/// Which call fails of an append of "ab\n" and of its taking up, and whether it is taken up.
-const TAKEN_UP: [(usize, bool); 3] = [(0, true), (1, true), (2, false)];
-
-#[test]
-fn a_file_is_taken_up_where_its_sync_answers(rt: HostRuntime) -> Result<(), Fail> {
-    for (fails, is_taken_up) in TAKEN_UP {
-        let mut file = FailingFile::new(rt.alloc(), fails);
-        let _ = file.append(b"ab\n");
-        assert_eq!(rt; take_up(&mut file).is_ok(), is_taken_up, "call {fails}");
-        assert_eq!(rt; file.calls(), [Append(3), Sync].as_slice());
-    }
     Ok(())
 }

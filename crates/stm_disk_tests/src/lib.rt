@@ -8,6 +8,4 @@ mod failing_file;
 #[cfg(test)]
 mod laws;
 #[cfg(test)]
-mod locked;
-#[cfg(test)]
 mod on_disk;

@@ -31,7 +31,7 @@ fn journal_and_file_have_the_same_bytes(rt: HostRuntime) -> Result<(), Fail> {
     assert_eq!(rt; ask(&mut rig)?, (0xA01, *b"en 1\nend 1\n\0", 11));
     let (line, file) = rig.into_parts();
     assert_eq!(rt; line.journal(), b"open 1\nend 1\n".as_slice());
-    assert_eq!(rt; file.let_go().bytes(), b"open 1\nend 1\n".as_slice());
+    assert_eq!(rt; file.bytes(), b"open 1\nend 1\n".as_slice());
     Ok(())
 }
 

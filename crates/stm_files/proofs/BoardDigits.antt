@@ -3,19 +3,11 @@ use Rattle.std.proofs.Common.{◌≡◌, ℕ, zero, suc, ◌+◌, ◌-◌, ◌/�
 use Rattle.std.proofs.Common.{List, [], ◌∷◌, ◌++◌, length, take, get_or, slice_index, refl, sym, ◌∙◌, ap, ap₂}
 use Rattle.std.proofs.Common.{arith, eq-or-lt_of_le, ⊎_elim}
 use Rattle.std.proofs.Math.Dec.{eqb}
-use Rattle.std.proofs.lemmas.Bool.{eqb-true}
+use Rattle.std.proofs.lemmas.Bool.{and_parts, eqb-true}
 use Rattle.std.proofs.lemmas.Fmt.{hex_byte}
 use Rattle.std.proofs.lemmas.List.{take_more}
 use Rattle.std.specs.Fmt.{digit_glyph, digits, padded_integral, format_spec}
 use Rattle.hex.specs.Hex.{encode_upper, encode_with, upper_digits}
-
-first-true : (a b : Bool) → (a && b) ≡ true → a ≡ true
-first-true true b e = refl
-first-true false b e = e
-
-second-true : (a b : Bool) → (a && b) ≡ true → b ≡ true
-second-true true b e = e
-second-true false b e = cc
 
 -- the digits below are those of the table
 abbrev same_below : ℕ → Bool
@@ -29,9 +21,9 @@ same_at (suc n) d all lt =
     let within : d ≤ n = omega arith in
     ⊎_elim
     (λ same. ap (λ (k : ℕ). eqb (slice_index upper_digits k) (digit_glyph true k)) same
-    ∙ first-true (eqb (slice_index upper_digits n) (digit_glyph true n)) (same_below n) all)
+    ∙ (and_parts (eqb (slice_index upper_digits n) (digit_glyph true n)) (same_below n) all).0)
     (λ less. same_at n d
-    (second-true (eqb (slice_index upper_digits n) (digit_glyph true n)) (same_below n) all) less)
+    (and_parts (eqb (slice_index upper_digits n) (digit_glyph true n)) (same_below n) all).1 less)
     (eq-or-lt_of_le within)
 
 digit_is : (d : ℕ) → d < 16 → slice_index upper_digits d ≡ digit_glyph true d

@@ -1,5 +1,5 @@
 -- A journal that is read whole: its bytes, piece by piece, and its pages, one by one.
-use Rattle.std.proofs.Common.{◌≡◌, ℕ, ◌+◌, ◌-◌, ◌<◌, ◌≤◌, ◌^◌, List, [], ◌∷◌, ◌++◌, length, take, drop, zero, suc, Option, Some, None, option_map, Ok, Err, Result, refl, sym, ◌∙◌, ap, subst, arith, inl, inr, append_assoc, append-nil, take_all, length-drop}
+use Rattle.std.proofs.Common.{◌≡◌, ℕ, ◌+◌, ◌-◌, ◌<◌, ◌≤◌, ◌^◌, List, [], ◌++◌, length, take, drop, Option, Some, None, option_map, Ok, Err, Result, refl, sym, ◌∙◌, ap, arith, inl, inr, take_all, length-drop}
 use Rattle.std.specs.Prelude.{IfOk}
 use Rattle.std.specs.List.{flat_map, range_with_len}
 use Rattle.std.specs.Option.{option_map_or}
@@ -8,28 +8,19 @@ use Rattle.std.proofs.lemmas.Bool.{cases_lt}
 use Rattle.std.proofs.lemmas.List.{flat_map_more, length-take-le}
 use Rattle.stm_wire.specs.Rig.{RigState, IsModel, StaysHonest}
 use Rattle.stm_journal.specs.declared.fault.JournalFault.{JournalFault}
-use Rattle.stm_journal.specs.declared.fault.JournalFault.TheVariants.{File}
 use Rattle.stm_journal.specs.declared.kept.Kept.{Kept}
 use Rattle.stm_journal.specs.declared.kept.PagePlace.{PagePlace}
-use Rattle.stm_journal.specs.Calls.{FetchesPage, Loads}
+use Rattle.stm_journal.specs.Calls.{Loads}
 use Rattle.stm_journal.specs.lemmas.ForgetLaws.{kept_at-forgets, kept_count-forgets, kept_place-forgets}
 use Rattle.stm_journal.specs.InMemory.{forget_state}
-use Rattle.stm_journal.specs.Journals.{IsLoaded, Loaded, good, journal_of}
+use Rattle.stm_journal.specs.Journals.{Loaded, good, journal_of}
 use Rattle.stm_journal.specs.KeptPlaces.{kept_count, kept_entry, kept_place, place_of}
 use Rattle.stm_journal.specs.States.{StateData, kept_at}
-use Rattle.stm_files.specs.Checking.{IsCheckFault, IsCounted, IsTied, ReadsJournal, TellsState, check_text, kept_page_line, page_line, page_text}
+use Rattle.stm_files.specs.Checking.{IsCounted, IsTied, ReadsJournal, TellsState, check_text, kept_page_line, page_line, page_text}
 use Rattle.stm_files.specs.PageSum.{page_sum}
 use Rattle.stm_files.specs.Tally.{IsTallyOf}
 use Rattle.stm_files.specs.declared.tally.Tally.{Tally}
 use Rattle.stm_files.proofs.LoggedPages.{range-more}
-
--- nothing is read yet
-pub counted-none : (t : Tally) (a : RigState) → a.is_honest → IsTallyOf [] t → IsCounted 0 t a a
-counted-none t a honest is = record {
-  stays = record { honest = honest; journal = refl };
-  within = omega arith;
-  tally = is;
-}
 
 -- what was fetched is what follows
 fits : (at n : ℕ) (after journal : List ℕ) → n ≤ length after → take n after ≡ take n (drop at journal) → n ≤ length (drop at journal)
@@ -51,12 +42,11 @@ counted-more at n before after t u a b d model has got within step =
     let bytes : take n after ≡ take n (drop at j) = got.bytes ∙ ap (λ (xs : List ℕ). take n (drop at xs)) same in
     let room : at + n ≤ length j = omega (arith, fits at n after j within bytes, length-drop at j, has.within) in
     let joined : take at j ++ take n after ≡ take (at + n) j = ap (λ (xs : List ℕ). take at j ++ xs) bytes ∙ sym (take-add at n j) in
-    let T : List ℕ → Type 0 = λ xs. IsTallyOf xs u in
     let short : length (take at j) + length (take n after) < 2 ^ 63 = omega (arith, length-take-le at j has.within, length-take-le n after within, room, model.journal) in
     record {
       stays = record { honest = got.stays.honest; journal = got.stays.journal ∙ same };
       within = room;
-      tally = subst T joined (step (take at j) has.tally short);
+      tally = rw joined at (step (take at j) has.tally short);
     }
 
 -- behind the last byte
@@ -68,28 +58,10 @@ counted-all at before after t a b d has got some =
     let past : length j ≤ at = elim (cases_lt at (length j)) [
       | inl less ↦ let none : length before ≡ 0 = got.more refl (omega (arith, less, same)) in absurd (omega (arith, none, some))
       | inr more ↦ omega (arith, more)
-    ] in
-    let T : List ℕ → Type 0 = λ xs. IsTallyOf xs t in (
+    ] in (
       record { honest = got.stays.honest; journal = got.stays.journal ∙ has.stays.journal },
-      subst T (take_all at j past) has.tally,
+      rw (take_all at j past) at has.tally,
     )
-
--- a page was fetched
-pub tied-fetched : (bytes : List ℕ) (s : StateData) (l : Loaded) (place : PagePlace) (after : List ℕ) (a b : RigState) → IsTied bytes s l a
-    → FetchesPage place after a b (Ok tt)
-    → IsTied bytes s l b × ((k i : ℕ) (kept : Kept) → kept_entry s k i ≡ Some kept → place_of kept ≡ place → after ≡ kept.bytes)
-tied-fetched bytes s l place after a b tied got = (
-  record { honest = got.honest; journal = got.journal ∙ tied.journal; means = tied.means; loaded = tied.loaded; state = tied.state },
-  λ k i kept entry at. got.bytes s k i kept (ap (λ (xs : List ℕ). journal_of xs) tied.journal ∙ tied.means) entry at,
-)
-
--- the journal in memory is tied to what the Rig holds
-pub tied-loaded : (bytes : List ℕ) (s : StateData) (l : Loaded) (a : RigState) → IsTied bytes s l a → IsLoaded l a.journal
-tied-loaded bytes s l a tied = let L : List ℕ → Type 0 = λ xs. IsLoaded l xs in subst L (sym tied.journal) tied.loaded
-
--- only the file can have failed
-pub file-fails : (bytes : List ℕ) (e : JournalFault) → e ≡ File → IsCheckFault bytes e
-file-fails bytes e is = let F : JournalFault → Type 0 = λ x. IsCheckFault bytes x in subst F (sym is) tt
 
 -- the line of a page that is kept
 pub page-line-is : (s m : StateData) (k i page line : ℕ) (place : PagePlace) (sum : ℕ) → m ≡ forget_state s → Some (page, line) ≡ kept_at m k i
@@ -112,21 +84,6 @@ page-line-is s m k i page line place sum state told stands sums =
         ∙ ap (λ (p : PagePlace). page_line kept.page p.line p.length sum) here
         ∙ ap (λ (n : ℕ). page_line kept.page kept.line (length kept.bytes) n) (g kept refl (sym here))
 
--- where no page is told, none is kept
-pub no-page : (s m : StateData) (k i : ℕ) → m ≡ forget_state s → None ≡ kept_at m k i → [] ≡ page_text s k i
-no-page s m k i state told = at (kept_entry s k i) (told ∙ ap (λ (x : StateData). kept_at x k i) state ∙ kept_at-forgets s k i)
-  where
-    at : (o : Option Kept) → None ≡ option_map {U = ℕ × ℕ} (λ kept. (kept.page, kept.line)) o → [] ≡ option_map_or kept_page_line o []
-    at None e = refl
-    at (Some kept) e = absurd (cc)
-
-pub no-place : (s m : StateData) (k i : ℕ) → m ≡ forget_state s → None ≡ kept_place m k i → [] ≡ page_text s k i
-no-place s m k i state stands = at (kept_entry s k i) (stands ∙ ap (λ (x : StateData). kept_place x k i) state ∙ kept_place-forgets s k i)
-  where
-    at : (o : Option Kept) → None ≡ option_map place_of o → [] ≡ option_map_or kept_page_line o []
-    at None e = refl
-    at (Some kept) e = absurd (cc)
-
 -- one text more
 pub text-more : (f : ℕ → List ℕ) (head : List ℕ) (from n m : ℕ) → m ≡ from + n
     → (head ++ flat_map f (range_with_len from n)) ++ f m ≡ head ++ flat_map f (range_with_len from (n + 1))
@@ -141,8 +98,7 @@ count-is s m k state = ap (λ (x : StateData). kept_count x k) state ∙ kept_co
 -- what was loaded is tied to the bytes
 pub tied-first : (bytes : List ℕ) (l : Loaded) (a b : RigState) → a.journal ≡ bytes → Loads a b (Ok l) → (s : StateData) × IsTied bytes s l b
 tied-first bytes l a b same got =
-    let L : List ℕ → Type 0 = λ xs. IsLoaded l xs in
-    let loaded = subst L same got.loaded in (
+    let loaded = rw same at got.loaded in (
       loaded.text,
       record { honest = got.honest; journal = got.journal ∙ same; means = loaded.means; loaded = loaded; state = loaded.state },
     )

@@ -12,14 +12,13 @@ use Rattle.stm_files.specs.Cutting.{outline, page_outline}
 -- lists of one length whose elements are the same, one by one
 pub same-at : {B : Type 0} (xs ys : List B) → length xs ≡ length ys → ((i : ℕ) → i < length xs → slice_get xs i ≡ slice_get ys i) → xs ≡ ys
 same-at [] [] e at = refl
-same-at [] (y ∷ ys) e at = absurd (omega (arith, e))
-same-at (x ∷ xs) [] e at = absurd (omega (arith, e))
 same-at (x ∷ xs) (y ∷ ys) e at =
     let lengths : length xs ≡ length ys = omega (arith, e) in
     let some : 0 < length (x ∷ xs) = omega arith in
     let is : Some x ≡ Some y = at 0 some in
     let first : x ≡ y = cc in
     ap₂ (λ z zs. z ∷ zs) first (same-at xs ys lengths (λ i lt. at (suc i) (omega (arith, lt))))
+same-at xs ys e at = absurd (omega (arith, e))
 
 pub get-take : {B : Type 0} (n : ℕ) (xs : List B) (i : ℕ) → i < n → slice_get (take n xs) i ≡ slice_get xs i
 get-take zero xs i lt = absurd (omega (arith, lt))

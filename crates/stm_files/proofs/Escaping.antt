@@ -7,7 +7,7 @@ use Rattle.std.specs.declared.fmt.Error.{Error}
 use Rattle.std.specs.declared.fmt.Formatter.{Formatter}
 use Rattle.std.specs.Fmt.{DisplaysOnOk, HasWritten, IsPlainFormatter, WritesInCalls, WritesText}
 use Rattle.std.proofs.Output.{has_written_append, writes_in_calls_nil}
-use Rattle.std.proofs.lemmas.Bool.{cases_lt}
+use Rattle.std.proofs.lemmas.Bool.{and_parts, cases_lt}
 use Rattle.std.proofs.lemmas.Bool.Decides.{nat_tests}
 use Rattle.std.proofs.lemmas.Str.{chars-append, chars-encodes, chars-nil, chars_past_char, encodes-append, inside_one, scalars-chars}
 use Rattle.std.proofs.lemmas.List.Concat.{flat_map-append}
@@ -55,8 +55,7 @@ module _ {S W N : Type 0} (took : W → List ℕ → W → Type 0) (name : S →
         same = later.same ∙ same;
         wrote = λ plain.
             let first = wrote plain in
-            let W : List ℕ → Type 0 = λ bytes. HasWritten took (to s) bytes (to t) in
-            subst W (sym (escaped-append piece (concat pieces) is)) (has_written_append _ _ _ _ _ _ first (later.wrote first.plain));
+            rw (escaped-append piece (concat pieces) is) (has_written_append _ _ _ _ _ _ first (later.wrote first.plain));
       }
 
   handed-whole : (s : S) (bytes : List ℕ) (t : S) → WritesInCalls HandsOn s bytes t → Handed s bytes t
@@ -69,10 +68,7 @@ module _ {S W N : Type 0} (took : W → List ℕ → W → Type 0) (name : S →
   displays (Some bytes) s t f g (Ok x) first last wrote =
       λ plain ok.
       let whole = handed-whole s bytes t wrote in
-      let P : Formatter W → Type 0 = λ h. IsPlainFormatter h in
-      let Q : Formatter W → Type 0 = λ h. HasWritten took h (escaped bytes) g in
-      let R : Formatter W → Type 0 = λ h. HasWritten took (to s) (escaped bytes) h in
-      subst Q first (subst R (last whole.same) (whole.wrote (subst P (sym first) plain)))
+      rw first at (rw (last whole.same) at (whole.wrote (rw first plain)))
 
 -- a character that is printed
 record IsPlain (c : ℕ) : Type 0 where
@@ -115,17 +111,11 @@ shown-plain c code =
     either (c == 0x0D) _ _ (λ is. letter-plain 0x72 (omega arith) (omega arith)) (λ no.
     either (is_control c) _ _ (λ is. number-plain c is) (λ kept. (record { kept = kept; code = code }, tt)))))
 
-and-first : (a b : Bool) → (a && b) ≡ true → a ≡ true
-and-first true b is = refl
-and-first false b is = is
-
-and-second : (a b : Bool) → (a && b) ≡ true → b ≡ true
-and-second true b is = is
-and-second false b is = absurd (cc)
-
 all-plain : (cs : List ℕ) → scalars cs ≡ true → ArePlain (flat_map shown cs)
 all-plain [] codes = tt
-all-plain (c ∷ cs) codes = plain-append (shown c) (flat_map shown cs) (shown-plain c (and-first (scalar c) (scalars cs) codes)) (all-plain cs (and-second (scalar c) (scalars cs) codes))
+all-plain (c ∷ cs) codes =
+    let is = and_parts (scalar c) (scalars cs) codes in
+    plain-append (shown c) (flat_map shown cs) (shown-plain c is.0) (all-plain cs is.1)
 
 plain-codes : (cs : List ℕ) → ArePlain cs → scalars cs ≡ true
 plain-codes [] plain = refl

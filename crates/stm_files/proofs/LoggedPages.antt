@@ -1,11 +1,10 @@
 -- The pages of a segment, as the readers of a journal tell them one by one.
-use Rattle.std.proofs.Common.{◌≡◌, ℕ, ◌+◌, ◌<◌, ◌≤◌, ◌++◌, ◌∷◌, [], ◌==◌, List, length, drop, map, slice_get, if◌then◌else◌, Bool, true, false, Option, Some, None, option_map, option_and_then, inl, inr, refl, sym, ◌∙◌, ap, arith, append_assoc}
+use Rattle.std.proofs.Common.{◌≡◌, ℕ, ◌+◌, ◌<◌, ◌≤◌, ◌++◌, ◌∷◌, [], ◌==◌, List, length, drop, slice_get, if◌then◌else◌, Bool, true, false, Option, Some, None, option_map, option_and_then, inl, inr, refl, sym, ◌∙◌, ap, arith, append_assoc}
 use Rattle.std.specs.List.{flat_map, range_with_len}
 use Rattle.std.specs.Option.{option_map_or}
-use Rattle.std.proofs.lemmas.List.{drop_more, drop-map, flat_map_more, map-id}
+use Rattle.std.proofs.lemmas.List.{drop_more, flat_map_more, map-id}
 use Rattle.std.proofs.lemmas.List.FromFn.{map-range_with_len_more}
 use Rattle.std.proofs.lemmas.Option.{slice_get_within, get_or_from_slice_get, slice_get_cases, slice_get-map}
-use Rattle.std.proofs.Math.ListN.{drop_of_length-le}
 use Rattle.stm_journal.specs.declared.kept.Kept.{Kept}
 use Rattle.stm_journal.specs.States.{StateData, SegmentData, segment_of, kept_at}
 use Rattle.stm_journal.specs.KeptPlaces.{kept_count}
@@ -35,19 +34,6 @@ number-at s k segment i n line is e =
     let at : slice_get numbers i ≡ Some n =
     slice_get-map (λ kept. kept.page) segment.pages i ∙ told-some (slice_get segment.pages i) n line (e ∙ told-of (segment_of s k) segment i is) in
     drop_more numbers i n (slice_get_within numbers i n at) ∙ ap (λ m. m ∷ drop (i + 1) numbers) (get_or_from_slice_get numbers i n n at)
-
-drop-map-past : (pages : List Kept) (i : ℕ) → length pages ≤ i → drop i (map (λ kept. kept.page) pages) ≡ []
-drop-map-past pages i le = drop-map (λ kept. kept.page) i pages ∙ ap (λ (ks : List Kept). map (λ kept. kept.page) ks) (drop_of_length-le pages le)
-
--- past the pages nothing is told
-pub none-at : (s : StateData) (k : ℕ) (segment : SegmentData) (i : ℕ) → segment_of s k ≡ Some segment → None ≡ kept_at s k i
-    → drop i (numbers_of segment) ≡ []
-none-at s k segment i is e =
-    let none = told-none (slice_get segment.pages i) (e ∙ told-of (segment_of s k) segment i is) in
-    elim (slice_get_cases segment.pages i).1 [
-      | inl some ↦ absurd (let there = some.2 in cc (none, there))
-      | inr past ↦ drop-map-past segment.pages i past.0
-    ]
 
 counted-in : (o : Option SegmentData) (i : ℕ) → None ≡ option_map told (option_and_then (λ s. slice_get s.pages i) o)
     → i < option_map_or (λ (segment : SegmentData). length segment.pages) o 0 → ⊥

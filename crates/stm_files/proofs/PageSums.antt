@@ -1,5 +1,5 @@
 -- One byte that is another changes the CRC of a page: each step of the register can be undone.
-use Rattle.std.proofs.Common.{◌≡◌, ℕ, ◌+◌, ◌*◌, ◌-◌, ◌<◌, ◌≤◌, ◌^◌, ◌%◌, List, [], ◌∷◌, ◌++◌, zero, suc, nat_le, if◌then◌else◌, Bool, true, false, length, refl, sym, ◌∙◌, ap, arith, inl, inr}
+use Rattle.std.proofs.Common.{◌≡◌, ℕ, ◌+◌, ◌*◌, ◌-◌, ◌<◌, ◌^◌, ◌%◌, List, [], ◌∷◌, ◌++◌, zero, suc, nat_le, if◌then◌else◌, Bool, true, false, length, refl, sym, ◌∙◌, ap, arith}
 use Rattle.std.specs.Prelude.{bit_xor}
 use Rattle.std.specs.Int.Bits.{xor_assoc, xor_self, xor_zero_r}
 use Rattle.std.specs.Int.{bit_at}
@@ -155,10 +155,8 @@ a-change-is-told front back x y fs bs lx ly e = from-change front back 0xFFFFFFF
 
 whole-words : (bytes : List ℕ) → length bytes % 4 ≡ 0 → whole_words_of bytes ≡ words_of bytes
 whole-words [] whole = refl
-whole-words (a ∷ []) whole = absurd (omega (arith, whole))
-whole-words (a ∷ b ∷ []) whole = absurd (omega (arith, whole))
-whole-words (a ∷ b ∷ c ∷ []) whole = absurd (omega (arith, whole))
 whole-words (a ∷ b ∷ c ∷ d ∷ rest) whole = ap (λ (ws : List ℕ). word_of a b c d ∷ ws) (whole-words rest (omega (arith, whole)))
+whole-words bytes whole = absurd (omega (arith, whole))
 
 pub of-the-flash : (bytes : List ℕ) → length bytes % 4 ≡ 0 → page_sum bytes ≡ crc_of bytes
 of-the-flash bytes whole = ap (λ (ws : List ℕ). crc_from 0xFFFFFFFF ws) (whole-words bytes whole)

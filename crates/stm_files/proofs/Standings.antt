@@ -3,7 +3,7 @@ use Rattle.std.proofs.Common.{◌≡◌, ℕ, zero, suc, ◌-◌, ◌/◌, ◌%�
 use Rattle.std.specs.Prelude.{All, option_map, option_and_then}
 use Rattle.std.specs.List.{list_all}
 use Rattle.std.specs.Result.{result_ok}
-use Rattle.std.proofs.lemmas.Bool.{cases_lt}
+use Rattle.std.proofs.lemmas.Bool.{and_from, and_parts, cases_lt}
 use Rattle.std.proofs.lemmas.Bool.Decides.{nat_tests}
 use Rattle.std.proofs.lemmas.List.{get_or_past}
 use Rattle.std.proofs.Math.Seq.{take-append_seam, drop-append_seam}
@@ -12,18 +12,6 @@ use Rattle.hex.proofs.HexLemmas.{length-encode_with, decode_of-encode_upper}
 use Rattle.stm_wire.specs.Chip.{ChipData}
 use Rattle.stm_wire.specs.Device.{IsOpenPhase, Phase, Fresh, Connected, Gone}
 use Rattle.stm_files.specs.Standing.{are_upper_pairs, before_end, behind_word, is_upper_hex, standing_line, phase_from, rest_of_digits, standing_of}
-
-both : (a b : Bool) → a ≡ true → b ≡ true → (a && b) ≡ true
-both true b h g = g
-both false b h g = h
-
-first-true : (a b : Bool) → (a && b) ≡ true → a ≡ true
-first-true true b e = refl
-first-true false b e = e
-
-second-true : (a b : Bool) → (a && b) ≡ true → b ≡ true
-second-true true b e = e
-second-true false b e = cc
 
 abbrev all_upper_below : ℕ → Bool
 all_upper_below zero = true
@@ -36,9 +24,9 @@ upper_below (suc n) d all lt =
     let within : d ≤ n = omega arith in
     ⊎_elim
     (λ same. ap (λ (k : ℕ). is_upper_hex (slice_index upper_digits k)) same
-    ∙ first-true (is_upper_hex (slice_index upper_digits n)) (all_upper_below n) all)
+    ∙ (and_parts (is_upper_hex (slice_index upper_digits n)) (all_upper_below n) all).0)
     (λ less. upper_below n d
-    (second-true (is_upper_hex (slice_index upper_digits n)) (all_upper_below n) all) less)
+    (and_parts (is_upper_hex (slice_index upper_digits n)) (all_upper_below n) all).1 less)
     (eq-or-lt_of_le within)
 
 upper_at : (d : ℕ) → d < 16 → is_upper_hex (slice_index upper_digits d) ≡ true
@@ -50,10 +38,10 @@ unfolding encode_with
 all-upper [] is = refl
 all-upper (b ∷ rest) is =
     let fits : b < 256 = is 0 in
-    both (is_upper_hex (slice_index upper_digits (b / 16)))
+    and_from (is_upper_hex (slice_index upper_digits (b / 16)))
     (is_upper_hex (slice_index upper_digits (b % 16)) && list_all is_upper_hex
     (encode_upper rest)) (upper_at (b / 16) (omega arith))
-    (both (is_upper_hex (slice_index upper_digits (b % 16)))
+    (and_from (is_upper_hex (slice_index upper_digits (b % 16)))
     (list_all is_upper_hex (encode_upper rest)) (upper_at (b % 16) (omega arith))
     (all-upper rest (λ k. is (suc k))))
 
@@ -65,7 +53,7 @@ digits-say : (bytes : List ℕ) → 0 < length bytes → IsBytes bytes
 digits-say bytes some is =
     let digits : List ℕ = encode_upper bytes in
     let many : 0 < length digits = omega (arith, length-encode_with upper_digits bytes) in
-    let upper : are_upper_pairs digits ≡ true = both (nat_lt 0 (length digits))
+    let upper : are_upper_pairs digits ≡ true = and_from (nat_lt 0 (length digits))
     (list_all is_upper_hex digits) (some-digits (length digits) many) (all-upper bytes is) in
     ap (λ (v : Bool). if v then option_map Connected (result_ok (decode_of digits)) else None) upper
     ∙ ap (λ r. option_map Connected (result_ok r)) (decode_of-encode_upper bytes is)

@@ -14,12 +14,6 @@ ended t = record { lines = t.lines ++ t.tail ∷ []; tail = [] }
 longer : ℕ → Text → Text
 longer b t = record { lines = t.lines; tail = t.tail ++ b ∷ [] }
 
-if_true : (b : Bool) (x y : Text) → b ≡ true → (if b then x else y) ≡ x
-if_true b x y e = ap (λ (v : Bool). if v then x else y) e
-
-if_false : (b : Bool) (x y : Text) → b ≡ false → (if b then x else y) ≡ y
-if_false b x y e = ap (λ (v : Bool). if v then x else y) e
-
 front-ended : (b : ℕ) (lines : List (List ℕ)) (tail : List ℕ) → in_front b (ended (record { lines = lines; tail = tail })) ≡ ended (in_front b (record { lines = lines; tail = tail }))
 unfolding ended
 front-ended b [] tail = refl
@@ -51,7 +45,7 @@ text-ended (b ∷ bytes) = ap (λ (t : Text). begun b t (b == 10)) (text-ended b
 
 text-longer : (bytes : List ℕ) (c : ℕ) → (c == 10) ≡ false → text_of (bytes ++ c ∷ []) ≡ longer c (text_of bytes)
 unfolding longer
-text-longer [] c other = if_false (c == 10) (record { lines = [] ∷ []; tail = [] }) (in_front c (record { lines = []; tail = [] })) other
+text-longer [] c other = rw other
 text-longer (b ∷ bytes) c other = ap (λ (t : Text). begun b t (b == 10)) (text-longer bytes c other) ∙ begun-longer b c (text_of bytes) (b == 10)
 
 -- a line is void by its last byte

@@ -10,10 +10,9 @@ use Rattle.stm_journal.specs.declared.fault.JournalFault.{JournalFault}
 use Rattle.stm_journal.specs.declared.fault.JournalFault.TheVariants.{File, Bad, OtherDevice}
 use Rattle.stm_journal.specs.declared.fault.JournalFault.TheVariants.{OtherBoard, Memory}
 use Rattle.stm_journal.specs.declared.kept.Kept.{Kept}
-use Rattle.stm_journal.specs.declared.kept.PagePlace.{PagePlace}
 use Rattle.stm_journal.specs.InMemory.{forget_state}
 use Rattle.stm_journal.specs.Journals.{IsLoaded, Loaded, bad, good, journal_of}
-use Rattle.stm_journal.specs.KeptPlaces.{kept_count, kept_entry, place_of}
+use Rattle.stm_journal.specs.KeptPlaces.{kept_count, kept_entry}
 use Rattle.stm_journal.specs.States.{StateData, depth}
 use Rattle.stm_journal.specs.Text.{is_void, text_of}
 use Rattle.stm_files.specs.Logging.{logged_device, end_text, logged_line}

@@ -4,10 +4,8 @@ use Rattle.std.specs.Prelude.{◌≡◌, ◌⊎◌, ◌<◌, ◌*◌, ◌-◌, �
 use Rattle.std.specs.Prelude.{min, [], Option, Some, None, length}
 use Rattle.stm_wire.specs.declared.rig.Patience.{Patience}
 use Rattle.stm_wire.specs.declared.rig.Patience.TheVariants.{Brief, Long}
-use Rattle.stm_files.specs.ReplyTime.{no_reply, reply_asked, reply_put, reply_wait}
-use Rattle.stm_files.specs.ReplyTime.{silence_then}
-use Rattle.stm_files.specs.ShortWaits.{is_over_at, is_over_in, no_waits, with_get}
-use Rattle.stm_files.specs.ShortWaits.{with_spare}
+use Rattle.stm_files.specs.ReplyTime.{no_reply, reply_asked, reply_put, reply_wait, silence_then}
+use Rattle.stm_files.specs.ShortWaits.{is_over_at, is_over_in, no_waits, with_get, with_spare}
 use Rattle.stm_files.specs.ShortWaits.{one_put_more as one_more_put}
 use Rattle.stm_files.specs.Silence.{SilenceData, at_first, beyond_now, wait_now, with_put}
 use Rattle.stm_files.specs.SocketLine.{LineState}

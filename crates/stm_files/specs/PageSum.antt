@@ -1,5 +1,5 @@
 -- The CRC of a kept page: that of its words, the last of which zeros make whole.
-use Rattle.std.specs.Prelude.{◌≡◌, ◌≢◌, ℕ, ◌<◌, ◌^◌, ◌%◌, List, [], ◌∷◌, ◌++◌, All, length}
+use Rattle.std.specs.Prelude.{◌≡◌, ℕ, ◌<◌, ◌%◌, List, [], ◌∷◌, ◌++◌, length}
 use Rattle.stm_files.specs.Crc.{crc_from, crc_of, word_of}
 
 -- the words of bytes, in their order; zeros make the last one whole

@@ -1,7 +1,6 @@
 -- How long the reply to a command is waited for.
 use Rattle.std.specs.Prelude.{ℕ, ◌+◌, ◌-◌, ◌^◌, ◌==◌, ◌&&◌, ◌||◌, if◌then◌else◌, min, max, not}
-use Rattle.std.specs.Prelude.{Bool, true, false}
-use Rattle.std.specs.Prelude.{Option, Some, None}
+use Rattle.std.specs.Prelude.{Bool, true, false, Option, Some, None}
 use Rattle.stm_wire.specs.Exchange.{complement}
 use Rattle.stm_wire.specs.Reply.{ack}
 

@@ -1,5 +1,5 @@
 -- Runs and parts of rising pairs, from their front.
-use Rattle.std.proofs.Common.{◌≡◌, ◌≢◌, ℕ, ◌+◌, ◌/◌, ◌%◌, ◌<◌, ◌≤◌, ◌++◌, List, [], ◌∷◌, length, take, drop, get_or, ◌⊎◌, inl, inr, refl, sym, ap, ap₂, ◌∙◌, subst, append_assoc, length-drop, arith}
+use Rattle.std.proofs.Common.{◌≡◌, ◌≢◌, ℕ, ◌+◌, ◌/◌, ◌%◌, ◌<◌, ◌≤◌, ◌++◌, List, [], ◌∷◌, length, take, drop, get_or, ◌⊎◌, inl, inr, refl, sym, ap, ap₂, ◌∙◌, append_assoc, length-drop, arith}
 use Rattle.std.specs.Prelude.{Bool, true, false, ◌==◌, ◌&&◌, not, if◌then◌else◌}
 use Rattle.std.proofs.lemmas.Bool.{cases_eq}
 use Rattle.std.proofs.lemmas.Bool.Decides.{nat_tests}
@@ -72,11 +72,10 @@ cut_nothing (x ∷ steps) s = refl
 cut_steps : (f g : List ℕ) (s : ℕ) (bytes : List ℕ) → length bytes ≤ length f → length bytes ≤ length g → parts_of_run f s bytes ≡ parts_of_run g s bytes
 unfolding parts_of_run
 cut_steps f g s [] lf lg = cut_nothing f s ∙ sym (cut_nothing g s)
-cut_steps [] g s (b ∷ bytes) lf lg = absurd (omega arith)
-cut_steps (x ∷ f) [] s (b ∷ bytes) lf lg = absurd (omega arith)
 cut_steps (x ∷ f) (y ∷ g) s (b ∷ bytes) lf lg =
     let shorter = length-drop 16 (b ∷ bytes) in
     ap (λ parts. (s, take 16 (b ∷ bytes)) ∷ parts) (cut_steps f g (s + 16) (drop 16 (b ∷ bytes)) (omega arith) (omega arith))
+cut_steps f g s bytes lf lg = absurd (omega arith)
 
 drop_all : (n : ℕ) (xs : List ℕ) → length xs ≤ n → drop n xs ≡ []
 drop_all n xs le = grind (arith, common_steps)
@@ -148,8 +147,7 @@ lines_part upper s count bytes later part behind =
     ap (λ bs. raw_pairs s bs ++ later) (sym (take-append-drop count bytes))
     ∙ ap (λ ps. ps ++ later) (raw_pairs-append s xs (drop count bytes) ∙ ap (λ n. raw_pairs s xs ++ raw_pairs (s + n) (drop count bytes)) long)
     ∙ append_assoc (raw_pairs s xs) (raw_pairs (s + count) (drop count bytes)) later in
-    let N : ℕ → Type 0 = λ n. NoneJoins s n rest in
-    let front = parts_front s xs rest (omega arith) (omega arith) (omega arith) (subst N (sym long) (none part.ends)) in
+    let front = parts_front s xs rest (omega arith) (omega arith) (omega arith) (rw long (none part.ends)) in
     ap (λ ps. lines upper (parts_of (runs_of ps))) whole ∙ ap (lines upper) front
   where
     behind_all : count ≡ length bytes → (t : ℕ) (cs : List ℕ) (more : List Run) → runs_of (raw_pairs (s + count) (drop count bytes) ++ later) ≡ (t, cs) ∷ more → s + count < t

@@ -12,7 +12,8 @@ use Rattle.stm_image.specs.declared.faults.HexFault.TheVariants.{BadDigit, Short
 use Rattle.stm_image.proofs.Digits.{scan_shrinks}
 use Rattle.stm_image.proofs.Reading.{Follows-snoc, is_fault}
 use Rattle.stm_image.proofs.Sets.{agree_among, agree_from_set, agree_rising, skip}
-use Rattle.stm_image.proofs.Verdicts.{first_least, rises_tail, in_longer}
+use Rattle.stm_image.proofs.Lying.{Rises-tail}
+use Rattle.stm_image.proofs.Verdicts.{first_least, in_longer}
 
 -- A PAIR AMONG RISING PAIRS: it has a place there, or its address has another byte
 data Inserted (p : ℕ × ℕ) (set : Pairs) : Type 0 where
@@ -71,7 +72,7 @@ at_first p s set at rises = elim (cases_eq p.1 s.1) [
 insert : (p : ℕ × ℕ) (set : Pairs) → AddressesRise set → Inserted p set
 insert p [] rises = Among (p ∷ []) (rises_single p) (λ q. (λ h. h, λ h. h))
 insert p (s ∷ set) rises =
-    let later = insert p set (rises_tail s set rises) in
+    let later = insert p set (Rises-tail s set rises) in
     elim (cases_lt p.0 s.0) [
       | inl before ↦ Among (p ∷ s ∷ set) (AllPairs-cons (λ q r. q.0 < r.0) p (s ∷ set) (all_above p s set before rises) rises) (λ q. (λ h. h, λ h. h))
       | inr after ↦ elim (cases_eq p.0 s.0) [

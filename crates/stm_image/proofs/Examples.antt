@@ -1,10 +1,9 @@
 -- Worked examples of the definitions, computed.
 use Rattle.std.proofs.Common.{◌≡◌, ℕ, true, ◌+◌, ◌<◌, lit<, List, [], ◌∷◌, ◌++◌, codes, refl, arith}
-use Rattle.std.specs.Prelude.{Bool, ◌&&◌, nat_lt}
+use Rattle.std.specs.Prelude.{Bool, ◌&&◌, nat_lt, All}
 use Rattle.std.proofs.lemmas.Bool.{and_parts, ltb-true}
 use Rattle.std.proofs.lemmas.List.Elements.{All-cons, All-nil, All-weaker}
 use Rattle.std.proofs.lemmas.List.Kept.{AllPairs-cons}
-use Rattle.std.specs.Prelude.{All}
 use Rattle.hex.proofs.OnLiterals.{hex_on_literals}
 use Rattle.stm_image.specs.Canon.{canon, lines, line, parts_of_run}
 use Rattle.stm_image.specs.Pairs.{Pairs, AddressesRise, Agree}

@@ -1,5 +1,5 @@
 -- A set laid over bytes, place by place.
-use Rattle.std.proofs.Common.{◌≡◌, ◌≢◌, inl, inr, ℕ, zero, suc, ◌+◌, ◌-◌, ◌<◌, ◌≤◌, List, [], ◌∷◌, ◌++◌, length, take, drop, slice_index, Bool, if◌then◌else◌, Option, Some, None, refl, sym, ap, ap₂, ◌∙◌, subst, ◌^◌, arith}
+use Rattle.std.proofs.Common.{◌≡◌, ◌≢◌, inl, inr, ℕ, zero, suc, ◌+◌, ◌-◌, ◌<◌, ◌≤◌, List, [], ◌∷◌, ◌++◌, length, take, drop, slice_index, Bool, if◌then◌else◌, Option, Some, None, refl, sym, ap, ap₂, ◌∙◌, ◌^◌, arith}
 use Rattle.std.specs.Prelude.{Contains, All}
 use Rattle.std.proofs.lemmas.Bool.{cases_eq, cases_lt, ne_eqb}
 use Rattle.std.proofs.lemmas.List.{get_or-drop, length-drop}
@@ -80,12 +80,6 @@ agrees_from set a xs same place differs =
     let kept = sym (lay_at set a xs i (omega arith)) ∙ ap (λ (ys : List ℕ). slice_index ys i) same in
     differs.differs (same_at (byte_at set (a + i)) (slice_index xs i) differs.byte (ap (byte_at set) at ∙ differs.held) kept)
 
--- what a place tells that keeps its byte, and one that does not
-pub kept_place : (set : Pairs) (a : ℕ) (xs : List ℕ) (i : ℕ) → laid_byte (byte_at set (a + i)) (slice_index xs i) ≡ slice_index xs i → ¬ DiffersAt set a xs (a + i)
-kept_place set a xs i kept differs =
-    let at : (a + i) - a ≡ i = omega arith in
-    differs.differs (ap (slice_index xs) at ∙ same_at (byte_at set (a + i)) (slice_index xs i) differs.byte differs.held kept)
-
 -- a place past the last has no byte
 pub in_range_at : (set : Pairs) (a byte : ℕ) → All InRange set → byte_at set a ≡ Some byte → a < 2 ^ 32
 in_range_at [] a byte all held = cc
@@ -127,9 +121,8 @@ no_difference_before set a xs from start place bytes rises run low high differs 
 -- the bytes of a run
 pub byte_in_run : (set : Pairs) (from start i : ℕ) (bytes : List ℕ) → AddressesRise set → IsRunFrom set from start bytes → i < length bytes → byte_at set (start + i) ≡ Some (slice_index bytes i)
 byte_in_run set from start i bytes rises run lt =
-    let S : Pairs → Type 0 = λ ps. Contains ps (start + i, slice_index bytes i) in
     byte_held set (start + i) (slice_index bytes i) rises
-    (subst S (sym run.whole) (Contains-append_right run.front (raw_pairs start bytes ++ run.back) (start + i, slice_index bytes i) (Contains-append_left (raw_pairs start bytes) run.back (start + i, slice_index bytes i) (raw_holds start bytes i lt))))
+    (rw run.whole (Contains-append_right run.front (raw_pairs start bytes ++ run.back) (start + i, slice_index bytes i) (Contains-append_left (raw_pairs start bytes) run.back (start + i, slice_index bytes i) (raw_holds start bytes i lt))))
 
 -- what a place in a run tells
 run_byte : (set : Pairs) (a from start place : ℕ) (xs bytes : List ℕ) → AddressesRise set → IsRunFrom set from start bytes → start ≤ place → place < start + length bytes → (d : DiffersAt set a xs place) → d.byte ≡ slice_index bytes (place - start)

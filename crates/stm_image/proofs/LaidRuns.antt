@@ -67,12 +67,11 @@ laid_run set a from start old new next bytes rises run so_far put =
 laid_each : (set : Pairs) (a : ℕ) (old new : List ℕ) → length new ≡ length old → ((i : ℕ) → i < length old → slice_index new i ≡ laid_byte (byte_at set (a + i)) (slice_index old i)) → new ≡ lay set a old
 unfolding lay
 laid_each set a [] [] same each = refl
-laid_each set a [] (y ∷ new) same each = absurd (omega arith)
-laid_each set a (x ∷ old) [] same each = absurd (omega arith)
 laid_each set a (x ∷ old) (y ∷ new) same each =
     let at : a + 0 ≡ a = omega arith in
     ap₂ (λ (b : ℕ) (bs : List ℕ). b ∷ bs) (each 0 (omega arith) ∙ ap (λ (n : ℕ). laid_byte (byte_at set n) x) at)
     (laid_each set (a + 1) old new (omega arith) (λ i lt. let e : a + suc i ≡ a + 1 + i = omega arith in each (suc i) (omega arith) ∙ ap (λ (n : ℕ). laid_byte (byte_at set n) (slice_index old i)) e))
+laid_each set a old new same each = absurd (omega arith)
 
 -- all bytes are laid
 pub laid_all : (set : Pairs) (a at : ℕ) (old new : List ℕ) → IsLaidTo set a old at new → a + length old ≤ at → new ≡ lay set a old

@@ -1,5 +1,5 @@
 -- Which pairs pieces have.
-use Rattle.std.proofs.Common.{◌≡◌, ◌⊎◌, inl, inr, ℕ, zero, suc, ◌+◌, ◌-◌, ◌<◌, ◌≤◌, List, [], ◌∷◌, ◌++◌, length, drop, get_or, slice_index, refl, sym, ap, ◌∙◌, subst, length-append, length-drop, arith}
+use Rattle.std.proofs.Common.{◌≡◌, ◌⊎◌, inl, inr, ℕ, zero, suc, ◌+◌, ◌-◌, ◌<◌, ◌≤◌, List, [], ◌∷◌, ◌++◌, length, drop, get_or, slice_index, refl, ap, ◌∙◌, length-append, length-drop, arith}
 use Rattle.std.specs.Prelude.{Contains, All}
 use Rattle.std.proofs.lemmas.List.{length-take}
 use Rattle.std.proofs.lemmas.List.Elements.{All-take, All-drop, All-get_or, Contains-get_or, Contains-append_left, Contains-append_right, Contains-append_cases}
@@ -37,8 +37,7 @@ raw_holds s [] i lt = absurd (omega arith)
 raw_holds s (b ∷ bytes) zero lt = (zero, omega arith, ap (λ n. (n, b)) (let e : s ≡ s + 0 = omega arith in e))
 raw_holds s (b ∷ bytes) (suc i) lt =
     let e : s + 1 + i ≡ s + suc i = omega arith in
-    let C : ℕ → Type 0 = λ n. Contains (raw_pairs s (b ∷ bytes)) (n, slice_index bytes i) in
-    subst C e (one_more (s, b) (raw_pairs (s + 1) bytes) (s + 1 + i, slice_index bytes i) (raw_holds (s + 1) bytes i (omega arith)))
+    rw e at (one_more (s, b) (raw_pairs (s + 1) bytes) (s + 1 + i, slice_index bytes i) (raw_holds (s + 1) bytes i (omega arith)))
 
 pub length-raw : (s : ℕ) (bytes : List ℕ) → length (raw_pairs s bytes) ≡ length bytes
 length-raw s [] = refl
@@ -91,8 +90,7 @@ piece_of bytes (p ∷ ps) q held = elim (Contains-append_cases (pairs_of_piece b
 pub holds_piece : (bytes : List ℕ) (ps : List Piece) (p : Piece) (q : ℕ × ℕ) → Contains ps p → Contains (pairs_of_piece bytes p) q → Contains (pairs_at bytes ps) q
 holds_piece bytes [] p q held here = absurd (omega (arith, held.1))
 holds_piece bytes (r ∷ ps) p q (zero, lt, is) here =
-    let C : Piece → Type 0 = λ s. Contains (pairs_of_piece bytes s) q in
-    Contains-append_left (pairs_of_piece bytes r) (pairs_at bytes ps) q (subst C (sym is) here)
+    Contains-append_left (pairs_of_piece bytes r) (pairs_at bytes ps) q (rw is here)
 holds_piece bytes (r ∷ ps) p q (suc i, lt, is) here = Contains-append_right (pairs_of_piece bytes r) (pairs_at bytes ps) q (holds_piece bytes ps p q (i, omega arith, is) here)
 
 -- where the pairs of a piece lie
@@ -121,8 +119,7 @@ pub stands_within : (from to : ℕ) (ps : List Piece) (p : Piece) → Stand from
 stands_within from to [] p stand held = absurd (omega (arith, held.1))
 stands_within from to (r ∷ ps) p stand (zero, lt, is) =
     let later = Stand-le (from + piece_size r) to ps stand.3 in
-    let W : Piece → Type 0 = λ s. IsWithin to s in
-    subst W is (record { order = stand.1; fits = stand.2; ends = omega (arith, stand.0) })
+    rw (← is) (record { order = stand.1; fits = stand.2; ends = omega (arith, stand.0) })
 stands_within from to (r ∷ ps) p stand (suc i, lt, is) = stands_within (from + piece_size r) to ps p stand.3 (i, omega arith, is)
 
 pub is_image : (bytes : List ℕ) (to : ℕ) (ps : List Piece) → Stand 0 to ps → Apart 0 ps → All (λ b. b < 256) bytes → IsImage (pairs_at bytes ps)
@@ -144,8 +141,7 @@ is_image bytes to ps stand apart all = record {
         let ends = lies.to in
         let part = All-take (λ b. b < 256) (piece_size p) (drop p.place bytes) (All-drop (λ b. b < 256) p.place bytes all) in
         let small : slice_index (piece_bytes bytes p) (q.0 - p.first) < 256 = All-get_or (λ b. b < 256) (piece_bytes bytes p) (q.0 - p.first) 0 (omega arith) part in
-        let B : ℕ → Type 0 = λ b. b < 256 in
-        (omega arith, subst B lies.byte small)
+        (omega arith, rw lies.byte at small)
 
 -- how many pairs there are
 pub length-pairs_at : (bytes : List ℕ) (from to : ℕ) (ps : List Piece) → Stand from to ps → to ≤ length bytes → from + length (pairs_at bytes ps) ≡ to

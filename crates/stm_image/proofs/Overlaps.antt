@@ -71,8 +71,7 @@ piece_laid bytes p done laid low next after within so_far order ends grows which
           let last : after ≡ p.last + 1 = elim which [ inl same ↦ absurd (omega arith) | inr own ↦ own ] in
           let i = a - (p.first + skip) in
           let at : p.first + skip + i ≡ a = omega arith in
-          let H : ℕ → Type 0 = λ n. Contains (raw_pairs (p.first + skip) rest) (n, slice_index rest i) in
-          (slice_index rest i, Contains-append_right laid _ (a, slice_index rest i) (subst H at (raw_holds (p.first + skip) rest i (omega arith))))
+          (slice_index rest i, Contains-append_right laid _ (a, slice_index rest i) (rw at at (raw_holds (p.first + skip) rest i (omega arith))))
     ]
 
     own : (q : ℕ × ℕ) → Contains (raw_pairs (p.first + (next - p.first)) (drop (next - p.first) (piece_bytes bytes p))) q → Contains (pairs_of_piece bytes p) q
@@ -85,8 +84,7 @@ piece_laid bytes p done laid low next after within so_far order ends grows which
           let at : p.first + length (take skip own_bytes) ≡ p.first + skip = omega arith in
           let parts : raw_pairs p.first own_bytes ≡ raw_pairs p.first (take skip own_bytes) ++ raw_pairs (p.first + skip) (drop skip own_bytes) =
           ap (raw_pairs p.first) (sym (take-append-drop skip own_bytes)) ∙ raw_pairs-append p.first (take skip own_bytes) (drop skip own_bytes) ∙ ap (λ s. raw_pairs p.first (take skip own_bytes) ++ raw_pairs s (drop skip own_bytes)) at in
-          let C : Pairs → Type 0 = λ ps. Contains ps q in
-          subst C (sym parts) (Contains-append_right (raw_pairs p.first (take skip own_bytes)) (raw_pairs (p.first + skip) (drop skip own_bytes)) q new)
+          rw parts (Contains-append_right (raw_pairs p.first (take skip own_bytes)) (raw_pairs (p.first + skip) (drop skip own_bytes)) q new)
     ]
 
 nothing_more : (laid : Pairs) (s skip : ℕ) (bytes : List ℕ) → length bytes ≤ skip → laid ≡ laid ++ raw_pairs s (drop skip bytes)
@@ -100,9 +98,7 @@ pub next_laid : (bytes : List ℕ) (list : List Piece) (i : ℕ) (d : Piece) (la
 next_laid bytes list i d laid more low next after lt within so_far order ends grows which is =
     let p = get_or list i d in
     let done : pairs_at bytes (take (i + 1) list) ≡ pairs_at bytes (take i list) ++ pairs_of_piece bytes p = ap (pairs_at bytes) (take_more list i d lt) ∙ pairs_at-snoc bytes (take i list) p in
-    let D : Pairs → Type 0 = λ ps. IsLaidOut ps more p.first after in
-    let M : Pairs → Type 0 = λ ps. IsLaidOut (pairs_at bytes (take i list) ++ pairs_of_piece bytes p) ps p.first after in
-    subst D (sym done) (subst M (sym is) (piece_laid bytes p (pairs_at bytes (take i list)) laid low next after within so_far order ends grows which))
+    rw done (rw is (piece_laid bytes p (pairs_at bytes (take i list)) laid low next after within so_far order ends grows which))
 
 -- a piece that brings no address
 pub none_laid : (bytes : List ℕ) (list : List Piece) (i : ℕ) (d : Piece) (laid : Pairs) (low next : ℕ) → i < length list → IsWithin (length bytes) (get_or list i d)
@@ -144,8 +140,7 @@ pairs_differ set bytes list among has agree =
     let within = d.within in
     let i = has.place - p.first in
     let at : p.first + i ≡ has.place = omega arith in
-    let H : ℕ → Type 0 = λ n. Contains (pairs_of_piece bytes p) (n, slice_index (piece_bytes bytes p) i) in
-    let own = subst H at (raw_holds p.first (piece_bytes bytes p) i (omega arith)) in
+    let own = rw at at (raw_holds p.first (piece_bytes bytes p) i (omega arith)) in
     d.differs (agree has.place (slice_index (piece_bytes bytes p) i) d.byte (holds_piece bytes list p (has.place, slice_index (piece_bytes bytes p) i) has.held own) (among (has.place, d.byte) (held_at set has.place d.byte d.held)))
 
 -- pieces in another order have the same pairs

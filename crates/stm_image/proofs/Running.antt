@@ -1,5 +1,5 @@
 -- Runs of an image, found by their last addresses.
-use Rattle.std.proofs.Common.{◌≡◌, ◌⊎◌, inl, inr, ℕ, zero, suc, ◌+◌, ◌-◌, ◌<◌, ◌≤◌, List, [], ◌∷◌, ◌++◌, length, take, drop, get_or, slice_index, refl, sym, ap, ◌∙◌, subst, append_assoc, length-drop, arith}
+use Rattle.std.proofs.Common.{◌≡◌, ◌⊎◌, inl, inr, ℕ, zero, suc, ◌+◌, ◌-◌, ◌<◌, ◌≤◌, List, [], ◌∷◌, ◌++◌, length, take, drop, get_or, slice_index, refl, sym, ap, ◌∙◌, append_assoc, length-drop, arith}
 use Rattle.std.specs.Prelude.{Contains}
 use Rattle.std.specs.List.{AllWithin}
 use Rattle.std.specs.List.Sorted.{IsNonDecreasingBy}
@@ -20,11 +20,10 @@ last_from from to least (p ∷ ps) zero d stand apart lt = omega (arith, apart.0
 last_from from to least (p ∷ ps) (suc j) d stand apart lt = let more = last_from (from + piece_size p) to (p.last + 2) ps j d stand.3 apart.1 (omega arith) in omega (arith, apart.0, stand.1)
 
 pub lasts_rise : (from to least : ℕ) (ps : List Piece) → Stand from to ps → Apart least ps → IsNonDecreasingBy (λ (p : Piece). p.last) ps
-lasts_rise from to least [] stand apart i j d le lt = absurd (omega arith)
 lasts_rise from to least (p ∷ ps) stand apart zero zero d le lt = omega arith
 lasts_rise from to least (p ∷ ps) stand apart zero (suc j) d le lt = let more = last_from (from + piece_size p) to (p.last + 2) ps j d stand.3 apart.1 (omega arith) in omega arith
-lasts_rise from to least (p ∷ ps) stand apart (suc i) zero d le lt = absurd (omega arith)
 lasts_rise from to least (p ∷ ps) stand apart (suc i) (suc j) d le lt = lasts_rise (from + piece_size p) to (p.last + 2) ps stand.3 apart.1 i j d (omega arith) (omega arith)
+lasts_rise from to least ps stand apart i j d le lt = absurd (omega arith)
 
 pub pairs_at-append : (bytes : List ℕ) (xs ys : List Piece) → pairs_at bytes (xs ++ ys) ≡ pairs_at bytes xs ++ pairs_at bytes ys
 pairs_at-append bytes [] ys = refl
@@ -49,8 +48,7 @@ ends_before bytes to address ps n stand low q held =
 pub none_from : (bytes : List ℕ) (to address : ℕ) (ps : List Piece) (n : ℕ) → Stand 0 to ps → AllWithin (λ (p : Piece). p.last < address) ps 0 n → length ps ≤ n → HasNone (pairs_at bytes ps) address
 none_from bytes to address ps n stand low all q held =
     let whole : take n ps ≡ ps = take_all n ps all in
-    let C : List Piece → Type 0 = λ l. Contains (pairs_at bytes l) q in
-    ends_before bytes to address ps n stand low q (subst C (sym whole) held)
+    ends_before bytes to address ps n stand low q (rw whole held)
 
 -- the first piece that ends at the address or after it has the run from there on
 pub run_at : (bytes : List ℕ) (address : ℕ) (ps : List Piece) (n : ℕ) (p : Piece) → Stand 0 (length bytes) ps → AllWithin (λ (q : Piece). q.last < address) ps 0 n → n < length ps → p ≡ get_or ps n p → address ≤ p.last
@@ -94,15 +92,12 @@ next_of_run set address start bytes rises run =
     let back = run.back in
     let from = run.from in
     let zero_on : start + 0 ≡ start = omega arith in
-    let C : ℕ → Type 0 = λ s. Contains (raw_pairs start bytes) (s, slice_index bytes 0) in
-    let own : Contains (raw_pairs start bytes) (start, slice_index bytes 0) = subst C zero_on (raw_holds start bytes 0 run.some) in
-    let S : Pairs → Type 0 = λ ps. Contains ps (start, slice_index bytes 0) in
-    let R : Pairs → Type 0 = λ ps. AddressesRise ps in
-    let parts : AddressesRise (front ++ (raw_pairs start bytes ++ back)) = subst R run.whole rises in
+    let own : Contains (raw_pairs start bytes) (start, slice_index bytes 0) = rw zero_on at (raw_holds start bytes 0 run.some) in
+    let parts : AddressesRise (front ++ (raw_pairs start bytes ++ back)) = rw run.whole at rises in
     record {
-      held = subst S (sym run.whole) (Contains-append_right front (raw_pairs start bytes ++ back) (start, slice_index bytes 0) (Contains-append_left (raw_pairs start bytes) back (start, slice_index bytes 0) own));
+      held = rw run.whole (Contains-append_right front (raw_pairs start bytes ++ back) (start, slice_index bytes 0) (Contains-append_left (raw_pairs start bytes) back (start, slice_index bytes 0) own));
       after = from;
-      least = λ q held high. let Q : Pairs → Type 0 = λ ps. Contains ps q in least q (Contains-append_cases front (raw_pairs start bytes ++ back) q (subst Q run.whole held)) high parts own;
+      least = λ q held high. least q (Contains-append_cases front (raw_pairs start bytes ++ back) q (rw run.whole at held)) high parts own;
     }
   where
     later : (q : ℕ × ℕ) → Contains (raw_pairs start bytes) q ⊎ Contains run.back q → AddressesRise (raw_pairs start bytes ++ run.back) → Contains (raw_pairs start bytes) (start, slice_index bytes 0) → start ≤ q.0
@@ -116,9 +111,7 @@ next_of_run set address start bytes rises run =
 -- the pieces as the code reads them
 pub stand_read : (runs : Pieces) (bytes : List ℕ) (list : List Piece) → bytes ≡ runs.bytes.items → list ≡ runs.list.items → Stand 0 (length runs.bytes.items) runs.list.items → Stand 0 (length bytes) list
 stand_read runs bytes list same_bytes same_list stand =
-    let B : List ℕ → Type 0 = λ b. Stand 0 (length b) list in
-    let L : List Piece → Type 0 = λ l. Stand 0 (length runs.bytes.items) l in
-    subst B (sym same_bytes) (subst L (sym same_list) stand)
+    rw same_bytes (rw same_list stand)
 
 pub within_read : (runs : Pieces) (bytes : List ℕ) (list : List Piece) (place : ℕ) (d : Piece) → bytes ≡ runs.bytes.items → list ≡ runs.list.items → Stand 0 (length runs.bytes.items) runs.list.items → place < length list → IsWithin (length bytes) (get_or list place d)
 within_read runs bytes list place d same_bytes same_list stand lt =

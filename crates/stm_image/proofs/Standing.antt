@@ -77,11 +77,10 @@ pub adds_piece : (bytes more : List ℕ) (ps : List Piece) (p : Piece) → Stand
 adds_piece bytes more ps p stand at long some fits free =
     let total = length-append bytes more in
     let size : length bytes + piece_size p ≡ length (bytes ++ more) = omega arith in
-    let S : ℕ → Type 0 = λ n. Stand 0 n (ps ++ p ∷ []) in
     let own : piece_bytes (bytes ++ more) p ≡ more =
     bytes_at_end (bytes ++ more) p (omega arith) ∙ ap (λ n. drop n (bytes ++ more)) at ∙ drop-append_seam bytes more in
     record {
-      stand = subst S size (Stand-snoc 0 (length bytes) ps p stand at (omega arith) fits);
+      stand = rw size at (Stand-snoc 0 (length bytes) ps p stand at (omega arith) fits);
       pairs = pairs_at-snoc (bytes ++ more) ps p ∙ ap₂ (λ xs ys. xs ++ raw_pairs p.first ys) (pairs_at-longer 0 (length bytes) bytes more ps stand (omega arith)) own;
       apart = λ apart le. Apart-snoc 0 ps p apart (omega (arith, le, free));
       next = λ _. next_apart-snoc 0 ps p ∙ (let e : p.last + 2 ≡ p.first + length more + 1 = omega arith in e);
@@ -93,8 +92,7 @@ adds_piece bytes more ps p stand at long some fits free =
 same_front : (front : List Piece) (p q : Piece) → take (length (front ++ p ∷ []) - 1) (front ++ q ∷ []) ≡ take (length (front ++ p ∷ []) - 1) (front ++ p ∷ [])
 same_front front p q =
     let n : length (front ++ p ∷ []) - 1 ≡ length front = omega (arith, length-append front (p ∷ [])) in
-    let T : ℕ → Type 0 = λ k. take k (front ++ q ∷ []) ≡ take k (front ++ p ∷ []) in
-    subst T (sym n) (take-append_seam front (q ∷ []) ∙ sym (take-append_seam front (p ∷ [])))
+    rw n (take-append_seam front (q ∷ []) ∙ sym (take-append_seam front (p ∷ [])))
 
 -- bytes that go on after the last piece, which grows
 adds_to_last : (bytes more : List ℕ) (front : List Piece) (p q : Piece) → Stand 0 (length bytes) (front ++ p ∷ []) → q.first ≡ p.first → q.place ≡ p.place → q.last ≡ p.last + length more → q.last < 2 ^ 32
@@ -105,14 +103,13 @@ adds_to_last bytes more front p q stand same_first same_place grown fits =
     let ends = last.ends in
     let total = length-append bytes more in
     let size : q.place + piece_size q ≡ length (bytes ++ more) = omega arith in
-    let S : ℕ → Type 0 = λ n. Stand 0 n (front ++ q ∷ []) in
     let own : piece_bytes (bytes ++ more) q ≡ piece_bytes bytes p ++ more =
     bytes_at_end (bytes ++ more) q (omega arith) ∙ ap (λ n. drop n (bytes ++ more)) same_place ∙ drop-append-le p.place bytes more (omega arith)
     ∙ ap (λ xs. xs ++ more) (sym (bytes_at_end bytes p (omega arith))) in
     let long : length (piece_bytes bytes p) ≡ piece_size p = let dropped = length-drop p.place bytes in let taken = length-take (piece_size p) (drop p.place bytes) in omega arith in
     let next : p.first + length (piece_bytes bytes p) ≡ p.last + 1 = omega arith in
     record {
-      stand = subst S size (Stand-snoc 0 q.place front q (let F : ℕ → Type 0 = λ n. Stand 0 n front in subst F (sym same_place) last.front_stand) refl (omega arith) fits);
+      stand = rw size at (Stand-snoc 0 q.place front q (rw same_place last.front_stand) refl (omega arith) fits);
       pairs =
           pairs_at-snoc (bytes ++ more) front q
           ∙ ap₂ (λ xs ys. xs ++ ys) (pairs_at-longer 0 p.place bytes more front last.front_stand (omega arith))

@@ -94,8 +94,7 @@ front_decoded false text n digits out within is other =
     none : 2 * n ≤ prefix_len is_hex_digit text → ⊥
     none enough =
         let parts = (IsOk-decode_sized (take (2 * n) text) n).0 ((decodes text n within).1 enough) in
-        let D : List ℕ → Type 0 = λ ds. HasOther ds in
-        let there = subst D is other in
+        let there = rw is at other in
         let digit : is_hex_digit (slice_index (take (2 * n) text) there.place) ≡ true = parts.1 there.place 0 there.within in
         let both : true ≡ false = sym digit ∙ there.other in
         cc

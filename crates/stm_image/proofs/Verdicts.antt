@@ -11,6 +11,7 @@ use Rattle.stm_image.specs.declared.place.Form.{Form}
 use Rattle.stm_image.specs.declared.place.Form.TheVariants.{Linear}
 use Rattle.stm_image.specs.declared.faults.HexFault.{HexFault}
 use Rattle.stm_image.specs.declared.faults.HexFault.TheVariants.{BadDigit, Short, Checksum, Kind, Length, Conflict, NoEnd, NoColon, Memory}
+use Rattle.stm_image.proofs.Lying.{Rises-tail}
 use Rattle.stm_image.proofs.Sets.{agree_among}
 
 -- some records go on to others
@@ -119,9 +120,6 @@ first_least p set rises q (suc k, lt, is) =
     let e : (get_or set k q).0 ≡ q.0 = ap (λ (r : ℕ × ℕ). r.0) is in
     omega arith
 
-pub rises_tail : (p : ℕ × ℕ) (set : Pairs) → AddressesRise (p ∷ set) → AddressesRise set
-rises_tail p set rises i j d lt within = rises (suc i) (suc j) d (omega arith) (omega arith)
-
 pub in_longer : (p q : ℕ × ℕ) (set : Pairs) → Contains set q → Contains (p ∷ set) q
 in_longer p q set (k, lt, is) = (suc k, omega arith, is)
 
@@ -153,7 +151,7 @@ same_set (p ∷ xs) (q ∷ ys) rx ry same =
     let above = first_least q ys ry p p_in in
     let below = first_least p xs rx q q_in in
     let e : p ≡ q = same_first p q xs ys ry (omega arith) p_in in
-    ap₂ (λ z zs. z ∷ zs) e (same_set xs ys (rises_tail p xs rx) (rises_tail q ys ry) (λ r. (
+    ap₂ (λ z zs. z ∷ zs) e (same_set xs ys (Rises-tail p xs rx) (Rises-tail q ys ry) (λ r. (
       λ member. in_rest p q r xs ys rx e member ((same r).0 (in_longer p r xs member)),
       λ member. in_rest q p r ys xs ry (sym e) member ((same r).1 (in_longer q r ys member)),
     )))

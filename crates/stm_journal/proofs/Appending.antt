@@ -1,5 +1,5 @@
 -- From bytes added to entries added.
-use Rattle.std.proofs.Common.{◌≤◌, ℕ, ◌-◌, ◌^◌, List, ◌++◌, length, Result, Ok, Err, sym, subst}
+use Rattle.std.proofs.Common.{◌≤◌, ℕ, ◌-◌, ◌^◌, List, ◌∷◌, ◌++◌, length, Result, Ok, Err, sym, subst}
 use Rattle.stm_wire.specs.Rig.{RigState, IsModel}
 use Rattle.stm_journal.specs.declared.entry.Entry.{Entry}
 use Rattle.stm_journal.specs.declared.fault.JournalFault.{JournalFault}
@@ -7,18 +7,18 @@ use Rattle.stm_journal.specs.Journals.{Loaded, IsLoaded, added_bytes, past_mark,
 use Rattle.stm_journal.specs.Calls.{AddsBytes, Appends}
 use Rattle.stm_journal.proofs.Ties.{AllAllowed, IsLoaded-after}
 
-pub Appends-added : {T : Type 0} (entries : List Entry) (l l2 : Loaded) (bytes : List ℕ) (a b : RigState) (result : Result T JournalFault) → IsModel b
-    → Prepares entries l l2 bytes → IsLoaded l a.journal → AllAllowed entries (past_mark l) → AddsBytes bytes a b result → Appends entries l l2 a b result
-Appends-added entries l l2 bytes a b (Ok x) model prepares tied may adds =
+pub Appends-added : {T : Type 0} (e : Entry) (entries : List Entry) (l l2 : Loaded) (bytes : List ℕ) (a b : RigState) (result : Result T JournalFault) → IsModel b
+    → Prepares (e ∷ entries) l l2 bytes → IsLoaded l a.journal → AllAllowed (e ∷ entries) (past_mark l) → AddsBytes bytes a b result → Appends (e ∷ entries) l l2 a b result
+Appends-added e entries l l2 bytes a b (Ok x) model prepares tied may adds =
     let A : List ℕ → Type 0 = λ xs. AddsBytes xs a b (Ok x) in
-    let adds2 : AddsBytes (added_bytes l.is_torn entries) a b (Ok x) = subst A prepares.text adds in
+    let adds2 : AddsBytes (added_bytes l.is_torn (e ∷ entries)) a b (Ok x) = subst A prepares.text adds in
     let J : List ℕ → Type 0 = λ xs. length xs ≤ 2 ^ 63 - 1 in
-    let after : IsLoaded (loaded_after entries l) (a.journal ++ added_bytes l.is_torn entries) = IsLoaded-after entries l a.journal tied may (subst J adds2.added model.journal) in
+    let after : IsLoaded (loaded_after (e ∷ entries) l) (a.journal ++ added_bytes l.is_torn (e ∷ entries)) = IsLoaded-after e entries l a.journal tied may (subst J adds2.added model.journal) in
     let B : List ℕ → Type 0 = λ xs. IsLoaded l2 xs in
-    let L : Loaded → Type 0 = λ x. IsLoaded x (a.journal ++ added_bytes l.is_torn entries) in
+    let L : Loaded → Type 0 = λ x. IsLoaded x (a.journal ++ added_bytes l.is_torn (e ∷ entries)) in
     record { bytes = adds2; loaded = subst B (sym adds2.added) (subst L (sym prepares.after) after) }
-Appends-added {T} entries l l2 bytes a b (Err e) model prepares tied may adds =
-    let A : List ℕ → Type 0 = λ xs. AddsBytes {T = T} xs a b (Err e) in
+Appends-added {T} e entries l l2 bytes a b (Err fault) model prepares tied may adds =
+    let A : List ℕ → Type 0 = λ xs. AddsBytes {T = T} xs a b (Err fault) in
     record { bytes = subst A prepares.text adds; loaded = tt }
 
 -- with another answer

@@ -7,6 +7,8 @@ mod Readings
 mod Numbers
 mod Digits
 mod Lines
+mod Greeted
+mod Greeting
 mod Ties
 mod Appending
 mod Rules

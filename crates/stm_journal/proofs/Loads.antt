@@ -7,12 +7,15 @@ use Rattle.stm_journal.specs.Text.{Text, text_of, HasNoLF}
 use Rattle.stm_journal.specs.States.{StateData}
 use Rattle.stm_journal.specs.Journals.{JournalData, Loaded, journal_of, good, bad, after_line, capped}
 use Rattle.stm_journal.specs.InMemory.{forget_state}
-use Rattle.stm_journal.specs.Summary.{Summary, summary_of, extended}
+use Rattle.std.specs.Prelude.{bytes_eq}
+use Rattle.stm_journal.specs.Greetings.{greeting}
+use Rattle.stm_journal.specs.Summary.{Summary, summary_of, extended, greets_by}
 use Rattle.stm_journal.specs.Forget.{forget_journal, after_summary}
 use Rattle.stm_journal.specs.Loading.{PassesLine, BadLine, IsRead, LoadingStopsAt, TakesBytes}
 use Rattle.stm_journal.proofs.Texts.{text-more-lines, text-more-tail}
 use Rattle.stm_journal.proofs.Readings.{journal-line, journal-tail, journal-bad, lines-within, reading-size}
 use Rattle.stm_journal.proofs.GoesOn.{goes-on}
+use Rattle.stm_journal.proofs.Greeted.{greeted-line, greeted-tail, greets_by-line}
 use Rattle.stm_journal.proofs.Forgets.{summary-follows}
 
 abbrev LF : List ℕ
@@ -65,6 +68,12 @@ IsRead-line l l2 y bytes is short passes =
       state = now.2;
       lines = omega (arith, passes.lines, is.lines, ap (λ (t : Text). length t.lines) more, length-append (text_of bytes).lines (((text_of bytes).tail ++ []) ∷ []));
       size = omega (arith, passes.size, is.size, length-append bytes LF);
+      greeted =
+          passes.is_greeted
+          ∙ ap (λ (z : Summary). greets_by z) (sym is.rest)
+          ∙ sym (greets_by-line (text_of bytes).tail)
+          ∙ sym (ap (λ (t : List ℕ). bytes_eq t greeting) (append-nil (text_of bytes).tail))
+          ∙ sym (greeted-line bytes [] tt);
       rest = ap (λ (t : Text). summary_of t.tail) more;
     }
 
@@ -91,6 +100,7 @@ IsRead-part l l2 y y2 part bytes none same is short empty some =
       state = is.state;
       lines = is.lines ∙ sym (ap (λ (t : Text). length t.lines) more);
       size = omega (arith, is.size, short, length-append bytes part);
+      greeted = is.greeted ∙ sym (greeted-tail bytes part none);
       rest = ap (λ (t : Text). summary_of t.tail) more ∙ summary part empty some short;
     })
   where

@@ -8,7 +8,7 @@ use Rattle.stm_journal.specs.Journals.{Loaded, capped, past_mark, past_entry}
 use Rattle.stm_journal.proofs.Ties.{mark-state}
 
 abbrev pub loaded : StateData → ℕ → ℕ → Loaded
-loaded state lines size = record { state = state; lines = lines; size = size; is_torn = false }
+loaded state lines size = record { state = state; lines = lines; size = size; is_torn = false; is_greeted = false }
 
 pub prepared : (l : Loaded) (e entry : Entry) (old new : StateData) (text out : List ℕ) (line ends size : ℕ) → forget_entry e ≡ entry → old ≡ l.state → out ≡ text ++ line_text e
     → line ≡ capped ((past_mark l).lines + 1) → ends ≡ capped ((past_mark l).size + (length out - length text - 1)) → size ≡ capped ((past_mark l).size + (length out - length text))

@@ -1,5 +1,5 @@
 -- Entries that the line rules allow.
-use Rattle.std.proofs.Common.{◌≡◌, ◌≤◌, ◌<◌, ℕ, ◌+◌, not, ◌&&◌, ◌==◌, List, [], ◌∷◌, length, Option, None, refl, sym, ◌∙◌, ap, subst, arith, IsTrue, if◌then◌else◌}
+use Rattle.std.proofs.Common.{◌≡◌, ◌≤◌, ◌<◌, ℕ, ◌+◌, not, ◌&&◌, ◌==◌, List, [], ◌∷◌, length, Option, Some, None, refl, sym, ◌∙◌, ap, subst, arith, IsTrue, if◌then◌else◌}
 use Rattle.std.specs.Prelude.{is_none, IsSome}
 use Rattle.std.proofs.lemmas.Bool.{false≢true}
 use Rattle.stm_wire.specs.UniqueId.{IsUniqueId}
@@ -27,6 +27,15 @@ empty-below s sound none = at s.stack refl
         let H : Option JournalHeader → Type 0 = λ h. IsSome h in
         let filled : 0 < length s.stack = omega (arith, ap (λ (ys : List SegmentData). length ys) e) in
         absurd (false≢true (subst H none (sound.named filled)))
+
+-- a segment begun under the header that stands
+pub begin-opens-of : (id : ℕ) (unique : List ℕ) (s t : StateData) (header : JournalHeader) (k : ℕ) → s ≡ t → s.header ≡ Some header → k ≡ length s.stack + 1
+    → begin_entries id unique t ≡ Opens k ∷ []
+begin-opens-of id unique s t header k same named count =
+    let B : StateData → Type 0 = λ x. begin_entries id unique x ≡ Opens k ∷ [] in
+    subst B same
+    (ap (λ (h : Option JournalHeader). if is_none h then Names (version_for unique) id unique ∷ Opens (length s.stack + 1) ∷ [] else Opens (length s.stack + 1) ∷ []) named
+    ∙ ap (λ (n : ℕ). Opens n ∷ []) (sym count))
 
 -- a journal without a header begins with it and its first segment
 pub begin-first : (id : ℕ) (unique : List ℕ) (s : StateData) → IsSound s → s.header ≡ None → begin_entries id unique s ≡ first_entries id unique

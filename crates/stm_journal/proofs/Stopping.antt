@@ -28,7 +28,7 @@ leads-nowhere : (entries : List Entry) (s : StateData) → EntriesLead entries s
 leads-nowhere [] s = refl
 leads-nowhere (e ∷ entries) s = inl refl
 
-HasNoLF-take : (n : ℕ) (xs : List ℕ) → HasNoLF xs → HasNoLF (take n xs)
+pub HasNoLF-take : (n : ℕ) (xs : List ℕ) → HasNoLF xs → HasNoLF (take n xs)
 HasNoLF-take zero xs h = tt
 HasNoLF-take (suc n) [] h = tt
 HasNoLF-take (suc n) (x ∷ xs) h = (h.0, HasNoLF-take n xs h.1)

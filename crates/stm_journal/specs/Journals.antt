@@ -11,6 +11,7 @@ use Rattle.stm_journal.specs.declared.fault.JournalFault.TheVariants.{OtherBoard
 use Rattle.hex.specs.Hex.{IsBytes}
 use Rattle.stm_wire.specs.UniqueId.{is_unique_length}
 use Rattle.stm_journal.specs.Text.{text_of, is_void}
+use Rattle.stm_journal.specs.Greetings.{is_greeted}
 use Rattle.stm_journal.specs.Entries.{entry_of, line_of, line_text}
 use Rattle.stm_journal.specs.States.{StateData, empty_state, allows, after_entry, names_other}
 use Rattle.stm_journal.specs.States.{names_other_board}
@@ -60,12 +61,13 @@ abbrev pub journal_of : List ℕ → JournalData
 journal_of bytes = (reading_of (text_of bytes).lines).journal
 
 -- a journal in memory: its state, with zeros for the bytes of pages, how many whole lines and how
--- many bytes it has, and whether a torn tail stands
+-- many bytes it has, whether a torn tail stands, and whether the last whole line is a greeting
 pub record Loaded : Type 0 where
   pub state : StateData
   pub lines : ℕ
   pub size : ℕ
   pub is_torn : Bool
+  pub is_greeted : Bool
 
 -- The tie between a journal in memory and a journal's bytes: these come to a state, which stands in
 -- memory without the bytes of its pages, and with their places.
@@ -76,6 +78,7 @@ pub record IsLoaded (l : Loaded) (bytes : List ℕ) : Type 0 where
   pub lines : l.lines ≡ length (text_of bytes).lines
   pub size : l.size ≡ length bytes
   pub is_torn : l.is_torn ≡ nat_lt 0 (length (text_of bytes).tail)
+  pub greeted : l.is_greeted ≡ is_greeted bytes
 
 -- a number that stays at its top; no journal is that long
 abbrev pub capped : ℕ → ℕ
@@ -89,12 +92,14 @@ mark torn = if torn then 33 ∷ 10 ∷ [] else []
 abbrev pub added_bytes : Bool → List Entry → List ℕ
 added_bytes torn entries = mark torn ++ flat_map line_text entries
 
+-- where the mark is followed by an entry, behind which no greeting is the last line
 abbrev pub past_mark : Loaded → Loaded
 past_mark l = if l.is_torn then record {
   state = l.state;
   lines = capped (l.lines + 1);
   size = capped (l.size + 2);
   is_torn = false;
+  is_greeted = false;
 } else l
 
 abbrev pub past_entry : Loaded → Entry → Loaded
@@ -106,6 +111,7 @@ past_entry l e =
       lines = capped (l.lines + 1);
       size = capped (l.size + (length (line_of e) + 1));
       is_torn = false;
+      is_greeted = false;
     }
 
 -- a journal in memory after entries more
@@ -129,7 +135,7 @@ begin_entries id unique s =
 
 -- a journal in memory of no lines
 abbrev pub empty_loaded : Loaded
-empty_loaded = record { state = empty_state; lines = 0; size = 0; is_torn = false }
+empty_loaded = record { state = empty_state; lines = 0; size = 0; is_torn = false; is_greeted = false }
 
 -- a header is of version 1 or 2 and has no unique id, or of version 3 and has one
 abbrev pub IsHeaderOf : ℕ → List ℕ → Type 0

@@ -1,4 +1,5 @@
 pub mod Text
+pub mod Greetings
 pub mod Entries
 pub mod States
 pub mod Blank
@@ -11,6 +12,7 @@ pub mod Journals
 pub mod Beginnings
 pub mod Places
 pub mod Calls
+pub mod GreetingCalls
 pub mod Loading
 pub mod Summary
 pub mod Forget

@@ -8,10 +8,11 @@ use Rattle.stm_journal.specs.declared.fault.JournalFault.{JournalFault}
 use Rattle.stm_journal.specs.declared.fault.JournalFault.TheVariants.{File, Bad, OtherDevice}
 use Rattle.stm_journal.specs.declared.fault.JournalFault.TheVariants.{OtherBoard, Memory}
 use Rattle.stm_journal.specs.Text.{text_of}
+use Rattle.stm_journal.specs.Greetings.{is_greeted}
 use Rattle.stm_journal.specs.Journals.{Loaded, capped, journal_of, good, bad}
 use Rattle.stm_journal.specs.States.{StateData}
 use Rattle.stm_journal.specs.InMemory.{forget_state}
-use Rattle.stm_journal.specs.Summary.{Summary, summary_of}
+use Rattle.stm_journal.specs.Summary.{Summary, summary_of, greets_by}
 use Rattle.stm_journal.specs.Forget.{after_summary}
 use Rattle.stm_journal.specs.Calls.{IsUntouched}
 
@@ -21,6 +22,7 @@ pub record PassesLine (y : Summary) (old new : Loaded) : Type 0 where
   pub lines : new.lines ≡ capped (old.lines + 1)
   pub size : new.size ≡ capped (old.size + 1)
   pub is_torn : new.is_torn ≡ old.is_torn
+  pub is_greeted : new.is_greeted ≡ greets_by y
 
 abbrev pub BadLine : Summary → Loaded → JournalFault → Type 0
 BadLine y old File = ⊥
@@ -37,6 +39,7 @@ pub record IsRead (l : Loaded) (y : Summary) (bytes : List ℕ) : Type 0 where
   pub state : l.state ≡ forget_state text
   pub lines : l.lines ≡ length (text_of bytes).lines
   pub size : l.size ≡ length bytes
+  pub greeted : l.is_greeted ≡ is_greeted bytes
   pub rest : summary_of (text_of bytes).tail ≡ y
 
 -- these bytes have a bad line, whatever follows; or there was no memory

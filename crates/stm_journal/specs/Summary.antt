@@ -2,11 +2,12 @@
 -- behind the first are upper-case digits, and its last byte.
 use Rattle.std.specs.Prelude.{◌≡◌, ℕ, ◌+◌, ◌-◌, ◌/◌, ◌%◌, Bool, ◌&&◌, ◌==◌, nat_le, if◌then◌else◌}
 use Rattle.std.specs.Prelude.{List, ◌∷◌, ◌++◌, length, take, drop, get_or, codes, Option, Some}
-use Rattle.std.specs.Prelude.{None, option_map, position}
+use Rattle.std.specs.Prelude.{None, option_map, position, bytes_eq}
 use Rattle.std.specs.List.{list_all}
 use Rattle.stm_journal.specs.declared.entry.Entry.{Entry}
 use Rattle.stm_journal.specs.declared.entry.Entry.TheVariants.{Keeps}
 use Rattle.stm_journal.specs.Text.{is_void}
+use Rattle.stm_journal.specs.Greetings.{greeting}
 use Rattle.stm_journal.specs.Entries.{is_upper_digit, decimal_of, behind, entry_of}
 use Rattle.stm_journal.specs.Blank.{blank}
 use Rattle.stm_journal.specs.InMemory.{forget_entry}
@@ -57,6 +58,10 @@ long_page prefix more =
 abbrev pub void_by : Summary → Bool
 void_by s = s.last == 33
 
+-- whether it is a greeting
+abbrev pub greets_by : Summary → Bool
+greets_by s = bytes_eq s.prefix greeting
+
 abbrev pub said_by : Summary → Option Entry
 said_by s =
     if nat_le s.size 82 then option_map forget_entry (entry_of s.prefix)
@@ -65,7 +70,8 @@ said_by s =
 -- the summary decides the line
 abbrev pub SummaryDecides : Type 0
 SummaryDecides = (line : List ℕ) → (is_void line ≡ void_by (summary_of line))
-    × (option_map forget_entry (entry_of line) ≡ said_by (summary_of line))
+    × ((option_map forget_entry (entry_of line) ≡ said_by (summary_of line))
+    × (bytes_eq line greeting ≡ greets_by (summary_of line)))
 
 -- the summary of a line that goes on needs nothing but that of its beginning
 abbrev pub SummaryGoesOn : Type 0

@@ -4,6 +4,7 @@ ghost use Rattle.stm_journal.specs.Journals.{capped, empty_loaded};
 ghost use Rattle.stm_journal.specs.Loading.{PassesLine, BadLine};
 
 mod additions;
+mod greeting;
 mod page_calls;
 mod readers;
 mod segment_calls;
@@ -18,7 +19,7 @@ use std::marker::Model;
 ///
 /// It holds the places of kept pages, and none of their bytes: these stay in the Rig's journal.
 /// Contracts see its state, with zeros for such bytes, how many whole lines and how many bytes it
-/// has, and whether a torn tail stands. After `JournalFault::File` it has to be loaded again.
+/// has, whether a torn tail stands, and whether the last whole line is a greeting. After `JournalFault::File` it has to be loaded again.
 #[derive(Drop)]
 pub struct Journal {
     alloc: Global,
@@ -26,6 +27,7 @@ pub struct Journal {
     lines: u64,
     size: u64,
     is_torn: bool,
+    is_greeted: bool,
 }
 
 impl Model for Journal {
@@ -38,6 +40,7 @@ impl Model for Journal {
       lines = j.lines;
       size = j.size;
       is_torn = j.is_torn;
+      is_greeted = j.is_greeted;
     } };
 }
 
@@ -52,6 +55,7 @@ impl Journal {
             lines: 0,
             size: 0,
             is_torn: false,
+            is_greeted: false,
         }
     }
 
@@ -94,6 +98,7 @@ impl Journal {
         }
         self.lines = line;
         self.size = self.size.saturating_add(1);
+        self.is_greeted = text.is_greeting();
         Ok(())
     }
 }

@@ -9,6 +9,7 @@ ghost use Rattle.stm_journal.specs.Beginnings.{BeginningsAreGood};
 ghost use Rattle.stm_journal.specs.Added.{EntriesLeaveEither, BeginningsLeaveEither};
 ghost use Rattle.stm_journal.specs.FlashLaws.{KeepingKeepsFlashes, ChangesKeepFlashes};
 ghost use Rattle.stm_journal.specs.FlashLaws.{HeldIsBefore};
+ghost use Rattle.stm_journal.specs.GreetingCalls.{GreetingsCountAsNothing, EntriesEndGreetings};
 ghost use Rattle.stm_journal.specs.Places.{PagesArePlaced};
 ghost use Rattle.stm_journal.specs.Forget.{EntriesForget, SummaryFollows};
 ghost use Rattle.stm_journal.specs.Pieces.{PiecesSay};
@@ -36,6 +37,17 @@ pub fn a_journal_is_sound()
 /// the one before with a beginning of the entries added.
 pub fn a_stopped_append_is_good()
     ensures { BeginningsAreGood }
+{}
+
+/// Wherever the append of a greeting is stopped, the journal comes to what it came to. Unless all of
+/// the line or nothing of it stands, the tail is torn, and no greeting may come.
+pub fn a_greeting_counts_as_nothing()
+    ensures { GreetingsCountAsNothing }
+{}
+
+/// Behind an entry no greeting is the last line.
+pub fn an_entry_ends_a_greeting()
+    ensures { EntriesEndGreetings }
 {}
 
 /// In a journal without a bad line the digits of each kept page stand at its place, two a

@@ -1,6 +1,6 @@
 // A whole line as it is read in pieces: what decides it, without the line.
 ghost use Rattle.std.specs.Prelude.{◌≡◌, ◌==◌, ◌+◌, ◌-◌, ◌<◌, ◌≤◌, ◌^◌, [], length, OnOk};
-ghost use Rattle.stm_journal.specs.Summary.{extended, void_by, said_by, summary_of};
+ghost use Rattle.stm_journal.specs.Summary.{extended, void_by, said_by, greets_by, summary_of};
 
 use crate::Entry;
 use crate::line::{are_all_upper, entry_of, long_page_of};
@@ -78,6 +78,12 @@ impl LineSummary {
         ensures { result ≡ void_by self.now }
     {
         self.last == b'!'
+    }
+
+    pub(crate) fn is_greeting(&self) -> bool
+        ensures { result ≡ greets_by self.now }
+    {
+        self.prefix.as_slice() == b"connect!".as_slice()
     }
 
     pub(crate) fn is_empty(&self) -> bool

@@ -1,8 +1,7 @@
 -- What the calls of a Rig whose calls are recorded promise, where those of the inner one do.
-use Rattle.std.proofs.Common.{◌≡◌, inl, inr, ⊎_elim, ℕ, zero, suc, ◌+◌, ◌-◌, ◌^◌, ◌<◌, ◌≤◌}
-use Rattle.std.proofs.Common.{List, [], ◌∷◌, ◌++◌, length, take, drop, Option, Some, None}
-use Rattle.std.proofs.Common.{Result, Ok, Err, refl, sym, ◌∙◌, ap, subst, arith, take_all}
-use Rattle.std.proofs.Common.{append-nil, eq-or-lt_of_le}
+use Rattle.std.proofs.Common.{◌≡◌, inl, ⊎_elim, ℕ, zero, suc, ◌+◌, ◌-◌, ◌^◌, ◌<◌, ◌≤◌, List, []}
+use Rattle.std.proofs.Common.{◌∷◌, ◌++◌, length, take, drop, Option, Result, Ok, Err, refl, sym}
+use Rattle.std.proofs.Common.{◌∙◌, ap, subst, arith, eq-or-lt_of_le}
 use Rattle.std.proofs.lemmas.List.{length_push, length-take-le}
 use Rattle.std.specs.Prelude.{Vec}
 use Rattle.std.specs.declared.alloc.Global.{Global}
@@ -11,12 +10,14 @@ use Rattle.stm_line.specs.declared.answered.Answered.TheVariants.{Put, PutFailed
 use Rattle.stm_line.specs.declared.answered.Answered.TheVariants.{Appended, AppendFailed}
 use Rattle.stm_line.specs.declared.answered.Answered.TheVariants.{Fetched, FetchFailed}
 use Rattle.stm_line.specs.Standing.{Standing, rig_at}
-use Rattle.stm_line.specs.Vouched.{Vouched, CallLeads, call_at}
+use Rattle.stm_line.specs.Vouched.{CallLeads, call_at}
 use Rattle.stm_line.specs.Recorded.{IsRecordOf, recorded, stands}
 use Rattle.stm_sim.specs.lemmas.SimulatedDevice.{le-or-gt}
 use Rattle.stm_wire.specs.declared.fault.RigFault.{RigFault}
+use Rattle.stm_sim.specs.lemmas.HonestLine.{still}
+use Rattle.stm_wire.specs.lemmas.MomentLaws.{LosesOwed-refl}
 use Rattle.stm_wire.specs.Device.{Device, IsDevice, LosesOwed}
-use Rattle.stm_wire.specs.Rig.{RigState, IsModel, Elapses, LeftByPut, LeftByGet, LeftByAppend}
+use Rattle.stm_wire.specs.Rig.{RigState, IsModel, LeftByPut, LeftByGet, LeftByAppend}
 use Rattle.stm_wire.specs.Rig.{PutsHonestly, GetsHonestly, AppendsHonestly, FetchesHonestly}
 
 -- as the course says up to a place, and behind it there
@@ -53,10 +54,7 @@ call-last (x ∷ calls) call = call-last calls call
 
 leads-by : (call call2 : Answered) (s s2 t t2 : Standing) → call2 ≡ call → s2 ≡ s → t2 ≡ t
     → CallLeads call s t → CallLeads call2 s2 t2
-leads-by call call2 s s2 t t2 a b c leads =
-    subst (λ (x : Answered). CallLeads x s2 t2) (sym a)
-    (subst (λ (x : Standing). CallLeads call x t2) (sym b)
-    (subst (λ (x : Standing). CallLeads call s x) (sym c) leads))
+leads-by call call2 s s2 t t2 a b c leads = rw (a, b, c) leads
 
 -- a record that vouches for a course vouches for it with one call more
 pub extends : (calls : List Answered) (call : Answered) (s t : Standing) → IsRecordOf calls s
@@ -70,16 +68,12 @@ extends calls call s t is leads device limit =
       course2,
       record {
         device = λ k le. ⊎_elim
-            (λ early. subst (λ (x : Standing). IsDevice x.device)
-            (sym (upto-early n course t k early)) (is.1.device k early))
-            (λ late. subst (λ (x : Standing). IsDevice x.device)
-            (sym (upto-late n course t k late)) device)
+            (λ early. rw (upto-early n course t k early) (is.1.device k early))
+            (λ late. rw (upto-late n course t k late) device)
             (le-or-gt k n);
         limit = λ k le. ⊎_elim
-            (λ early. subst (λ (x : Standing). length x.journal ≤ 2 ^ 63 - 1)
-            (sym (upto-early n course t k early)) (is.1.limit k early))
-            (λ late. subst (λ (x : Standing). length x.journal ≤ 2 ^ 63 - 1)
-            (sym (upto-late n course t k late)) limit)
+            (λ early. rw (upto-early n course t k early) (is.1.limit k early))
+            (λ late. rw (upto-late n course t k late) limit)
             (le-or-gt k n);
         leads = λ k lt. ⊎_elim
             (λ last.
@@ -117,54 +111,24 @@ starts rig model honest =
     let m = model honest in
     empty (stands rig) m.device m.journal
 
--- one call more of a Rig that follows the model
-grows : (calls : List Answered) (call : Answered) (old new : RigState)
-    → (new.is_honest → IsModel new) → new.is_honest → IsRecordOf calls (stands old)
-    → CallLeads call (stands old) (stands new) → IsRecordOf (calls ++ call ∷ []) (stands new)
-grows calls call old new model honest is leads =
-    let m = model honest in
-    extends calls call (stands old) (stands new) is leads m.device m.journal
-
-timed : (P : Device → List ℕ → Type 0) (calls calls2 : List Answered) (a b a2 b2 : ℕ)
-    (old new : RigState) → Elapses P old new
-    → Elapses P (recorded calls a b old) (recorded calls2 a2 b2 new)
-timed P calls calls2 a b a2 b2 old new time = record {
-  later = time.later;
-  nothing_else = time.nothing_else;
-  keeps = time.keeps;
-}
-
-idle : (P : Device → List ℕ → Type 0) (calls : List Answered) (a b a2 b2 : ℕ) (rig : RigState)
-    → Elapses P (recorded calls a b rig) (recorded calls a2 b2 rig)
-idle P calls a b a2 b2 rig = record {
-  later = omega arith;
-  nothing_else = λ t d journal le left. inl left;
-  keeps = λ t d journal le left. left;
-}
-
-loses_none : (d : Device) → LosesOwed d d
-loses_none d = (0, refl)
-
 module _ (calls calls2 : List Answered) (a b a2 b2 : ℕ) (old new : RigState)
     (model : new.is_honest → IsModel new) where
+  -- one call more of a Rig that follows the model
+  grows : (call : Answered) → calls2 ≡ calls ++ call ∷ [] → new.is_honest
+      → IsRecordOf calls (stands old) → CallLeads call (stands old) (stands new)
+      → IsRecordOf calls2 (stands new)
+  grows call entered honest is leads =
+      let m = model honest in
+      rw entered (extends calls call (stands old) (stands new) is leads m.device m.journal)
+
   pub put_done : (byte : ℕ) (result : Result (Unit {0}) RigFault) (u : Unit {0}) → result ≡ Ok u
       → calls2 ≡ calls ++ Put byte ∷ []
       → (old.is_honest → PutsHonestly byte result old new)
       → (recorded calls a b old).is_honest
       → PutsHonestly {T = Unit {0}} byte (Ok tt) (recorded calls a b old) (recorded calls2 a2 b2 new)
   put_done byte result u is entered inner honest =
-      let p : PutsHonestly {T = Unit {0}} byte (Ok u) old new =
-      subst (λ (r : Result (Unit {0}) RigFault). PutsHonestly byte r old new) is (inner honest.0) in
-      record {
-        honest = (
-          p.honest,
-          subst (λ (cs : List Answered). IsRecordOf cs (stands new)) (sym entered)
-              (grows calls (Put byte) old new model p.honest honest.1 p.ok),
-        );
-        ok = p.ok;
-        err = tt;
-        time = timed (LeftByPut byte old) calls calls2 a b a2 b2 old new p.time;
-      }
+      let p = rw is at (inner honest.0) in
+      assumption (p, grows (Put byte) entered p.honest honest.1 p.ok)
 
   pub put_failed : (byte : ℕ) (result : Result (Unit {0}) RigFault) (fault : RigFault)
       → result ≡ Err fault → calls2 ≡ calls ++ PutFailed byte ∷ []
@@ -173,18 +137,8 @@ module _ (calls calls2 : List Answered) (a b a2 b2 : ℕ) (old new : RigState)
       → PutsHonestly {T = Unit {0}} byte (Err fault) (recorded calls a b old)
       (recorded calls2 a2 b2 new)
   put_failed byte result fault is entered inner honest =
-      let p : PutsHonestly {T = Unit {0}} byte (Err fault) old new =
-      subst (λ (r : Result (Unit {0}) RigFault). PutsHonestly byte r old new) is (inner honest.0) in
-      record {
-        honest = (
-          p.honest,
-          subst (λ (cs : List Answered). IsRecordOf cs (stands new)) (sym entered)
-              (grows calls (PutFailed byte) old new model p.honest honest.1 p.err),
-        );
-        ok = tt;
-        err = p.err;
-        time = timed (LeftByPut byte old) calls calls2 a b a2 b2 old new p.time;
-      }
+      let p = rw is at (inner honest.0) in
+      assumption (p, grows (PutFailed byte) entered p.honest honest.1 p.err)
 
   pub got : (answer : Option ℕ) (result : Result (Option ℕ) RigFault) → result ≡ Ok answer
       → calls2 ≡ calls ++ Got answer ∷ []
@@ -192,19 +146,8 @@ module _ (calls calls2 : List Answered) (a b a2 b2 : ℕ) (old new : RigState)
       → (recorded calls a b old).is_honest
       → GetsHonestly (Ok answer) (recorded calls a b old) (recorded calls2 a2 b2 new)
   got answer result is entered inner honest =
-      let p : GetsHonestly (Ok answer) old new =
-      subst (λ (r : Result (Option ℕ) RigFault). GetsHonestly r old new) is (inner honest.0) in
-      record {
-        honest = (
-          p.honest,
-          subst (λ (cs : List Answered). IsRecordOf cs (stands new)) (sym entered)
-              (grows calls (Got answer) old new model p.honest honest.1 (p.ok, p.journal)),
-        );
-        ok = p.ok;
-        journal = p.journal;
-        err = tt;
-        time = timed (LeftByGet old) calls calls2 a b a2 b2 old new p.time;
-      }
+      let p = rw is at (inner honest.0) in
+      assumption (p, grows (Got answer) entered p.honest honest.1 (p.ok, p.journal))
 
   pub get_failed : (result : Result (Option ℕ) RigFault) (fault : RigFault) → result ≡ Err fault
       → calls2 ≡ calls ++ GetFailed ∷ []
@@ -212,19 +155,8 @@ module _ (calls calls2 : List Answered) (a b a2 b2 : ℕ) (old new : RigState)
       → (recorded calls a b old).is_honest
       → GetsHonestly (Err fault) (recorded calls a b old) (recorded calls2 a2 b2 new)
   get_failed result fault is entered inner honest =
-      let p : GetsHonestly (Err fault) old new =
-      subst (λ (r : Result (Option ℕ) RigFault). GetsHonestly r old new) is (inner honest.0) in
-      record {
-        honest = (
-          p.honest,
-          subst (λ (cs : List Answered). IsRecordOf cs (stands new)) (sym entered)
-              (grows calls GetFailed old new model p.honest honest.1 p.err),
-        );
-        ok = tt;
-        journal = p.journal;
-        err = p.err;
-        time = timed (LeftByGet old) calls calls2 a b a2 b2 old new p.time;
-      }
+      let p = rw is at (inner honest.0) in
+      assumption (p, grows GetFailed entered p.honest honest.1 p.err)
 
   pub append_done : (bytes : List ℕ) (added : Vec ℕ Global)
       (result : Result (Unit {0}) RigFault) (u : Unit {0}) → result ≡ Ok u → added.items ≡ bytes
@@ -234,21 +166,9 @@ module _ (calls calls2 : List Answered) (a b a2 b2 : ℕ) (old new : RigState)
       → AppendsHonestly {T = Unit {0}} bytes (Ok tt) (recorded calls a b old)
       (recorded calls2 a2 b2 new)
   append_done bytes added result u is same entered inner honest =
-      let p : AppendsHonestly {T = Unit {0}} bytes (Ok u) old new =
-      subst (λ (r : Result (Unit {0}) RigFault). AppendsHonestly bytes r old new) is
-      (inner honest.0) in
-      record {
-        honest = (
-          p.honest,
-          subst (λ (cs : List Answered). IsRecordOf cs (stands new)) (sym entered)
-              (grows calls (Appended added) old new model p.honest honest.1
-              (p.ok.0, p.ok.1 ∙ ap (λ (xs : List ℕ). old.journal ++ xs) (sym same))),
-        );
-        ok = p.ok;
-        err = tt;
-        time = timed (LeftByAppend bytes old) calls calls2 a b a2 b2 old new p.time;
-        beginnings = p.beginnings;
-      }
+      let p = rw is at (inner honest.0) in
+      let grown = p.ok.1 ∙ ap (λ (xs : List ℕ). old.journal ++ xs) (sym same) in
+      assumption (p, grows (Appended added) entered p.honest honest.1 (p.ok.0, grown))
 
   pub append_failed : (bytes : List ℕ) (added : Vec ℕ Global)
       (result : Result (Unit {0}) RigFault) (fault : RigFault) → result ≡ Err fault
@@ -258,22 +178,12 @@ module _ (calls calls2 : List Answered) (a b a2 b2 : ℕ) (old new : RigState)
       → AppendsHonestly {T = Unit {0}} bytes (Err fault) (recorded calls a b old)
       (recorded calls2 a2 b2 new)
   append_failed bytes added result fault is same entered inner honest =
-      let p : AppendsHonestly {T = Unit {0}} bytes (Err fault) old new =
-      subst (λ (r : Result (Unit {0}) RigFault). AppendsHonestly bytes r old new) is
-      (inner honest.0) in
-      record {
-        honest = (
-          p.honest,
-          subst (λ (cs : List Answered). IsRecordOf cs (stands new)) (sym entered)
-              (grows calls (AppendFailed added) old new model p.honest honest.1
-              (subst (λ (xs : List ℕ). LeftByAppend xs (rig_at (stands old)) new.device new.journal)
-              (sym same) p.err)),
-        );
-        ok = tt;
-        err = p.err;
-        time = timed (LeftByAppend bytes old) calls calls2 a b a2 b2 old new p.time;
-        beginnings = p.beginnings;
-      }
+      let p = rw is at (inner honest.0) in
+      assumption (
+        p,
+        grows (AppendFailed added) entered p.honest honest.1
+            (rw same p.err),
+      )
 
   pub fetch_done : (place n : ℕ) (before after : List ℕ) (came : Vec ℕ Global)
       (result : Result ℕ RigFault) → result ≡ Ok n → came.items ≡ take n after
@@ -284,31 +194,20 @@ module _ (calls calls2 : List Answered) (a b a2 b2 : ℕ) (old new : RigState)
       → FetchesHonestly place before after (Ok n) (recorded calls a b old)
       (recorded calls2 a2 b2 new)
   fetch_done place n before after came result is same long le entered inner honest =
-      let p : FetchesHonestly place before after (Ok n) old new =
-      subst (λ (r : Result ℕ RigFault). FetchesHonestly place before after r old new) is
-      (inner honest.0) in
+      let p = rw is at (inner honest.0) in
       let count : length came.items ≡ n =
       ap length same ∙ length-take-le n after (omega (arith, long, le)) in
-      record {
-        honest = (
-          p.honest,
-          subst (λ (cs : List Answered). IsRecordOf cs (stands new)) (sym entered)
-              (grows calls (Fetched place (length before) came) old new model p.honest honest.1 (
-                p.ok.0,
-                p.ok.1,
-                record {
-                  same = same ∙ p.bytes
-                      ∙ ap (λ (k : ℕ). take k (drop place old.journal)) (sym count);
-                  more = λ none inside. p.more (sym count ∙ none) inside;
-                },
-              )),
-        );
-        ok = p.ok;
-        bytes = p.bytes;
-        more = p.more;
-        err = tt;
-        time = timed (LeftByGet old) calls calls2 a b a2 b2 old new p.time;
-      }
+      assumption (
+        p,
+        grows (Fetched place (length before) came) entered p.honest honest.1 (
+          p.ok.0,
+          p.ok.1,
+          record {
+            same = same ∙ p.bytes ∙ ap (λ (k : ℕ). take k (drop place old.journal)) (sym count);
+            more = λ none inside. p.more (sym count ∙ none) inside;
+          },
+        ),
+      )
 
   pub fetch_failed : (place : ℕ) (before after : List ℕ) (result : Result ℕ RigFault)
       (fault : RigFault) → result ≡ Err fault
@@ -318,21 +217,8 @@ module _ (calls calls2 : List Answered) (a b a2 b2 : ℕ) (old new : RigState)
       → FetchesHonestly place before after (Err fault) (recorded calls a b old)
       (recorded calls2 a2 b2 new)
   fetch_failed place before after result fault is entered inner honest =
-      let p : FetchesHonestly place before after (Err fault) old new =
-      subst (λ (r : Result ℕ RigFault). FetchesHonestly place before after r old new) is
-      (inner honest.0) in
-      record {
-        honest = (
-          p.honest,
-          subst (λ (cs : List Answered). IsRecordOf cs (stands new)) (sym entered)
-              (grows calls FetchFailed old new model p.honest honest.1 p.err),
-        );
-        ok = tt;
-        bytes = tt;
-        more = tt;
-        err = p.err;
-        time = timed (LeftByGet old) calls calls2 a b a2 b2 old new p.time;
-      }
+      let p = rw is at (inner honest.0) in
+      assumption (p, grows FetchFailed entered p.honest honest.1 p.err)
 
   -- the bytes came, and there was no memory for their entry
   pub fetch_unkept : (place n : ℕ) (before after : List ℕ) (result : Result ℕ RigFault)
@@ -343,26 +229,15 @@ module _ (calls calls2 : List Answered) (a b a2 b2 : ℕ) (old new : RigState)
       → FetchesHonestly place before after answered (recorded calls a b old)
       (recorded calls2 a2 b2 new)
   fetch_unkept place n before after result answered fault is failed entered inner honest =
-      let p : FetchesHonestly place before after (Ok n) old new =
-      subst (λ (r : Result ℕ RigFault). FetchesHonestly place before after r old new) is
-      (inner honest.0) in
+      let p = rw is at (inner honest.0) in
       let left : LeftByGet old new.device new.journal =
-      (p.ok.1, subst (λ (d : Device). LosesOwed d new.device) p.ok.0 (loses_none new.device)) in
-      subst
-      (λ (r : Result ℕ RigFault). FetchesHonestly place before after r (recorded calls a b old)
-      (recorded calls2 a2 b2 new)) (sym failed)
-      (record {
-        honest = (
-          p.honest,
-          subst (λ (cs : List Answered). IsRecordOf cs (stands new)) (sym entered)
-              (grows calls FetchFailed old new model p.honest honest.1 left),
-        );
-        ok = tt;
-        bytes = tt;
-        more = tt;
-        err = left;
-        time = timed (LeftByGet old) calls calls2 a b a2 b2 old new p.time;
-      })
+      (p.ok.1, subst (λ (d : Device). LosesOwed d new.device) p.ok.0 (LosesOwed-refl new.device)) in
+      rw failed (assumption (
+        left,
+        p.honest,
+        p.time,
+        grows FetchFailed entered p.honest honest.1 left,
+      ))
 
 -- no memory for an entry: nothing was done
 module _ (calls calls2 : List Answered) (a b a2 b2 : ℕ) (rig : RigState) (same : calls2 ≡ calls)
@@ -373,75 +248,13 @@ module _ (calls calls2 : List Answered) (a b a2 b2 : ℕ) (rig : RigState) (same
     subst (λ (cs : List Answered). IsRecordOf cs (stands rig)) (sym same) honest.1,
   )
 
-  still : (P : Device → List ℕ → Type 0)
-      → Elapses P (recorded calls a b rig) (recorded calls2 a2 b2 rig)
-  still P = timed P calls calls2 a b a2 b2 rig rig
-      (record {
-        later = omega arith;
-        nothing_else = λ t d journal le left. inl left;
-        keeps = λ t d journal le left. left;
-      })
-
   pub put_refused : (byte : ℕ) (result : Result (Unit {0}) RigFault) → result ≡ Err fault
       → (recorded calls a b rig).is_honest
       → PutsHonestly byte result (recorded calls a b rig) (recorded calls2 a2 b2 rig)
   put_refused byte result is honest =
-      subst
-      (λ (r : Result (Unit {0}) RigFault). PutsHonestly byte r (recorded calls a b rig)
-      (recorded calls2 a2 b2 rig)) (sym is)
-      (record {
+      rw is (record {
         honest = held honest;
         ok = tt;
-        err = (refl, (rig.device, inl refl, loses_none rig.device));
-        time = still (LeftByPut byte rig);
-      })
-
-  pub get_refused : (result : Result (Option ℕ) RigFault) → result ≡ Err fault
-      → (recorded calls a b rig).is_honest
-      → GetsHonestly result (recorded calls a b rig) (recorded calls2 a2 b2 rig)
-  get_refused result is honest =
-      subst
-      (λ (r : Result (Option ℕ) RigFault). GetsHonestly r (recorded calls a b rig)
-      (recorded calls2 a2 b2 rig)) (sym is)
-      (record {
-        honest = held honest;
-        ok = tt;
-        journal = refl;
-        err = (refl, loses_none rig.device);
-        time = still (LeftByGet rig);
-      })
-
-  pub append_refused : (model : rig.is_honest → IsModel rig) (bytes : List ℕ)
-      (result : Result (Unit {0}) RigFault) → result ≡ Err fault
-      → (recorded calls a b rig).is_honest
-      → AppendsHonestly bytes result (recorded calls a b rig) (recorded calls2 a2 b2 rig)
-  append_refused model bytes result is honest =
-      subst
-      (λ (r : Result (Unit {0}) RigFault). AppendsHonestly bytes r (recorded calls a b rig)
-      (recorded calls2 a2 b2 rig)) (sym is)
-      (record {
-        honest = held honest;
-        ok = tt;
-        err = ((0, sym (append-nil rig.journal)), loses_none rig.device);
-        time = still (LeftByAppend bytes rig);
-        beginnings = λ t n d le from lost.
-            subst (λ (xs : List ℕ). rig.left_since t d xs) (sym (take_all n rig.journal from))
-            ((model honest.0).counts_now t d le lost);
-      })
-
-  pub fetch_refused : (place : ℕ) (before after : List ℕ) (result : Result ℕ RigFault)
-      → result ≡ Err fault → (recorded calls a b rig).is_honest
-      → FetchesHonestly place before after result (recorded calls a b rig)
-      (recorded calls2 a2 b2 rig)
-  fetch_refused place before after result is honest =
-      subst
-      (λ (r : Result ℕ RigFault). FetchesHonestly place before after r (recorded calls a b rig)
-      (recorded calls2 a2 b2 rig)) (sym is)
-      (record {
-        honest = held honest;
-        ok = tt;
-        bytes = tt;
-        more = tt;
-        err = (refl, loses_none rig.device);
-        time = still (LeftByGet rig);
+        err = (refl, (rig.device, inl refl, LosesOwed-refl rig.device));
+        time = assumption (still (LeftByPut byte rig) rig);
       })

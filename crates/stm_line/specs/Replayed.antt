@@ -1,5 +1,5 @@
 -- A Rig that answers from a record.
-use Rattle.std.specs.Prelude.{◌≡◌, ◌⊎◌, ℕ, ◌<◌, ◌≤◌, List, [], length, Option, Some, None}
+use Rattle.std.specs.Prelude.{◌≡◌, ◌⊎◌, ℕ, ◌<◌, ◌≤◌, List, length, Option, None}
 use Rattle.stm_line.specs.declared.answered.Answered.{Answered}
 use Rattle.stm_line.specs.declared.answered.Answered.TheVariants.{Put, PutFailed, Got, GetFailed}
 use Rattle.stm_line.specs.declared.answered.Answered.TheVariants.{Appended, AppendFailed}

@@ -1,5 +1,5 @@
 -- Where a device and its journal stand.
-use Rattle.std.specs.Prelude.{ℕ, List, [], Option, None}
+use Rattle.std.specs.Prelude.{ℕ, List, None}
 use Rattle.stm_wire.specs.Device.{Device}
 use Rattle.stm_wire.specs.Rig.{RigState}
 

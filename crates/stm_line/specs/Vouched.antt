@@ -1,5 +1,5 @@
 -- When a record of calls, with what they answered, is that of a device which follows the model.
-use Rattle.std.specs.Prelude.{◌≡◌, ℕ, ◌+◌, ◌-◌, ◌^◌, ◌<◌, ◌≤◌, List, [], ◌++◌, length, take, drop}
+use Rattle.std.specs.Prelude.{◌≡◌, ℕ, ◌+◌, ◌-◌, ◌^◌, ◌<◌, ◌≤◌, List, ◌++◌, length, take, drop}
 use Rattle.std.specs.Prelude.{get_or}
 use Rattle.stm_line.specs.declared.answered.Answered.{Answered}
 use Rattle.stm_line.specs.declared.answered.Answered.TheVariants.{Put, PutFailed, Got, GetFailed}

@@ -339,11 +339,11 @@ board_is table a b d id unique size places at was still own told sized =
 pub settle_few : (byte limit : ℕ) (a b : Option (List Call)) → limit ≤ 131072 → GoesOn (SettlesWithin byte limit) a b → GoesOn (AreFew 537411600) a b
 settle_few byte limit a b le p = GoesOn-weaker (SettlesWithin byte limit) (AreFew 537411600) a b p (λ xs x. omega (arith, le, x.few, line_calls_are_few xs x.line))
 
-pub limit_small : (is_fresh : Bool) (kind : EraseKind) (intent : Option Intent) → limit_of (undo_way is_fresh kind intent) ≤ 131072
-limit_small false kind None = limit_most kind None
-limit_small false kind (Some intent) = limit_most kind (Some intent)
-limit_small true kind None = limit_most kind None
-limit_small true kind (Some intent) = omega arith
+pub limit_small : (is_fresh : Bool) (kind : EraseKind) (g : Bool) (intent : Option Intent) → limit_of (undo_way is_fresh kind g intent) ≤ 131072
+limit_small false kind g None = limit_most kind g None
+limit_small false kind g (Some intent) = limit_most kind g (Some intent)
+limit_small true kind g None = limit_most kind g None
+limit_small true kind g (Some intent) = omega arith
 
 -- and so is reading the journal
 pub fetch_few : (a b : Option (List Call)) → GoesOn AreFetches a b → GoesOn (AreFew 0) a b

@@ -1,14 +1,15 @@
 -- What can be undone.
-use Rattle.std.proofs.Common.{◌≡◌, ℕ, true, false, not, List, [], ◌∷◌, None, refl, sym, ◌∙◌, ap, ap₂, subst, lit≤}
+use Rattle.std.proofs.Common.{◌≡◌, ℕ, Bool, true, false, not, List, [], ◌∷◌, None, refl, sym, ◌∙◌, ap, ap₂, subst, lit≤}
 use Rattle.stm_wire.specs.Chip.{ChipData}
 use Rattle.stm_wire.specs.Device.{Device, Phase, Fresh, Connected, Gone, IsDevice, IsReady, IsReadyPhase, reset}
-use Rattle.stm_wire.specs.Awaited.{AwaitsUnder}
+use Rattle.stm_wire.specs.Greeting.{AwaitsUnder}
 use Rattle.stm_wire.specs.Harmless.{Harmless}
 use Rattle.stm_wire.specs.Intents.{settling_byte}
 use Rattle.stm_wire.specs.Stopped.{FreshIsHarmless, ResetStaysHarmless, StoppedIsHarmless, in_ready}
 use Rattle.stm_journal.specs.declared.stage.Stage.{Stage}
 use Rattle.stm_journal.specs.declared.stage.Stage.TheVariants.{Open, Ended, Returning}
 use Rattle.stm_journal.specs.States.{StateData, SegmentData, intent_of, is_unfinished, is_ended_stage, intent_at, names_other, newest_has, newest_intent}
+use Rattle.stm_journal.specs.Greetings.{is_greeted}
 use Rattle.stm_journal.specs.Flashes.{flashes_before_segments}
 use Rattle.stm_session.specs.Moments.{IsSafe, SameMake}
 use Rattle.stm_session.proofs.Awaiting.{fresh_under}
@@ -35,7 +36,7 @@ reset_is_undoable law flashes d journal u =
       fits = u.fits;
       keeps = u.keeps;
       harmless = law d (settling_byte (intent_of (state_at journal))) (risked_pages (state_at journal)) u.harmless;
-      awaits = fresh_under (reset d) (intent_of (state_at journal)) refl;
+      awaits = fresh_under (is_greeted journal) (reset d) (intent_of (state_at journal)) refl;
       owed = lit≤ tt;
     }
 
@@ -53,8 +54,8 @@ no_intent (segment ∷ below) finished = by_stage segment.stage finished
 pub finished_risks_nothing : (s : StateData) (d : Device) → is_unfinished s ≡ false → Harmless d (settling_byte (intent_of s)) (risked_pages s) ≡ Harmless d 0x7F []
 finished_risks_nothing s d finished = rw (no_intent s.stack finished, finished) refl
 
-pub finished_awaits : (s : StateData) (d : Device) → is_unfinished s ≡ false → AwaitsUnder (intent_of s) d
-finished_awaits s d finished = rw (no_intent s.stack finished) tt
+pub finished_awaits : (greeted : Bool) (s : StateData) (d : Device) → is_unfinished s ≡ false → AwaitsUnder greeted (intent_of s) d
+finished_awaits greeted s d finished = rw (no_intent s.stack finished) tt
 
 pub finished_is_safe : (flashes : List (List ℕ)) (d : Device) (journal : List ℕ) → Undoable flashes d journal → is_unfinished_at journal ≡ false → IsSafe d
 finished_is_safe flashes d journal u finished =
@@ -71,6 +72,6 @@ unbegun_is_undoable flashes old d journal u finished make flash safe =
       fits = subst fit (sym make.chip) u.fits;
       keeps = ap₂ (λ (c : ChipData) bytes. flashes_before_segments c (state_at journal).stack bytes) make.chip flash ∙ u.keeps;
       harmless = subst (λ (T : Type 0). T) (sym (finished_risks_nothing (state_at journal) d finished)) safe.harmless;
-      awaits = finished_awaits (state_at journal) d finished;
+      awaits = finished_awaits (is_greeted journal) (state_at journal) d finished;
       owed = safe.owed;
     }

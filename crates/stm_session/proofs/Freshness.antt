@@ -9,27 +9,20 @@ use Rattle.stm_wire.specs.declared.intent.Intent.{Intent}
 use Rattle.stm_wire.specs.declared.intent.Intent.TheVariants.{Erase, Program}
 use Rattle.stm_wire.specs.Call.{Call}
 use Rattle.stm_wire.specs.Command.{with_rest}
-use Rattle.stm_wire.specs.Chip.{ChipData}
 use Rattle.stm_wire.specs.Device.{Device, IsSettled}
 use Rattle.stm_wire.specs.Dialogue.{GoesOn}
 use Rattle.stm_wire.specs.lemmas.DialogueLaws.{GoesOn-weaker}
 use Rattle.stm_wire.specs.Harmless.{Harmless}
 use Rattle.stm_wire.specs.Intents.{settling_byte}
 use Rattle.stm_wire.specs.SentList.{IsSettlingRun}
-use Rattle.stm_wire.specs.Awaited.{Awaits, most_for}
 use Rattle.stm_wire.specs.Settling.{IsSettling, PutsPart, SettlesWithin}
 use Rattle.stm_wire.specs.SettlingCalls.{EndsUnder}
-use Rattle.stm_wire.specs.Rig.{RigState}
-use Rattle.stm_journal.specs.States.{intent_of}
-use Rattle.stm_session.specs.Fresh.{Connects, EndsWell, IsAsSaid, byte_of, limit_for, limit_of, settling_limit, settling_way, undo_way}
-use Rattle.stm_session.specs.StepLaws.{StepLaws}
-use Rattle.stm_session.specs.Undoable.{state_at}
-use Rattle.stm_session.specs.Undoes.{IsWithinLimit, byte_at_journal, risked_at}
+use Rattle.stm_session.specs.Fresh.{Connects, EndsWell, IsAsSaid, byte_of, limit_of, settling_limit, settling_way, undo_way}
 
-pub fresh_way : (f : Bool) (kind : EraseKind) (o : Option Intent) → (f && is_some o) ≡ true → undo_way f kind o ≡ Connects
-fresh_way true kind None h = absurd (false≢true h)
-fresh_way true kind (Some i) h = refl
-fresh_way false kind o h = absurd (false≢true h)
+pub fresh_way : (f : Bool) (kind : EraseKind) (g : Bool) (o : Option Intent) → (f && is_some o) ≡ true → undo_way f kind g o ≡ Connects
+fresh_way true kind g None h = absurd (false≢true h)
+fresh_way true kind g (Some i) h = refl
+fresh_way false kind g o h = absurd (false≢true h)
 
 pub said_fresh : (f : Bool) (o : Option Intent) → (f && is_some o) ≡ true → f ≡ true
 said_fresh true o h = refl
@@ -40,28 +33,31 @@ pub said_still : (f : Bool) (old new : Device) → new ≡ old → IsAsSaid f ol
 said_still f old new same said = subst (λ (d : Device). IsAsSaid f d) (sym same) said
 
 -- what is sent, and how it ends, is said of the way
-pub way_sends : (kind : EraseKind) (o : Option Intent) (a b : Option (List Call)) → GoesOn (SettlesWithin (settling_byte o) (settling_limit kind o)) a b
-    → GoesOn (SettlesWithin (byte_of (settling_way kind o)) (limit_of (settling_way kind o))) a b
-way_sends kind None a b p = p
-way_sends kind (Some i) a b p = p
+pub way_sends : (kind : EraseKind) (g : Bool) (o : Option Intent) (a b : Option (List Call)) → GoesOn (SettlesWithin (settling_byte o) (settling_limit kind g o)) a b
+    → GoesOn (SettlesWithin (byte_of (settling_way kind g o)) (limit_of (settling_way kind g o))) a b
+way_sends kind g None a b p = p
+way_sends kind g (Some i) a b p = p
 
-pub way_ends : (kind : EraseKind) (o : Option Intent) (a b : Option (List Call)) → GoesOn (EndsUnder o (settling_limit kind o)) a b → GoesOn (EndsWell (settling_way kind o)) a b
-way_ends kind None a b p = p
-way_ends kind (Some i) a b p = p
+pub way_ends : (kind : EraseKind) (g : Bool) (o : Option Intent) (a b : Option (List Call)) → GoesOn (EndsUnder o (settling_limit kind g o)) a b → GoesOn (EndsWell (settling_way kind g o)) a b
+way_ends kind g None a b p = p
+way_ends kind g (Some i) a b p = p
 
-pub plain_way : (f : Bool) (kind : EraseKind) (o : Option Intent) → (f && is_some o) ≡ false → settling_way kind o ≡ undo_way f kind o
-plain_way true kind None h = refl
-plain_way true kind (Some i) h = absurd (false≢true (sym h))
-plain_way false kind o h = refl
+pub plain_way : (f : Bool) (kind : EraseKind) (g : Bool) (o : Option Intent) → (f && is_some o) ≡ false → settling_way kind g o ≡ undo_way f kind g o
+plain_way true kind g None h = refl
+plain_way true kind g (Some i) h = absurd (false≢true (sym h))
+plain_way false kind g o h = refl
 
 -- the limit is never more than this
-pub limit_most : (kind : EraseKind) (o : Option Intent) → settling_limit kind o ≤ 131072
-limit_most kind None = lit≤ tt
-limit_most kind (Some (Program n)) = lit≤ tt
-limit_most Page (Some (Erase n)) = lit≤ tt
-limit_most Extended (Some (Erase n)) = go (eqb (settling_byte (Some (Erase n))) 0x7F)
+pub limit_most : (kind : EraseKind) (g : Bool) (o : Option Intent) → settling_limit kind g o ≤ 131072
+limit_most kind g None = lit≤ tt
+limit_most kind g (Some (Program n)) = lit≤ tt
+limit_most Page g (Some (Erase n)) = lit≤ tt
+limit_most Extended g (Some (Erase n)) = go (eqb (settling_byte (Some (Erase n))) 0x7F)
   where
-    go : (t : Bool) → cond t 131072 (min (max (settling_byte (Some (Erase n)) * 514 + 8) 512) 131072) ≤ 131072
+    least : ℕ
+    least = cond g (settling_byte (Some (Erase n)) * 2 + 65030) 512
+
+    go : (t : Bool) → cond t 131072 (min (max (settling_byte (Some (Erase n)) * 514 + 8) least) 131072) ≤ 131072
     go true = lit≤ tt
     go false = omega arith
 

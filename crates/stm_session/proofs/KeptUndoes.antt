@@ -188,20 +188,20 @@ begun_puts_back true taken chip s steps sound (inr misread) =
 -- other steps are allowed too
 pub undo_does_as : (is_fresh : Bool) (table : List ChipData) (old new : RigState) (P Q : StepsOf) → ((chip : ChipData) (s : StateData) (steps : List Step) → P chip s steps → Q chip s steps) → UndoDoes is_fresh P table old new → UndoDoes is_fresh Q table old new
 undo_does_as is_fresh table old new P Q weaker =
-    as_session table old _ _ (λ chip l sound. does_as (undo_way is_fresh chip.kind (intent_of l.state)) chip.id l.is_torn _ _ old new (after_as _ _ _ (λ steps are. weaker chip l.state steps are)))
+    as_session table old _ _ (λ chip l sound. does_as (undo_way is_fresh chip.kind l.is_greeted (intent_of l.state)) chip.id l.is_torn _ _ old new (after_as _ _ _ (λ steps are. weaker chip l.state steps are)))
 
 pub undo_puts_back : (is_fresh : Bool) (table : List ChipData) (taken : ℕ) (old new : RigState) → UndoesInOrderFrom is_fresh table taken old new → UndoPutsBack is_fresh table old new
 undo_puts_back is_fresh table taken old new =
-    as_session table old _ _ (λ chip l sound. does_as (undo_way is_fresh chip.kind (intent_of l.state)) chip.id l.is_torn _ _ old new (after_as _ _ _ (λ steps are. taken_puts_back false taken chip l.state steps sound are)))
+    as_session table old _ _ (λ chip l sound. does_as (undo_way is_fresh chip.kind l.is_greeted (intent_of l.state)) chip.id l.is_torn _ _ old new (after_as _ _ _ (λ steps are. taken_puts_back false taken chip l.state steps sound are)))
 
 -- and one that tells what it returned
 pub return_puts_back : (is_fresh again : Bool) (table : List ChipData) (returned : Returned) (old new : RigState) → GivesBackInOrder is_fresh again table returned old new → UndoPutsBack is_fresh table old new
 return_puts_back is_fresh again table returned old new =
-    as_session table old _ _ (λ chip l sound. does_as (undo_way is_fresh chip.kind (intent_of l.state)) chip.id l.is_torn _ _ old new (after_as _ _ _ (λ steps are. taken_puts_back again returned.segments chip l.state steps sound are.0)))
+    as_session table old _ _ (λ chip l sound. does_as (undo_way is_fresh chip.kind l.is_greeted (intent_of l.state)) chip.id l.is_torn _ _ old new (after_as _ _ _ (λ steps are. taken_puts_back again returned.segments chip l.state steps sound are.0)))
 
 pub undo_stops_back : (is_fresh again : Bool) (table : List ChipData) (count : ℕ) (old new : RigState) (fault : Fault) → UndoStopsAs is_fresh again table count old new fault → UndoStopsBack is_fresh table old new fault
 undo_stops_back is_fresh again table count old new fault (inl fetched) = inl fetched
 undo_stops_back is_fresh again table count old new fault (inr cut) =
     inr (as_session table old _ _ (λ chip l sound. ⊎_elim (λ reached. inl reached)
-    (λ stopped. inr (stops_as (undo_way is_fresh chip.kind (intent_of l.state)) chip.id l.is_torn _ _ (cause_of fault) old new
+    (λ stopped. inr (stops_as (undo_way is_fresh chip.kind l.is_greeted (intent_of l.state)) chip.id l.is_torn _ _ (cause_of fault) old new
     (confirmed_as chip (BeginTaking again count chip l.state) _ (λ steps (begun : BeginTaking again count chip l.state steps). begun_puts_back again begun.0 chip l.state steps sound begun.3)) stopped))) cut)

@@ -54,6 +54,7 @@ pub mod Returns
 pub mod UndoPuts
 pub mod UndoesOfSegments
 pub mod GoingAll
+pub mod Greetings
 pub mod Work
 pub mod Straying
 pub mod Misfitting

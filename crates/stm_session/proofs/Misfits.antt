@@ -1,5 +1,5 @@
 -- The pages that a journal keeps, against a chip.
-use Rattle.std.proofs.Common.{◌≡◌, ℕ, zero, suc, ◌+◌, ◌-◌, ◌<◌, ◌≤◌, Bool, true, false, not, cond, ◌&&◌, ◌||◌, ◌==◌, nat_lt, nat_le, if◌then◌else◌, List, [], ◌∷◌, ◌++◌, length, drop, slice_get, Option, Some, None, option_map, option_and_then, inl, inr, refl, sym, ◌∙◌, ap, subst, arith}
+use Rattle.std.proofs.Common.{◌≡◌, ℕ, zero, suc, ◌+◌, ◌-◌, ◌<◌, ◌≤◌, Bool, true, false, not, cond, ◌&&◌, ◌||◌, ◌==◌, nat_lt, nat_le, if◌then◌else◌, List, [], ◌∷◌, length, drop, slice_get, Option, Some, None, option_map, option_and_then, inl, inr, refl, sym, ◌∙◌, ap, subst, arith}
 use Rattle.std.specs.Prelude.{is_none}
 use Rattle.std.specs.List.{find, list_any}
 use Rattle.std.specs.Option.{option_map_or}
@@ -14,7 +14,7 @@ use Rattle.stm_journal.specs.declared.kept.Kept.{Kept}
 use Rattle.stm_journal.specs.declared.kept.PagePlace.{PagePlace}
 use Rattle.stm_journal.specs.KeptPlaces.{place_of, page_place}
 use Rattle.stm_journal.specs.States.{StateData, SegmentData, segment_of, kept_at, LacksPage, PagesOnce, AllOnce, IsSound}
-use Rattle.stm_session.specs.Refusal.{first_of, pages_kept, segment_pages, fits_among, fits_as_kept, lacks_companion, header_misfits, misfit_lines_of, misfit_lines, lesser, least, least_with}
+use Rattle.stm_session.specs.Refusal.{first_of, pages_kept, segment_pages, fits_among, fits_as_kept, lacks_companion, misfit_lines_of, misfit_lines, lesser, least_with}
 
 -- a page among the first has the size that it has among all
 pub first_size : (most : ℕ) (chip : ChipData) (n : ℕ) → n < page_count (first_of most chip) → page_size (first_of most chip) n ≡ page_size chip n

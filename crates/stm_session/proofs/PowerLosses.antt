@@ -13,6 +13,7 @@ use Rattle.stm_wire.specs.Stopped.{FreshIsHarmless, LossStaysHarmless, SameOutsi
 use Rattle.stm_journal.specs.declared.stage.Stage.{Stage}
 use Rattle.stm_journal.specs.declared.stage.Stage.TheVariants.{Open, Ended, Returning}
 use Rattle.stm_journal.specs.States.{StateData, SegmentData, IsSound, intent_at, intent_of, intent_page, is_ended_stage, names_other, newest_has, newest_intent}
+use Rattle.stm_journal.specs.Greetings.{is_greeted}
 use Rattle.stm_journal.specs.Journals.{journal_of, good}
 use Rattle.stm_journal.specs.FlashLaws.{ChangesKeepFlashes}
 use Rattle.stm_journal.specs.Flashes.{flashes_before_segments}
@@ -32,7 +33,7 @@ owed-keeps law flashes d e journal u (n, lost) =
       fits = u.fits;
       keeps = u.keeps;
       harmless = law d less (settling_byte (intent_of (state_at journal))) (risked_pages (state_at journal)) u.harmless (n, refl);
-      awaits = lost_under d less (intent_of (state_at journal)) (n, refl) u.awaits;
+      awaits = lost_under (is_greeted journal) d less (intent_of (state_at journal)) (n, refl) u.awaits;
       owed = omega (arith, u.owed, length-drop n d.owed);
     })
 
@@ -52,7 +53,7 @@ loss-keeps changing fresh flashes old new journal u lost =
       keeps = ap (λ (c : ChipData). flashes_before_segments c (state_at journal).stack new.flash) lost.make.chip
           ∙ changing old.chip s.stack (risked_pages s) old.flash new.flash (old_size journal old new lost) u.fits.pages lost.flash (λ n c. risked_is s n c) ∙ u.keeps;
       harmless = fresh new (settling_byte (intent_of s)) (risked_pages s) lost.device lost.phase;
-      awaits = fresh_under new (intent_of s) lost.phase;
+      awaits = fresh_under (is_greeted journal) new (intent_of s) lost.phase;
       owed = subst Few (sym lost.owed) (lit≤ tt);
     }
 

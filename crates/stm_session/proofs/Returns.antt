@@ -14,7 +14,7 @@ use Rattle.stm_journal.specs.lemmas.FitsLaws.{fits-exists, fits-size}
 use Rattle.stm_journal.specs.lemmas.ForgetLaws.{kept_at-forgets, kept_count-forgets, kept_place-forgets}
 use Rattle.stm_journal.specs.Journals.{Loaded, IsLoaded}
 use Rattle.stm_journal.specs.KeptPlaces.{kept_count, kept_entry, kept_place, place_of}
-use Rattle.stm_journal.specs.Newest.{KeepsSame, pages_of_segments}
+use Rattle.stm_journal.specs.Newest.{KeepsSame}
 use Rattle.stm_journal.specs.lemmas.NewestLaws.{newest_keeps_kept, segment_of-newest}
 use Rattle.stm_journal.specs.States.{StateData, SegmentData, AllOnce, PagesOnce, kept_at, newest_keeps}
 use Rattle.stm_session.specs.Lines.{return_entries, rewrite_entries}

@@ -1,5 +1,5 @@
 -- What an undo puts on any line.
-use Rattle.std.proofs.Common.{◌≡◌, ℕ, ◌+◌, ◌<◌, ◌≤◌, Bool, true, List, Option, Some, None, Result, Ok, Err, IsErrAnd, refl, sym, ◌∙◌, subst, arith}
+use Rattle.std.proofs.Common.{◌≡◌, ℕ, ◌+◌, ◌<◌, ◌≤◌, Bool, true, false, List, Option, Some, None, Result, Ok, Err, IsErrAnd, refl, sym, ◌∙◌, subst, arith}
 use Rattle.std.specs.Prelude.{IfOk}
 use Rattle.stm_wire.specs.declared.intent.Intent.{Intent}
 use Rattle.stm_wire.specs.Chip.{ChipData}
@@ -31,6 +31,7 @@ module _ (table : List ChipData) (count : ℕ) (old : RigState) where
         chip = None;
         listed = tt;
         is_fresh = true;
+        greeted = false;
         intent = None;
         taken = 0;
         limit = omega arith;
@@ -40,12 +41,12 @@ module _ (table : List ChipData) (count : ℕ) (old : RigState) where
       }
 
   -- the journal is one of a chip of the table
-  module _ (is_fresh : Bool) (intent : Option Intent) (id : ℕ) (chip : ChipData) (listed : IsChipWith table id chip) where
+  module _ (is_fresh greeted : Bool) (intent : Option Intent) (id : ℕ) (chip : ChipData) (listed : IsChipWith table id chip) where
     -- a device was met, or not
     pub sends_met : (mid new : RigState) (e : Fault) → GoesOn AreFetches old.calls mid.calls
-        → (let way = undo_way is_fresh chip.kind intent in GoesOn (IsSession None (byte_of way) (limit_of way) (is_whole {T = ℕ} (Err e)) (most_of_reaching (limit_of way))) mid.calls new.calls) → SendsAsUndo table count old new (Err e)
+        → (let way = undo_way is_fresh chip.kind greeted intent in GoesOn (IsSession None (byte_of way) (limit_of way) (is_whole {T = ℕ} (Err e)) (most_of_reaching (limit_of way))) mid.calls new.calls) → SendsAsUndo table count old new (Err e)
     sends_met mid new e fetches meets =
-        let way = undo_way is_fresh chip.kind intent in
+        let way = undo_way is_fresh chip.kind greeted intent in
         let byte = byte_of way in
         let limit = limit_of way in
         let whole = is_whole {T = ℕ} (Err e) in
@@ -53,6 +54,7 @@ module _ (table : List ChipData) (count : ℕ) (old : RigState) where
           chip = Some chip;
           listed = own-id table id chip listed;
           is_fresh = is_fresh;
+          greeted = greeted;
           intent = intent;
           taken = 0;
           limit = omega arith;
@@ -64,16 +66,17 @@ module _ (table : List ChipData) (count : ℕ) (old : RigState) where
 
     -- and segments were undone
     pub sends_back : (taken : ℕ) (mid met new : RigState) (result : Result ℕ Fault) → taken ≤ 65535 → (0 < count → taken ≤ count) → IfOk result (λ n. n ≡ taken)
-        → GoesOn AreFetches old.calls mid.calls → (let way = undo_way is_fresh chip.kind intent in GoesOn (IsSession None (byte_of way) (limit_of way) true (most_of_reaching (limit_of way))) mid.calls met.calls)
+        → GoesOn AreFetches old.calls mid.calls → (let way = undo_way is_fresh chip.kind greeted intent in GoesOn (IsSession None (byte_of way) (limit_of way) true (most_of_reaching (limit_of way))) mid.calls met.calls)
         → GoesOn (IsPart (Some chip) (is_whole result) (most_of_confirming + most_of_undo taken)) met.calls new.calls → SendsAsUndo table count old new result
     sends_back taken mid met new result most asked told fetches meets back =
-        let way = undo_way is_fresh chip.kind intent in
+        let way = undo_way is_fresh chip.kind greeted intent in
         let byte = byte_of way in
         let limit = limit_of way in
         record {
           chip = Some chip;
           listed = own-id table id chip listed;
           is_fresh = is_fresh;
+          greeted = greeted;
           intent = intent;
           taken = taken;
           limit = most;

@@ -1,5 +1,5 @@
 -- A device is settled by the journal's intent, from wherever a session was stopped.
-use Rattle.std.proofs.Common.{◌≡◌, ℕ, Bool, false, if◌then◌else◌, List, [], map, Result, Ok, Err, IsErrAnd, sym, ◌∙◌, ap, subst, subst₂, append-nil}
+use Rattle.std.proofs.Common.{◌≡◌, ℕ, Bool, false, if◌then◌else◌, List, [], map, Result, Ok, Err, IsErrAnd, sym, ◌∙◌, ap, ap₂, subst, subst₂, append-nil}
 use Rattle.stm_wire.specs.declared.fault.WireFault.{WireFault}
 use Rattle.stm_wire.specs.declared.fault.WireFault.TheVariants.{Line}
 use Rattle.stm_wire.specs.Chip.{ChipData}
@@ -9,6 +9,8 @@ use Rattle.stm_wire.specs.Intents.{settling_byte}
 use Rattle.stm_wire.specs.lemmas.MomentLaws.{weaker}
 use Rattle.stm_wire.specs.Rig.{RigState, IsModel}
 use Rattle.stm_wire.specs.Awaited.{Awaits}
+use Rattle.stm_wire.specs.Greeting.{AwaitsUnder}
+use Rattle.stm_journal.specs.Greetings.{is_greeted}
 use Rattle.stm_wire.specs.Settling.{KeepsSettling, LeftBySettling}
 use Rattle.stm_journal.specs.lemmas.ForgetLaws.{intent_of-forgets}
 use Rattle.stm_journal.specs.Journals.{Loaded, IsLoaded, journal_of, good}
@@ -31,10 +33,10 @@ pub intent_text : (l : Loaded) (journal : List ℕ) → IsLoaded l journal → i
 intent_text l journal loaded = ap (λ (s : StateData). intent_of s) loaded.state ∙ intent_of-forgets loaded.text ∙ ap (λ (s : StateData). intent_of s) (text_is l journal loaded)
 
 -- as many bytes are sent as the device awaits
-pub enough_sent : (chip : ChipData) (old : RigState) (l : Loaded) → IsLoaded l old.journal → (byte limit : ℕ) → byte ≡ byte_at_journal old.journal → limit ≡ settling_limit chip.kind (intent_of l.state) → IsWithinLimit chip old
+pub enough_sent : (chip : ChipData) (old : RigState) (l : Loaded) → IsLoaded l old.journal → (byte limit : ℕ) → byte ≡ byte_at_journal old.journal → limit ≡ settling_limit chip.kind l.is_greeted (intent_of l.state) → IsWithinLimit chip old
     → Awaits byte limit old.device
 enough_sent chip old l loaded byte limit byte_is limit_is within =
-    let same : limit ≡ settling_limit chip.kind (intent_of (state_at old.journal)) = limit_is ∙ ap (λ o. settling_limit chip.kind o) (intent_text l old.journal loaded) in
+    let same : limit ≡ settling_limit chip.kind (is_greeted old.journal) (intent_of (state_at old.journal)) = limit_is ∙ ap₂ (λ g o. settling_limit chip.kind g o) loaded.greeted (intent_text l old.journal loaded) in
     subst₂ (λ (b n : ℕ). Awaits b n old.device) (sym byte_is) (sym same) within
 
 module _ (laws : StepLaws) (flashes : List (List ℕ)) (l : Loaded) (old new : RigState) (model : IsModel old) (loaded : IsLoaded l old.journal) (undoable : Undoable flashes old.device old.journal) where
@@ -51,7 +53,7 @@ module _ (laws : StepLaws) (flashes : List (List ℕ)) (l : Loaded) (old new : R
       let J : List ℕ → Type 0 = λ j. journal_of j ≡ good t in
       let at : journal_of journal ≡ good t = subst J (sym left.0) (good_at l old.journal loaded) in (
         record {
-          undoable = undoable_with flashes d journal t at keeps s.harmless (settling_under old.device d (intent_of t) s.same_chip s.awaits undoable.awaits) s.owed;
+          undoable = undoable_with flashes d journal t at keeps s.harmless (subst (λ (j : List ℕ). AwaitsUnder (is_greeted j) (intent_of t) d) (sym left.0) (settling_under (is_greeted old.journal) old.device d (intent_of t) s.same_chip s.awaits undoable.awaits)) s.owed;
           make = make;
           finished = λ f.
               let ended : is_unfinished t ≡ false = sym (unfinished_is journal t at) ∙ f in

@@ -9,13 +9,15 @@ use Rattle.stm_wire.specs.Chip.{ChipData, page_count}
 use Rattle.stm_wire.specs.Device.{Device, IsDevice, IsSettled, LosesOwed}
 use Rattle.stm_wire.specs.Frames.{command}
 use Rattle.stm_wire.specs.Harmless.{Harmless}
-use Rattle.stm_wire.specs.Awaited.{Awaits, AwaitsUnder, most_under}
+use Rattle.stm_wire.specs.Awaited.{Awaits, most_under}
+use Rattle.stm_wire.specs.Greeting.{AwaitsUnder}
 use Rattle.stm_wire.specs.Intents.{settling_byte, intended_pages}
 use Rattle.stm_session.proofs.Awaiting.{asked_under, sent_under}
 use Rattle.stm_wire.specs.Moments.{LeavesOnly, LeftBySending}
 use Rattle.stm_wire.specs.lemmas.MomentLaws.{started}
 use Rattle.stm_wire.specs.Rig.{RigState, IsModel, LeftByAppend}
 use Rattle.stm_wire.specs.Stopped.{IsFrameUnder, get}
+use Rattle.stm_journal.specs.Greetings.{is_greeted}
 use Rattle.stm_journal.specs.declared.entry.Entry.{Entry}
 use Rattle.stm_journal.specs.declared.fault.JournalFault.{JournalFault}
 use Rattle.stm_journal.specs.declared.fault.JournalFault.TheVariants.{File, Bad, OtherDevice, OtherBoard, Memory}
@@ -91,15 +93,15 @@ module _ (laws : StepLaws) where
   settled_harmless d byte pages is settled =
       laws.more_pages d byte [] pages (λ n here c. absurd (omega (arith, c.1))) (laws.asking d d byte (command 0x00) is settled (get refl) (0, (d, refl, (0, refl)))).0.harmless
 
-  settled_under : (d : Device) (o : Option Intent) → IsDevice d → IsSettled d → AwaitsUnder o d
-  settled_under d o is settled = asked_under laws d o (laws.asking d d (settling_byte o) (command 0x00) is settled (get refl) (0, (d, refl, (0, refl)))).0.awaits
+  settled_under : (greeted : Bool) (d : Device) (o : Option Intent) → IsDevice d → IsSettled d → AwaitsUnder greeted o d
+  settled_under greeted d o is settled = asked_under laws greeted d o (laws.asking d d (settling_byte o) (command 0x00) is settled (get refl) (0, (d, refl, (0, refl)))).0.awaits
 
   settled_owes : (d : Device) → IsSettled d → length d.owed ≤ 4096
   settled_owes d settled = let e : length d.owed ≡ 0 = ap (λ (xs : List ℕ). length xs) settled.owed in omega (arith, e)
 
   pub settled_undoable : (flashes : List (List ℕ)) (d : Device) (journal : List ℕ) (s : StateData) → IsDevice d → IsSettled d → journal_of journal ≡ good s → KeepsFlashes flashes d s → Undoable flashes d journal
   settled_undoable flashes d journal s is settled state keeps =
-      undoable_with flashes d journal s state keeps (settled_harmless d (settling_byte (intent_of s)) (risked_pages s) is settled) (settled_under d (intent_of s) is settled) (settled_owes d settled)
+      undoable_with flashes d journal s state keeps (settled_harmless d (settling_byte (intent_of s)) (risked_pages s) is settled) (settled_under (is_greeted journal) d (intent_of s) is settled) (settled_owes d settled)
 
   -- before the first step
   pub stands_now : (entries : List Entry) (flashes : List (List ℕ)) (l : Loaded) (a : RigState) → IsModel a → IsSteady flashes l a → LeavesOnly (Stands entries flashes a) a a
@@ -155,11 +157,11 @@ module _ (laws : StepLaws) where
       let keeps = keeps_over laws.changing flashes old.device d s (intended_pages (Some i)) model.device steady.keeps make safely.flash covered in
       let harmless = laws.more_pages d (settling_byte (Some i)) (intended_pages (Some i)) (risked_pages s)
       (λ m here c. is_risked s m under.unfinished (subst C (sym make.chip) covered m here c)) safely.harmless in
-      let awaits = sent_under d (Some i) (subst (λ (c : ChipData). Awaits (settling_byte (Some i)) (most_under c.kind (Some i)) d) (sym make.chip) safely.awaits) in
+      let awaits = sent_under laws (is_greeted journal) d (Some i) (subst (λ (c : ChipData). Awaits (settling_byte (Some i)) (most_under c.kind (Some i)) d) (sym make.chip) safely.awaits) in
       let J : List ℕ → Type 0 = λ j. journal_of j ≡ good s in
       let at : journal_of journal ≡ good s = subst J (sym left.0) (good_at l old.journal steady.loaded) in (
         record {
-          undoable = undoable_with flashes d journal s at keeps (subst Byte (sym under.newest) harmless) (subst (λ (o : Option Intent). AwaitsUnder o d) (sym under.newest) awaits) safely.owed;
+          undoable = undoable_with flashes d journal s at keeps (subst Byte (sym under.newest) harmless) (subst (λ (o : Option Intent). AwaitsUnder (is_greeted journal) o d) (sym under.newest) awaits) safely.owed;
           make = make;
           finished = λ f. absurd (true≢false (sym (unfinished_is journal s at ∙ under.unfinished) ∙ f));
           written = 0;
@@ -177,7 +179,7 @@ module _ (laws : StepLaws) where
       let byte = settling_byte (intent_of s) in
       record {
         undoable = undoable_with flashes d journal s at (keeps_same flashes old.device d s steady.keeps still.make still.flash)
-            (laws.more_pages d byte [] (risked_pages s) (λ n here c. absurd (omega (arith, c.1))) (still.harmless byte)) (asked_under laws d (intent_of s) (still.awaits byte)) still.owed;
+            (laws.more_pages d byte [] (risked_pages s) (λ n here c. absurd (omega (arith, c.1))) (still.harmless byte)) (asked_under laws (is_greeted journal) d (intent_of s) (still.awaits byte)) still.owed;
         make = still.make;
         finished = λ f. (sym (unfinished_is journal s at) ∙ f, still.flash);
         written = 0;

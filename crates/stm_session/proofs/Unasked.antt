@@ -1,5 +1,5 @@
 -- What is refused before the device is asked which board it is.
-use Rattle.std.proofs.Common.{◌≡◌, ◌⊎◌, ⊎_elim, inl, inr, ℕ, true, false, Bool, if◌then◌else◌, List, ◌++◌, Option, Some, None, option_map, Result, Ok, Err, IsErrAnd, refl, sym, ◌∙◌, ap, subst}
+use Rattle.std.proofs.Common.{◌≡◌, ℕ, true, false, Bool, if◌then◌else◌, List, ◌++◌, Option, Some, None, option_map, Result, Ok, Err, IsErrAnd, refl, sym, ◌∙◌, ap, subst}
 use Rattle.stm_wire.specs.Chip.{ChipData}
 use Rattle.stm_wire.specs.Rig.{RigState}
 use Rattle.stm_chip.specs.Document.{IsChipWith}
@@ -72,9 +72,9 @@ module _ (table : List ChipData) (l : Loaded) (journal : List ℕ) (loaded : IsL
   pub none_finished : is_unfinished l.state ≡ false → asking_refusal (journal_of journal) table ≡ None
   none_finished is = text_asks ∙ finished_asks table l.state is
 
-  pub none_unfinished : (id : ℕ) → is_unfinished l.state ≡ true → Some id ≡ option_map (λ h. h.id) l.state.header → unlisted_refusal l.state id (chip_with table id) ≡ None
-      → asking_refusal (journal_of journal) table ≡ None
-  none_unfinished id is named accepted = text_asks ∙ unfinished_asks table l.state id is (sym named) ∙ accepted
+  pub unfinished_as : (id : ℕ) (said : Option Fault) → is_unfinished l.state ≡ true → Some id ≡ option_map (λ h. h.id) l.state.header → unlisted_refusal l.state id (chip_with table id) ≡ said
+      → asking_refusal (journal_of journal) table ≡ said
+  unfinished_as id said is named says = text_asks ∙ unfinished_asks table l.state id is (sym named) ∙ says
 
 -- the journal was read, and no board has it
 pub asks_refused : {T : Type 0} (table : List ChipData) (l : Loaded) (old a : RigState) (id : ℕ) (e : Fault) → Loads old a (Ok l) → is_unfinished l.state ≡ true → Some id ≡ option_map (λ h. h.id) l.state.header

@@ -9,6 +9,7 @@ use Rattle.stm_wire.specs.Moments.{LeavesOnly}
 use Rattle.stm_wire.specs.lemmas.MomentLaws.{joined}
 use Rattle.stm_wire.specs.Rig.{RigState, IsModel}
 use Rattle.stm_wire.specs.Awaited.{Awaits}
+use Rattle.stm_journal.specs.Greetings.{is_greeted}
 use Rattle.stm_journal.specs.declared.header.JournalHeader.{JournalHeader}
 use Rattle.stm_journal.specs.Calls.{IsUntouched, Loads}
 use Rattle.stm_journal.specs.Journals.{Loaded, journal_of}
@@ -159,7 +160,7 @@ module _ (table : List ChipData) (l : Loaded) (old a : RigState) (loads : Loads 
 
     pub within_then : IsWithinLimit chip old → IsWithinLimit chip a
     within_then within =
-        let P : List ℕ → Device → Type 0 = λ j d. Awaits (byte_at_journal j) (settling_limit chip.kind (intent_of (state_at j))) d in
+        let P : List ℕ → Device → Type 0 = λ j d. Awaits (byte_at_journal j) (settling_limit chip.kind (is_greeted j) (intent_of (state_at j))) d in
         subst₂ P (sym loads.journal) (sym loads.same_device) within
 
     pub owed_then : length old.device.owed ≤ 4096 → length a.device.owed ≤ 4096

@@ -10,6 +10,7 @@ use Rattle.stm_wire.specs.Intents.{settling_byte}
 use Rattle.stm_session.proofs.Awaiting.{lost_under}
 use Rattle.stm_wire.specs.lemmas.MomentLaws.{weaker}
 use Rattle.stm_wire.specs.Rig.{RigState}
+use Rattle.stm_journal.specs.Greetings.{is_greeted}
 use Rattle.stm_journal.specs.declared.fault.JournalFault.{JournalFault}
 use Rattle.stm_journal.specs.declared.fault.JournalFault.TheVariants.{File, Bad, OtherDevice as OtherJournal, OtherBoard as OtherJournalBoard, Memory as JournalMemory}
 use Rattle.stm_journal.specs.Calls.{AreFetches, IsFaultOf, IsUntouched, KeepsDevice, Loads}
@@ -57,7 +58,7 @@ untouched_amid laws taken flashes old u d journal left =
             fits = subst fit (sym make.chip) u.fits;
             keeps = ap₂ (λ (c : ChipData) bytes. flashes_before_segments c (state_at old.journal).stack bytes) make.chip flash ∙ u.keeps;
             harmless = laws.lost old.device d (settling_byte (intent_of (state_at old.journal))) (risked_pages (state_at old.journal)) u.harmless left.1;
-            awaits = lost_under old.device d (intent_of (state_at old.journal)) left.1 u.awaits;
+            awaits = lost_under (is_greeted old.journal) old.device d (intent_of (state_at old.journal)) left.1 u.awaits;
             owed = lost_owed old.device d left.1 u.owed;
           });
       finished = λ f. flash;

@@ -3,6 +3,7 @@ use Rattle.std.proofs.Common.{◌≡◌, ℕ, Bool, true, false, not, List, [], 
 use Rattle.stm_wire.specs.Chip.{ChipData}
 use Rattle.stm_wire.specs.Device.{Device}
 use Rattle.stm_chip.specs.Document.{IsChipWith}
+use Rattle.stm_journal.specs.Greetings.{is_greeted}
 use Rattle.stm_journal.specs.Flashes.{flashes_before_segments}
 use Rattle.stm_journal.specs.Journals.{JournalData, good, bad, journal_of}
 use Rattle.stm_journal.specs.States.{StateData, is_unfinished, names_other}
@@ -50,7 +51,7 @@ unrefused_is_undoable table d journal safe held none = by_journal (journal_of jo
           fits = free.2;
           keeps = refl;
           harmless = subst (λ (T : Type 0). T) (sym (finished_risks_nothing (state_at journal) d free.0)) safe.harmless;
-          awaits = finished_awaits (state_at journal) d free.0;
+          awaits = finished_awaits (is_greeted journal) (state_at journal) d free.0;
           owed = safe.owed;
         }
 

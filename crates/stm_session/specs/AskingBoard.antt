@@ -16,7 +16,7 @@ use Rattle.stm_wire.specs.Places.{no_places}
 use Rattle.stm_wire.specs.Rig.{RigState}
 use Rattle.stm_journal.specs.Calls.{AreFetches}
 use Rattle.stm_journal.specs.Journals.{Loaded, IsLoaded}
-use Rattle.stm_journal.specs.States.{StateData, intent_of, is_unfinished}
+use Rattle.stm_journal.specs.States.{intent_of, is_unfinished}
 use Rattle.stm_chip.specs.Document.{IsChipWith}
 use Rattle.stm_session.specs.declared.asking_board.Board.{Board}
 use Rattle.stm_session.specs.declared.fault.Fault.{Fault}
@@ -114,14 +114,15 @@ pub record AsksSettled {T : Type 0} (most : ℕ) (Asked : T → List Step → Ty
 -- How the device is settled, by the journal: where that is finished, with 7F, or connected where it
 -- is said to be fresh; else by the journal's intent, as one of the chip that it names, of which a
 -- board may be the journal's, or connected where it is said to be fresh and there is such an intent.
-pub data IsWayOf (table : List ChipData) (is_fresh : Bool) (s : StateData)
+pub data IsWayOf (table : List ChipData) (is_fresh : Bool) (l : Loaded)
     (way : Way) : Type 0 where
-  finished : is_unfinished s ≡ false → way ≡ contact_way is_fresh → IsWayOf table is_fresh s way
-  unfinished : (chip : ChipData) → is_unfinished s ≡ true → IsChipWith table chip.id chip
-      → option_map (λ header. header.id) s.header ≡ Some chip.id
-      → unasked_refusal chip s ≡ None
-      → way ≡ undo_way is_fresh chip.kind (intent_of s)
-      → IsWayOf table is_fresh s way
+  finished : is_unfinished l.state ≡ false → way ≡ contact_way is_fresh
+      → IsWayOf table is_fresh l way
+  unfinished : (chip : ChipData) → is_unfinished l.state ≡ true → IsChipWith table chip.id chip
+      → option_map (λ header. header.id) l.state.header ≡ Some chip.id
+      → unasked_refusal chip l.state ≡ None
+      → way ≡ undo_way is_fresh chip.kind l.is_greeted (intent_of l.state)
+      → IsWayOf table is_fresh l way
 
 -- A journal was loaded, and the device is settled so.
 pub record AsksForBoard (table : List ChipData) (is_fresh : Bool) (old : RigState)
@@ -129,7 +130,7 @@ pub record AsksForBoard (table : List ChipData) (is_fresh : Bool) (old : RigStat
   pub journal : Loaded
   pub loaded : old.is_honest → IsLoaded journal old.journal
   pub way : Way
-  pub is_way : IsWayOf table is_fresh journal.state way
+  pub is_way : IsWayOf table is_fresh journal way
   pub does : Does way journal.is_torn
 
 -- It was settled, and asked; this was answered.

@@ -52,30 +52,34 @@ contact_way false = Settles 0x7F 131072
 contact_way true = Connects
 
 -- How often the byte of an erase is sent at most where pages have numbers of two bytes: behind 44 BB
--- the byte twice is a count of 257 * byte + 1 pages. 7F is also the byte of a host without an
--- intent.
-abbrev pub limit_for : ℕ → ℕ
-limit_for byte = if byte == 0x7F then 131072 else min (max (byte * 514 + 8) 512) 131072
+-- the byte twice is a count of 257 * byte + 1 pages; and with 7F once ahead of it, where that may
+-- have been sent, it is the low byte of one of 32,513 pages and more. 7F is also the byte of a host
+-- without an intent.
+abbrev pub limit_for : Bool → ℕ → ℕ
+limit_for greeted byte =
+    let least = if greeted then byte * 2 + 65030 else 512 in
+    if byte == 0x7F then 131072 else min (max (byte * 514 + 8) least) 131072
 
--- How often an undo sends its settling byte at most, by the kind of the journal's chip and the
--- journal's intent: as often as any such device awaits it, or more. Two batches are enough behind a
+-- How often an undo sends its settling byte at most, by the kind of the journal's chip, whether it
+-- says that 7F may have been sent, and its intent: as often as any such device awaits it, or more. Two batches are enough behind a
 -- write, and where a list of pages has one byte for each.
-abbrev pub settling_limit : EraseKind → Option Intent → ℕ
-settling_limit kind None = 131072
-settling_limit kind (Some (Program page)) = 512
-settling_limit Page (Some (Erase page)) = 512
-settling_limit Extended (Some (Erase page)) = limit_for (settling_byte (Some (Erase page)))
+abbrev pub settling_limit : EraseKind → Bool → Option Intent → ℕ
+settling_limit kind greeted None = 131072
+settling_limit kind greeted (Some (Program page)) = 512
+settling_limit Page greeted (Some (Erase page)) = 512
+settling_limit Extended greeted (Some (Erase page)) =
+    limit_for greeted (settling_byte (Some (Erase page)))
 
 -- with the byte of the journal's intent: under one it goes in batches, also where the byte is 7F,
 -- for an erase of page 127 may have begun a list of more than a hundred pages
-abbrev pub settling_way : EraseKind → Option Intent → Way
-settling_way kind None = Settles 0x7F (settling_limit kind None)
-settling_way kind (Some intent) =
-    SettlesInBatches (settling_byte (Some intent)) (settling_limit kind (Some intent))
+abbrev pub settling_way : EraseKind → Bool → Option Intent → Way
+settling_way kind greeted None = Settles 0x7F (settling_limit kind greeted None)
+settling_way kind greeted (Some intent) =
+    SettlesInBatches (settling_byte (Some intent)) (settling_limit kind greeted (Some intent))
 
 -- how an undo settles its device: one that is said to be fresh is connected,
 -- unless 7F is the byte anyway
-abbrev pub undo_way : Bool → EraseKind → Option Intent → Way
-undo_way false kind intent = settling_way kind intent
-undo_way true kind None = settling_way kind None
-undo_way true kind (Some intent) = Connects
+abbrev pub undo_way : Bool → EraseKind → Bool → Option Intent → Way
+undo_way false kind greeted intent = settling_way kind greeted intent
+undo_way true kind greeted None = settling_way kind greeted None
+undo_way true kind greeted (Some intent) = Connects

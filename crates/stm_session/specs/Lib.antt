@@ -26,6 +26,7 @@ pub mod Work
 pub mod Lines
 pub mod Runs
 pub mod Undoes
+pub mod Greeting
 pub mod Unprotecting
 pub mod Promises
 pub mod Events

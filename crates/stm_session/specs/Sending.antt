@@ -82,9 +82,9 @@ SendsAsRun table whole n old new = SendsAsRunFrom false table whole n old new
 
 -- how an undo settles its device, whose journal is one of this chip; where there is none
 -- it sends no settling byte
-abbrev pub way_of_undo : Bool → Option ChipData → Option Intent → Way
-way_of_undo is_fresh None intent = Connects
-way_of_undo is_fresh (Some chip) intent = undo_way is_fresh chip.kind intent
+abbrev pub way_of_undo : Bool → Option ChipData → Bool → Option Intent → Way
+way_of_undo is_fresh None greeted intent = Connects
+way_of_undo is_fresh (Some chip) greeted intent = undo_way is_fresh chip.kind greeted intent
 
 -- Settling by some intent, as often as its journal's chip needs at most, and then frames of that
 -- chip, which is one of the table, in the calls of so many segments undone: no more than were
@@ -94,12 +94,13 @@ pub record SendsAsUndo (table : List ChipData) (count : ℕ) (old new : RigState
   pub chip : Option ChipData
   pub listed : IsOfTable table chip
   pub is_fresh : Bool
+  pub greeted : Bool
   pub intent : Option Intent
   pub taken : ℕ
   pub limit : taken ≤ 65535
   pub asked : 0 < count → taken ≤ count
   pub told : IfOk result (λ n. n ≡ taken)
-  pub calls : let way = way_of_undo is_fresh chip intent in
+  pub calls : let way = way_of_undo is_fresh chip greeted intent in
       GoesOn (IsSession chip (byte_of way) (limit_of way) (is_whole result)
       (most_of_reaching (limit_of way) + (most_of_confirming + most_of_undo taken)))
       old.calls new.calls

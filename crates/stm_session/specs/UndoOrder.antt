@@ -22,7 +22,7 @@ use Rattle.stm_session.specs.Work.{pages_at_work}
 -- still the chip's board, and then these.
 abbrev pub UndoDoes : Bool → StepsOf → List ChipData → RigState → RigState → Type 0
 UndoDoes is_fresh P table old new = Session table old (λ chip l.
-    ReachesAndDoes (undo_way is_fresh chip.kind (intent_of l.state)) chip.id l.is_torn
+    ReachesAndDoes (undo_way is_fresh chip.kind l.is_greeted (intent_of l.state)) chip.id l.is_torn
     (IsAfter (confirming chip) (P chip l.state)) old new)
 
 -- One that is broken off: nothing was done but reading the journal; or settling or connecting, Get
@@ -30,7 +30,7 @@ UndoDoes is_fresh P table old new = Session table old (λ chip l.
 -- short.
 abbrev pub UndoDoesInPart : Bool → StepsOf → List ChipData → RigState → RigState → Fault → Type 0
 UndoDoesInPart is_fresh P table old new fault = GoesOn AreFetches old.calls new.calls
-    ⊎ Session table old (λ chip l. let way = undo_way is_fresh chip.kind (intent_of l.state) in
+    ⊎ Session table old (λ chip l. let way = undo_way is_fresh chip.kind l.is_greeted (intent_of l.state) in
     GoesOn (ReachesInPart way (cause_of fault) l.is_torn) old.calls new.calls
     ⊎ ReachesAndStops way chip.id l.is_torn (IsConfirmedInPart chip (P chip l.state))
     (cause_of fault) old new)

@@ -8,6 +8,7 @@ use Rattle.stm_wire.specs.Harmless.{Harmless, SameOutside}
 use Rattle.stm_wire.specs.Intents.{settling_byte}
 use Rattle.stm_wire.specs.Rig.{RigState}
 use Rattle.stm_wire.specs.Moments.{LeavesOnly}
+use Rattle.stm_journal.specs.Greetings.{is_greeted}
 use Rattle.stm_journal.specs.States.{intent_of}
 use Rattle.stm_journal.specs.Calls.{IsUntouched}
 use Rattle.stm_session.specs.declared.fault.Fault.{Fault}
@@ -39,7 +40,7 @@ byte_at_journal journal = settling_byte (intent_of (state_at journal))
 abbrev pub IsWithinLimit : ChipData → RigState → Type 0
 IsWithinLimit chip old =
     Awaits (byte_at_journal old.journal)
-    (settling_limit chip.kind (intent_of (state_at old.journal))) old.device
+    (settling_limit chip.kind (is_greeted old.journal) (intent_of (state_at old.journal))) old.device
 
 -- what settling may have made of the flash: it differs in the pages at risk alone
 abbrev pub IsFlashSettled : RigState → List ℕ → Type 0

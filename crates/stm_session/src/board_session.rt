@@ -68,10 +68,10 @@ fn ask_unfinished<R: Rig>(
     ensures few { let old = R.view rig.old in let new = R.view rig.new in
         GoesOn (AreFew most_of_board) old.calls new.calls }
     ensures order { let old = R.view rig.old in let new = R.view rig.new in
-        let way = undo_way is_fresh chip.now.kind (intent_of journal.now.state) in
+        let way = undo_way is_fresh chip.now.kind journal.now.is_greeted (intent_of journal.now.state) in
         (torn : Bool) → IfOk result (λ board. AnswersInOrder table.now board way torn old new) }
     ensures stops { let old = R.view rig.old in let new = R.view rig.new in
-        let way = undo_way is_fresh chip.now.kind (intent_of journal.now.state) in
+        let way = undo_way is_fresh chip.now.kind journal.now.is_greeted (intent_of journal.now.state) in
         (torn : Bool) → IfErr result (λ fault.
         GoesOn (AsksInPart table.now way (cause_of fault) torn) old.calls new.calls) }
     ensures honest { let old = R.view rig.old in let new = R.view rig.new in

@@ -84,14 +84,14 @@ pub fn meet<R: Rig>(
 ) -> Result<(), Fault>
     ensures cause { HasSessionCause (R.view rig.old) (R.view rig.new) result }
     ensures puts { let old = R.view rig.old in let new = R.view rig.new in
-        let way = undo_way is_fresh chip.now.kind (intent_of journal.now.state) in
+        let way = undo_way is_fresh chip.now.kind journal.now.is_greeted (intent_of journal.now.state) in
         GoesOn (IsSession None (byte_of way) (limit_of way) (is_whole result)
         (most_of_reaching (limit_of way))) old.calls new.calls }
     ensures order { let old = R.view rig.old in let new = R.view rig.new in
-        let way = undo_way is_fresh chip.now.kind (intent_of journal.now.state) in
+        let way = undo_way is_fresh chip.now.kind journal.now.is_greeted (intent_of journal.now.state) in
         (torn : Bool) → OnOk result (ReachesInOrder way chip.now.id torn old new) }
     ensures stops { let old = R.view rig.old in let new = R.view rig.new in
-        let way = undo_way is_fresh chip.now.kind (intent_of journal.now.state) in
+        let way = undo_way is_fresh chip.now.kind journal.now.is_greeted (intent_of journal.now.state) in
         (torn : Bool) → StopsShort way torn old new result }
     ensures honest { let old = R.view rig.old in let new = R.view rig.new in
         old.is_honest → IsAsSaid is_fresh old.device → (flashes : List (List ℕ))

@@ -17,6 +17,7 @@ ghost use Rattle.stm_session.specs.Answers.{outcomes_in};
 ghost use Rattle.stm_session.specs.Boards.{IsForeign, IsOfItsBoard, OnlyAsks};
 ghost use Rattle.stm_session.specs.Events.{OutcomesAreTheRun};
 ghost use Rattle.stm_session.specs.Kept.{RunKeeps, RunStopsKept, UndoPutsBack, UndoStopsBack};
+ghost use Rattle.stm_session.specs.Greeting.{FreshIsGreetable, LossIsGreetable, StoppedIsGreetable};
 ghost use Rattle.stm_session.specs.Meaning.{CommandData, commands_in};
 ghost use Rattle.stm_session.specs.Moments.{IsSafe, SameMake};
 ghost use Rattle.stm_session.specs.UndoOrder.{GivesBackInOrder, UndoStopsAs, UndoStopsFrom};
@@ -41,7 +42,10 @@ ghost use Rattle.stm_session.specs.Work.{pages_at_work, pages_of_intent};
 
 use stm_image::laying_by_parts;
 use stm_journal::{a_journal_is_sound, changes_of_kept_pages_keep_the_flashes};
-use stm_wire::{Rig, harmless_is_kept, pages_are_the_flash, stopped_is_harmless};
+use stm_wire::{
+    Rig, greeting_is_kept, harmless_is_kept, pages_are_the_flash, sending_is_harmless,
+    stopped_is_harmless, stopped_may_be_greeted,
+};
 
 /// A ready device is safe, and on a safe one an empty journal has nothing to undo.
 pub fn a_ready_device_can_begin()
@@ -81,6 +85,21 @@ pub fn a_power_loss_keeps_what_can_be_undone()
     pages_are_the_flash();
     a_journal_is_sound();
     changes_of_kept_pages_keep_the_flashes();
+}
+
+/// A device may be greeted that is fresh from reset, also after a loss of power; and one that was
+/// settled and sent a frame under the intent that the journal has, wherever the host was stopped. It
+/// still may where owed bytes are lost. Of one that was stopped while the intent's byte was sent ahead of
+/// a greeting nothing is said.
+pub fn a_stopped_command_may_be_greeted()
+    ensures fresh { FreshIsGreetable }
+    ensures lost { LossIsGreetable }
+    ensures stopped { StoppedIsGreetable }
+{
+    stopped_may_be_greeted();
+    greeting_is_kept();
+    sending_is_harmless();
+    a_journal_is_sound();
 }
 
 /// Where the journal is finished, the device is safe, and at any moment of calls that begin no

@@ -17,6 +17,7 @@ mod content;
 mod erasing;
 mod fault;
 mod go_and_protect;
+mod greeting;
 mod headline;
 mod identifying;
 mod information;
@@ -55,6 +56,7 @@ pub use command::Command;
 pub use contact::Told;
 pub use fault::Fault;
 pub use go_and_protect::{go, protect};
+pub use greeting::greet;
 pub use headline::{a_session_can_be_undone, the_first_difference_is_the_first};
 pub use identifying::identify;
 pub use information::Info;
@@ -65,9 +67,10 @@ pub use laws::{
     a_power_loss_keeps_what_can_be_undone, a_ready_device_can_begin,
     a_reset_keeps_what_can_be_undone, a_run_is_known_by_its_outcomes,
     a_run_keeps_pages_before_it_changes_them, a_run_of_reads_begins_no_segment,
-    a_session_changes_only_its_own_board, an_undo_changes_only_pages_that_it_undoes,
-    an_unrefused_journal_can_be_undone, asking_keeps_what_can_be_undone,
-    lost_bytes_keep_what_can_be_undone, reads_in_the_flash_are_not_refused,
+    a_session_changes_only_its_own_board, a_stopped_command_may_be_greeted,
+    an_undo_changes_only_pages_that_it_undoes, an_unrefused_journal_can_be_undone,
+    asking_keeps_what_can_be_undone, lost_bytes_keep_what_can_be_undone,
+    reads_in_the_flash_are_not_refused,
 };
 pub use outcome::{Outcome, Report};
 pub use returned::Returned;

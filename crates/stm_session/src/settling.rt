@@ -1,5 +1,5 @@
 // Settling a device by the journal's intent.
-ghost use Rattle.std.specs.Prelude.{◌≡◌, ◌≤◌, ◌&&◌, [], List, ℕ, ⊤, is_some, length, OnOk, IfErr};
+ghost use Rattle.std.specs.Prelude.{◌≡◌, ◌≤◌, ◌&&◌, ◌+◌, ◌*◌, if◌then◌else◌, [], List, ℕ, ⊤, is_some, length, OnOk, IfErr};
 ghost use Rattle.stm_wire.specs.Dialogue.{GoesOn};
 ghost use Rattle.stm_wire.specs.Harmless.{Harmless};
 ghost use Rattle.stm_wire.specs.Settling.{SettlesWithin};
@@ -25,31 +25,47 @@ const SETTLING_LIMIT: u32 = 131_072;
 /// nothing that was begun there is as long.
 const SHORT_LIMIT: u32 = 512;
 
+/// No fewer are sent of a byte of an erase where pages have numbers of two bytes. Behind `44 BB` a 7F
+/// that was sent once ahead of the byte is the high byte of the list's count.
+fn least_for(byte: u8, is_greeted: bool) -> u32
+    ensures { let least = if is_greeted then byte * 2 + 65030 else 512 in result ≡ least }
+{
+    if is_greeted {
+        u32::from(byte) * 2 + 65_030
+    } else {
+        SHORT_LIMIT
+    }
+}
+
 /// How often this byte of an erase is sent at most where pages have numbers of two bytes. The
 /// longest list that a frame of ours began, and the byte goes on with, is behind `44 BB`: the byte
 /// twice is its count. 7F is also the byte of a host without an intent, which may wait for any list.
-fn limit_for(byte: u8) -> u32
-    ensures { result ≡ limit_for byte }
+fn limit_for(byte: u8, is_greeted: bool) -> u32
+    ensures { result ≡ limit_for is_greeted byte }
 {
     if byte == 0x7F {
         return SETTLING_LIMIT;
     }
     (u32::from(byte) * 514 + 8)
-        .max(SHORT_LIMIT)
+        .max(least_for(byte, is_greeted))
         .min(SETTLING_LIMIT)
 }
 
 /// How often the settling byte of the journal's intent is sent at most, to a device that may be
 /// this chip. Without an intent it is 7F, of which a fresh device refuses the third.
 fn settling_limit(journal: &Journal, chip: &Chip) -> u32
-    ensures { result ≡ settling_limit chip.now.kind (intent_of journal.now.state) }
+    ensures { result
+        ≡ settling_limit chip.now.kind journal.now.is_greeted (intent_of journal.now.state) }
 {
     match journal.last_intent() {
         None => SETTLING_LIMIT,
         Some(Intent::Program(_)) => SHORT_LIMIT,
         Some(Intent::Erase(page)) => match chip.kind() {
             EraseKind::Page => SHORT_LIMIT,
-            EraseKind::Extended => limit_for(settling_byte(Some(Intent::Erase(page)))),
+            EraseKind::Extended => limit_for(
+                settling_byte(Some(Intent::Erase(page))),
+                journal.is_greeted(),
+            ),
         },
     }
 }
@@ -71,10 +87,10 @@ pub fn settle_intended<R: Rig>(
     is_fresh: bool,
 ) -> Result<(), Fault>
     ensures cause { HasSessionCause (R.view rig.old) (R.view rig.new) result }
-    ensures calls { let way = undo_way is_fresh chip.now.kind (intent_of journal.now.state) in
+    ensures calls { let way = undo_way is_fresh chip.now.kind journal.now.is_greeted (intent_of journal.now.state) in
         GoesOn (SettlesWithin (byte_of way) (limit_of way)) (R.view rig.old).calls
         (R.view rig.new).calls }
-    ensures settled { let way = undo_way is_fresh chip.now.kind (intent_of journal.now.state) in
+    ensures settled { let way = undo_way is_fresh chip.now.kind journal.now.is_greeted (intent_of journal.now.state) in
         OnOk result (GoesOn (EndsWell way) (R.view rig.old).calls (R.view rig.new).calls) }
     ensures sent { IfErr result IsOfLine }
     ensures honest { let old = R.view rig.old in let new = R.view rig.new in

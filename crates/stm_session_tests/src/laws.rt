@@ -5,7 +5,6 @@ use stm_any_line::{
     a_text_is_the_lines_that_were_added, an_undo_changes_pages_that_the_lines_keep,
     what_is_changed_is_kept_as_it_was_read,
 };
-use stm_client::a_journal_is_of_one_board;
 use stm_session::{
     a_session_can_be_undone, a_session_changes_only_its_own_board,
     the_first_difference_is_the_first, told_board_is_the_devices,
@@ -20,7 +19,6 @@ fn laws_are_had(_rt: HostRuntime) {
     an_undo_believes_no_page_at_work::<MemoryRig>();
     weak_pages_are_at_work::<MemoryRig>();
     a_session_changes_only_its_own_board::<MemoryRig>();
-    a_journal_is_of_one_board();
     told_board_is_the_devices();
     a_run_keeps_pages_as_they_were_read::<FlipRig>();
     an_undo_changes_pages_that_the_lines_keep::<FlipRig>();

@@ -1,5 +1,4 @@
 mod Checks
 mod NamedPages
-mod Opening
 mod PowerLosses
 mod Simulating

@@ -1,12 +1,10 @@
 -- Of bytes that were each due there is a device of the model whose exchange they are.
-use Rattle.std.proofs.Common.{◌≡◌, ℕ, zero, suc, ◌+◌, ◌-◌, ◌<◌, ◌≤◌}
-use Rattle.std.proofs.Common.{Bool, true, false, ◌==◌, if◌then◌else◌, true≢false}
-use Rattle.std.proofs.Common.{List, [], ◌∷◌, ◌++◌, length, take, drop, replicate, get_or}
-use Rattle.std.proofs.Common.{Option, Some, None, refl, sym, ◌∙◌, ap, subst, arith}
-use Rattle.std.proofs.Common.{append-nil, eqb-true}
-use Rattle.std.proofs.lemmas.List.{drop_more}
+use Rattle.std.proofs.Common.{◌≡◌, ℕ, zero, suc, ◌+◌, ◌-◌, ◌<◌, ◌≤◌, Bool, true, false, ◌==◌}
+use Rattle.std.proofs.Common.{if◌then◌else◌, true≢false, List, [], ◌∷◌, ◌++◌, length, take, drop}
+use Rattle.std.proofs.Common.{replicate, get_or, Option, Some, None, refl, sym, ◌∙◌, ap, subst}
+use Rattle.std.proofs.Common.{arith, append-nil, eqb-true}
+use Rattle.std.proofs.lemmas.List.{drop_more, length-replicate}
 use Rattle.std.proofs.Math.ListN.{set}
-use Rattle.std.proofs.lemmas.List.{length-replicate}
 use Rattle.stm_watch.specs.declared.sight.Sight.{Sight}
 use Rattle.stm_watch.specs.declared.sight.Sight.TheVariants.{Follows, Left, Lost}
 use Rattle.stm_wire.specs.declared.verdict.Verdict.{Verdict}
@@ -16,8 +14,7 @@ use Rattle.stm_wire.specs.Exchange.{verdict}
 use Rattle.stm_wire.specs.Effect.{change_of}
 use Rattle.stm_wire.specs.Reply.{ack, nack, step_reply, reply}
 use Rattle.stm_sim.specs.lemmas.SimulatedChange.{done-change-fits}
-use Rattle.stm_wire.specs.Device.{Device, Phase, Connected, Gone, Feeds, Receives, Takes}
-use Rattle.stm_wire.specs.Device.{phase_after, IsDevice}
+use Rattle.stm_wire.specs.Device.{Device, Phase, Connected, Gone, Feeds, phase_after, IsDevice}
 use Rattle.stm_sim.specs.lemmas.Simulated.{open-nothing}
 use Rattle.stm_watch.specs.Known.{Known, count_read, place_read, told, lost, sight_after, judged}
 use Rattle.stm_watch.specs.Known.{fed_to, fed, may_hold, is_due_of, is_due_in, heard_of}
@@ -27,9 +24,9 @@ use Rattle.stm_watch.specs.Laws.{LineEvent, Sent, Came, AreDue, Exchanges, IsHea
 use Rattle.stm_watch.specs.Laws.{AreEventBytes}
 use Rattle.stm_watch.proofs.Placing.{agrees-length}
 use Rattle.stm_watch.proofs.Seeing.{answer-parts, reads-same, owes, replies}
+use Rattle.stm_watch.proofs.Hearing.{heard-sight, heard-list}
 use Rattle.stm_watch.proofs.Undoing.{Bytes, all-bytes, filled, agrees-filled, length-filled}
-use Rattle.stm_watch.proofs.Undoing.{bytes-filled}
-use Rattle.stm_watch.proofs.Undoing.{back-changed}
+use Rattle.stm_watch.proofs.Undoing.{bytes-filled, back-changed}
 use Rattle.stm_watch.proofs.Keeping.{IsGood, good-fed, good-heard, good-first}
 
 -- a device of which this is known, with a flash of this size
@@ -53,20 +50,17 @@ followed : (k : Known) (flash : List ℕ) → k.sight ≡ Follows → Agrees k.f
     → IsPossible k (device_known (Connected k.list) k flash)
 followed k flash is agrees size bytes =
     let d = device_known (Connected k.list) k flash in
-    let P : Sight → Type 0 = λ s. IsSeenAs s k d in
-    record { seen = subst P (sym is) (flash, refl, agrees); size = size; bytes = bytes }
+    record { seen = rw is (flash, refl, agrees); size = size; bytes = bytes }
 
 at-end : (k : Known) (b : Bool) (d : Device) → k.list ≡ []
     → IsSeenAs (if b then Left else Follows) k d → IsIn (if b then Gone else Connected []) k d
 at-end k true d none is = is
-at-end k false d none is = let P : List ℕ
-    → Type 0 = λ xs. IsIn (Connected xs) k d in subst P none is
+at-end k false d none is = rw none at is
 
 before-end : (k : Known) (bytes : List ℕ) (d : Device) → k.list ≡ []
     → IsSeenAs (sight_after bytes) k d
     → IsIn (phase_after bytes) k d
-before-end k [] d none is = let P : List ℕ
-    → Type 0 = λ xs. IsIn (Connected xs) k d in subst P none is
+before-end k [] d none is = rw none at is
 before-end k (code ∷ rest) d none is = at-end k (code == 0x21) d none is
 
 from-none : (byte : ℕ) (k : Known) (new : Device) → k.sight ≡ Follows → k.count ≡ 0
@@ -75,26 +69,22 @@ from-none : (byte : ℕ) (k : Known) (new : Device) → k.sight ≡ Follows → 
 from-none byte k new is none e possible =
     let bytes = k.list ++ byte ∷ [] in
     let now = judged None bytes k in
-    let P : Sight → Type 0 = λ s. IsSeenAs s now new in
-    let seen : IsIn (Connected bytes) now new = subst P is possible.seen in
+    let seen : IsIn (Connected bytes) now new = rw is at possible.seen in
     let flash = seen.0 in
     let same : new.flash ≡ flash = ap flash_of seen.1 in
     let old = device_known (Connected k.list) k flash in
     let owed = owes k.due (step_reply bytes) [] (reply k.chip k.version k.codes flash bytes)
     (drop k.at flash) k.count none
     (replies k flash bytes None e ∙ sym (append-nil (step_reply bytes))) in
-    let T : Option Verdict → Type 0 = λ v. Takes old bytes v new in
-    let Q : List ℕ → Type 0 = λ xs. Bytes xs in
     record {
       old = old;
       possible = followed k flash is seen.2 (sym (ap length same)
-          ∙ possible.size) (subst Q same possible.bytes);
+          ∙ possible.size) (rw same at possible.bytes);
       feeds = record {
-        receives = subst T (sym e)
-            (seen.1 ∙ ap (λ o. record (device_known (Connected bytes) now flash) {
-              owed =
-                  o;
-            }) (sym owed));
+        receives = rw e (seen.1 ∙ ap (λ o. record (device_known (Connected bytes) now flash) {
+          owed =
+              o;
+        }) (sym owed));
       };
     }
 
@@ -104,25 +94,21 @@ from-refused : (byte : ℕ) (k : Known) (new : Device) → k.sight ≡ Follows �
 from-refused byte k new is none e possible =
     let bytes = k.list ++ byte ∷ [] in
     let now = judged (Some Refused) bytes k in
-    let P : Sight → Type 0 = λ s. IsSeenAs s now new in
-    let seen : IsIn (Connected []) now new = subst P is possible.seen in
+    let seen : IsIn (Connected []) now new = rw is at possible.seen in
     let flash = seen.0 in
     let same : new.flash ≡ flash = ap flash_of seen.1 in
     let old = device_known (Connected k.list) k flash in
     let owed = owes k.due (nack ∷ []) [] (reply k.chip k.version k.codes flash bytes)
     (drop k.at flash) k.count none (replies k flash bytes (Some Refused) e) in
-    let T : Option Verdict → Type 0 = λ v. Takes old bytes v new in
-    let Q : List ℕ → Type 0 = λ xs. Bytes xs in
     record {
       old = old;
       possible = followed k flash is seen.2 (sym (ap length same)
-          ∙ possible.size) (subst Q same possible.bytes);
+          ∙ possible.size) (rw same at possible.bytes);
       feeds = record {
-        receives = subst T (sym e)
-            (seen.1 ∙ ap (λ o. record (device_known (Connected []) now flash) {
-              owed =
-                  o;
-            }) (sym owed));
+        receives = rw e (seen.1 ∙ ap (λ o. record (device_known (Connected []) now flash) {
+          owed =
+              o;
+        }) (sym owed));
       };
     }
 
@@ -135,12 +121,10 @@ from-done byte k new good is none e possible =
     let seen : IsIn (phase_after bytes) now new = before-end now bytes new refl possible.seen in
     let after = seen.0 in
     let same : new.flash ≡ after = ap flash_of seen.1 in
-    let Q : List ℕ → Type 0 = λ xs. Bytes xs in
     let size : length after ≡ flash_size k.chip = sym (ap length same) ∙ possible.size in
     let before =
     back-changed k.chip (change_of bytes) k.flash after good.chip.erased
-    (done-change-fits k.chip k.codes bytes e) good.size size good.small (subst Q same
-    possible.bytes)
+    (done-change-fits k.chip k.codes bytes e) good.size size good.small (rw same at possible.bytes)
     seen.2 in
     let flash = before.old in
     let old = device_known (Connected k.list) k flash in
@@ -152,13 +136,12 @@ from-done byte k new good is none e possible =
     (answer-parts k.chip k.version k.codes flash bytes
     ∙ ap (λ xs. told k.chip k.version k.codes bytes ++ xs)
     (reads-same k.chip bytes flash after before.effect))) in
-    let T : Option Verdict → Type 0 = λ v. Takes old bytes v new in
     record {
       old = old;
       possible = followed k flash is before.agrees
           (sym (agrees-length k.flash flash before.agrees) ∙ good.size) before.bytes;
       feeds = record {
-        receives = subst T (sym e) (
+        receives = rw e (
           after,
           before.effect,
           seen.1
@@ -186,13 +169,11 @@ from-fed_to : (s : Sight) (byte : ℕ) (k : Known) (new : Device) → IsGood k �
     → IsFedFrom byte k new
 from-fed_to Lost byte k new good is none known possible = absurd (known is)
 from-fed_to Left byte k new good is none known possible =
-    let P : Sight → Type 0 = λ s. IsSeenAs s k new in
-    let seen : IsIn Gone k new = subst P is possible.seen in
-    let Q : Device → Type 0 = λ d. Receives d d.phase byte d in
+    let seen : IsIn Gone k new = rw is at possible.seen in
     record {
       old = new;
       possible = possible;
-      feeds = record { receives = subst Q (sym seen.1) refl };
+      feeds = record { receives = rw seen.1 refl };
     }
 from-fed_to Follows byte k new good is none known possible =
     from-judged (verdict k.chip k.codes (k.list ++ byte ∷ [])) byte k new good is none refl known
@@ -278,14 +259,6 @@ before-of phase k [] byte new good is due seen =
       was.0,
     )
 
-of-sight : (k : Known) (due : List ℕ) (byte : ℕ) → (heard_of k due byte).sight ≡ k.sight
-of-sight k [] byte = refl
-of-sight k (b ∷ due) byte = refl
-
-of-list : (k : Known) (due : List ℕ) (byte : ℕ) → (heard_of k due byte).list ≡ k.list
-of-list k [] byte = refl
-of-list k (b ∷ due) byte = refl
-
 of-chip : (k : Known) (due : List ℕ) (byte : ℕ) → (heard_of k due byte).chip ≡ k.chip
 of-chip k [] byte = refl
 of-chip k (b ∷ due) byte = refl
@@ -297,10 +270,9 @@ before-in Lost byte k new good is due known possible = absurd (known is)
 before-in Left byte k new good is due known possible =
     let mid = heard_of k k.due byte in
     let P : Sight → Type 0 = λ s. IsSeenAs s mid new in
-    let seen : IsIn Gone mid new = subst P (of-sight k k.due byte ∙ is) possible.seen in
-    let Q : Sight → Type 0 = λ s. IsSeenAs s k (with_owed byte new) in
+    let seen : IsIn Gone mid new = subst P (heard-sight k k.due byte ∙ is) possible.seen in
     record {
-      seen = subst Q (sym is) (before-of Gone k k.due byte new good refl due seen);
+      seen = rw is (before-of Gone k k.due byte new good refl due seen);
       size = possible.size ∙ ap flash_size (of-chip k k.due byte);
       bytes = possible.bytes;
     }
@@ -309,10 +281,9 @@ before-in Follows byte k new good is due known possible =
     let P : Sight → Type 0 = λ s. IsSeenAs s mid new in
     let L : List ℕ → Type 0 = λ xs. IsIn (Connected xs) mid new in
     let seen : IsIn (Connected k.list) mid new =
-    subst L (of-list k k.due byte) (subst P (of-sight k k.due byte ∙ is) possible.seen) in
-    let Q : Sight → Type 0 = λ s. IsSeenAs s k (with_owed byte new) in
+    subst L (heard-list k k.due byte) (subst P (heard-sight k k.due byte ∙ is) possible.seen) in
     record {
-      seen = subst Q (sym is) (before-of (Connected k.list) k k.due byte new good refl due seen);
+      seen = rw is (before-of (Connected k.list) k k.due byte new good refl due seen);
       size = possible.size ∙ ap flash_size (of-chip k k.due byte);
       bytes = possible.bytes;
     }
@@ -348,39 +319,28 @@ zeros : (n : ℕ) → Bytes (replicate n 0)
 zeros zero = tt
 zeros (suc n) = (omega arith, zeros n)
 
+possible-in : (phase : Phase) (k : Known) → IsGood k
+    → ((flash : List ℕ) → IsIn phase k (device_known phase k flash)
+    → IsSeen k (device_known phase k flash)) → (d : Device) × IsPossible k d
+possible-in phase k good sees =
+    let any : List ℕ = replicate (flash_size k.chip) 0 in
+    let any_size : length any ≡ flash_size k.chip =
+    length-replicate {A = ℕ} (flash_size k.chip) 0 in
+    let flash = filled k.flash any in (
+      device_known phase k flash,
+      record {
+        seen = sees flash (flash, refl, agrees-filled k.flash any (good.size ∙ sym any_size));
+        size = length-filled k.flash any ∙ any_size;
+        bytes = bytes-filled k.flash any good.small (zeros (flash_size k.chip));
+      },
+    )
+
 any-possible : (s : Sight) (k : Known) → IsGood k → k.sight ≡ s → (k.sight ≡ Lost → ⊥)
     → (d : Device) × IsPossible k d
 any-possible Lost k good is known = absurd (known is)
-any-possible Left k good is known =
-    let any : List ℕ = replicate (flash_size k.chip) 0 in
-    let any_size : length any ≡ flash_size k.chip = length-replicate {A =
-    ℕ} (flash_size k.chip) 0 in
-    let flash = filled k.flash any in
-    let d = device_known Gone k flash in
-    let P : Sight → Type 0 = λ s. IsSeenAs s k d in (
-      d,
-      record {
-        seen = subst P (sym is)
-            (flash, refl, agrees-filled k.flash any (good.size ∙ sym any_size));
-        size = length-filled k.flash any ∙ any_size;
-        bytes = bytes-filled k.flash any good.small (zeros (flash_size k.chip));
-      },
-    )
+any-possible Left k good is known = possible-in Gone k good (λ flash in_it. rw is in_it)
 any-possible Follows k good is known =
-    let any : List ℕ = replicate (flash_size k.chip) 0 in
-    let any_size : length any ≡ flash_size k.chip = length-replicate {A =
-    ℕ} (flash_size k.chip) 0 in
-    let flash = filled k.flash any in
-    let d = device_known (Connected k.list) k flash in
-    let P : Sight → Type 0 = λ s. IsSeenAs s k d in (
-      d,
-      record {
-        seen = subst P (sym is)
-            (flash, refl, agrees-filled k.flash any (good.size ∙ sym any_size));
-        size = length-filled k.flash any ∙ any_size;
-        bytes = bytes-filled k.flash any good.small (zeros (flash_size k.chip));
-      },
-    )
+    possible-in (Connected k.list) k good (λ flash in_it. rw is in_it)
 
 exchange-of : (events : List LineEvent) (k last : Known) → IsGood k → AreEventBytes events
     → AreDue events k last → (last.sight ≡ Lost → ⊥) → IsExchangeOf events k
@@ -442,8 +402,6 @@ heard-of chip version codes events last is lists small due known =
     let e = exchange-of events k last (good-first chip version codes is) small due known in
     let seen : IsIn (Connected []) k e.first = e.possible.seen in
     let same : e.first.flash ≡ seen.0 = ap flash_of seen.1 in
-    let D : Device → Type 0 = λ d. IsDevice d in
-    let B : List ℕ → Type 0 = λ xs. Bytes xs in
     record {
       first = e.first;
       last = e.last;
@@ -454,8 +412,8 @@ heard-of chip version codes events last is lists small due known =
         phase = ap (λ (d : Device). d.phase) seen.1;
         owed = ap (λ (d : Device). d.owed) seen.1;
       };
-      device = subst D (sym seen.1)
+      device = rw seen.1
           (is-device chip version codes seen.0 is lists (sym (ap length same) ∙ e.possible.size)
-          (subst B same e.possible.bytes));
+          (rw same at e.possible.bytes));
       exchange = e.exchange;
     }

@@ -1,8 +1,7 @@
 -- A device that follows the model sends what is due, and is as what is known of it says then.
-use Rattle.std.proofs.Common.{◌≡◌, ℕ, zero, suc, ◌+◌, ◌-◌, ◌<◌, ◌≤◌}
-use Rattle.std.proofs.Common.{Bool, true, false, ◌==◌, if◌then◌else◌}
-use Rattle.std.proofs.Common.{List, [], ◌∷◌, ◌++◌, length, take, drop, replicate, get_or}
-use Rattle.std.proofs.Common.{Option, Some, None, refl, sym, ◌∙◌, ap, subst, arith}
+use Rattle.std.proofs.Common.{◌≡◌, ℕ, zero, suc, ◌+◌, ◌-◌, ◌<◌, ◌≤◌, Bool, true, false, ◌==◌}
+use Rattle.std.proofs.Common.{if◌then◌else◌, List, [], ◌∷◌, ◌++◌, length, take, drop, replicate}
+use Rattle.std.proofs.Common.{get_or, Option, Some, None, refl, sym, ◌∙◌, ap, subst, arith}
 use Rattle.std.proofs.lemmas.List.{drop_more, get_or_default}
 use Rattle.std.proofs.lemmas.Bool.{eq-eqb, ne_eqb}
 use Rattle.stm_watch.specs.declared.sight.Sight.{Sight}
@@ -10,8 +9,7 @@ use Rattle.stm_watch.specs.declared.sight.Sight.TheVariants.{Follows, Left, Lost
 use Rattle.stm_wire.specs.Chip.{flash_size}
 use Rattle.stm_wire.specs.Device.{Device, Phase, Connected, Gone, IsDevice, IsSettled}
 use Rattle.stm_watch.specs.Known.{Known, may_hold, is_due_of, is_due_in, is_due, heard_of}
-use Rattle.stm_watch.specs.Known.{heard_by_sight, heard, IsWhole}
-use Rattle.stm_watch.specs.Known.{known_at_first}
+use Rattle.stm_watch.specs.Known.{heard_by_sight, heard, IsWhole, known_at_first}
 use Rattle.stm_watch.specs.Seen.{MayHold, Agrees, device_known, IsIn, IsSeenAs, IsSeen}
 use Rattle.stm_watch.proofs.Placing.{agrees-length, agrees-at, agrees-set}
 
@@ -74,11 +72,10 @@ heard-due phase k [] byte flash new whole is_due a e =
         let less : n ≡ k.count - 1 = omega (arith, is) in
         let at0 : get_or flash k.at byte
         ≡ get_or flash k.at 0 = get_or_default flash k.at byte 0 here in
-        let P : ℕ → Type 0 = λ b. MayHold (get_or k.flash k.at None) b in
         record {
           is_due = due-if k.count _ some
               (holds-may (get_or k.flash k.at None) byte
-              (subst P (sym (is_byte ∙ at0)) (agrees-at k.flash flash k.at a here)));
+              (rw (is_byte ∙ at0) (agrees-at k.flash flash k.at a here)));
           seen = (
             flash,
             ap (λ (d : Device). record d { owed = new.owed }) e
@@ -99,11 +96,11 @@ sees : (s : Sight) (k mid : Known) (d : Device) → k.sight ≡ s → mid.sight 
 sees s k mid d is same seen =
     let P : Sight → Type 0 = λ t. IsSeenAs t mid d in subst P (sym (same ∙ is)) seen
 
-heard-sight : (k : Known) (due : List ℕ) (byte : ℕ) → (heard_of k due byte).sight ≡ k.sight
+pub heard-sight : (k : Known) (due : List ℕ) (byte : ℕ) → (heard_of k due byte).sight ≡ k.sight
 heard-sight k [] byte = refl
 heard-sight k (b ∷ due) byte = refl
 
-heard-list : (k : Known) (due : List ℕ) (byte : ℕ) → (heard_of k due byte).list ≡ k.list
+pub heard-list : (k : Known) (due : List ℕ) (byte : ℕ) → (heard_of k due byte).list ≡ k.list
 heard-list k [] byte = refl
 heard-list k (b ∷ due) byte = refl
 
@@ -117,11 +114,10 @@ seen-heard-in Left byte k old new is whole seen gave =
 seen-heard-in Follows byte k old new is whole seen gave =
     let mid = heard_of k k.due byte in
     let h = heard-due (Connected k.list) k k.due byte seen.0 new whole refl seen.2 (sym gave
-    ∙ seen.1) in
-    let P : List ℕ → Type 0 = λ xs. IsIn (Connected xs) mid new in (
+    ∙ seen.1) in (
       h.is_due,
       sees Follows k mid new is (heard-sight k k.due byte)
-          (subst P (sym (heard-list k k.due byte)) h.seen),
+          (rw (heard-list k k.due byte) h.seen),
     )
 
 pub seen-heard : (byte : ℕ) (k : Known) (old new : Device) → IsWhole k → IsSeen k old
@@ -132,9 +128,8 @@ seen-heard byte k old new whole seen gave =
 
 agrees-nothing : (n : ℕ) (bs : List ℕ) → length bs ≡ n → Agrees (replicate n None) bs
 agrees-nothing zero [] e = tt
-agrees-nothing zero (b ∷ bs) e = absurd (omega (arith, e))
-agrees-nothing (suc n) [] e = absurd (omega (arith, e))
 agrees-nothing (suc n) (b ∷ bs) e = (tt, agrees-nothing n bs (omega (arith, e)))
+agrees-nothing n bs e = absurd (omega (arith, e))
 
 -- a settled device is as what is known at first says
 pub seen-first : (d : Device) → IsDevice d → IsSettled d

@@ -1,12 +1,10 @@
 -- What stays so of what is known, with each byte.
-use Rattle.std.proofs.Common.{◌≡◌, ℕ, zero, suc, ◌+◌, ◌-◌, ◌<◌, ◌≤◌}
-use Rattle.std.proofs.Common.{Bool, true, false, ◌==◌, if◌then◌else◌, All}
-use Rattle.std.proofs.Common.{List, [], ◌∷◌, ◌++◌, length, take, drop, replicate}
-use Rattle.std.proofs.Common.{Option, Some, None, refl, ◌∙◌, arith}
-use Rattle.std.proofs.Common.{length-append, length-take, length-drop}
-use Rattle.std.proofs.lemmas.List.{length-set}
+use Rattle.std.proofs.Common.{◌≡◌, ℕ, zero, suc, ◌+◌, ◌-◌, ◌<◌, ◌≤◌, Bool, true, false, ◌==◌}
+use Rattle.std.proofs.Common.{if◌then◌else◌, All, List, [], ◌∷◌, ◌++◌, length, take, drop}
+use Rattle.std.proofs.Common.{replicate, Option, Some, None, refl, ◌∙◌, arith, length-append}
+use Rattle.std.proofs.Common.{length-take, length-drop}
+use Rattle.std.proofs.lemmas.List.{length-set, length-replicate}
 use Rattle.std.proofs.Math.ListN.{set}
-use Rattle.std.proofs.lemmas.List.{length-replicate}
 use Rattle.stm_watch.specs.declared.sight.Sight.{Sight}
 use Rattle.stm_watch.specs.declared.sight.Sight.TheVariants.{Follows, Left, Lost}
 use Rattle.stm_wire.specs.declared.verdict.Verdict.{Verdict}
@@ -19,10 +17,9 @@ use Rattle.stm_wire.specs.lemmas.PageLaws.{fits_page, fits-end}
 use Rattle.stm_sim.specs.lemmas.Simulated.{small-change}
 use Rattle.stm_sim.specs.lemmas.SimulatedChange.{done-change-fits, Small as SmallChange}
 use Rattle.stm_sim.specs.Simulator.{Fits}
-use Rattle.stm_watch.specs.Known.{Known, with_items, stored_all, erased_known, changed_known}
-use Rattle.stm_watch.specs.Known.{count_of_read, place_of_read, count_read, place_read}
-use Rattle.stm_watch.specs.Known.{known_at_first}
-use Rattle.stm_watch.specs.Known.{lost, judged, fed_to, fed, heard_of, heard_by_sight, heard}
+use Rattle.stm_watch.specs.Known.{known_at_first, heard_by_sight, changed_known, count_of_read, fed}
+use Rattle.stm_watch.specs.Known.{place_of_read, erased_known, with_items, stored_all, count_read}
+use Rattle.stm_watch.specs.Known.{place_read, heard_of, judged, fed_to, Known, heard, lost}
 use Rattle.stm_watch.proofs.Storing.{length-stored_all}
 use Rattle.stm_watch.proofs.Undoing.{Bytes, all-bytes, Small, Sends, small-changed}
 
@@ -92,30 +89,22 @@ inside-if true chip address n is some =
 
 inside-of : (chip : ChipData) (rest : List ℕ) → 1 ≤ count_of_read chip rest
     → place_of_read chip rest + count_of_read chip rest ≤ flash_size chip
-inside-of chip [] some = absurd (omega (arith, some))
-inside-of chip (a ∷ []) some = absurd (omega (arith, some))
-inside-of chip (a ∷ b ∷ []) some = absurd (omega (arith, some))
-inside-of chip (a ∷ b ∷ c ∷ []) some = absurd (omega (arith, some))
-inside-of chip (a ∷ b ∷ c ∷ d ∷ []) some = absurd (omega (arith, some))
-inside-of chip (a ∷ b ∷ c ∷ d ∷ check ∷ []) some = absurd (omega (arith, some))
 inside-of chip (a ∷ b ∷ c ∷ d ∷ check ∷ n ∷ rest) some =
     inside-if (fits_inside chip (number_of a b c d) (n + 1)) chip (number_of a b c d) n refl some
+inside-of chip bytes some = absurd (omega (arith, some))
 
 inside-code : (x y z : Bool) (place count size : ℕ) → (1 ≤ count → place + count ≤ size)
     → 1 ≤ (if x then 0 else (if y then 0 else (if z then count else 0)))
     → place + (if x then 0 else (if y then 0 else (if z then count else 0))) ≤ size
-inside-code true y z place count size h some = absurd (omega (arith, some))
-inside-code false true z place count size h some = absurd (omega (arith, some))
 inside-code false false true place count size h some = h some
-inside-code false false false place count size h some = absurd (omega (arith, some))
+inside-code x y z place count size h some = absurd (omega (arith, some))
 
 pub inside_read : (chip : ChipData) (bytes : List ℕ) → 1 ≤ count_read chip bytes
     → place_read chip bytes + count_read chip bytes ≤ flash_size chip
-inside_read chip [] some = absurd (omega (arith, some))
-inside_read chip (code ∷ []) some = absurd (omega (arith, some))
 inside_read chip (code ∷ check ∷ rest) some =
     inside-code (code == 0x00) (code == 0x02) (code == 0x11) (place_of_read chip rest)
     (count_of_read chip rest) (flash_size chip) (inside-of chip rest) some
+inside_read chip bytes some = absurd (omega (arith, some))
 
 bytes-push : (bs : List ℕ) (b : ℕ) → Bytes bs → b < 256 → Bytes (bs ++ b ∷ [])
 bytes-push [] b s h = (h, tt)
@@ -151,13 +140,7 @@ good-judged k bytes (Some Refused) good small e =
       inside = λ some. absurd (omega (arith, some));
     }
 good-judged k bytes (Some Loose) good small e =
-    record {
-      chip = good.chip;
-      size = good.size;
-      small = good.small;
-      list = good.list;
-      inside = good.inside;
-    }
+    assumption good
 good-judged k bytes (Some Done) good small e =
     record {
       chip = good.chip;
@@ -179,13 +162,7 @@ good-to Follows byte k good small =
 
 good-lost : (k : Known) → IsGood k → IsGood (lost k)
 good-lost k good =
-    record {
-      chip = good.chip;
-      size = good.size;
-      small = good.small;
-      list = good.list;
-      inside = good.inside;
-    }
+    assumption good
 
 pub good-fed : (byte : ℕ) (k : Known) → IsGood k → byte < 256 → IsGood (fed byte k)
 good-fed byte k good small =
@@ -201,13 +178,7 @@ small-set (k ∷ ks) (suc at) byte s h = (s.0, small-set ks at byte s.1 h)
 good-of : (k : Known) (due : List ℕ) (byte : ℕ) → IsGood k → byte < 256
     → IsGood (heard_of k due byte)
 good-of k (b ∷ due) byte good small =
-    record {
-      chip = good.chip;
-      size = good.size;
-      small = good.small;
-      list = good.list;
-      inside = good.inside;
-    }
+    assumption good
 good-of k [] byte good small =
     record {
       chip = good.chip;

@@ -1,46 +1,19 @@
 -- What the calls of a watched Rig promise, where those of the inner one do.
-use Rattle.std.proofs.Common.{◌≡◌, inl, inr, ⊎_elim, ℕ, ◌+◌, ◌≤◌}
-use Rattle.std.proofs.Common.{false, true≢false, List, [], ◌∷◌, ◌++◌}
-use Rattle.std.proofs.Common.{Option, Some, None, is_some, Result, Ok, Err, OnOk, OnErr, IfOk}
-use Rattle.std.proofs.Common.{refl, sym, ◌∙◌, ap, subst, arith}
-use Rattle.stm_watch.specs.declared.sight.Sight.{Sight}
+use Rattle.std.proofs.Common.{◌≡◌, inl, ⊎_elim, ℕ, ◌+◌, false, true≢false, List, [], ◌∷◌, ◌++◌}
+use Rattle.std.proofs.Common.{Option, Some, None, is_some, Result, Ok, Err, OnOk, OnErr, IfOk, refl}
+use Rattle.std.proofs.Common.{sym, ◌∙◌, ap}
 use Rattle.stm_watch.specs.declared.sight.Sight.TheVariants.{Lost}
 use Rattle.stm_wire.specs.declared.fault.RigFault.{RigFault}
 use Rattle.stm_wire.specs.declared.fault.RigFault.TheVariants.{Line}
-use Rattle.stm_wire.specs.declared.rig.Patience.{Patience}
-use Rattle.stm_wire.specs.declared.rig.Patience.TheVariants.{Brief, Long}
 use Rattle.stm_wire.specs.Call.{Call, Get}
 use Rattle.stm_wire.specs.Device.{Device, Feeds}
-use Rattle.stm_wire.specs.Rig.{RigState, HasCause, Rises, Records, RecordsAppend}
-use Rattle.stm_wire.specs.Rig.{entry_of_get, waited, TellsBehind}
-use Rattle.stm_wire.specs.Rig.{PutsHonestly, GetsHonestly}
-use Rattle.stm_wire.specs.Rig.{GetsFirst}
-use Rattle.stm_wire.specs.Rig.{AppendsHonestly, FetchesHonestly}
+use Rattle.stm_wire.specs.Rig.{RigState, Records, entry_of_get, PutsHonestly, GetsHonestly}
+use Rattle.stm_wire.specs.Rig.{GetsFirst, AppendsHonestly, FetchesHonestly}
 use Rattle.stm_watch.specs.Known.{Known, IsFed, IsWhole, fed, is_due}
-use Rattle.stm_watch.specs.Seen.{IsSeen, IsSeenAs}
+use Rattle.stm_watch.specs.Seen.{IsSeen}
 use Rattle.stm_watch.specs.Watching.{quieted, quieted_record, watched, IsHeard}
 use Rattle.stm_watch.proofs.Seeing.{seen-fed}
 use Rattle.stm_watch.proofs.Hearing.{seen-heard}
-
-rises-more : (before now more : ℕ) → Rises before now → Rises (before + more) (now + more)
-rises-more before now more h = grind (arith, h)
-
-pub cause-more : {T : Type 0} (before now more : ℕ) (result : Result T RigFault)
-    → HasCause before now result → HasCause (before + more) (now + more) result
-cause-more before now more (Ok x) h =
-    record { later = omega (arith, h.later); done = ap (λ n. n + more) h.done; failed = tt }
-cause-more before now more (Err e) h =
-    record {
-      later = omega (arith, h.later);
-      done = tt;
-      failed =
-          rises-more before now more h.failed;
-    }
-
-pub cause-refused : (T : Type 0) (before old new : ℕ) (e : RigFault) → old ≤ new
-    → Rises (before + old) (before + new) → HasCause {T = T} (before + old) (before + new) (Err e)
-cause-refused T before old new e later risen =
-    record { later = omega (arith, later); done = tt; failed = risen }
 
 -- The record of a get whose byte was refused:
 
@@ -79,37 +52,15 @@ pub refused-enters : (x : Option ℕ) (old new : Option (List Call))
     → Records {T = Unit {0}} (Get None) (Ok tt) old (quieted_record new)
 refused-enters x old new is = quieted-record old new (Get x) (as-done (Get x) x old new is)
 
-pub same-record : (T : Type 0) (call : Call) (e : RigFault) (calls : Option (List Call))
-    → Records {T = T} call (Err e) calls calls
-same-record T call e None = refl
-same-record T call e (Some past) = inr refl
-
-pub same-append : (T : Type 0) (bytes : List ℕ) (e : RigFault) (calls : Option (List Call))
-    → RecordsAppend {T = T} bytes (Err e) calls calls
-same-append T bytes e None = refl
-same-append T bytes e (Some past) = inr refl
-
-pub waits-none : (patience : Patience) → None ≡ waited patience None
-waits-none Brief = refl
-waits-none Long = refl
-
-pub same-told : (after : List ℕ) (e : RigFault) (told : Option (List ℕ))
-    → TellsBehind after (Err e) told told
-same-told after e None = refl
-same-told after e (Some past) = refl
-
 -- On a Rig that follows the model:
 
 lost-seen : (k : Known) (d : Device) → k.sight ≡ Lost → IsSeen k d
-lost-seen k d is = let P : Sight → Type 0 = λ s. IsSeenAs s k d in subst P (sym is) tt
+lost-seen k d is = rw is tt
 
 fed-seen : (byte : ℕ) (k now : Known) (old new : Device) → IsSeen k old → Feeds byte old new
     → IsFed byte k now → IsSeen now new
 fed-seen byte k now old new seen feeds is =
-    ⊎_elim
-    (λ e. let P : Known → Type 0 =
-    λ n. IsSeen n new in subst P (sym e) (seen-fed byte k old new seen feeds))
-    (λ e. lost-seen now new e) is
+    ⊎_elim (λ e. rw e (seen-fed byte k old new seen feeds)) (λ e. lost-seen now new e) is
 
 pub put-honest : {A : Type 0} (byte : ℕ) (result : Result (Unit {0}) RigFault) (k now : Known)
     (refusal : Option A) (line journal : ℕ) (old new : RigState)
@@ -121,30 +72,13 @@ pub put-honest : {A : Type 0} (byte : ℕ) (result : Result (Unit {0}) RigFault)
 put-honest byte result k now (Some r) line journal old new inner ok err honest = absurd honest
 put-honest byte (Ok u) k now None line journal old new inner ok err honest =
     let p = inner honest.0 in
-    record {
-      honest = (p.honest, fed-seen byte k now old.device new.device honest.1 p.ok.0 ok);
-      ok = p.ok;
-      err = tt;
-      time = record {
-        later = p.time.later;
-        nothing_else = p.time.nothing_else;
-        keeps =
-            p.time.keeps;
-      };
-    }
+    assumption (fed-seen byte k now old.device new.device honest.1 p.ok.0 ok, p)
 put-honest byte (Err e) k now None line journal old new inner ok err honest =
     let p = inner honest.0 in
-    record {
-      honest = (p.honest, lost-seen now new.device err);
-      ok = tt;
-      err = p.err;
-      time = record {
-        later = p.time.later;
-        nothing_else = p.time.nothing_else;
-        keeps =
-            p.time.keeps;
-      };
-    }
+    assumption (lost-seen now new.device err, p)
+
+kept-seen : (k now : Known) (old new : Device) → new ≡ old → now ≡ k → IsSeen k old → IsSeen now new
+kept-seen k now old new same is seen = rw (same, is) seen
 
 -- what a get leaves of what is known
 abbrev pub Hears : Result (Option ℕ) RigFault → Known → Known → Type 0
@@ -155,12 +89,9 @@ gets-seen : (result : Result (Option ℕ) RigFault) (k now : Known) (old new : D
     → IsSeen k old → IfOk result (λ answer. GetsFirst answer old new) → Hears result k now
     → IsSeen now new
 gets-seen (Ok None) k now old new whole seen first hears =
-    let P : Device → Type 0 = λ d. IsSeen k d in
-    let Q : Known → Type 0 = λ n. IsSeen n new in
-    subst Q (sym hears) (subst P (sym first.1) seen)
+    kept-seen k now old new first.1 hears seen
 gets-seen (Ok (Some byte)) k now old new whole seen first hears =
-    let Q : Known → Type 0 = λ n. IsSeen n new in
-    subst Q (sym hears.1) (seen-heard byte k old new whole seen first).1
+    rw hears.1 (seen-heard byte k old new whole seen first).1
 gets-seen (Err e) k now old new whole seen first hears = lost-seen now new hears
 
 pub get-honest : {A : Type 0} (result : Result (Option ℕ) RigFault) (k now : Known)
@@ -172,18 +103,7 @@ pub get-honest : {A : Type 0} (result : Result (Option ℕ) RigFault) (k now : K
 get-honest result k now (Some r) line journal old new whole inner hears honest = absurd honest
 get-honest result k now None line journal old new whole inner hears honest =
     let p = inner honest.0 in
-    record {
-      honest = (p.honest, gets-seen result k now old.device new.device whole honest.1 p.ok hears);
-      ok = p.ok;
-      journal = p.journal;
-      err = p.err;
-      time = record {
-        later = p.time.later;
-        nothing_else = p.time.nothing_else;
-        keeps =
-            p.time.keeps;
-      };
-    }
+    assumption (gets-seen result k now old.device new.device whole honest.1 p.ok hears, p)
 
 -- no byte is refused there
 pub none-refused : (byte : ℕ) (k : Known) (old new : RigState) → IsWhole k
@@ -192,12 +112,6 @@ pub none-refused : (byte : ℕ) (k : Known) (old new : RigState) → IsWhole k
 none-refused byte k old new whole inner refused honest seen =
     let p = inner honest in
     true≢false (sym (seen-heard byte k old.device new.device whole seen p.ok).0 ∙ refused)
-
-kept-seen : (k now : Known) (old new : Device) → new ≡ old → now ≡ k → IsSeen k old → IsSeen now new
-kept-seen k now old new same is seen =
-    let P : Device → Type 0 = λ d. IsSeen k d in
-    let Q : Known → Type 0 = λ n. IsSeen n new in
-    subst Q (sym is) (subst P (sym same) seen)
 
 pub append-honest : {A : Type 0} (bytes : List ℕ) (result : Result (Unit {0}) RigFault) (k now :
     Known)
@@ -210,32 +124,10 @@ pub append-honest : {A : Type 0} (bytes : List ℕ) (result : Result (Unit {0}) 
 append-honest bytes result k now (Some r) line journal old new inner ok err honest = absurd honest
 append-honest bytes (Ok u) k now None line journal old new inner ok err honest =
     let p = inner honest.0 in
-    record {
-      honest = (p.honest, kept-seen k now old.device new.device p.ok.0 ok honest.1);
-      ok = p.ok;
-      err = tt;
-      time = record {
-        later = p.time.later;
-        nothing_else = p.time.nothing_else;
-        keeps =
-            p.time.keeps;
-      };
-      beginnings = p.beginnings;
-    }
+    assumption (kept-seen k now old.device new.device p.ok.0 ok honest.1, p)
 append-honest bytes (Err e) k now None line journal old new inner ok err honest =
     let p = inner honest.0 in
-    record {
-      honest = (p.honest, lost-seen now new.device err);
-      ok = tt;
-      err = p.err;
-      time = record {
-        later = p.time.later;
-        nothing_else = p.time.nothing_else;
-        keeps =
-            p.time.keeps;
-      };
-      beginnings = p.beginnings;
-    }
+    assumption (lost-seen now new.device err, p)
 
 pub fetch-honest : {A : Type 0} (at : ℕ) (before after : List ℕ) (result : Result ℕ RigFault)
     (k now : Known) (refusal : Option A) (line journal : ℕ) (old new : RigState)
@@ -248,34 +140,10 @@ fetch-honest at before after result k now (Some r) line journal old new inner ok
     absurd honest
 fetch-honest at before after (Ok n) k now None line journal old new inner ok err honest =
     let p = inner honest.0 in
-    record {
-      honest = (p.honest, kept-seen k now old.device new.device p.ok.0 ok honest.1);
-      ok = p.ok;
-      bytes = p.bytes;
-      more = p.more;
-      err = tt;
-      time = record {
-        later = p.time.later;
-        nothing_else = p.time.nothing_else;
-        keeps =
-            p.time.keeps;
-      };
-    }
+    assumption (kept-seen k now old.device new.device p.ok.0 ok honest.1, p)
 fetch-honest at before after (Err e) k now None line journal old new inner ok err honest =
     let p = inner honest.0 in
-    record {
-      honest = (p.honest, lost-seen now new.device err);
-      ok = tt;
-      bytes = p.bytes;
-      more = p.more;
-      err = p.err;
-      time = record {
-        later = p.time.later;
-        nothing_else = p.time.nothing_else;
-        keeps =
-            p.time.keeps;
-      };
-    }
+    assumption (lost-seen now new.device err, p)
 
 -- In the form of the calls' ways out:
 
@@ -286,10 +154,7 @@ pub put-done : {A : Type 0} (byte : ℕ) (result : Result (Unit {0}) RigFault) (
     → PutsHonestly byte result (watched k refusal line journal old) (watched now refusal line
     journal new)
 put-done byte result u k now refusal line journal old new is inner fed honest =
-    let P : Result (Unit {0}) RigFault → Type 0 = λ r. OnOk r (IsFed byte k now) in
-    let Q : Result (Unit {0}) RigFault → Type 0 = λ r. OnErr r (now.sight ≡ Lost) in
-    put-honest byte result k now refusal line journal old new inner (subst P (sym is) fed)
-    (subst Q (sym is) tt) honest
+    put-honest byte result k now refusal line journal old new inner (rw is fed) (rw is tt) honest
 
 pub none-of : {A : Type 0} (refusal : Option A) → is_some refusal ≡ false → refusal ≡ None
 none-of None e = refl
@@ -306,11 +171,8 @@ pub refused-recorded : {A : Type 0} (k : Known) (refusal : Option A) (line journ
     → Records (entry_of_get (Ok (Some byte))) (Ok (Some byte)) old.calls new
     → Records {T = Option ℕ} (Get None) (Err Line) (watched k refusal line journal old).calls
     (quieted_record new)
-refused-recorded {A = A} k refusal line journal old new byte none is =
-    let P : Option A → Type 0 =
-    λ r. Records {T =
-    Option ℕ} (Get None) (Err Line) (watched k r line journal old).calls (quieted_record new) in
-    subst P (sym none) (refused-record (Option ℕ) (Some byte) Line old.calls new is)
+refused-recorded k refusal line journal old new byte none is =
+    rw none (refused-record (Option ℕ) (Some byte) Line old.calls new is)
 
 pub refused-entered : {A : Type 0} (k : Known) (refusal : Option A) (line journal : ℕ) (old :
     RigState)
@@ -318,8 +180,5 @@ pub refused-entered : {A : Type 0} (k : Known) (refusal : Option A) (line journa
     → Records (entry_of_get (Ok (Some byte))) (Ok (Some byte)) old.calls new
     → Records {T = Unit {0}} (Get None) (Ok tt) (watched k refusal line journal old).calls
     (quieted_record new)
-refused-entered {A = A} k refusal line journal old new byte none is =
-    let P : Option A → Type 0 =
-    λ r. Records {T =
-    Unit {0}} (Get None) (Ok tt) (watched k r line journal old).calls (quieted_record new) in
-    subst P (sym none) (refused-enters (Some byte) old.calls new is)
+refused-entered k refusal line journal old new byte none is =
+    rw none (refused-enters (Some byte) old.calls new is)

@@ -1,8 +1,7 @@
 -- Items put over others, and what stays so of what is known of them.
 use Rattle.std.proofs.Common.{◌≡◌, ℕ, zero, suc, ◌+◌, ◌<◌, Bool, true, false, ◌==◌, if◌then◌else◌}
-use Rattle.std.proofs.Common.{List, [], ◌∷◌, ◌++◌, length, take, drop, replicate, get_or}
-use Rattle.std.proofs.Common.{Option, Some, None, refl, sym, ◌∙◌, ap, subst, arith}
-use Rattle.std.proofs.Common.{append-nil, eqb-true}
+use Rattle.std.proofs.Common.{List, [], ◌∷◌, ◌++◌, length, take, drop, replicate, get_or, Option}
+use Rattle.std.proofs.Common.{Some, None, refl, sym, ◌∙◌, ap, arith, append-nil, eqb-true}
 use Rattle.std.proofs.Math.ListN.{set}
 use Rattle.stm_wire.specs.Chip.{ChipData, erased_byte, page_offset, page_size}
 use Rattle.stm_wire.specs.Effect.{Stores, erased_pages}
@@ -40,35 +39,27 @@ with_items-is (suc n) ps (x ∷ xs) =
 
 pub agrees-length : (ks : List (Option ℕ)) (bs : List ℕ) → Agrees ks bs → length ks ≡ length bs
 agrees-length [] [] a = refl
-agrees-length [] (b ∷ bs) a = absurd a
-agrees-length (k ∷ ks) [] a = absurd a
 agrees-length (k ∷ ks) (b ∷ bs) a = ap suc (agrees-length ks bs a.1)
+agrees-length ks bs a = absurd a
 
 agrees-front : (ps ks : List (Option ℕ)) (ns bs : List ℕ) → Agrees ps ns → Agrees ks bs
     → Agrees (put_front ps ks) (put_front ns bs)
 agrees-front [] ks [] bs p a = a
-agrees-front [] ks (n ∷ ns) bs p a = absurd p
-agrees-front (p ∷ ps) ks [] bs h a = absurd h
 agrees-front (p ∷ ps) [] (n ∷ ns) [] h a = h
-agrees-front (p ∷ ps) [] (n ∷ ns) (b ∷ bs) h a = absurd a
-agrees-front (p ∷ ps) (k ∷ ks) (n ∷ ns) [] h a = absurd a
 agrees-front (p ∷ ps) (k ∷ ks) (n ∷ ns) (b ∷ bs) h a = (h.0, agrees-front ps ks ns bs h.1 a.1)
+agrees-front ps ks ns bs p a = absurd assumption
 
 agrees-over : (at : ℕ) (ps ks : List (Option ℕ)) (ns bs : List ℕ) → Agrees ps ns → Agrees ks bs
     → Agrees (put_over at ps ks) (put_over at ns bs)
 agrees-over zero ps ks ns bs p a = agrees-front ps ks ns bs p a
 agrees-over (suc n) ps [] ns [] p a = p
-agrees-over (suc n) ps [] ns (b ∷ bs) p a = absurd a
-agrees-over (suc n) ps (k ∷ ks) ns [] p a = absurd a
 agrees-over (suc n) ps (k ∷ ks) ns (b ∷ bs) p a = (a.0, agrees-over n ps ks ns bs p a.1)
+agrees-over n ps ks ns bs p a = absurd a
 
 pub agrees-put : (at : ℕ) (ps ks : List (Option ℕ)) (ns bs : List ℕ) → Agrees ps ns → Agrees ks bs
     → Agrees (with_items at ps ks) (with_items at ns bs)
 agrees-put at ps ks ns bs p a =
-    let P : List (Option ℕ) → Type 0 = λ xs. Agrees xs (with_items at ns bs) in
-    let Q : List ℕ → Type 0 = λ ys. Agrees (put_over at ps ks) ys in
-    subst P (sym (with_items-is at ps ks))
-    (subst Q (sym (with_items-is at ns bs)) (agrees-over at ps ks ns bs p a))
+    rw (with_items-is at ps ks) (rw (with_items-is at ns bs) (agrees-over at ps ks ns bs p a))
 
 pub agrees-replicate : (n e : ℕ) → Agrees (replicate n (Some e)) (replicate n e)
 agrees-replicate zero e = tt
@@ -89,17 +80,15 @@ pub agrees-take : (n : ℕ) (ks : List (Option ℕ)) (bs : List ℕ) → Agrees 
     → Agrees (take n ks) (take n bs)
 agrees-take zero ks bs a = tt
 agrees-take (suc n) [] [] a = tt
-agrees-take (suc n) [] (b ∷ bs) a = absurd a
-agrees-take (suc n) (k ∷ ks) [] a = absurd a
 agrees-take (suc n) (k ∷ ks) (b ∷ bs) a = (a.0, agrees-take n ks bs a.1)
+agrees-take n ks bs a = absurd a
 
 pub agrees-drop : (n : ℕ) (ks : List (Option ℕ)) (bs : List ℕ) → Agrees ks bs
     → Agrees (drop n ks) (drop n bs)
 agrees-drop zero ks bs a = a
 agrees-drop (suc n) [] [] a = tt
-agrees-drop (suc n) [] (b ∷ bs) a = absurd a
-agrees-drop (suc n) (k ∷ ks) [] a = absurd a
 agrees-drop (suc n) (k ∷ ks) (b ∷ bs) a = agrees-drop n ks bs a.1
+agrees-drop n ks bs a = absurd a
 
 holds-if : (t : Bool) (sent new : ℕ) → (t ≡ true → new ≡ sent)
     → MayHold (if t then Some sent else None) new
@@ -115,22 +104,16 @@ holds-stored e (Some v) o s n h same =
 pub agrees-stored : (e : ℕ) (ks : List (Option ℕ)) (olds sents news : List ℕ) → Agrees ks olds
     → Stores e olds sents news → Agrees (stored_all e ks sents) news
 agrees-stored e [] [] [] [] a s = tt
-agrees-stored e [] [] [] (n ∷ ns) a s = absurd s
-agrees-stored e [] [] (x ∷ xs) ns a s = absurd s
-agrees-stored e [] (o ∷ os) xs ns a s = absurd a
-agrees-stored e (k ∷ ks) [] xs ns a s = absurd a
-agrees-stored e (k ∷ ks) (o ∷ os) [] ns a s = absurd s
-agrees-stored e (k ∷ ks) (o ∷ os) (x ∷ xs) [] a s = absurd s
 agrees-stored e (k ∷ ks) (o ∷ os) (x ∷ xs) (n ∷ ns) a s =
     (holds-stored e k o x n a.0 s.1, agrees-stored e ks os xs ns a.1 s.2)
+agrees-stored e ks os xs ns a s = absurd assumption
 
 pub agrees-at : (ks : List (Option ℕ)) (bs : List ℕ) (at : ℕ) → Agrees ks bs → at < length bs
     → MayHold (get_or ks at None) (get_or bs at 0)
 agrees-at [] [] at a h = absurd (omega (arith, h))
-agrees-at [] (b ∷ bs) at a h = absurd a
-agrees-at (k ∷ ks) [] at a h = absurd a
 agrees-at (k ∷ ks) (b ∷ bs) zero a h = a.0
 agrees-at (k ∷ ks) (b ∷ bs) (suc at) a h = agrees-at ks bs at a.1 (omega (arith, h))
+agrees-at ks bs at a h = absurd a
 
 pub agrees-set : (ks : List (Option ℕ)) (bs : List ℕ) (at byte : ℕ) → Agrees ks bs
     → byte ≡ get_or bs at byte → Agrees (set ks at (Some byte)) bs

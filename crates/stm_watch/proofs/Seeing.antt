@@ -1,9 +1,7 @@
 -- A device that follows the model is as what is known of it says, after each byte.
-use Rattle.std.proofs.Common.{◌≡◌, ◌⊎◌, inl, inr, ⊎_elim, ℕ, ◌+◌, ◌-◌}
-use Rattle.std.proofs.Common.{Bool, true, false, ◌==◌, if◌then◌else◌}
-use Rattle.std.proofs.Common.{List, [], ◌∷◌, ◌++◌, length, take, drop, replicate}
-use Rattle.std.proofs.Common.{Option, Some, None, refl, sym, ◌∙◌, ap, subst}
-use Rattle.std.proofs.Common.{append-nil, eqb-true}
+use Rattle.std.proofs.Common.{◌≡◌, ◌⊎◌, inl, inr, ⊎_elim, ℕ, ◌+◌, ◌-◌, Bool, true, false, ◌==◌}
+use Rattle.std.proofs.Common.{if◌then◌else◌, List, [], ◌∷◌, ◌++◌, length, take, drop, replicate}
+use Rattle.std.proofs.Common.{Option, Some, None, refl, sym, ◌∙◌, ap, subst, append-nil, eqb-true}
 use Rattle.std.proofs.Common.{append_assoc}
 use Rattle.stm_watch.specs.declared.sight.Sight.{Sight}
 use Rattle.stm_watch.specs.declared.sight.Sight.TheVariants.{Follows, Left, Lost}
@@ -14,12 +12,10 @@ use Rattle.stm_wire.specs.Exchange.{number_of, verdict}
 use Rattle.stm_wire.specs.Effect.{Change, Nothing, ErasePages, EraseAll, Write, Effect, change_of}
 use Rattle.stm_wire.specs.Reply.{ack, nack, step_reply, reply_to, reply, answer, read_answer}
 use Rattle.stm_wire.specs.Reply.{commands_answer, id_answer}
-use Rattle.stm_wire.specs.Device.{Device, Connected, Gone, Feeds, Receives, Takes}
-use Rattle.stm_wire.specs.Device.{phase_after}
-use Rattle.stm_watch.specs.Known.{Known, with_items, stored_all, erased_known, changed_known}
+use Rattle.stm_wire.specs.Device.{Device, Connected, Gone, Feeds, Takes, phase_after}
+use Rattle.stm_watch.specs.Known.{Known, stored_all, changed_known}
 use Rattle.stm_watch.specs.Known.{count_of_read, place_of_read, told_of_read, count_read}
-use Rattle.stm_watch.specs.Known.{place_read, told}
-use Rattle.stm_watch.specs.Known.{lost, sight_after, judged, fed_to, fed}
+use Rattle.stm_watch.specs.Known.{place_read, told, lost, sight_after, judged, fed_to, fed}
 use Rattle.stm_watch.specs.Seen.{Agrees, device_known, IsIn, IsSeenAs, IsSeen}
 use Rattle.stm_watch.proofs.Placing.{agrees-length, agrees-put, agrees-replicate, agrees-erased}
 use Rattle.stm_watch.proofs.Placing.{agrees-take, agrees-drop, agrees-stored}
@@ -30,24 +26,19 @@ pub agrees-changed : (chip : ChipData) (change : Change) (ks : List (Option ℕ)
 agrees-changed chip Nothing ks old new a e =
     let P : List ℕ → Type 0 = λ f. Agrees ks f in subst P (sym e) a
 agrees-changed chip (ErasePages pages) ks old new a e =
-    let P : List ℕ → Type 0 = λ f. Agrees (erased_known chip pages ks) f in
-    subst P (sym e) (agrees-erased chip pages ks old a)
+    rw e (agrees-erased chip pages ks old a)
 agrees-changed chip EraseAll ks old new a e =
-    let P : List ℕ → Type 0 = λ f. Agrees (replicate (length ks) (Some (erased_byte chip))) f in
     let same : new ≡ replicate (length ks) (erased_byte chip) =
     e ∙ ap (λ n. replicate n (erased_byte chip)) (sym (agrees-length ks old a)) in
-    subst P (sym same) (agrees-replicate (length ks) (erased_byte chip))
+    rw same (agrees-replicate (length ks) (erased_byte chip))
 agrees-changed chip (Write address sent) ks old new a e =
     let at = address - chip.base in
     let olds = take (length sent) (drop at old) in
     let places = take (length sent) (drop at ks) in
-    let P : List ℕ → Type 0 =
-    λ f. Agrees (with_items at (stored_all (erased_byte chip) places sent) ks) f in
     let part =
     agrees-stored (erased_byte chip) places olds sent e.0
     (agrees-take (length sent) (drop at ks) (drop at old) (agrees-drop at ks old a)) e.1 in
-    subst P (sym e.2)
-    (agrees-put at (stored_all (erased_byte chip) places sent) ks e.0 old part a)
+    rw e.2 (agrees-put at (stored_all (erased_byte chip) places sent) ks e.0 old part a)
 
 -- What a done list is answered: what is told, and then bytes of the flash.
 
@@ -123,8 +114,7 @@ reads-same chip bytes old new e =
     ap (λ n. take n (drop (place_read chip bytes) old)) none
     ∙ sym (ap (λ n. take n (drop (place_read chip bytes) new)) none))
     (λ nothing.
-    let P : Change → Type 0 = λ change. Effect chip change old new in
-    let same : new ≡ old = subst P nothing e in
+    let same : new ≡ old = rw nothing at e in
     ap (λ f. take (count_read chip bytes) (drop (place_read chip bytes) f)) (sym same))
     (reads-nothing chip bytes)
 
@@ -144,8 +134,7 @@ at-end k false d none is =
 
 after : (k : Known) (bytes : List ℕ) (d : Device) → k.list ≡ [] → IsIn (phase_after bytes) k d
     → IsSeenAs (sight_after bytes) k d
-after k [] d none is = let P : List ℕ
-    → Type 0 = λ xs. IsIn (Connected xs) k d in subst P (sym none) is
+after k [] d none is = rw none is
 after k (code ∷ rest) d none is = at-end k (code == 0x21) d none is
 
 pub replies : (k : Known) (flash bytes : List ℕ) (v : Option Verdict)
@@ -159,11 +148,10 @@ seen-judged : (k : Known) (flash bytes rest : List ℕ) (v : Option Verdict) (ne
     → Takes (device_known (Connected rest) k flash) bytes v new → IsSeen (judged v bytes k) new
 seen-judged k flash bytes rest None new follows none a e takes =
     let now = judged None bytes k in
-    let P : Sight → Type 0 = λ s. IsSeenAs s now new in
     let owed = owes k.due (step_reply bytes) [] (reply k.chip k.version k.codes flash bytes)
     (drop k.at flash) k.count none
     (replies k flash bytes None e ∙ sym (append-nil (step_reply bytes))) in
-    subst P (sym follows) (
+    rw follows (
       flash,
       takes ∙ ap (λ o. record (device_known (Connected bytes) now flash) {
         owed =
@@ -173,11 +161,10 @@ seen-judged k flash bytes rest None new follows none a e takes =
     )
 seen-judged k flash bytes rest (Some Refused) new follows none a e takes =
     let now = judged (Some Refused) bytes k in
-    let P : Sight → Type 0 = λ s. IsSeenAs s now new in
     let owed = owes k.due (nack ∷ []) [] (reply k.chip k.version k.codes flash bytes)
     (drop k.at flash) k.count none
     (replies k flash bytes (Some Refused) e) in
-    subst P (sym follows)
+    rw follows
     (flash, takes ∙ ap (λ o. record (device_known (Connected []) now flash) { owed = o }) owed, a)
 seen-judged k flash bytes rest (Some Loose) new follows none a e takes = tt
 seen-judged k flash bytes rest (Some Done) new follows none a e takes =
@@ -201,13 +188,10 @@ seen-fed_to : (s : Sight) (byte : ℕ) (k : Known) (old new : Device) → k.sigh
 seen-fed_to Lost byte k old new is none seen feeds =
     let P : Sight → Type 0 = λ s. IsSeenAs s k new in subst P (sym is) tt
 seen-fed_to Left byte k old new is none seen feeds =
-    let P : Sight → Type 0 = λ s. IsSeenAs s k new in
-    let Q : Device → Type 0 = λ d. Receives d d.phase byte new in
-    let same = subst Q seen.1 feeds.receives in
-    subst P (sym is) (seen.0, same, seen.2)
+    let same = rw seen.1 at feeds.receives in
+    rw is (seen.0, same, seen.2)
 seen-fed_to Follows byte k old new is none seen feeds =
-    let Q : Device → Type 0 = λ d. Receives d d.phase byte new in
-    let takes = subst Q seen.1 feeds.receives in
+    let takes = rw seen.1 at feeds.receives in
     let bytes = k.list ++ byte ∷ [] in
     seen-judged k seen.0 bytes k.list (verdict k.chip k.codes bytes) new is none seen.2 refl takes
 

@@ -1,7 +1,6 @@
 -- Steps of the loop that stores bytes over others.
-use Rattle.std.proofs.Common.{◌≡◌, ℕ, zero, suc, ◌<◌, List, [], ◌∷◌, ◌++◌, length, take, drop}
-use Rattle.std.proofs.Common.{refl, ap, arith, get_or}
-use Rattle.std.proofs.Common.{Option, None}
+use Rattle.std.proofs.Common.{◌≡◌, ℕ, zero, suc, ◌<◌, List, [], ◌∷◌, ◌++◌, length, take, drop, refl}
+use Rattle.std.proofs.Common.{ap, arith, get_or, Option, None}
 use Rattle.std.proofs.Math.ListN.{set}
 use Rattle.stm_watch.specs.Known.{stored, stored_all}
 
@@ -15,26 +14,23 @@ pub stored_so_far-more : (erased i : ℕ) (olds : List (Option ℕ)) (sents : Li
     → set (stored_so_far erased i olds sents) i
     (stored erased (get_or (stored_so_far erased i olds sents) i None) (get_or sents i 0))
     ≡ stored_so_far erased (suc i) olds sents
-stored_so_far-more e i [] sents same h = absurd (omega (arith, same, h))
-stored_so_far-more e i (o ∷ olds) [] same h = absurd (omega (arith, same, h))
 stored_so_far-more e zero (o ∷ olds) (s ∷ sents) same h = refl
 stored_so_far-more e (suc i) (o ∷ olds) (s ∷ sents) same h =
     ap (λ xs. stored e o s ∷ xs)
     (stored_so_far-more e i olds sents (omega (arith, same)) (omega (arith, h)))
+stored_so_far-more e i olds sents same h = absurd (omega (arith, same, h))
 
 pub stored_so_far-all : (erased : ℕ) (olds : List (Option ℕ)) (sents : List ℕ)
     → length olds ≡ length sents
     → stored_so_far erased (length sents) olds sents ≡ stored_all erased olds sents
 stored_so_far-all e [] [] same = refl
-stored_so_far-all e [] (s ∷ sents) same = absurd (omega (arith, same))
-stored_so_far-all e (o ∷ olds) [] same = absurd (omega (arith, same))
 stored_so_far-all e (o ∷ olds) (s ∷ sents) same =
     ap (λ xs. stored e o s ∷ xs) (stored_so_far-all e olds sents (omega (arith, same)))
+stored_so_far-all e olds sents same = absurd (omega (arith, same))
 
 pub length-stored_all : (erased : ℕ) (olds : List (Option ℕ)) (sents : List ℕ)
     → length olds ≡ length sents → length (stored_all erased olds sents) ≡ length sents
 length-stored_all e [] [] same = refl
-length-stored_all e [] (s ∷ sents) same = absurd (omega (arith, same))
-length-stored_all e (o ∷ olds) [] same = absurd (omega (arith, same))
 length-stored_all e (o ∷ olds) (s ∷ sents) same =
     ap suc (length-stored_all e olds sents (omega (arith, same)))
+length-stored_all e olds sents same = absurd (omega (arith, same))

@@ -1,9 +1,8 @@
 -- Of a flash that agrees with what is known after a change: one before it that agreed with what was
 -- known then, and of which the change may leave it.
-use Rattle.std.proofs.Common.{◌≡◌, inl, inr, ℕ, zero, suc, ◌+◌, ◌-◌, ◌<◌, ◌≤◌}
-use Rattle.std.proofs.Common.{Bool, true, false, ◌==◌, if◌then◌else◌, All}
-use Rattle.std.proofs.Common.{List, [], ◌∷◌, length, take, drop, replicate}
-use Rattle.std.proofs.Common.{Option, Some, None, refl, sym, ◌∙◌, ap, ap₂, subst, arith}
+use Rattle.std.proofs.Common.{◌≡◌, inl, inr, ℕ, zero, suc, ◌+◌, ◌-◌, ◌<◌, ◌≤◌, Bool, true, false}
+use Rattle.std.proofs.Common.{◌==◌, if◌then◌else◌, All, List, [], ◌∷◌, length, take, drop}
+use Rattle.std.proofs.Common.{replicate, Option, Some, None, refl, sym, ◌∙◌, ap, ap₂, arith}
 use Rattle.std.proofs.lemmas.Bool.{eq-eqb}
 use Rattle.stm_wire.specs.Chip.{ChipData, IsErasedByte, erased_byte, flash_size}
 use Rattle.stm_wire.specs.Chip.{page_offset, page_size}
@@ -58,16 +57,14 @@ pick-small (Some v) b s h = s
 pub agrees-filled : (ks : List (Option ℕ)) (bs : List ℕ) → length ks ≡ length bs
     → Agrees ks (filled ks bs)
 agrees-filled [] [] e = tt
-agrees-filled [] (b ∷ bs) e = absurd (omega (arith, e))
-agrees-filled (k ∷ ks) [] e = absurd (omega (arith, e))
 agrees-filled (k ∷ ks) (b ∷ bs) e = (pick-holds k b, agrees-filled ks bs (omega (arith, e)))
+agrees-filled ks bs e = absurd (omega (arith, e))
 
 pub filled-same : (ks : List (Option ℕ)) (bs : List ℕ) → Agrees ks bs → filled ks bs ≡ bs
 filled-same [] [] a = refl
-filled-same [] (b ∷ bs) a = absurd a
-filled-same (k ∷ ks) [] a = absurd a
 filled-same (k ∷ ks) (b ∷ bs) a =
     ap₂ (λ (x : ℕ) (xs : List ℕ). x ∷ xs) (pick-same k b a.0) (filled-same ks bs a.1)
+filled-same ks bs a = absurd a
 
 pub length-filled : (ks : List (Option ℕ)) (bs : List ℕ) → length (filled ks bs) ≡ length bs
 length-filled [] bs = refl
@@ -85,31 +82,28 @@ back-front : (e m : ℕ) (ks : List (Option ℕ)) (new : List ℕ) → length ks
     → Agrees (put_front (replicate m (Some e)) ks) new
     → new ≡ put_front (replicate m e) (filled ks new)
 back-front e zero ks new same a = sym (filled-same ks new a)
-back-front e (suc m) [] [] same a = absurd a
 back-front e (suc m) [] (b ∷ new) same a = absurd (omega (arith, same))
-back-front e (suc m) (k ∷ ks) [] same a = absurd a
 back-front e (suc m) (k ∷ ks) (b ∷ new) same a =
     ap₂ (λ (x : ℕ) (xs : List ℕ). x ∷ xs) (sym a.0)
     (back-front e m ks new (omega (arith, same)) a.1)
+back-front e m ks new same a = absurd a
 
 back-over : (at e m : ℕ) (ks : List (Option ℕ)) (new : List ℕ) → length ks ≡ length new
     → Agrees (put_over at (replicate m (Some e)) ks) new
     → new ≡ put_over at (replicate m e) (filled ks new)
 back-over zero e m ks new same a = back-front e m ks new same a
 back-over (suc n) e zero [] [] same a = refl
-back-over (suc n) e (suc m) [] [] same a = absurd a
 back-over (suc n) e m [] (b ∷ new) same a = absurd (omega (arith, same))
-back-over (suc n) e m (k ∷ ks) [] same a = absurd a
 back-over (suc n) e m (k ∷ ks) (b ∷ new) same a =
     ap₂ (λ (x : ℕ) (xs : List ℕ). x ∷ xs) (sym (pick-same k b a.0))
     (back-over n e m ks new (omega (arith, same)) a.1)
+back-over n e m ks new same a = absurd a
 
 back-put : (at e m : ℕ) (ks : List (Option ℕ)) (new : List ℕ) → length ks ≡ length new
     → Agrees (with_items at (replicate m (Some e)) ks) new
     → new ≡ with_items at (replicate m e) (filled ks new)
 back-put at e m ks new same a =
-    let P : List (Option ℕ) → Type 0 = λ xs. Agrees xs new in
-    back-over at e m ks new same (subst P (with_items-is at (replicate m (Some e)) ks) a)
+    back-over at e m ks new same (rw (with_items-is at (replicate m (Some e)) ks) at a)
     ∙ sym (with_items-is at (replicate m e) (filled ks new))
 
 -- what stood there before
@@ -157,10 +151,9 @@ back-erased chip (n ∷ pages) ks new size same small smaller bytes a =
 all-erased : (e n : ℕ) (new : List ℕ) → Agrees (replicate n (Some e)) new
     → new ≡ replicate (length new) e
 all-erased e zero [] a = refl
-all-erased e zero (b ∷ new) a = absurd a
-all-erased e (suc n) [] a = absurd a
 all-erased e (suc n) (b ∷ new) a =
     ap₂ (λ (x : ℕ) (xs : List ℕ). x ∷ xs) (sym a.0) (all-erased e n new a.1)
+all-erased e n new a = absurd a
 
 -- A write:
 
@@ -214,8 +207,6 @@ held-front e [] ks new one fits same small bytes a =
       put = sym (filled-same ks new a);
       bytes = bytes-filled ks new small bytes;
     }
-held-front e (s ∷ ss) [] new one fits same small bytes a = absurd (omega (arith, fits))
-held-front e (s ∷ ss) (k ∷ ks) [] one fits same small bytes a = absurd (omega (arith, same))
 held-front e (s ∷ ss) (k ∷ ks) (b ∷ new) one fits same small bytes a =
     let more =
     held-front e ss ks new one (omega (arith, fits)) (omega (arith, same)) small.1 bytes.1 a.1 in
@@ -226,6 +217,7 @@ held-front e (s ∷ ss) (k ∷ ks) (b ∷ new) one fits same small bytes a =
       put = ap (λ xs. b ∷ xs) more.put;
       bytes = (held-small e k small.0, more.bytes);
     }
+held-front e ss ks new one fits same small bytes a = absurd (omega (arith, fits, same))
 
 held-over : (at e : ℕ) (sents : List ℕ) (ks : List (Option ℕ)) (new : List ℕ) → IsErasedByte e
     → at + length sents ≤ length ks → length ks ≡ length new → Small ks → Bytes new
@@ -233,8 +225,6 @@ held-over : (at e : ℕ) (sents : List ℕ) (ks : List (Option ℕ)) (new : List
     → Held e at sents ks new
 held-over zero e sents ks new one fits same small bytes a =
     held-front e sents ks new one (omega (arith, fits)) same small bytes a
-held-over (suc n) e sents [] new one fits same small bytes a = absurd (omega (arith, fits))
-held-over (suc n) e sents (k ∷ ks) [] one fits same small bytes a = absurd (omega (arith, same))
 held-over (suc n) e sents (k ∷ ks) (b ∷ new) one fits same small bytes a =
     let more =
     held-over n e sents ks new one (omega (arith, fits)) (omega (arith, same)) small.1 bytes.1 a.1
@@ -246,6 +236,7 @@ held-over (suc n) e sents (k ∷ ks) (b ∷ new) one fits same small bytes a =
       put = ap₂ (λ (x : ℕ) (xs : List ℕ). x ∷ xs) (sym (pick-same k b a.0)) more.put;
       bytes = (pick-small k b small.0 bytes.0, more.bytes);
     }
+held-over n e sents ks new one fits same small bytes a = absurd (omega (arith, fits, same))
 
 -- Small places stay so:
 
@@ -261,8 +252,7 @@ small-over (suc n) ps (k ∷ ks) p s = (s.0, small-over n ps ks p s.1)
 
 small-put : (at : ℕ) (ps ks : List (Option ℕ)) → Small ps → Small ks → Small (with_items at ps ks)
 small-put at ps ks p s =
-    let P : List (Option ℕ) → Type 0 = λ xs. Small xs in
-    subst P (sym (with_items-is at ps ks)) (small-over at ps ks p s)
+    rw (with_items-is at ps ks) (small-over at ps ks p s)
 
 small-replicate : (n e : ℕ) → e < 256 → Small (replicate n (Some e))
 small-replicate zero e h = tt
@@ -338,12 +328,11 @@ back-changed chip EraseAll ks new one fits size same small bytes a =
 back-changed chip (Write address sent) ks new one fits size same small bytes a =
     let at = address - chip.base in
     let e = fits-end chip address (length sent) fits in
-    let P : List (Option ℕ) → Type 0 = λ xs. Agrees xs new in
     let places = stored_all (erased_byte chip) (take (length sent) (drop at ks)) sent in
     let h =
     held-over at (erased_byte chip) sent ks new one (omega (arith, size, e.0, e.1)) (size
     ∙ sym same)
-    small bytes (subst P (with_items-is at places ks) a) in
+    small bytes (rw (with_items-is at places ks) at a) in
     record {
       old = h.old;
       agrees = h.agrees;

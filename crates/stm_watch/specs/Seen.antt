@@ -1,6 +1,5 @@
 -- When a device is as what is known of it says.
-use Rattle.std.specs.Prelude.{◌≡◌, ℕ, List, [], ◌∷◌, ◌++◌, take, drop}
-use Rattle.std.specs.Prelude.{Option, Some, None}
+use Rattle.std.specs.Prelude.{◌≡◌, ℕ, List, [], ◌∷◌, ◌++◌, take, drop, Option, Some, None}
 use Rattle.stm_watch.specs.declared.sight.Sight.{Sight}
 use Rattle.stm_watch.specs.declared.sight.Sight.TheVariants.{Follows, Left, Lost}
 use Rattle.stm_watch.specs.Known.{Known}

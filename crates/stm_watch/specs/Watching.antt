@@ -1,6 +1,5 @@
 -- A watched Rig, as contracts see it.
-use Rattle.std.specs.Prelude.{◌≡◌, ℕ, ◌+◌, true, false, List, [], ◌∷◌}
-use Rattle.std.specs.Prelude.{Option, Some, None}
+use Rattle.std.specs.Prelude.{◌≡◌, ℕ, ◌+◌, true, false, List, [], ◌∷◌, Option, Some, None}
 use Rattle.stm_wire.specs.Call.{Call, Get}
 use Rattle.stm_wire.specs.Rig.{RigState}
 use Rattle.stm_watch.specs.Known.{Known, is_due, heard, first_due, address_due}

@@ -138,18 +138,18 @@ undo_stops_as is_fresh table old new fault P Q more (inr x) =
       does = either x.does;
     })
   where
-    either : (let way = undo_way is_fresh x.chip.kind (intent_of x.journal.state) in
+    either : (let way = undo_way is_fresh x.chip.kind x.journal.is_greeted (intent_of x.journal.state) in
         GoesOn (ReachesInPart way (cause_of fault) x.journal.is_torn) old.calls new.calls
         ⊎ ReachesAndStops way x.chip.id x.journal.is_torn
         (IsConfirmedInPart x.chip (P x.chip x.journal.state)) (cause_of fault) old new)
-        → (let way = undo_way is_fresh x.chip.kind (intent_of x.journal.state) in
+        → (let way = undo_way is_fresh x.chip.kind x.journal.is_greeted (intent_of x.journal.state) in
         GoesOn (ReachesInPart way (cause_of fault) x.journal.is_torn) old.calls new.calls
         ⊎ ReachesAndStops way x.chip.id x.journal.is_torn
         (IsConfirmedInPart x.chip (Q x.chip x.journal.state)) (cause_of fault) old new)
     either (inl unreached) = inl unreached
     either (inr stops) =
         inr
-        (stops_as (undo_way is_fresh x.chip.kind (intent_of x.journal.state)) x.chip
+        (stops_as (undo_way is_fresh x.chip.kind x.journal.is_greeted (intent_of x.journal.state)) x.chip
         x.journal.is_torn (P x.chip x.journal.state) (Q x.chip x.journal.state) (cause_of fault)
         old new (λ xs p. more x.chip x.journal.state xs p) stops)
 

@@ -182,7 +182,7 @@ module _ (R : Type 0) (view : R → RigState) where
       d chip MayBe intent same is can among believed safe led =
       let own = intent_of session.journal.state in
       of_undo chip MayBe (has_companion chip) intent own whole
-      (undo_way is_fresh session.chip.kind own) session.chip.id session.journal.is_torn
+      (undo_way is_fresh session.chip.kind session.journal.is_greeted own) session.chip.id session.journal.is_torn
       (IsConfirmedInPart session.chip
       (BeginTaking again count session.chip session.journal.state))
       (cause_of fault) (view before) (view after) session.does old mid d same is can among believed

@@ -63,12 +63,6 @@ no_erase_reads kind n a answer e =
     let h : 0x40 ≤ 0x11 = subst P e (first_of_erase kind n) in
     omega (arith, h)
 
-pub no_write_reads : (a b : ℕ) (bytes answer : List ℕ) → write_turns b bytes ≡ read_turns a answer
-    → ⊥
-no_write_reads a b bytes answer e =
-    let h : 0x31 ≡ 0x11 = same_byte 0 (write_turns b bytes) (read_turns a answer) e in
-    omega (arith, h)
-
 changes_first : (chip : ChipData) (n : ℕ) (turns : List Turn) → ChangesPage chip n turns
     → 0x30 ≤ byte_at 0 turns
 changes_first chip n turns (erases e) =

@@ -83,7 +83,7 @@ module _ (lengths : (set : Pairs) (address : ℕ) (bytes : List ℕ) → length
       → AreAtWork (has_companion session.chip) W (intent_of session.journal.state)
       → Leaves session.chip W (intent_of session.journal.state)
       (done_events (intent_of session.journal.state)
-      (undo_way is_fresh session.chip.kind (intent_of session.journal.state)) session.chip.id
+      (undo_way is_fresh session.chip.kind session.journal.is_greeted (intent_of session.journal.state)) session.chip.id
       session.journal.is_torn
       (IsAfter (confirming session.chip) (Taken session.chip session.journal.state))
       old new session.does)
@@ -103,15 +103,15 @@ module _ (lengths : (set : Pairs) (address : ℕ) (bytes : List ℕ) → length
 
   stopped_undo : (is_fresh again : Bool) (count : ℕ) (old new : RigState) (fault : Fault)
       (whole : ℕ) (chip : ChipData) (l : Loaded) (W : ℕ → Type 0)
-      (does : GoesOn (ReachesInPart (undo_way is_fresh chip.kind (intent_of l.state))
+      (does : GoesOn (ReachesInPart (undo_way is_fresh chip.kind l.is_greeted (intent_of l.state))
       (cause_of fault) l.is_torn)
       old.calls new.calls
-      ⊎ ReachesAndStops (undo_way is_fresh chip.kind (intent_of l.state)) chip.id l.is_torn
+      ⊎ ReachesAndStops (undo_way is_fresh chip.kind l.is_greeted (intent_of l.state)) chip.id l.is_torn
       (IsConfirmedInPart chip (BeginTaking again count chip l.state)) (cause_of fault) old new)
       → IsSound l.state → IsJournalOf chip l.state
       → AreAtWork (has_companion chip) W (intent_of l.state)
       → NoneBelieved chip (has_companion chip) W (intent_of l.state)
-      (undo_events (intent_of l.state) whole (undo_way is_fresh chip.kind
+      (undo_events (intent_of l.state) whole (undo_way is_fresh chip.kind l.is_greeted
       (intent_of l.state)) chip.id
       l.is_torn (IsConfirmedInPart chip (BeginTaking again count chip l.state))
       (cause_of fault) old new does)
@@ -122,7 +122,7 @@ module _ (lengths : (set : Pairs) (address : ℕ) (bytes : List ℕ) → length
       let o = intent_of s in
       let both = has_companion chip in
       let segments = pages_of_segments s.stack in
-      stopped_believed chip W o whole (undo_way is_fresh chip.kind o) l.is_torn (cause_of fault)
+      stopped_believed chip W o whole (undo_way is_fresh chip.kind l.is_greeted o) l.is_torn (cause_of fault)
       (BeginTaking again count chip s) old new reached now
       (λ xs p W1 now1.
       (let P : List ℕ → Type 0 = λ work. OrMisread again chip (Begin

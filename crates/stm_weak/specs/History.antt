@@ -113,18 +113,18 @@ events_in {R = R} {view = view}
     (cause_of fault) (view old) (view new) session.does
 events_in {R = R} {view = view} (undid is_fresh table taken old new session) =
     let intent = intent_of session.journal.state in
-    done_events intent (undo_way is_fresh session.chip.kind intent) session.chip.id
+    done_events intent (undo_way is_fresh session.chip.kind session.journal.is_greeted intent) session.chip.id
     session.journal.is_torn _ (view old) (view new) session.does
 events_in {R = R} {view = view} (undid_verified is_fresh table returned old new session) =
     let intent = intent_of session.journal.state in
-    done_events intent (undo_way is_fresh session.chip.kind intent) session.chip.id
+    done_events intent (undo_way is_fresh session.chip.kind session.journal.is_greeted intent) session.chip.id
     session.journal.is_torn _ (view old) (view new) session.does
 events_in {R = R} {view = view}
     (undo_stopped is_fresh again table count old new fault whole (inl fetched)) = []
 events_in {R = R} {view = view}
     (undo_stopped is_fresh again table count old new fault whole (inr session)) =
     let intent = intent_of session.journal.state in
-    undo_events intent whole (undo_way is_fresh session.chip.kind intent) session.chip.id
+    undo_events intent whole (undo_way is_fresh session.chip.kind session.journal.is_greeted intent) session.chip.id
     session.journal.is_torn _ (cause_of fault) (view old) (view new) session.does
 events_in {R = R} {view = view} (asked is_fresh table board old new asks) =
     settles (intent_of asks.journal.state) ∷ []

@@ -74,7 +74,7 @@ read_small chip flash (a ∷ b ∷ c ∷ d ∷ x ∷ n ∷ rest) by =
     omega arith
 read_small chip flash _ by = lit≤ tt
 
-answer_small : (d : Device) → IsDevice d → (bytes : List ℕ) → IsBytes bytes → length (answer d.chip d.version d.codes d.flash bytes) ≤ 258
+pub answer_small : (d : Device) → IsDevice d → (bytes : List ℕ) → IsBytes bytes → length (answer d.chip d.version d.codes d.flash bytes) ≤ 258
 answer_small d is (c ∷ x ∷ rest) by =
     let P : List ℕ → Type 0 = λ r. length r ≤ 258 in
     let count = is.count in

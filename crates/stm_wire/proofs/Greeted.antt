@@ -28,7 +28,7 @@ use Rattle.stm_wire.proofs.Ending.{awaits_at, bytes_more, ends_behind, ends_shor
 use Rattle.stm_wire.proofs.Enough.{byte_small, no_count, pages_end}
 use Rattle.stm_wire.proofs.Closed.{awaits_no_more, harmless_fed, unharmed_fed, same_make}
 use Rattle.stm_wire.proofs.EraseHigh.{companion, page_named}
-use Rattle.stm_wire.proofs.Greeting.{greeted_by, erase_greeted, extended_greeted, get_greeted, id_greeted, read_greeted, write_greeted}
+use Rattle.stm_wire.proofs.GreetedRests.{greeted_by, erase_greeted, extended_greeted, get_greeted, id_greeted, read_greeted, write_greeted}
 use Rattle.stm_wire.proofs.Stopped.{at_least_under, byte_of, low_byte, high_byte, fewer, fewer_outside, write_confined, stopped_awaits_few, stopped_is_harmless, fresh_is_harmless}
 
 -- How many of the byte suffice:

@@ -28,14 +28,14 @@ use Rattle.stm_wire.proofs.Pages.{page_inside}
 use Rattle.stm_wire.proofs.Steps.{replies_along}
 use Rattle.stm_wire.proofs.Stops.{IsWhole, Suffices, along-take}
 use Rattle.stm_wire.proofs.Stops as stops
-use Rattle.stm_wire.proofs.Greeting.{mild_first, get_greeted, id_greeted, read_greeted, write_greeted}
+use Rattle.stm_wire.proofs.GreetedRests.{mild_first, get_greeted, id_greeted, read_greeted, write_greeted}
 use Rattle.stm_wire.proofs.Greeted.{erase_enough, erase_mild, first_enough, greet, greetable, greeted_fewer, one_greetable, short, short_least, within_greeted}
 use Rattle.stm_wire.proofs.Stopped.{byte_of, erasable, mild_get_frame, mild_id_frame, mild_read_frame, mild_erase_frame, mild_write_frame, write_confined}
 use Rattle.stm_wire.proofs.StoppedFrames.{erase_body, erase_check, erase_suffices, erase_whole, frame_of, get_whole, id_whole, read_whole, read_suffices, sending_is_harmless, write_suffices, write_whole}
 
 -- what is owed changes nothing else
 
-within_owed : (most byte : ℕ) (pages : List ℕ) (d : Device) (o : List ℕ) → HarmlessWithin most d byte pages → HarmlessWithin most (record d { owed = o }) byte pages
+pub within_owed : (most byte : ℕ) (pages : List ℕ) (d : Device) (o : List ℕ) → HarmlessWithin most d byte pages → HarmlessWithin most (record d { owed = o }) byte pages
 within_owed most byte pages d o h = record { harmless = harmless_owed byte pages d o h.harmless; awaits = h.awaits }
 
 safe_owed : (most byte : ℕ) (pages : List ℕ) (d : Device) (o : List ℕ) → ((new : Device) → Feeds 0x7F d new → IsGreetedSafely most byte pages d new) → (new : Device) → Feeds 0x7F (record d { owed = o }) new → IsGreetedSafely most byte pages (record d { owed = o }) new

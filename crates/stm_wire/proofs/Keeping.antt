@@ -10,61 +10,79 @@ use Rattle.stm_wire.proofs.Flash.{same_flash}
 use Rattle.stm_wire.specs.declared.chip.EraseKind.{EraseKind}
 use Rattle.stm_wire.specs.declared.chip.EraseKind.TheVariants.{Page, Extended}
 use Rattle.stm_wire.specs.Awaited.{Awaits, most_awaited}
-use Rattle.stm_wire.specs.Settling.{IsSettling, IsGoing, LeftBySettling, KeepsSettling, with_nothing_owed}
+use Rattle.stm_wire.specs.Settling.{IsSettling, IsGoing, LeftBySettling, LeftWith, Keeps, KeepsSettling, with_nothing_owed}
 use Rattle.stm_wire.specs.Command.{with_rest}
 use Rattle.stm_wire.specs.lemmas.MomentLaws.{started, joined, elapsed}
 use Rattle.stm_wire.specs.Reply.{ack, nack}
 use Rattle.stm_wire.proofs.Ending.{awaited_limited, more_suffice}
 use Rattle.stm_wire.proofs.Going.{going, settling_loses, settling_fed, connects, waits, refuses, step, Steps, IsOver, IsNoRefusal, InBatch, batch_step, batch_begins, batch_ends}
 
--- a moment is one of those that it keeps
-pub here : (byte : ℕ) (pages : List ℕ) (start : Device) (a b : RigState) → IsModel b → KeepsSettling byte pages start a b → LeftBySettling byte pages start a.journal b.device b.journal
-here byte pages start a b model k = k.moments.each b.device b.journal (model.counts_now a.moment b.device k.moments.later (0, refl))
-
-pub keeps_start : (byte : ℕ) (pages : List ℕ) (start : Device) (a : RigState) → IsModel a → a.is_honest → IsSettling byte pages start a.device → KeepsSettling byte pages start a a
-keeps_start byte pages start a model h s = record {
-  honest = h;
-  journal = refl;
-  moments = started (LeftBySettling byte pages start a.journal) a model (λ d l. (refl, settling_loses byte pages start a.device d s l));
-}
-
-pub keeps_then : (byte : ℕ) (pages : List ℕ) (start : Device) (a b c : RigState) → IsModel b → KeepsSettling byte pages start a b → KeepsSettling byte pages start b c → KeepsSettling byte pages start a c
-keeps_then byte pages start a b c model k l =
-    let same = (here byte pages start a b model k).0 in
-    record {
-      honest = l.honest;
-      journal = l.journal ∙ k.journal;
-      moments = joined (LeftBySettling byte pages start a.journal) (LeftBySettling byte pages start b.journal) (LeftBySettling byte pages start a.journal) a b c k.moments l.moments
-          (λ d journal p. p) (λ d journal q. (q.0 ∙ same, q.1));
-    }
-
-pub keeps_get : (byte : ℕ) (pages : List ℕ) (start : Device) (result : Result (Option ℕ) RigFault) (a b : RigState) → IsModel a → IsSettling byte pages start a.device → GetsHonestly result a b → KeepsSettling byte pages start a b
-keeps_get byte pages start result a b model s g = record {
-  honest = g.honest;
-  journal = g.journal;
-  moments = elapsed (LeftByGet a) (LeftBySettling byte pages start a.journal) a b model g.time
-      (λ d l. (refl, settling_loses byte pages start a.device d s l)) (λ d journal p. (p.0, settling_loses byte pages start a.device d s p.1));
-}
-
 put_journal : {T : Type 0} (sent : ℕ) (result : Result T RigFault) (a b : RigState) → PutsHonestly sent result a b → b.journal ≡ a.journal
 put_journal sent (Ok x) a b p = p.ok.1
 put_journal sent (Err e) a b p = p.err.0
 
--- a byte that leaves what settling keeps
+-- Of any P that stays where owed bytes are lost:
+pub left_here : (P : Device → Type 0) (a b : RigState) → IsModel b → Keeps P a b → LeftWith P a.journal b.device b.journal
+left_here P a b model k = k.moments.each b.device b.journal (model.counts_now a.moment b.device k.moments.later (0, refl))
+
+-- and what follows keeps something that implies it
+pub kept_then : (P Q : Device → Type 0) (a b c : RigState) → IsModel b → ((d : Device) → Q d → P d) → Keeps P a b → Keeps Q b c → Keeps P a c
+kept_then P Q a b c model f k l =
+    let same = (left_here P a b model k).0 in
+    record {
+      honest = l.honest;
+      journal = l.journal ∙ k.journal;
+      moments = joined (LeftWith P a.journal) (LeftWith Q b.journal) (LeftWith P a.journal) a b c k.moments l.moments
+          (λ d journal p. p) (λ d journal q. (q.0 ∙ same, f d q.1));
+    }
+
+module _ (P : Device → Type 0) (survives : (d new : Device) → P d → LosesOwed d new → P new) where
+  pub kept_start : (a : RigState) → IsModel a → a.is_honest → P a.device → Keeps P a a
+  kept_start a model h s = record {
+    honest = h;
+    journal = refl;
+    moments = started (LeftWith P a.journal) a model (λ d l. (refl, survives a.device d s l));
+  }
+
+  pub kept_get : (result : Result (Option ℕ) RigFault) (a b : RigState) → IsModel a → P a.device → GetsHonestly result a b → Keeps P a b
+  kept_get result a b model s g = record {
+    honest = g.honest;
+    journal = g.journal;
+    moments = elapsed (LeftByGet a) (LeftWith P a.journal) a b model g.time
+        (λ d l. (refl, survives a.device d s l)) (λ d journal p. (p.0, survives a.device d s p.1));
+  }
+
+  -- a byte that leaves what has P
+  pub kept_put : {T : Type 0} (sent : ℕ) (result : Result T RigFault) (a b : RigState) → IsModel a → P a.device → ((d : Device) → Feeds sent a.device d → P d) → PutsHonestly sent result a b → Keeps P a b
+  kept_put sent result a b model s fed p = record {
+    honest = p.honest;
+    journal = put_journal sent result a b p;
+    moments = elapsed (LeftByPut sent a) (LeftWith P a.journal) a b model p.time
+        (λ d l. (refl, survives a.device d s l))
+        (λ d journal q. (
+          q.0,
+          ⊎_elim
+              (λ same. survives a.device d s (subst (λ (x : Device). LosesOwed x d) same q.1.2))
+              (λ f. survives q.1.0 d (fed q.1.0 f) q.1.2) q.1.1,
+        ));
+  }
+
+-- Of settling:
+pub here : (byte : ℕ) (pages : List ℕ) (start : Device) (a b : RigState) → IsModel b → KeepsSettling byte pages start a b → LeftBySettling byte pages start a.journal b.device b.journal
+here byte pages start a b model k = left_here (IsSettling byte pages start) a b model k
+
+pub keeps_start : (byte : ℕ) (pages : List ℕ) (start : Device) (a : RigState) → IsModel a → a.is_honest → IsSettling byte pages start a.device → KeepsSettling byte pages start a a
+keeps_start byte pages start a model h s = kept_start (IsSettling byte pages start) (settling_loses byte pages start) a model h s
+
+pub keeps_then : (byte : ℕ) (pages : List ℕ) (start : Device) (a b c : RigState) → IsModel b → KeepsSettling byte pages start a b → KeepsSettling byte pages start b c → KeepsSettling byte pages start a c
+keeps_then byte pages start a b c model k l = kept_then (IsSettling byte pages start) (IsSettling byte pages start) a b c model (λ d q. q) k l
+
+pub keeps_get : (byte : ℕ) (pages : List ℕ) (start : Device) (result : Result (Option ℕ) RigFault) (a b : RigState) → IsModel a → IsSettling byte pages start a.device → GetsHonestly result a b → KeepsSettling byte pages start a b
+keeps_get byte pages start result a b model s g = kept_get (IsSettling byte pages start) (settling_loses byte pages start) result a b model s g
+
 pub keeps_put : {T : Type 0} (byte sent : ℕ) (pages : List ℕ) (start : Device) (result : Result T RigFault) (a b : RigState) → IsModel a → IsSettling byte pages start a.device →
     ((d : Device) → Feeds sent a.device d → IsSettling byte pages start d) → PutsHonestly sent result a b → KeepsSettling byte pages start a b
-keeps_put byte sent pages start result a b model s fed p = record {
-  honest = p.honest;
-  journal = put_journal sent result a b p;
-  moments = elapsed (LeftByPut sent a) (LeftBySettling byte pages start a.journal) a b model p.time
-      (λ d l. (refl, settling_loses byte pages start a.device d s l))
-      (λ d journal q. (
-        q.0,
-        ⊎_elim
-            (λ same. settling_loses byte pages start a.device d s (subst (λ (x : Device). LosesOwed x d) same q.1.2))
-            (λ f. settling_loses byte pages start q.1.0 d (fed q.1.0 f) q.1.2) q.1.1,
-      ));
-}
+keeps_put byte sent pages start result a b model s fed p = kept_put (IsSettling byte pages start) (settling_loses byte pages start) sent result a b model s fed p
 
 -- so many bytes were taken from the front
 pub record IsTaken (n : ℕ) (old new : Device) : Type 0 where

@@ -16,7 +16,8 @@ mod Flash
 mod GoFrame
 mod Greeted
 mod GreetedFrames
-mod Greeting
+mod GreetedRests
+mod Greets
 mod Going
 mod Holding
 mod Keeping

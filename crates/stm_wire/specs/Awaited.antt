@@ -62,12 +62,6 @@ most_under kind None = 267
 most_under kind (Some (Erase n)) = most_for kind (settling_byte (Some (Erase n)))
 most_under kind (Some (Program n)) = 267
 
--- A host without an intent sends so many that any device refuses one: nothing is asked of it.
-abbrev pub AwaitsUnder : Option Intent → Device → Type 0
-AwaitsUnder None d = Unit {0}
-AwaitsUnder (Some intent) d =
-    Awaits (settling_byte (Some intent)) (most_under d.chip.kind (Some intent)) d
-
 abbrev pub MoreSuffice : Type 0
 MoreSuffice =
     (d : Device) (byte left more : ℕ) → left ≤ more → Awaits byte left d → Awaits byte more d

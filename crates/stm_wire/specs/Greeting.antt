@@ -1,15 +1,20 @@
 -- A greeting: one 7F ahead of the settling bytes.
-use Rattle.std.specs.Prelude.{◌≡◌, ℕ, ◌+◌, ◌*◌, ◌<◌, max, List, Option, Some, None, Contains}
+use Rattle.std.specs.Prelude.{◌≡◌, ℕ, ◌+◌, ◌*◌, ◌<◌, ◌≤◌, max, Bool, true, false, List, Option}
+use Rattle.std.specs.Prelude.{Some, None, Contains, length, Result}
 use Rattle.stm_wire.specs.declared.chip.EraseKind.{EraseKind}
 use Rattle.stm_wire.specs.declared.chip.EraseKind.TheVariants.{Page, Extended}
 use Rattle.stm_wire.specs.declared.intent.Intent.{Intent}
 use Rattle.stm_wire.specs.declared.intent.Intent.TheVariants.{Erase, Program}
 use Rattle.stm_wire.specs.Chip.{page_count}
+use Rattle.stm_wire.specs.declared.fault.WireFault.{WireFault}
 use Rattle.stm_wire.specs.Device.{Device, Fresh, Connected, IsDevice, IsSettled, Feeds, LosesOwed, reset}
-use Rattle.stm_wire.specs.Awaited.{Awaits, most_for}
+use Rattle.stm_wire.specs.Awaited.{Awaits, most_for, most_under}
+use Rattle.stm_wire.specs.Command.{IsOkOrLine}
 use Rattle.stm_wire.specs.Harmless.{Harmless, SameOutside}
 use Rattle.stm_wire.specs.Intents.{settling_byte, intended_pages}
 use Rattle.stm_wire.specs.Moments.{PartlyFed}
+use Rattle.stm_wire.specs.Rig.{RigState}
+use Rattle.stm_wire.specs.Settling.{Keeps}
 use Rattle.stm_wire.specs.Stopped.{IsStopped, IsFrameUnder}
 
 -- How many of the settling byte suffice, where 7F may have come once ahead of them. Behind 44 BB it
@@ -21,6 +26,19 @@ most_greeted Extended None = 267
 most_greeted Extended (Some (Erase n)) =
     let byte = settling_byte (Some (Erase n)) in max (most_for Extended byte) (2 * byte + 65030)
 most_greeted Extended (Some (Program n)) = 267
+
+-- how many suffice behind what a host that stopped under this intent had sent, and 7F once where it
+-- may have been sent
+abbrev pub most_left : Bool → EraseKind → Option Intent → ℕ
+most_left false kind intent = most_under kind intent
+most_left true kind intent = most_greeted kind intent
+
+-- The device awaits so many of the intent's byte at most. A host without an intent sends so many that
+-- any device refuses one: nothing is asked of it.
+abbrev pub AwaitsUnder : Bool → Option Intent → Device → Type 0
+AwaitsUnder greeted None d = Unit {0}
+AwaitsUnder greeted (Some intent) d =
+    Awaits (settling_byte (Some intent)) (most_left greeted d.chip.kind (Some intent)) d
 
 -- harmless, and so many of the byte suffice
 pub record HarmlessWithin (most : ℕ) (d : Device) (byte : ℕ) (pages : List ℕ) : Type 0 where
@@ -70,3 +88,18 @@ SendingMayBeGreeted =
     (old d : Device) (intent : Option Intent) (frame : List ℕ) → IsDevice old → IsSettled old
     → IsFrameUnder old.chip intent frame → PartlyFed frame old d
     → MayBeGreeted d intent (intended_pages intent)
+
+-- A device that is greeted, at each moment: the start's chip, version, codes, and flash outside the
+-- pages, which the intent's byte settles without harm, and which owes little.
+pub record IsGreeting (intent : Option Intent) (pages : List ℕ) (start d : Device) : Type 0 where
+  pub safely : IsGreetedSafely (most_greeted start.chip.kind intent) (settling_byte intent) pages
+      start d
+  pub same_version : d.version ≡ start.version
+  pub same_codes : d.codes ≡ start.codes
+  pub owed : length d.owed ≤ 4096
+
+-- what a greeting does to a Rig that follows the model
+pub record Greets {T : Type 0} (intent : Option Intent) (pages : List ℕ)
+    (result : Result T WireFault) (old new : RigState) : Type 0 where
+  pub keeps : Keeps (IsGreeting intent pages old.device) old new
+  pub fails : IsOkOrLine result

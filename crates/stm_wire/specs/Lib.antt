@@ -15,7 +15,6 @@ pub mod Frames
 pub mod SentList
 pub mod Parts
 pub mod Stopped
-pub mod Greeting
 pub mod Refused
 pub mod Settling
 pub mod SettlingCalls
@@ -25,6 +24,7 @@ pub mod Dialogue
 pub mod Moments
 pub mod Sending
 pub mod Command
+pub mod Greeting
 pub mod Protection
 pub mod PowerLoss
 pub mod lemmas

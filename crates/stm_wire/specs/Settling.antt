@@ -91,15 +91,21 @@ pub record IsGoing (byte : ℕ) (pages : List ℕ) (start : Device) (left : ℕ)
 abbrev pub with_nothing_owed : Device → Device
 with_nothing_owed d = record d { owed = [] }
 
-abbrev pub LeftBySettling : ℕ → List ℕ → Device → List ℕ → Device → List ℕ → Type 0
-LeftBySettling byte pages start kept d journal = (journal ≡ kept) × IsSettling byte pages start d
+-- this journal, and a device that has P
+abbrev pub LeftWith : (Device → Type 0) → List ℕ → Device → List ℕ → Type 0
+LeftWith P kept d journal = (journal ≡ kept) × P d
 
 -- at each moment from old to new
-pub record KeepsSettling (byte : ℕ) (pages : List ℕ) (start : Device)
-    (old new : RigState) : Type 0 where
+pub record Keeps (P : Device → Type 0) (old new : RigState) : Type 0 where
   pub honest : new.is_honest
   pub journal : new.journal ≡ old.journal
-  pub moments : LeavesOnly (LeftBySettling byte pages start old.journal) old new
+  pub moments : LeavesOnly (LeftWith P old.journal) old new
+
+abbrev pub LeftBySettling : ℕ → List ℕ → Device → List ℕ → Device → List ℕ → Type 0
+LeftBySettling byte pages start = LeftWith (IsSettling byte pages start)
+
+abbrev pub KeepsSettling : ℕ → List ℕ → Device → RigState → RigState → Type 0
+KeepsSettling byte pages start = Keeps (IsSettling byte pages start)
 
 -- what one byte of settling does, and whether it was refused
 pub record SendsOnce (byte : ℕ) (pages : List ℕ) (start : Device) (left : ℕ)

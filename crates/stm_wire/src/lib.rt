@@ -12,6 +12,7 @@ mod fault;
 mod get_command;
 mod get_id_command;
 mod go_command;
+mod greeting;
 mod harmless;
 mod intent;
 mod places;
@@ -32,6 +33,7 @@ pub use fault::{RigFault, WireFault};
 pub use get_command::{Commands, get_commands};
 pub use get_id_command::get_id;
 pub use go_command::go;
+pub use greeting::greet;
 pub use harmless::{
     awaited_is_limited, greeting_is_kept, harmless_is_kept, pages_are_the_flash,
     sending_is_harmless, stopped_is_harmless, stopped_may_be_greeted,

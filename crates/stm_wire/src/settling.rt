@@ -27,7 +27,7 @@ use crate::draining::drain;
 use crate::{Intent, Patience, Rig, WireFault, settling_byte};
 
 /// The byte that a device fresh from reset waits for (AN3155, section 2).
-const CONNECT: u8 = 0x7F;
+pub const CONNECT: u8 = 0x7F;
 
 /// Sends the byte once, and answers whether it was refused.
 fn send_once<R: Rig>(rig: &mut R, byte: u8) -> Result<bool, WireFault>

@@ -1,10 +1,6 @@
-pub mod Asking
 pub mod Number
 pub mod CommandSet
-pub mod Options
+pub mod Given
 pub mod Pages
 pub mod Request
-pub mod Saying
-pub mod Sequel
-pub mod TableNames
 pub mod Json

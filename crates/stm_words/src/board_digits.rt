@@ -1,8 +1,7 @@
 // The digits that name a board, or the unique id of one.
-ghost use Rattle.std.specs.Prelude.{◌≡◌, IfOk, IfSome, IsTrue, option_map};
-ghost use Rattle.clap.specs.Words.{first_value, found_of};
-ghost use Rattle.stm_words.specs.Options.{are_board_digits, are_unique_digits};
-ghost use Rattle.std.specs.Prelude.{codes};
+ghost use Rattle.std.specs.Prelude.{◌≡◌, IfOk, IfSome, IsTrue, codes};
+ghost use Rattle.clap.specs.Words.{found_of};
+ghost use Rattle.stm_words.specs.Given.{NamesText, are_board_digits, are_unique_digits};
 
 use crate::number::are_hex_digits;
 use crate::usage_fault::UsageFault;
@@ -25,8 +24,7 @@ fn are_unique_digits(text: &[u8]) -> bool
 
 /// The unique id that a simulator gets, where one is given.
 pub fn unique_digits<'a>(given: &ArgMatches<'a>) -> Result<Option<&'a str>, UsageFault<'a>>
-    ensures given { IfOk result (λ unique. first_value (found_of given.now) (codes "unique")
-        ≡ option_map (λ text. text.now) unique) }
+    ensures given { IfOk result (NamesText (found_of given.now) (codes "unique")) }
     ensures digits { IfOk result (λ unique.
         IfSome unique (λ text. IsTrue (are_unique_digits text.now))) }
 {
@@ -42,8 +40,7 @@ pub fn unique_digits<'a>(given: &ArgMatches<'a>) -> Result<Option<&'a str>, Usag
 
 /// The board that is wanted, where one is.
 pub fn board_digits<'a>(given: &ArgMatches<'a>) -> Result<Option<&'a str>, UsageFault<'a>>
-    ensures given { IfOk result (λ board. first_value (found_of given.now) (codes "board")
-        ≡ option_map (λ text. text.now) board) }
+    ensures given { IfOk result (NamesText (found_of given.now) (codes "board")) }
     ensures digits { IfOk result (λ board.
         IfSome board (λ text. IsTrue (are_board_digits text.now))) }
 {

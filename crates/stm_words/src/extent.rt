@@ -1,9 +1,9 @@
 // How far back an undo goes.
 ghost use Rattle.std.specs.Prelude.{IfOk};
 ghost use Rattle.clap.specs.Words.{found_of};
-ghost use Rattle.stm_words.specs.Request.{NamesCount, NamesExtent};
+ghost use Rattle.stm_words.specs.Request.{NamesExtent};
 
-use crate::given::{flag, number};
+use crate::given::{flag, spare_number};
 use crate::usage_fault::UsageFault;
 use clap::ArgMatches;
 
@@ -22,21 +22,11 @@ impl Extent {
         ensures { IfOk result (NamesExtent (found_of given.now)) }
     {
         if !flag(given, "to-change") {
-            return Ok(Extent::Newest(count(given)?));
+            return Ok(Extent::Newest(spare_number(given, "COUNT")?.unwrap_or(0)));
         }
         if given.get_str("COUNT").is_some() {
             return Err(UsageFault::ChangeTakesNoCount);
         }
         Ok(Extent::ToChange)
     }
-}
-
-/// How many are named; without a word 0, which is all.
-fn count<'a>(given: &ArgMatches<'a>) -> Result<u32, UsageFault<'a>>
-    ensures { IfOk result (NamesCount (found_of given.now)) }
-{
-    if given.get_str("COUNT").is_none() {
-        return Ok(0);
-    }
-    number(given, "COUNT")
 }

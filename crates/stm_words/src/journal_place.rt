@@ -1,7 +1,7 @@
 // Where the words say that a journal is.
 ghost use Rattle.std.specs.Prelude.{◌≡◌, IfOk, false, true};
 ghost use Rattle.clap.specs.Words.{found_of};
-ghost use Rattle.stm_words.specs.Options.{NamesJournal};
+ghost use Rattle.stm_words.specs.Request.{NamesJournal};
 
 use crate::table_names::is_word;
 use crate::usage_fault::UsageFault;

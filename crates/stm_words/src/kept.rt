@@ -1,15 +1,12 @@
 // A journal whose writes and erases are to stay.
 ghost use Rattle.std.specs.Prelude.{IfOk};
 ghost use Rattle.clap.specs.Words.{found_of};
-ghost use Rattle.stm_words.specs.Request.{IsKeepWord, NamesNewest};
+ghost use Rattle.stm_words.specs.Request.{NamesKept};
 
 use crate::environment::Environment;
-use crate::given::{flag, flag_or, number_within, word};
+use crate::given::{flag, spare_number_to, word};
 use crate::usage_fault::UsageFault;
 use clap::ArgMatches;
-
-/// How many writes and erases a journal has at the most.
-const SEGMENTS: u32 = 65_535;
 
 /// A journal whose writes and erases are to stay, so that they can't be undone any more.
 #[derive(Clone, Copy)]
@@ -34,11 +31,11 @@ impl<'a> Kept<'a> {
         environment: Environment<'a>,
         given: &ArgMatches<'a>,
     ) -> Result<Kept<'a>, UsageFault<'a>>
-        ensures { IfOk result (IsKeepWord environment.entry (found_of given.now)) }
+        ensures { IfOk result (NamesKept environment.entry (found_of given.now)) }
     {
         let to = given.get_str("TO");
         let journal = word(given, "journal")?;
-        let last = newest(given)?;
+        let last = spare_number_to(given, "last", 65_535)?;
         if last.is_some() && to.is_some() {
             return Err(UsageFault::LastTakesNoName);
         }
@@ -46,18 +43,8 @@ impl<'a> Kept<'a> {
             journal,
             to,
             last,
-            without_lock: flag_or(given, "no-lock", environment.without_lock),
+            without_lock: flag(given, "no-lock") || environment.without_lock,
             trusts_others: flag(given, "trust-journal"),
         })
     }
-}
-
-/// How many of the newest are not given up, where that is said.
-fn newest<'a>(given: &ArgMatches<'a>) -> Result<Option<u32>, UsageFault<'a>>
-    ensures { IfOk result (NamesNewest (found_of given.now)) }
-{
-    if given.get_str("last").is_none() {
-        return Ok(None);
-    }
-    Ok(Some(number_within(given, "last", SEGMENTS)?))
 }

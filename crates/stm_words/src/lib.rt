@@ -4,6 +4,7 @@
 mod argument;
 mod board_digits;
 mod command_set;
+mod cut;
 mod device;
 mod environment;
 mod extent;
@@ -24,6 +25,7 @@ mod sequel;
 mod served;
 mod table_names;
 mod task;
+mod unfit;
 mod unread;
 mod usage_fault;
 mod words;

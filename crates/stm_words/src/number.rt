@@ -4,6 +4,7 @@ ghost use Rattle.std.specs.List.{list_all};
 ghost use Rattle.stm_words.specs.Number.{decimal_number, digit_value, has_leading_zero, hex_number};
 ghost use Rattle.stm_words.specs.Number.{is_decimal_digit, is_hex_digit, word_number};
 ghost use Rattle.stm_words.specs.Number.{number_of_digits};
+ghost use Rattle.stm_words.specs.Given.{number_to};
 
 fn is_decimal_digit(c: u8) -> bool
     ensures { result ≡ is_decimal_digit c }
@@ -63,7 +64,8 @@ pub fn are_hex_digits(digits: &[u8]) -> bool
     digits.iter().all(|c| is_hex_digit(*c))
 }
 
-fn hex_number(digits: &[u8]) -> Option<u32>
+/// The number that 1 to 8 hexadecimal digits write.
+pub fn hex_number(digits: &[u8]) -> Option<u32>
     ensures { result ≡ hex_number digits.now }
 {
     if digits.is_empty() || digits.len() > 8 {
@@ -115,5 +117,15 @@ pub fn parse_number(word: &str) -> Option<u32>
     match word.as_bytes() {
         [b'0', b'x', digits @ ..] => hex_number(digits),
         digits => decimal_number(digits),
+    }
+}
+
+/// The same, from 1 to a limit.
+pub fn parse_number_to(word: &str, limit: u32) -> Option<u32>
+    ensures { result ≡ number_to limit word.now }
+{
+    match parse_number(word) {
+        Some(n) if 1 <= n && n <= limit => Some(n),
+        _ => None,
     }
 }

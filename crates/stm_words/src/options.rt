@@ -1,12 +1,12 @@
 // The options that every use of a device has.
-ghost use Rattle.std.specs.Prelude.{IfOk};
+ghost use Rattle.std.specs.Prelude.{◌≡◌, IfOk, IsSome, false, true};
 ghost use Rattle.clap.specs.Words.{found_of};
-ghost use Rattle.stm_words.specs.Options.{AreOptions};
+ghost use Rattle.stm_words.specs.Request.{AreOptions, is_simulator};
 
 use crate::board_digits::board_digits;
 use crate::device::Device;
 use crate::environment::Environment;
-use crate::given::{flag, flag_or, given_number, number_within, spare_number, word};
+use crate::given::{flag, number_to, spare_number, spare_number_to, word};
 use crate::journal_place::JournalPlace;
 use crate::progress::Progress;
 use crate::table_names::TableNames;
@@ -65,11 +65,11 @@ impl<'a> Options<'a> {
             return Err(UsageFault::BadDevice(device));
         };
         let place = JournalPlace::parse(given)?;
-        let wait = number_within(given, "wait", 60_000)?;
-        let baud = spare_number(given, "baud", 4_000_000)?;
-        let give_up = given_number(given, "give-up")?;
+        let wait = number_to(given, "wait", 60_000)?;
+        let baud = spare_number_to(given, "baud", 4_000_000)?;
+        let give_up = spare_number(given, "give-up")?;
         let board = board_digits(given)?;
-        let without_board = flag_or(given, "no-board", environment.without_board);
+        let without_board = flag(given, "no-board") || environment.without_board;
         if board.is_some() && without_board {
             return Err(UsageFault::BoardUnasked);
         }
@@ -90,18 +90,20 @@ impl<'a> Options<'a> {
             give_up,
             board,
             without_board,
-            is_fresh: flag_or(given, "fresh", environment.is_fresh),
-            without_lock: flag_or(given, "no-lock", environment.without_lock),
+            is_fresh: flag(given, "fresh") || environment.is_fresh,
+            without_lock: flag(given, "no-lock") || environment.without_lock,
             trusts_others: flag(given, "trust-journal"),
             watches: flag(given, "watch"),
             recovers,
             progress: Progress::of(flag(given, "progress"), flag(given, "quiet")),
-            stop: given_number(given, "stop")?,
+            stop: spare_number(given, "stop")?,
         })
     }
 
     /// Whether a stop is asked for, of a device that is no simulator in the process.
-    pub fn has_vain_stop(&self) -> bool {
+    pub fn has_vain_stop(&self) -> bool
+        ensures { result ≡ false → IsSome self.now.stop → is_simulator self.now.device ≡ true }
+    {
         self.stop.is_some() && matches!(self.device, Device::Socket(_))
     }
 }

@@ -4,7 +4,7 @@ ghost use Rattle.stm_words.specs.Number.{word_number};
 ghost use Rattle.stm_words.specs.Pages.{IsFromTo, NameAll, NamesPages};
 
 use crate::number::parse_number;
-use crate::unread::Unread;
+use crate::unfit::Unfit;
 use crate::usage_fault::UsageFault;
 use std::alloc::Global;
 
@@ -43,12 +43,12 @@ fn first_and_last(word: &str) -> Option<(u16, u16)>
 }
 
 /// Adds the pages that a word names.
-fn add_pages<'a>(pages: &mut Vec<u16>, word: &'a str) -> Result<(), Unread<'a>>
+fn add_pages<'a>(pages: &mut Vec<u16>, word: &'a str) -> Result<(), Unfit<'a>>
     ensures { OnOk result ((some : List ℕ) × NamesPages word.entry.now some
         × (pages.new.items ≡ pages.old.items ++ some)) }
 {
     let Some((first, last)) = first_and_last(word) else {
-        return Err(Unread::Usage(UsageFault::BadNumber(word)));
+        return Err(Unfit::Usage(UsageFault::BadNumber(word)));
     };
     for n in u32::from(first)..u32::from(last) + 1 {
         pages.push(n as u16)?;
@@ -57,7 +57,7 @@ fn add_pages<'a>(pages: &mut Vec<u16>, word: &'a str) -> Result<(), Unread<'a>>
 }
 
 /// The pages that words name, in their order: `N`, or from one to another, `N-M`.
-pub fn pages_of<'a>(alloc: Global, words: &[&'a str]) -> Result<Vec<u16>, Unread<'a>>
+pub fn pages_of<'a>(alloc: Global, words: &[&'a str]) -> Result<Vec<u16>, Unfit<'a>>
     ensures { IfOk result (λ pages. NameAll (map (λ w. w.now) words.now) pages.items) }
 {
     let mut pages = Vec::new(alloc);

@@ -1,4 +1,5 @@
 // What is shown while a session runs.
+ghost use Rattle.std.specs.Prelude.{◌≡◌, if◌then◌else◌};
 
 /// What is shown of a session while it runs, on standard error.
 #[derive(Clone, Copy)]
@@ -13,7 +14,10 @@ pub enum Progress {
 
 impl Progress {
     /// What the words ask for; to show nothing goes before lines.
-    pub fn of(lines: bool, quiet: bool) -> Progress {
+    pub fn of(lines: bool, quiet: bool) -> Progress
+        ensures { result ≡ (if quiet then Progress.Silent
+            else (if lines then Progress.Lines else Progress.OnTerminal)) }
+    {
         if quiet {
             Progress::Silent
         } else if lines {

@@ -1,8 +1,7 @@
 // What the words ask for.
 ghost use Rattle.std.specs.Prelude.{IfOk, OnOk};
-ghost use Rattle.clap.specs.Words.{found_of};
-ghost use Rattle.stm_words.specs.Asking.{AsksBySubcommand, AsksFor};
-ghost use Rattle.stm_words.specs.Saying.{IsFreshUnasked, IsSaidFresh};
+ghost use Rattle.clap.specs.Words.{found_of, subcommand_rows_of};
+ghost use Rattle.stm_words.specs.Request.{AsksBySubcommand, AsksFor, IsFreshUnasked};
 
 use crate::environment::Environment;
 use crate::given::{flag, word};
@@ -11,7 +10,7 @@ use crate::options::Options;
 use crate::sequel::Sequel;
 use crate::served::Served;
 use crate::task::Task;
-use crate::unread::Unread;
+use crate::unfit::Unfit;
 use crate::usage_fault::UsageFault;
 use clap::ArgMatches;
 use std::alloc::Global;
@@ -35,13 +34,12 @@ impl<'a> Request<'a> {
         alloc: Global,
         environment: Environment<'a>,
         matches: &ArgMatches<'a>,
-    ) -> Result<Request<'a>, Unread<'a>>
-        ensures fresh { IfOk result IsSaidFresh }
-        ensures asked { IfOk result (AsksFor environment.entry matches.now) }
+    ) -> Result<Request<'a>, Unfit<'a>>
+        ensures { IfOk result (AsksFor environment.entry (subcommand_rows_of matches.now)) }
     {
         match matches.subcommand() {
             Some((name, given)) => Request::of(alloc, environment, name, given),
-            None => Err(Unread::Usage(UsageFault::UnknownWords)),
+            None => Err(Unfit::Usage(UsageFault::UnknownWords)),
         }
     }
 
@@ -51,9 +49,8 @@ impl<'a> Request<'a> {
         environment: Environment<'a>,
         name: &str,
         given: &ArgMatches<'a>,
-    ) -> Result<Request<'a>, Unread<'a>>
-        ensures fresh { IfOk result IsSaidFresh }
-        ensures asked { IfOk result (AsksBySubcommand environment.entry name.now (found_of given.now)) }
+    ) -> Result<Request<'a>, Unfit<'a>>
+        ensures { IfOk result (AsksBySubcommand environment.entry name.now (found_of given.now)) }
     {
         match name {
             "log" => Ok(Request::Log(word(given, "journal")?, flag(given, "check"))),
@@ -71,18 +68,17 @@ impl<'a> Request<'a> {
         environment: Environment<'a>,
         name: &str,
         given: &ArgMatches<'a>,
-    ) -> Result<Request<'a>, Unread<'a>>
-        ensures fresh { IfOk result IsSaidFresh }
-        ensures asked { IfOk result (AsksBySubcommand environment.entry name.now (found_of given.now)) }
+    ) -> Result<Request<'a>, Unfit<'a>>
+        ensures { IfOk result (AsksBySubcommand environment.entry name.now (found_of given.now)) }
     {
         let options = Options::parse(environment, given)?;
         let task = Task::parse(alloc, name, given)?;
         let sequel = Sequel::behind(name, given)?;
         if options.has_vain_stop() {
-            return Err(Unread::Usage(UsageFault::StopNeedsSimulator));
+            return Err(Unfit::Usage(UsageFault::StopNeedsSimulator));
         }
         if task.wants_pages() {
-            return Err(Unread::Usage(UsageFault::GivePages));
+            return Err(Unfit::Usage(UsageFault::GivePages));
         }
         if task.wants_fresh() {
             check_fresh(&options)?;

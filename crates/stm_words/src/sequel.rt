@@ -1,15 +1,11 @@
 // What follows a write in the same call.
-ghost use Rattle.std.specs.Prelude.{◌≤◌, IfOk};
+ghost use Rattle.std.specs.Prelude.{IfOk};
 ghost use Rattle.clap.specs.Words.{found_of};
-ghost use Rattle.stm_words.specs.Asking.{IsFollowedBy};
-ghost use Rattle.stm_words.specs.Sequel.{IsAlone, IsSequel, NamesAddress};
+ghost use Rattle.stm_words.specs.Request.{IsAlone, IsFollowedBy, IsSequel};
 
-use crate::given::{flag, number, number_within};
+use crate::given::{flag, spare_number, spare_number_to};
 use crate::usage_fault::UsageFault;
 use clap::ArgMatches;
-
-/// How often a write is done again, at the most.
-const AGAIN: u32 = 1000;
 
 /// What follows a write in the same call.
 #[derive(Clone, Copy)]
@@ -54,8 +50,8 @@ impl<'a> Sequel<'a> {
     {
         let to = given.get_str("keep-to");
         let keeps = flag(given, "keep") || to.is_some();
-        let go = address(given)?;
-        let again = again(given)?;
+        let go = spare_number(given, "go")?;
+        let again = spare_number_to(given, "again", 1000)?.unwrap_or(0);
         if go.is_some() && !keeps {
             return Err(UsageFault::GoNeedsKeep);
         }
@@ -66,24 +62,4 @@ impl<'a> Sequel<'a> {
             again,
         })
     }
-}
-
-/// The address of a Go, where one is asked for.
-fn address<'a>(given: &ArgMatches<'a>) -> Result<Option<u32>, UsageFault<'a>>
-    ensures { IfOk result (NamesAddress (found_of given.now)) }
-{
-    if given.get_str("go").is_none() {
-        return Ok(None);
-    }
-    Ok(Some(number(given, "go")?))
-}
-
-/// How often a write is done again; without the option never.
-fn again<'a>(given: &ArgMatches<'a>) -> Result<u32, UsageFault<'a>>
-    ensures { IfOk result (λ count. count ≤ 1000) }
-{
-    if given.get_str("again").is_none() {
-        return Ok(0);
-    }
-    number_within(given, "again", AGAIN)
 }

@@ -1,16 +1,15 @@
 // A simulator that is to be served on a socket.
-ghost use Rattle.std.specs.Prelude.{IfOk, codes};
+ghost use Rattle.std.specs.Prelude.{IfOk};
 ghost use Rattle.clap.specs.Words.{found_of};
-ghost use Rattle.stm_words.specs.Pages.{NameAll};
-ghost use Rattle.stm_words.specs.Request.{texts_of};
+ghost use Rattle.stm_words.specs.Request.{NamesServed};
 
 use crate::board_digits::unique_digits;
 use crate::device::parse_id;
 use crate::environment::Environment;
-use crate::given::{flag_or, number_within, pages, spare_number, word};
+use crate::given::{flag, number_to, pages, spare_number_to, word};
 use crate::mode::parse_mode;
 use crate::table_names::TableNames;
-use crate::unread::Unread;
+use crate::unfit::Unfit;
 use crate::usage_fault::UsageFault;
 use clap::ArgMatches;
 use std::alloc::Global;
@@ -48,23 +47,22 @@ impl<'a> Served<'a> {
         alloc: Global,
         environment: Environment<'a>,
         given: &ArgMatches<'a>,
-    ) -> Result<Served<'a>, Unread<'a>>
-        ensures { IfOk result (λ served. NameAll
-            (texts_of (found_of given.now) (codes "protected")) served.protected.items) }
+    ) -> Result<Served<'a>, Unfit<'a>>
+        ensures { IfOk result (NamesServed environment.entry (found_of given.now)) }
     {
         let table = TableNames::parse(environment, given)?;
         let id = word(given, "id")?;
         let Some(id) = parse_id(id) else {
-            return Err(Unread::Usage(UsageFault::BadNumber(id)));
+            return Err(Unfit::Usage(UsageFault::BadNumber(id)));
         };
         let flash = word(given, "flash")?;
         let unique = unique_digits(given)?;
-        let size = spare_number(given, "size", 65_534)?;
+        let size = spare_number_to(given, "size", 65_534)?;
         let protected = pages(alloc, given, "protected")?;
         let socket = word(given, "socket")?;
         let mode = word(given, "mode")?;
         let Some(mode) = parse_mode(mode) else {
-            return Err(Unread::Usage(UsageFault::BadNumber(mode)));
+            return Err(Unfit::Usage(UsageFault::BadNumber(mode)));
         };
         Ok(Served {
             table,
@@ -75,8 +73,8 @@ impl<'a> Served<'a> {
             protected,
             socket,
             mode,
-            clients: number_within(given, "clients", 1_000_000)?,
-            without_lock: flag_or(given, "no-lock", environment.without_lock),
+            clients: number_to(given, "clients", 1_000_000)?,
+            without_lock: flag(given, "no-lock") || environment.without_lock,
         })
     }
 }

@@ -1,7 +1,8 @@
 // The files of chip tables, of which one is read over the other.
-ghost use Rattle.std.specs.Prelude.{IfOk, IsTrue, ◌↔◌};
+ghost use Rattle.std.specs.Prelude.{◌≡◌, IfOk};
 ghost use Rattle.clap.specs.Words.{found_of};
-ghost use Rattle.stm_words.specs.TableNames.{AreTables, IsWord};
+ghost use Rattle.stm_words.specs.Given.{is_word};
+ghost use Rattle.stm_words.specs.Request.{AreTables};
 
 use crate::environment::Environment;
 use crate::given::word;
@@ -23,7 +24,7 @@ pub struct TableNames<'a> {
 
 /// Whether the value of this name is a word that was given.
 pub fn is_word(given: &ArgMatches, id: &str) -> bool
-    ensures { IsTrue result ↔ IsWord (found_of given.now) id.now }
+    ensures { result ≡ is_word (found_of given.now) id.now }
 {
     matches!(given.value_source(id), Some(ValueSource::CommandLine))
 }

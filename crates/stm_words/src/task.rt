@@ -1,13 +1,14 @@
 // What is asked of a device.
-ghost use Rattle.std.specs.Prelude.{◌≡◌, IfOk};
+ghost use Rattle.std.specs.Prelude.{◌≡◌, IfOk, codes, nat_eq};
+ghost use Rattle.std.specs.List.{ends_with};
 ghost use Rattle.clap.specs.Words.{found_of};
-ghost use Rattle.stm_words.specs.Request.{IsErase, IsProtect, IsReadWord, IsTask, wants_fresh};
+ghost use Rattle.stm_words.specs.Request.{IsTask, wants_fresh, wants_pages};
 
 use crate::extent::Extent;
 use crate::given::{flag, number, pages, range, word, word_range};
 use crate::image_file::ImageFile;
 use crate::range::Range;
-use crate::unread::Unread;
+use crate::unfit::Unfit;
 use crate::usage_fault::UsageFault;
 use clap::ArgMatches;
 use std::alloc::Global;
@@ -64,7 +65,7 @@ pub enum Task<'a> {
 impl<'a> Task<'a> {
     /// What the subcommand of this name asks of a device. A name that is none of a
     /// device's subcommands is refused.
-    pub fn parse(alloc: Global, name: &str, given: &ArgMatches<'a>) -> Result<Task<'a>, Unread<'a>>
+    pub fn parse(alloc: Global, name: &str, given: &ArgMatches<'a>) -> Result<Task<'a>, Unfit<'a>>
         ensures { IfOk result (IsTask name.now (found_of given.now)) }
     {
         match name {
@@ -78,25 +79,28 @@ impl<'a> Task<'a> {
                 verifies: flag(given, "check"),
             }),
             "verify" => Ok(Task::Verify(ImageFile::parse(given)?)),
-            "erase" => Task::parse_erase(alloc, given),
+            "erase" => Ok(Task::Erase {
+                is_all: flag(given, "all"),
+                pages: pages(alloc, given, "PAGE")?,
+            }),
             "undo" => Ok(Task::Undo {
                 extent: Extent::parse(given)?,
                 verifies: flag(given, "check"),
             }),
             "go" => Ok(Task::Go(number(given, "ADDRESS")?)),
             "protect" => Ok(Task::parse_protect(given)?),
-            _ => Err(Unread::Usage(UsageFault::UnknownWords)),
+            _ => Err(Unfit::Usage(UsageFault::UnknownWords)),
         }
     }
 
     /// What `read` is to read, and how. A file whose name ends in `.hex` is one of HEX.
-    fn parse_read(given: &ArgMatches<'a>) -> Result<Task<'a>, Unread<'a>>
-        ensures { IfOk result (IsReadWord (found_of given.now)) }
+    fn parse_read(given: &ArgMatches<'a>) -> Result<Task<'a>, Unfit<'a>>
+        ensures { IfOk result (IsTask (codes "read") (found_of given.now)) }
     {
         let range = range(given)?;
         let out = word(given, "OUT")?;
         let skips_blank = flag(given, "skip-blank");
-        if flag(given, "hex") || out.ends_with(".hex") {
+        if flag(given, "hex") || is_hex_name(out) {
             return Ok(Task::ReadHex {
                 range,
                 out,
@@ -104,25 +108,15 @@ impl<'a> Task<'a> {
             });
         }
         if skips_blank {
-            return Err(Unread::Usage(UsageFault::BlankNeedsHex));
+            return Err(Unfit::Usage(UsageFault::BlankNeedsHex));
         }
         Ok(Task::Read { range, out })
-    }
-
-    /// Which pages `erase` names.
-    fn parse_erase(alloc: Global, given: &ArgMatches<'a>) -> Result<Task<'a>, Unread<'a>>
-        ensures { IfOk result (IsErase (found_of given.now)) }
-    {
-        Ok(Task::Erase {
-            is_all: flag(given, "all"),
-            pages: pages(alloc, given, "PAGE")?,
-        })
     }
 
     /// Which protection `protect` names, and whether in a session that was stopped: by that word the
     /// write protection is taken off, and no other is changed.
     fn parse_protect(given: &ArgMatches<'a>) -> Result<Task<'a>, UsageFault<'a>>
-        ensures { IfOk result (IsProtect (found_of given.now)) }
+        ensures { IfOk result (IsTask (codes "protect") (found_of given.now)) }
     {
         let kind = word(given, "KIND")?;
         let in_session = flag(given, "in-session");
@@ -150,10 +144,20 @@ impl<'a> Task<'a> {
     }
 
     /// Whether it is an erase of neither all pages nor some, or of both.
-    pub fn wants_pages(&self) -> bool {
+    pub fn wants_pages(&self) -> bool
+        ensures { result ≡ wants_pages self.now }
+    {
         match self {
             Task::Erase { is_all, pages } => *is_all != pages.is_empty(),
             _ => false,
         }
     }
+}
+
+/// Whether a file of this name is one of HEX.
+#[tactic(auto, using(std::proofs::lemmas::Str::Pattern::ends_text))]
+fn is_hex_name(name: &str) -> bool
+    ensures { result ≡ ends_with nat_eq name.now (codes ".hex") }
+{
+    name.ends_with(".hex")
 }

@@ -1,7 +1,6 @@
 // Why words ask for nothing that can be done.
 
 use crate::usage_fault::UsageFault;
-use std::alloc::AllocFailed;
 
 /// Why words ask for nothing that can be done.
 #[derive(Drop)]
@@ -14,16 +13,4 @@ pub enum Unread<'a> {
     Usage(UsageFault<'a>),
     /// There is no memory to read them.
     Memory,
-}
-
-impl<'a> From<UsageFault<'a>> for Unread<'a> {
-    fn from(fault: UsageFault<'a>) -> Self {
-        Unread::Usage(fault)
-    }
-}
-
-impl<T: Drop> From<AllocFailed<T>> for Unread<'_> {
-    fn from(_failed: AllocFailed<T>) -> Self {
-        Unread::Memory
-    }
 }

@@ -1,14 +1,14 @@
 // The words of the command line, as `clap` reads them.
 ghost use Rattle.std.specs.Prelude.{◌≡◌, ◌⊎◌, [], IfErr, IfOk, map};
 ghost use Rattle.clap.specs.Words.{IsAmong, fault_of, kind_of};
-ghost use Rattle.clap.specs.declared.error.ErrorKind.TheVariants.{OutOfMemory};
-ghost use Rattle.stm_words.specs.Asking.{IsAskedFor};
+ghost use Rattle.clap.specs.declared.error.ErrorKind.TheVariants.{DisplayHelp, DisplayVersion, OutOfMemory};
+ghost use Rattle.stm_words.specs.Request.{AskForHelp, IsAskedFor, OnHelp};
 ghost use Rattle.stm_words.specs.CommandSet.{ReadsWords, TakesKinds, command_set};
-ghost use Rattle.stm_words.specs.Saying.{IsSaidFresh};
 
 use crate::command_set::command_set;
 use crate::environment::Environment;
 use crate::request::Request;
+use crate::unfit::Unfit;
 use crate::unread::Unread;
 use clap::error::ErrorKind;
 use clap::{ArgMatches, Error};
@@ -33,7 +33,10 @@ pub fn read_words<'a>(
 }
 
 /// What `clap` says where it finds nothing to do.
-fn unread<'a>(alloc: Global, error: &Error) -> Unread<'a> {
+fn unread<'a>(alloc: Global, error: &Error) -> Unread<'a>
+    ensures { OnHelp result
+        ((kind_of error.now ≡ DisplayHelp) ⊎ (kind_of error.now ≡ DisplayVersion)) }
+{
     if error.kind() == ErrorKind::OutOfMemory {
         return Unread::Memory;
     }
@@ -50,12 +53,17 @@ pub fn read_request<'a>(
     environment: Environment<'a>,
     words: &'a [&'a str],
 ) -> Result<Request<'a>, Unread<'a>>
-    ensures fresh { IfOk result IsSaidFresh }
     ensures asked { IfOk result
         (IsAskedFor environment.entry (map (λ s. s.now) words.entry.now)) }
+    ensures help { IfErr result (λ unread. OnHelp unread
+        (AskForHelp environment.entry (map (λ s. s.now) words.entry.now))) }
 {
     match read_words(alloc, environment, words) {
-        Ok(matches) => Request::parse(alloc, environment, &matches),
+        Ok(matches) => match Request::parse(alloc, environment, &matches) {
+            Ok(request) => Ok(request),
+            Err(Unfit::Usage(fault)) => Err(Unread::Usage(fault)),
+            Err(Unfit::Memory) => Err(Unread::Memory),
+        },
         Err(error) => Err(unread(alloc, &error)),
     }
 }

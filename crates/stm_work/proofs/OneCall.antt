@@ -36,7 +36,7 @@ use Rattle.stm_work.specs.Conduct.{PromisesInfo, RunsIfRoom, RunsTold}
 use Rattle.stm_work.specs.Content.{ImageOn, IsRawImage}
 use Rattle.stm_work.specs.OneCall.{CallsEndAsAsked, CanCall, EndsAsAsked, EndsLetGo, HasGone, IsJournalKept}
 use Rattle.stm_work.specs.OneCall.{IsWritten, image_on}
-use Rattle.stm_work.specs.Steps.{FollowsSession, GoesBehind, Keeps, MayGo, MayKeep}
+use Rattle.stm_work.specs.Steps.{FollowsSession, GoesBehind, KeepsJournal, MayGo, MayKeep}
 
 -- what the layers below promise
 pub record Laws {R : Type 0} (view : R → RigState) : Type 0 where
@@ -222,7 +222,7 @@ module _ {R : Type 0} (view : R → RigState) (laws : Laws view) where
         })
     has-kept true written mid count honest settled (said, keeps, is) = by-said said keeps is
       where
-        by-said : (said : Result ℕ Failure) → Keeps view written mid said
+        by-said : (said : Result ℕ Failure) → KeepsJournal view written mid said
             → MatchResult said (λ n. okay count ≡ Ok (Some n)) (λ failure. okay count ≡ Err failure)
             → HasKept true written mid
         by-said (Err failure) k failed = absurd (cc)

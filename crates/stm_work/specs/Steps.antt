@@ -39,7 +39,7 @@ pub record Stays (old new : RigState) : Type 0 where
   pub told : new.told ≡ old.told
 
 -- the journal is kept, by the Rig's own way; where it can't be, it was only read
-pub record Keeps {R : Type 0} (view : R → RigState) (old new : R)
+pub record KeepsJournal {R : Type 0} (view : R → RigState) (old new : R)
     (kept : Result ℕ Failure) : Type 0 where
   pub quiet : OnErr kept (GoesOn AreFetches (view old).calls (view new).calls)
   pub ends : (view old).is_honest → OnOk kept (EndsJournal (view old) (view new))
@@ -49,7 +49,7 @@ pub record Keeps {R : Type 0} (view : R → RigState) (old new : R)
 abbrev pub MayKeep : {R : Type 0} → (R → RigState) → Bool → R → R → Result (Option ℕ) Failure
     → Type 0
 MayKeep view false old new kept = (new ≡ old) × (kept ≡ Ok None)
-MayKeep view true old new kept = (said : Result ℕ Failure) × Keeps view old new said
+MayKeep view true old new kept = (said : Result ℕ Failure) × KeepsJournal view old new said
     × MatchResult said (λ count. kept ≡ Ok (Some count)) (λ failure. kept ≡ Err failure)
 
 -- the device is let go, where that is asked for; else nothing is done

@@ -1,4 +1,3 @@
-pub mod Unfresh
 pub mod Typed
 pub mod ProtectedPages
 pub mod DeviceUse

@@ -3,9 +3,8 @@ use Rattle.std.specs.Prelude.{◌≡◌, ◌⊎◌, ◌&&◌, ◌||◌, ℕ, Boo
 use Rattle.std.specs.Prelude.{MatchOption, codes}
 use Rattle.std.specs.Io.KnownBytes.{Appends}
 use Rattle.stm_wire.specs.Rig.{RigState}
-use Rattle.stm_words.specs.Asking.{IsAskedFor}
 use Rattle.stm_words.specs.Json.{wants_json}
-use Rattle.stm_words.specs.Saying.{IsSaidFresh}
+use Rattle.stm_words.specs.Request.{IsAskedFor}
 use Rattle.stm_words.specs.declared.environment.Environment.{Environment}
 use Rattle.stm_words.specs.declared.request.Request.{Request}
 use Rattle.stm_words.specs.declared.request.Request.TheVariants.{Use}
@@ -73,7 +72,6 @@ pub record IsServed {A B : Type 0} (simulated : A → RigState) (connected : B �
     (e : Environment) (words : List (List ℕ)) (old new : Option (List ℕ)) : Type 0 where
   pub request : Request
   pub asked : IsAskedFor e words request
-  pub said : IsSaidFresh request
   pub is_json : Bool
   pub json : is_json ≡ e.is_json || wants_json words
   pub done : IsDone simulated connected request is_json old new

@@ -4,7 +4,7 @@ use Rattle.std.specs.Prelude.{◌≡◌, ◌⊎◌, ℕ, Bool, false, true, List
 use Rattle.stm_wire.specs.Rig.{RigState}
 use Rattle.stm_words.specs.declared.options.Options.{Options}
 use Rattle.stm_words.specs.declared.sequel.Sequel.{Sequel}
-use Rattle.stm_words.specs.Sequel.{IsAlone}
+use Rattle.stm_words.specs.Request.{IsAlone}
 use Rattle.stm_work.specs.declared.action.Action.TheVariants as action
 use Rattle.stm_work.specs.declared.answer.Answer.{Answer}
 use Rattle.stm_work.specs.declared.answer.Answer.TheVariants as answer

@@ -1,7 +1,7 @@
 -- How a simulator comes to stand where it stood.
 use Rattle.std.proofs.Common.{◌≡◌, ℕ, ◌+◌, ◌<◌, Bool, true, false, ◌==◌, ◌||◌, if◌then◌else◌}
 use Rattle.std.proofs.Common.{replicate, List, [], ◌∷◌, ◌++◌, length, take, Option, Some, None}
-use Rattle.std.proofs.Common.{refl, sym, ◌∙◌, ap, subst, arith, eqb-true, length-append}
+use Rattle.std.proofs.Common.{refl, sym, ◌∙◌, ap, arith, eqb-true, length-append}
 use Rattle.stm_wire.specs.declared.verdict.Verdict.{Verdict}
 use Rattle.stm_wire.specs.declared.verdict.Verdict.TheVariants.{Done, Refused, Loose}
 use Rattle.stm_wire.specs.Chip.{erased_byte}
@@ -69,10 +69,7 @@ left-done : (d : Device) (code check : ℕ) (more : List ℕ) (b : Bool) → cod
     → (if b then Gone else Connected []) ≡ Gone
     → record (after_verdict d (code ∷ check ∷ more) (Some Done)) { owed = [] } ≡ standing_at Gone d
 left-done d code check more true is phase =
-    let P : ℕ → Type 0 =
-    λ k. record (after_verdict d (k ∷ check ∷ more) (Some Done)) { owed = [] } ≡ standing_at Gone d
-    in
-    subst P (sym (eqb-true code 0x21 is)) refl
+    rw (eqb-true code 0x21 is) refl
 left-done d code check more false is phase = cc
 
 left : (d : Device) (bytes : List ℕ) (v : Option Verdict) → 0 < length bytes

@@ -10,6 +10,7 @@ use Rattle.stm_wire.specs.Rig.{RigState, IsModel, Elapses, LeftByPut, LeftByGet,
 use Rattle.stm_wire.specs.Rig.{PutsHonestly, GetsHonestly, AppendsHonestly, FetchesHonestly}
 use Rattle.stm_wire.specs.Rig.{RecordsAppend}
 use Rattle.stm_sim.specs.Memory.{MemoryData, IsMemory, rig_state}
+use Rattle.stm_sim.specs.lemmas.HonestLine.{still}
 use Rattle.stm_sim.specs.lemmas.Past.{model}
 use Rattle.stm_files.specs.SimulatorRig.{SimulatorState, simulator_rig_state}
 
@@ -28,18 +29,10 @@ follows s is =
     }
 
 -- no call reads the count
-elapses : (P Q : Device → List ℕ → Type 0) (before after : ℕ) (old new : RigState)
-    → ((d : Device) (journal : List ℕ) → P d journal → Q d journal)
-    → Elapses P old new → Elapses Q (counted before old) (counted after new)
-elapses P Q before after old new weaken time =
-    record {
-      later = time.later;
-      nothing_else = λ t d journal le left. elim (time.nothing_else t d journal le left) [
-        | inl was ↦ inl was
-        | inr is ↦ inr (weaken d journal is)
-      ];
-      keeps = time.keeps;
-    }
+elapses : (P : Device → List ℕ → Type 0) (before after : ℕ) (old new : RigState)
+    → Elapses P old new → Elapses P (counted before old) (counted after new)
+elapses P before after old new time =
+    record { later = time.later; nothing_else = time.nothing_else; keeps = time.keeps }
 
 pub puts : (byte : ℕ) (result : Result (Unit {0}) RigFault) (before after : ℕ) (old new : RigState)
     → PutsHonestly byte result old new
@@ -49,9 +42,7 @@ puts byte result before after old new p =
       honest = p.honest;
       ok = p.ok;
       err = p.err;
-      time =
-          elapses (LeftByPut byte old) (LeftByPut byte (counted before old)) before after old new
-          (λ d journal left. left) p.time;
+      time = elapses (LeftByPut byte old) before after old new p.time;
     }
 
 pub gets : (result : Result (Option ℕ) RigFault) (before after : ℕ) (old new : RigState)
@@ -62,9 +53,7 @@ gets result before after old new g =
       ok = g.ok;
       journal = g.journal;
       err = g.err;
-      time =
-          elapses (LeftByGet old) (LeftByGet (counted before old)) before after old new
-          (λ d journal left. left) g.time;
+      time = elapses (LeftByGet old) before after old new g.time;
     }
 
 pub appends : (bytes : List ℕ) (result : Result (Unit {0}) RigFault) (before after : ℕ)
@@ -76,9 +65,7 @@ appends bytes result before after old new a =
       honest = a.honest;
       ok = a.ok;
       err = a.err;
-      time =
-          elapses (LeftByAppend bytes old) (LeftByAppend bytes (counted before old)) before after
-          old new (λ d journal left. left) a.time;
+      time = elapses (LeftByAppend bytes old) before after old new a.time;
       beginnings = a.beginnings;
     }
 
@@ -105,9 +92,7 @@ refused bytes answer fault before after old new a =
       honest = a.honest;
       ok = tt;
       err = left bytes answer old new a;
-      time =
-          elapses (LeftByAppend bytes old) (LeftByAppend bytes (counted before old)) before after
-          old new (λ d journal left. left) a.time;
+      time = elapses (LeftByAppend bytes old) before after old new a.time;
       beginnings = a.beginnings;
     }
 
@@ -122,19 +107,8 @@ fetches at buf after_buf result before after old new f =
       bytes = f.bytes;
       more = f.more;
       err = f.err;
-      time =
-          elapses (LeftByGet old) (LeftByGet (counted before old)) before after old new
-          (λ d journal left. left) f.time;
+      time = elapses (LeftByGet old) before after old new f.time;
     }
-
--- nothing was done
-idle : (P : Device → List ℕ → Type 0) (before after : ℕ) (old : RigState)
-    → Elapses P (counted before old) (counted after old)
-idle P before after old = record {
-  later = omega arith;
-  nothing_else = λ t d journal le left. inl left;
-  keeps = λ t d journal le left. left;
-}
 
 -- an append that is refused at once
 pub appends_nothing : (bytes : List ℕ) (fault : RigFault) (before after : ℕ)
@@ -142,29 +116,16 @@ pub appends_nothing : (bytes : List ℕ) (fault : RigFault) (before after : ℕ)
     → AppendsHonestly {T = Unit {0}} bytes (Err fault) (counted before (rig_state m))
     (counted after (rig_state m))
 appends_nothing bytes fault before after m is =
+    let rig = rig_state m in
     record {
       honest = is;
       ok = tt;
       err = ((0, sym (append-nil m.journal)), (0, refl));
-      time = idle (LeftByAppend bytes (counted before (rig_state m))) before after (rig_state m);
+      time =
+          elapses (LeftByAppend bytes rig) before after rig rig
+          (still (LeftByAppend bytes rig) rig);
       beginnings = λ t n d le above lost.
-          let J : List ℕ → Type 0 = λ j. (rig_state m).left_since t d j in
-          subst J (sym (take_all n m.journal above)) ((model m is).counts_now t d le lost);
-    }
-
--- a fetch that is refused at once
-pub fetches_nothing : (at : ℕ) (buf after_buf : List ℕ) (fault : RigFault) (before after : ℕ)
-    (m : MemoryData) → IsMemory m
-    → FetchesHonestly at buf after_buf (Err fault) (counted before (rig_state m))
-    (counted after (rig_state m))
-fetches_nothing at buf after_buf fault before after m is =
-    record {
-      honest = is;
-      ok = tt;
-      bytes = tt;
-      more = tt;
-      err = (refl, (0, refl));
-      time = idle (LeftByGet (counted before (rig_state m))) before after (rig_state m);
+          rw (take_all n m.journal above) ((model m is).counts_now t d le lost);
     }
 
 -- the same, of an append that is refused once the file failed
@@ -175,12 +136,7 @@ pub refused_at_once : (bytes : List ℕ) (result : Result (Unit {0}) RigFault) (
 refused_at_once bytes result fault old new is_fault same is =
     let before = old.journal_failures in
     let after = new.journal_failures in
-    let R : Result (Unit {0}) RigFault → Type 0 =
-    λ r. AppendsHonestly bytes r (simulator_rig_state old) (simulator_rig_state new) in
-    let M : MemoryData → Type 0 = λ m. AppendsHonestly {T = Unit {0}} bytes (Err fault)
-    (simulator_rig_state old) (counted after (rig_state m)) in
-    subst R (sym is_fault)
-    (subst M (sym same) (appends_nothing bytes fault before after old.memory is))
+    rw is_fault (rw same (appends_nothing bytes fault before after old.memory is))
 
 -- the same, of an append that goes to memory first and then to the file
 pub appended : (bytes : List ℕ) (answer result : Result (Unit {0}) RigFault) (fault : RigFault)
@@ -193,10 +149,7 @@ appended bytes answer result fault old new memory same is a =
     let after = new.journal_failures in
     let R : Result (Unit {0}) RigFault → Type 0 =
     λ r. AppendsHonestly bytes r (simulator_rig_state old) (counted after (rig_state memory)) in
-    let M : MemoryData → Type 0 =
-    λ m. AppendsHonestly bytes result (simulator_rig_state old) (counted after (rig_state m)) in
-    subst M (sym same)
-    (elim is [
+    rw same (elim is [
       | inl e ↦ subst R (sym e)
           (appends bytes answer before after (rig_state old.memory) (rig_state memory) a)
       | inr e ↦ subst R (sym e)
@@ -223,9 +176,7 @@ append_recorded bytes answer result fault old new memory same is r =
     let past = (rig_state old.memory).calls in
     let R : Result (Unit {0}) RigFault → Type 0 =
     λ x. RecordsAppend bytes x past (rig_state memory).calls in
-    let M : MemoryData → Type 0 = λ m. RecordsAppend bytes result past (rig_state m).calls in
-    subst M (sym same)
-    (elim is [
+    rw same (elim is [
       | inl e ↦ subst R (sym e) r
       | inr e ↦ subst R (sym e) (record-refused bytes answer fault past (rig_state memory).calls r)
     ])
@@ -239,9 +190,5 @@ pub fetched : (at : ℕ) (buf after_buf : List ℕ) (answer result : Result ℕ 
 fetched at buf after_buf answer result old new memory same is f =
     let before = old.journal_failures in
     let after = new.journal_failures in
-    let R : Result ℕ RigFault → Type 0 = λ r. FetchesHonestly at buf after_buf r
-    (simulator_rig_state old) (counted after (rig_state memory)) in
-    let M : MemoryData → Type 0 = λ m. FetchesHonestly at buf after_buf result
-    (simulator_rig_state old) (counted after (rig_state m)) in
-    subst M (sym same) (subst R (sym is)
+    rw same (rw is
     (fetches at buf after_buf answer before after (rig_state old.memory) (rig_state memory) f))

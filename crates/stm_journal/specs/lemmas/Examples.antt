@@ -1,9 +1,10 @@
 -- Journals that the definitions compute.
-use Rattle.std.specs.Prelude.{◌≡◌, ℕ, List, [], ◌∷◌, ◌++◌, codes, Some, None, refl}
+use Rattle.std.specs.Prelude.{◌≡◌, ℕ, List, [], ◌∷◌, ◌++◌, codes, Some, None, true, false, refl}
 use Rattle.hex.proofs.OnLiterals.{hex_on_literals}
 use Rattle.stm_wire.specs.declared.intent.Intent.TheVariants.{Erase}
 use Rattle.stm_journal.specs.declared.stage.Stage.TheVariants.{Open, Returning}
 use Rattle.stm_journal.specs.Journals.{good, bad, journal_of}
+use Rattle.stm_journal.specs.Greetings.{is_greeted, may_greet}
 
 abbrev LF : List ℕ
 LF = 10 ∷ []
@@ -140,3 +141,22 @@ board_in_version_two = refl
 great_number : journal_of (begun ++ codes "page 65536 FF" ++ LF) ≡ bad 3
 unfolding hex_on_literals
 great_number = refl
+
+greeted : is_greeted (half_undone ++ codes "connect!" ++ LF) ≡ true
+greeted = refl
+
+greeted_behind : is_greeted (half_undone ++ codes "connect!" ++ LF ++ codes "er") ≡ true
+greeted_behind = refl
+
+greeted_before : is_greeted (half_undone ++ codes "connect!" ++ LF ++ codes "erase 0" ++ LF) ≡ false
+greeted_before = refl
+
+no_greeting : is_greeted (half_undone ++ codes "xconnect!" ++ LF) ≡ false
+no_greeting = refl
+
+half_a_greeting : may_greet (half_undone ++ codes "connect") ≡ false
+half_a_greeting = refl
+
+-- a torn greeting that is marked is one: it says more than was sent
+marked_greeting : is_greeted (half_undone ++ codes "connect" ++ codes "!" ++ LF) ≡ true
+marked_greeting = refl

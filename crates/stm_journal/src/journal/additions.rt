@@ -73,6 +73,7 @@ impl Journal {
         self.lines = line;
         self.size = size.saturating_add(length);
         self.is_torn = false;
+        self.is_greeted = false;
         Ok(text)
     }
 
@@ -109,6 +110,7 @@ impl Journal {
         self.lines = line.saturating_add(1);
         self.size = size.saturating_add((text.len() - named) as u64);
         self.is_torn = false;
+        self.is_greeted = false;
         Ok(text)
     }
 

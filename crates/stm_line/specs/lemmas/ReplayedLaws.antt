@@ -1,5 +1,5 @@
 -- A Rig that answers from a record tells what a Rig that follows the model tells.
-use Rattle.std.proofs.Common.{◌≡◌, inl, inr, ⊎_elim, ℕ, ◌<◌, ◌≤◌, List, length, arith, refl}
+use Rattle.std.proofs.Common.{inl, ⊎_elim, ℕ, List, arith, refl}
 use Rattle.stm_line.specs.declared.answered.Answered.{Answered}
 use Rattle.stm_line.specs.Standing.{Standing}
 use Rattle.stm_line.specs.Replayed.{replayed}

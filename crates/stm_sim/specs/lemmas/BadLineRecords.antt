@@ -1,6 +1,5 @@
 -- Each call of a bad line stands in its record, as the record of any Rig has it.
-use Rattle.std.proofs.Common.{◌≡◌, inl, inr, ⊎_elim, ℕ, ◌-◌, List, [], ◌∷◌, ◌++◌}
-use Rattle.std.proofs.Common.{length, take}
+use Rattle.std.proofs.Common.{◌≡◌, inl, inr, ⊎_elim, ℕ, ◌-◌, List, [], ◌∷◌, ◌++◌, length, take}
 use Rattle.std.proofs.Common.{Option, Some, None, Result, Ok, Err, refl, sym, ◌∙◌, ap, ap₂, arith}
 use Rattle.std.proofs.Common.{append-nil, length-append}
 use Rattle.stm_sim.specs.BadLines.{ListData, ListsLineCall, ListsAppend}

@@ -1,6 +1,6 @@
 -- The device at first, and one that lost a byte owed, after one call more.
 use Rattle.std.proofs.Common.{if◌then◌else◌, Bool, true, false, ◌==◌, ◌||◌, ◌≡◌, ℕ, List, [], ◌∷◌}
-use Rattle.std.proofs.Common.{◌++◌, ◌-◌, drop, Option, Some, None, refl, sym, ◌∙◌, ap, ap₂, subst}
+use Rattle.std.proofs.Common.{◌++◌, ◌-◌, drop, Option, Some, None, refl, sym, ◌∙◌, ap, ap₂}
 use Rattle.stm_sim.specs.declared.past.PastStep.{PastStep}
 use Rattle.stm_wire.specs.declared.rig.RigCall.{RigCall}
 use Rattle.stm_wire.specs.declared.verdict.Verdict.{Verdict}
@@ -8,6 +8,7 @@ use Rattle.stm_wire.specs.declared.verdict.Verdict.TheVariants.{Done, Refused, L
 use Rattle.stm_wire.specs.Exchange.{verdict}
 use Rattle.stm_wire.specs.Device.{Device, Phase, Fresh, Connected, Gone, IsDevice}
 use Rattle.stm_sim.specs.Simulator.{simulated_device, after_byte, after_verdict, after_loose}
+use Rattle.stm_sim.specs.lemmas.SimulatedDevice.{with-parts}
 use Rattle.stm_wire.specs.Rig.{GetsFirst}
 use Rattle.stm_sim.specs.Memory.{MemoryData, first_flash, first_device, with_call}
 
@@ -72,28 +73,12 @@ pub taken-first : (first : Option (List ℕ)) (byte : ℕ) (old new : Device)
 taken-first first byte old new e = sym (ap (λ d. first_device first d) e)
 
 pub owed-device : (d : Device) (owed : List ℕ) → IsDevice d → IsDevice (record d { owed = owed })
-owed-device d owed is =
-    record {
-      chip = is.chip;
-      version = is.version;
-      codes = is.codes;
-      count = is.count;
-      get = is.get;
-      get_id = is.get_id;
-      read = is.read;
-      write = is.write;
-      erase = is.erase;
-      no_connect = is.no_connect;
-      size = is.size;
-      flash = is.flash;
-      phase = is.phase;
-    }
+owed-device d owed is = with-parts d d.flash owed d.phase is refl is.flash is.phase
 
 pub taken-device : (byte : ℕ) (old new : Device) → GetsFirst (Some byte) old new → IsDevice old
     → IsDevice new
 taken-device byte old new e is =
-    let P : Device → Type 0 = λ d. IsDevice d in
-    subst P (sym (taken-rest byte old new e)) (owed-device old new.owed is)
+    rw (taken-rest byte old new e) (owed-device old new.owed is)
 
 -- these parts make the value after one call more
 pub is-with_call : (call : RigCall) (s : PastStep) (m : MemoryData) (device device' : Device)

@@ -1,9 +1,9 @@
 -- A Rig in memory follows the model: what its calls do is what an honest Rig's calls do.
-use Rattle.std.proofs.Common.{◌≡◌, ⊎_elim, ℕ, zero, suc, ◌+◌, ◌-◌, ◌^◌, ◌≤◌, List, [], ◌∷◌}
+use Rattle.std.proofs.Common.{◌≡◌, ⊎_elim, ℕ, ◌+◌, ◌-◌, ◌^◌, ◌≤◌, List}
 use Rattle.std.proofs.Common.{◌++◌, length, take, drop, Result, Ok, Err, refl, sym}
-use Rattle.std.proofs.Common.{◌∙◌, ap, subst, arith, length-take, length-drop, append-nil, take_all}
+use Rattle.std.proofs.Common.{◌∙◌, ap, arith, length-take, length-drop, append-nil, take_all}
 use Rattle.std.proofs.Math.Seq.{take-append-add}
-use Rattle.std.proofs.lemmas.List.{take-append-le}
+use Rattle.std.proofs.lemmas.List.{take-append-le, take-take}
 use Rattle.stm_wire.specs.declared.fault.RigFault.{RigFault}
 use Rattle.stm_wire.specs.declared.fault.RigFault.TheVariants.{Line, File, Stopped}
 use Rattle.stm_sim.specs.declared.past.PastStep.TheVariants.{Added, Nothing}
@@ -11,29 +11,21 @@ use Rattle.stm_sim.specs.declared.plan.Plan.{Plan}
 use Rattle.stm_wire.specs.declared.rig.RigCall.TheVariants.{Append, Fetch}
 use Rattle.stm_wire.specs.Device.{Device, LosesOwed}
 use Rattle.stm_sim.specs.lemmas.SimulatedDevice.{le-or-gt}
-use Rattle.stm_wire.specs.Rig.{Elapses, AppendsHonestly, FetchesHonestly, LeftByGet, LeftByAppend}
+use Rattle.stm_wire.specs.Rig.{AppendsHonestly, FetchesHonestly, LeftByGet, LeftByAppend}
 use Rattle.stm_sim.specs.Memory.{MemoryData, IsMemory, rig_state, with_call, with_append}
 use Rattle.stm_sim.specs.Memory.{AppendsInMemory, FetchesInMemory, StaysWithin, takes_steps}
 use Rattle.stm_sim.specs.Memory.{counts_append, counts_journal, stopped, steps_left}
-use Rattle.stm_sim.specs.lemmas.Past.{AddsCall, keeps-call, elapses, beginnings}
-use Rattle.stm_sim.specs.lemmas.HonestLine.{Idles, idles, idles-entry}
+use Rattle.stm_sim.specs.lemmas.HonestLine.{Entered, entered, Idles, idles, idles-entry}
 pub use Rattle.stm_sim.specs.lemmas.HonestLine.{put-honest, get-honest}
 
-take-of-take-le : (j k : ℕ) (xs : List ℕ) → j ≤ k → take j (take k xs) ≡ take j xs
-take-of-take-le zero k xs h = refl
-take-of-take-le (suc j) zero xs h = absurd (omega (arith, h))
-take-of-take-le (suc j) (suc k) [] h = refl
-take-of-take-le (suc j) (suc k) (x ∷ xs) h =
-    ap (λ ys. x ∷ ys) (take-of-take-le j k xs (omega (arith, h)))
-
 -- a beginning of a beginning
-take-of-take : (j k : ℕ) (xs : List ℕ) → (n : ℕ) × (take j (take k xs) ≡ take n xs)
+pub take-of-take : (j k : ℕ) (xs : List ℕ) → (n : ℕ) × (take j (take k xs) ≡ take n xs)
 take-of-take j k xs =
-    ⊎_elim (λ h. (j, take-of-take-le j k xs h))
+    ⊎_elim (λ h. (j, take-take j k xs h))
     (λ h. (k, take_all j (take k xs) (omega (arith, h, length-take k xs)))) (le-or-gt j k)
 
 -- a beginning of a journal that is longer than it was
-beginning : (size : ℕ) (journal bytes : List ℕ) → length journal ≤ size
+pub beginning : (size : ℕ) (journal bytes : List ℕ) → length journal ≤ size
     → take size (journal ++ bytes) ≡ journal ++ take (size - length journal) bytes
 beginning size journal bytes h =
     let split : size ≡ length journal + (size - length journal) = omega (arith, h) in
@@ -41,48 +33,20 @@ beginning size journal bytes h =
     ∙ take-append-add journal bytes (size - length journal)
 
 -- an append that added a beginning of the bytes
-record AddsBeginning (bytes : List ℕ) (m n : MemoryData) : Type 0 where
-  honest : IsMemory n
-  time : Elapses (LeftByAppend bytes (rig_state m)) (rig_state m) (rig_state n)
-  begins : (t k : ℕ) (d : Device) → t ≤ length m.calls → length m.journal ≤ k → LosesOwed m.device d
-      → (rig_state n).left_since t d (take k n.journal)
-
 adds : (bytes added : List ℕ) (lines journals : ℕ) (plan : Plan) (m : MemoryData)
     → ((j : ℕ) → (k : ℕ) × (take j added ≡ take k bytes)) → IsMemory m
     → length (m.journal ++ added) ≤ 2 ^ 63 - 1
-    → AddsBeginning bytes m
+    → Entered (LeftByAppend bytes (rig_state m)) m
     (with_append added
     (record m { line_failures = lines; journal_failures = journals; plan = plan }))
 adds bytes added lines journals plan m part is limit =
-    let k : MemoryData =
-    record m { line_failures = lines; journal_failures = journals; plan = plan } in
-    let n = with_append added k in
-    let is_n : IsMemory n =
-    keeps-call (Append (length added))
-    (Added (length added)) added m n.device n.journal n.calls n.first n.past refl refl refl refl
-    refl is is.is_device (omega arith) limit in
-    let goes : AddsCall (Append (length added)) (Added (length added)) added m n =
-    record {
-      device = refl;
-      journal = refl;
-      calls = refl;
-      first = refl;
-      begun = refl;
-      start = refl;
-      past = refl;
-    } in
-    record {
-      honest = is_n;
-      time =
-          elapses (Append (length added)) (Added (length added)) added m n is is_n goes
-          (LeftByAppend bytes (rig_state m))
-          (λ d size lost above below.
-          let some = part (size - length m.journal) in (
-            (some.0, beginning size m.journal added above ∙ ap (λ xs. m.journal ++ xs) some.1),
-            ⊎_elim (λ l. l) (λ l. l) lost,
-          ));
-      begins = beginnings (Append (length added)) (Added (length added)) added m n is is_n goes;
-    }
+    entered (LeftByAppend bytes (rig_state m)) (Append (length added)) (Added (length added)) added
+    m.device (m.journal ++ added) lines journals plan m refl refl is is.is_device (omega arith) limit
+    (λ d size lost above below.
+    let some = part (size - length m.journal) in (
+      (some.0, beginning size m.journal added above ∙ ap (λ xs. m.journal ++ xs) some.1),
+      ⊎_elim (λ l. l) (λ l. l) lost,
+    ))
 
 append-idles : (bytes : List ℕ) (fault : RigFault) (m n : MemoryData)
     → Idles (LeftByAppend bytes (rig_state m)) m n
@@ -100,14 +64,11 @@ pub append-honest : (bytes : List ℕ) (result : Result (Unit {0}) RigFault) (m 
     → StaysWithin result n.journal → IsMemory m → AppendsInMemory bytes result m n
     → AppendsHonestly bytes result (rig_state m) (rig_state n)
 append-honest bytes (Ok u) m n limit is p =
-    let P : MemoryData → Type 0 = λ y. AppendsHonestly bytes (Ok u) (rig_state m) (rig_state y) in
-    let L : MemoryData → Type 0 = λ y. length y.journal ≤ 2 ^ 63 - 1 in
     let k : MemoryData = takes_steps (length bytes) (counts_append m) in
     let a =
     adds bytes bytes m.line_failures m.journal_failures k.plan m (λ j. (j, refl)) is
-    (subst L p.2 limit) in
-    subst P (sym p.2)
-    (record {
+    (rw p.2 at limit) in
+    rw p.2 (record {
       honest = a.honest;
       ok = (refl, refl);
       err = tt;
@@ -115,9 +76,6 @@ append-honest bytes (Ok u) m n limit is p =
       beginnings = a.begins;
     })
 append-honest bytes (Err Stopped) m n limit is p =
-    let P : MemoryData → Type 0 =
-    λ y. AppendsHonestly {T = Unit {0}} bytes (Err Stopped) (rig_state m) (rig_state y) in
-    let L : MemoryData → Type 0 = λ y. length y.journal ≤ 2 ^ 63 - 1 in
     let some = steps_left m.plan.stop in
     let nothing : (d : Device) → LosesOwed m.device d
     → LeftByAppend bytes (rig_state m) d m.journal =
@@ -127,9 +85,8 @@ append-honest bytes (Err Stopped) m n limit is p =
     let k : MemoryData = counts_journal (stopped m) in
     let a =
     adds bytes (take some bytes) k.line_failures k.journal_failures k.plan m
-    (λ j. take-of-take j some bytes) is (subst L e (limit refl)) in
-    subst P (sym e)
-    (record {
+    (λ j. take-of-take j some bytes) is (rw e at (limit refl)) in
+    rw e (record {
       honest = a.honest;
       ok = tt;
       err = ((some, refl), (0, refl));
@@ -173,14 +130,11 @@ pub fetch-honest : (at : ℕ) (before after : List ℕ) (result : Result ℕ Rig
     → FetchesHonestly at before after result (rig_state m) (rig_state n)
 fetch-honest at before after (Ok size) m n is p =
     let x = with_call Fetch Nothing m.device m in
-    let P : MemoryData → Type 0 =
-    λ y. FetchesHonestly at before after (Ok size) (rig_state m) (rig_state y) in
     let i =
     idles-entry (LeftByGet (rig_state m)) Fetch m.line_failures m.journal_failures m.plan m
     (λ d lost. (refl, lost)) is in
     let within : size ≤ length m.journal - at = omega (arith, p.1) in
-    subst P (sym p.3)
-    (record {
+    rw p.3 (record {
       honest = i.honest;
       ok = (refl, refl);
       bytes = copied size at m.journal before after within p.2;

@@ -138,7 +138,6 @@ module _ (call : RigCall) (s : PastStep) (bytes : List ℕ) (m n : MemoryData) (
         later = omega (arith, one-call);
         nothing_else = λ t d journal le left.
             let D : Device → Type 0 = λ e. LosesOwed e d in
-            let J : List ℕ → Type 0 = λ j. P d j in
             let within : left.size ≤ length n.journal =
             omega (arith, left.to, size-within n (left.place + 1) is_n) in
             ⊎_elim
@@ -147,8 +146,7 @@ module _ (call : RigCall) (s : PastStep) (bytes : List ℕ) (m n : MemoryData) (
             now-size n left.place is_n (omega (arith, last)) in
             let here : device_at n left.place ≡ n.device =
             ap (λ k. device_at n k) last ∙ now-device n is_n in
-            inr (subst J (sym left.same)
-            (p d left.size (inr (subst D here left.device))
+            inr (rw left.same (p d left.size (inr (subst D here left.device))
             (omega (arith, left.from, size, longer)) within)))
             (λ before.
             ⊎_elim
@@ -159,8 +157,7 @@ module _ (call : RigCall) (s : PastStep) (bytes : List ℕ) (m n : MemoryData) (
             ∙ now-size m (length m.past) is_m (omega arith) in
             let here : device_at n left.place ≡ m.device =
             ap (λ k. device_at n k) place ∙ old-device in
-            inr (subst J (sym left.same)
-            (p d left.size (inl (subst D here left.device))
+            inr (rw left.same (p d left.size (inl (subst D here left.device))
             (omega (arith, left.from, size)) within)))
             (λ earlier.
             let to : left.size ≤ record_size_at m (left.place + 1) =
@@ -181,14 +178,13 @@ module _ (call : RigCall) (s : PastStep) (bytes : List ℕ) (m n : MemoryData) (
             (le-or-gt (length m.past) left.place))
             (eq-or-lt_of_le left.until);
         keeps = λ t d journal le left.
-            let D : Device → Type 0 = λ e. LosesOwed e d in
             let within : left.size ≤ length m.journal =
             omega (arith, left.to, size-within m (left.place + 1) is_m) in
             record {
               place = left.place;
               since = omega (arith, left.since, goes.start);
               until = omega (arith, left.until, one-more);
-              device = subst D (sym (same-device left.place left.until)) left.device;
+              device = rw (same-device left.place left.until) left.device;
               size = left.size;
               from = omega (arith, left.from, same-size left.place left.until);
               to =
@@ -211,7 +207,6 @@ module _ (call : RigCall) (s : PastStep) (bytes : List ℕ) (m n : MemoryData) (
   pub beginnings : (t k : ℕ) (d : Device) → t ≤ length m.calls → length m.journal ≤ k
       → LosesOwed m.device d → (rig_state n).left_since t d (take k n.journal)
   beginnings t k d le from lost =
-      let D : Device → Type 0 = λ e. LosesOwed e d in
       let size : record_size_at n (length m.past) ≡ length m.journal =
       same-size (length m.past) (omega arith) ∙ now-size m (length m.past) is_m (omega arith) in
       let whole : record_size_at n (length m.past + 1) ≡ length n.journal =
@@ -223,7 +218,7 @@ module _ (call : RigCall) (s : PastStep) (bytes : List ℕ) (m n : MemoryData) (
         place = length m.past;
         since = omega (arith, le, goes.start, is_m.places);
         until = omega (arith, one-more);
-        device = subst D (sym old-device) lost;
+        device = rw old-device lost;
         size = s;
         from = omega (arith, size, above);
         to = omega (arith, whole, below);
@@ -256,13 +251,12 @@ model m is =
             same = sym (take_all (length m.journal) m.journal (omega arith));
           };
       only_now = λ d journal left.
-          let D : Device → Type 0 = λ e. LosesOwed e d in
           let last : left.place ≡ length m.past =
           omega (arith, left.since, left.until, is.places) in
           let size : record_size_at m left.place ≡ length m.journal =
           now-size m left.place is (omega (arith, last)) in (
             left.same
                 ∙ take_all left.size m.journal (omega (arith, left.from, size)),
-            subst D (ap (λ k. device_at m k) last ∙ now-device m is) left.device,
+            rw (ap (λ k. device_at m k) last ∙ now-device m is) at left.device,
           );
     }

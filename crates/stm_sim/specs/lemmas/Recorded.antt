@@ -1,8 +1,7 @@
 -- The calls that a record in memory tells. It keeps of an append how many bytes it added: these
 -- stand in the journal, to which nothing else was added since, but for later appends.
-use Rattle.std.proofs.Common.{◌≡◌, ℕ, suc, ◌+◌, ◌-◌, List, [], ◌∷◌, ◌++◌}
-use Rattle.std.proofs.Common.{length, take, drop, refl, sym, ◌∙◌, ap, ap₂, arith, length-append}
-use Rattle.std.proofs.Common.{append-nil, take_all}
+use Rattle.std.proofs.Common.{◌≡◌, ℕ, suc, ◌+◌, ◌-◌, List, [], ◌∷◌, ◌++◌, length, take, drop, refl}
+use Rattle.std.proofs.Common.{sym, ◌∙◌, ap, ap₂, arith, length-append, append-nil, take_all}
 use Rattle.std.proofs.Math.Seq.{drop-append_seam}
 use Rattle.std.proofs.lemmas.List.{take-append-le, drop_all}
 use Rattle.stm_wire.specs.Call.{Call, Put, Get, Append, Fetch}

@@ -49,8 +49,6 @@ stores : (erased : ℕ) (olds sents : List ℕ) → IsErasedByte erased → leng
     → All (λ b. b < 256) olds → All (λ b. b < 256) sents
     → Stores erased olds sents (stored_bytes erased olds sents)
 stores erased [] [] one e before small = tt
-stores erased [] (s ∷ sents) one e before small = absurd (omega (arith, e))
-stores erased (o ∷ olds) [] one e before small = absurd (omega (arith, e))
 stores erased (o ∷ olds) (s ∷ sents) one e before small =
     let le : s < 256 = small 0 0 (omega arith) in
     let was : o < 256 = before 0 0 (omega arith) in (
@@ -59,6 +57,7 @@ stores erased (o ∷ olds) (s ∷ sents) one e before small =
       stores erased olds sents one (omega (arith, e)) (small-tail o olds before)
           (small-tail s sents small),
     )
+stores erased olds sents one e before small = absurd (omega (arith, e))
 
 -- the simulator's change is one of the device's
 effect : (chip : ChipData) (change : Change) (old : List ℕ) → IsErasedByte (erased_byte chip)

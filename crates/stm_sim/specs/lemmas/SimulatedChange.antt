@@ -33,9 +33,7 @@ write-tail chip address n rest false is e = cc
 write-tail chip address n rest true is e =
     let size : length rest ≡ n + 2 = eqb-true (length rest) (n + 2) is in
     let same : length (take (n + 1) rest) ≡ n + 1 = simp length-take (omega (arith, size)) in
-    let P : ℕ → Type 0 = λ k. IsTrue (fits_inside chip address k) in
-    subst P (sym same)
-    (done-fits (get_or rest (n + 1) 0 == xor (n ∷ take (n + 1) rest))
+    rw same (done-fits (get_or rest (n + 1) 0 == xor (n ∷ take (n + 1) rest))
     (fits_inside chip address (n + 1)) e)
 
 write-address : (chip : ChipData) (a b c d check : ℕ) (rest : List ℕ) (t : Bool)
@@ -80,20 +78,9 @@ change-is : (F : Change → Type 0) → F Nothing → F EraseAll
     → (code == 0x31) ≡ b → (code ≡ 0x31 → F (write_change rest))
     → F (change_of (code ∷ check ∷ rest))
 change-is F none all pages code check rest true is write =
-    let P : Bool → Type 0 =
-    λ x.
-    F (if x then write_change rest
-    else (if code == 0x43 then erase_change rest
-    else (if code == 0x44 then extended_change rest else Nothing))) in
-    subst P (sym is) (write (eqb-true code 0x31 is))
+    rw is (write (eqb-true code 0x31 is))
 change-is F none all pages code check rest false is write =
-    let P : Bool → Type 0 =
-    λ x.
-    F (if x then write_change rest
-    else (if code == 0x43 then erase_change rest
-    else (if code == 0x44 then extended_change rest else Nothing))) in
-    subst P (sym is)
-    (pick F (code == 0x43) (erase_change rest)
+    rw is (pick F (code == 0x43) (erase_change rest)
     (if code == 0x44 then extended_change rest else Nothing) (erase-is F none all pages rest)
     (pick F (code == 0x44) (extended_change rest) Nothing (extended-is F none all pages rest) none))
 

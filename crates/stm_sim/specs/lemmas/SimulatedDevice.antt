@@ -44,20 +44,18 @@ bytes-erased_pages chip (n ∷ pages) flash one all =
 length-stored_bytes : (erased : ℕ) (olds sents : List ℕ) → length olds ≡ length sents
     → length (stored_bytes erased olds sents) ≡ length sents
 length-stored_bytes erased [] [] e = refl
-length-stored_bytes erased [] (s ∷ sents) e = absurd (omega (arith, e))
-length-stored_bytes erased (o ∷ olds) [] e = absurd (omega (arith, e))
 length-stored_bytes erased (o ∷ olds) (s ∷ sents) e =
     ap suc (length-stored_bytes erased olds sents (omega (arith, e)))
+length-stored_bytes erased olds sents e = absurd (omega (arith, e))
 
 bytes-stored_bytes : (erased : ℕ) (olds sents : List ℕ) → All IsByte olds → All IsByte sents
     → All IsByte (stored_bytes erased olds sents)
-bytes-stored_bytes erased [] sents before all k e h = absurd (omega (arith, h))
-bytes-stored_bytes erased (o ∷ olds) [] before all k e h = absurd (omega (arith, h))
 bytes-stored_bytes erased (o ∷ olds) (s ∷ sents) before all zero e h =
     stored_byte-small erased o s (before 0 0 (omega arith)) (all 0 0 (omega arith))
 bytes-stored_bytes erased (o ∷ olds) (s ∷ sents) before all (suc k) e h =
     bytes-stored_bytes erased olds sents (small-tail o olds before) (small-tail s sents all) k e
     (omega (arith, h))
+bytes-stored_bytes erased olds sents before all k e h = absurd (omega (arith, h))
 
 length-changed : (chip : ChipData) (change : Change) (old : List ℕ) → length old ≡ flash_size chip
     → Fits chip change → length (changed_flash chip change old) ≡ length old
@@ -86,7 +84,7 @@ bytes-changed chip (Write address sent) old one all small =
     (bytes-stored_bytes (erased_byte chip) part sent before small) all
 
 -- another flash of bytes, other owed bytes and another phase
-with-parts : (d : Device) (flash owed : List ℕ) (phase : Phase) → IsDevice d
+pub with-parts : (d : Device) (flash owed : List ℕ) (phase : Phase) → IsDevice d
     → length flash ≡ length d.flash → All IsByte flash → IsOpenPhase d.chip d.codes phase
     → IsDevice (record d { flash = flash; owed = owed; phase = phase })
 with-parts d flash owed phase is size all waits =
@@ -115,7 +113,7 @@ le-or-gt (suc a) zero = inr (omega arith)
 le-or-gt (suc a) (suc b) =
     ⊎_elim (λ l. inl (omega (arith, l))) (λ g. inr (omega (arith, g))) (le-or-gt a b)
 
-open-more : (chip : ChipData) (codes rest : List ℕ) (byte : ℕ) → IsOpen chip codes rest
+pub open-more : (chip : ChipData) (codes rest : List ℕ) (byte : ℕ) → IsOpen chip codes rest
     → verdict chip codes (rest ++ byte ∷ []) ≡ None → IsOpen chip codes (rest ++ byte ∷ [])
 open-more chip codes rest byte is none n =
     ⊎_elim (short n)

@@ -32,6 +32,25 @@ fn keep_and_program(journal: &mut Journal, rig: &mut MemoryRig) -> Result<u32, J
     Ok(segment)
 }
 
+/// A greeting comes where it may.
+fn greet_once(journal: &mut Journal, rig: &mut MemoryRig) -> Result<(), JournalFault> {
+    if journal.may_greet() {
+        journal.greet(rig)?;
+    }
+    Ok(())
+}
+
+/// A page is kept, and is to be erased; a greeting comes behind that, and no second one.
+fn keep_and_greet(journal: &mut Journal, rig: &mut MemoryRig) -> Result<u32, JournalFault>
+    requires room { length journal.old.state.stack < 65535 }
+    requires finished { is_unfinished journal.old.state ≡ false }
+{
+    let segment = keep_and_erase(journal, rig)?;
+    greet_once(journal, rig)?;
+    greet_once(journal, rig)?;
+    Ok(segment)
+}
+
 /// A segment is begun and ended.
 fn begin_and_end(journal: &mut Journal, rig: &mut MemoryRig) -> Result<u32, JournalFault>
     requires room { length journal.old.state.stack < 65535 }
@@ -45,6 +64,7 @@ fn begin_and_end(journal: &mut Journal, rig: &mut MemoryRig) -> Result<u32, Jour
 #[derive(Clone, Copy)]
 enum Command {
     KeepsAndErases,
+    KeepsAndGreets,
     KeepsAndPrograms,
     Ends,
 }
@@ -59,6 +79,13 @@ const COMMANDS: &[Commanded] = &[
         Command::KeepsAndErases,
         b"stmjournal 2 0412\nopen 1\npage 5 FF0A\nerase 5\n",
         (2, 1),
+        true,
+    ),
+    (
+        b"stmjournal 1 0412\n",
+        Command::KeepsAndGreets,
+        b"stmjournal 1 0412\nopen 1\npage 5 FF0A\nerase 5\nconnect!\n",
+        (1, 1),
         true,
     ),
     (
@@ -89,6 +116,7 @@ fn commanded(journal: &mut Journal, rig: &mut MemoryRig, command: Command) -> Op
     }
     let segment = match command {
         Command::KeepsAndErases => keep_and_erase(journal, rig),
+        Command::KeepsAndGreets => keep_and_greet(journal, rig),
         Command::KeepsAndPrograms => keep_and_program(journal, rig),
         Command::Ends => begin_and_end(journal, rig),
     };

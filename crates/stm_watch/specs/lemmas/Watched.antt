@@ -1,7 +1,6 @@
 -- What a watched Rig tells.
-use Rattle.std.proofs.Common.{◌≡◌, ℕ, suc, List, [], ◌∷◌}
-use Rattle.std.proofs.Common.{length}
-use Rattle.std.proofs.Common.{Option, Some, None, refl, sym, ◌∙◌, ap}
+use Rattle.std.proofs.Common.{◌≡◌, ℕ, suc, List, [], ◌∷◌, length, Option, Some, None, refl, sym}
+use Rattle.std.proofs.Common.{◌∙◌, ap}
 use Rattle.stm_wire.specs.Call.{Call}
 use Rattle.stm_wire.specs.Rig.{RigState, IsModel, IsPlace}
 use Rattle.stm_watch.specs.Known.{Known}

@@ -1,5 +1,5 @@
 -- Where no entry has the id, or that one's boards can't be read, a table has no such chip.
-use Rattle.std.proofs.Common.{◌≡◌, ◌∙◌, All, Contains, None, ap, codes, option_map, refl, sym, vec_items}
+use Rattle.std.proofs.Common.{◌≡◌, ◌∙◌, All, Contains, None, ap, codes, option_map, sym, vec_items}
 use Rattle.toml.specs.Data.{get}
 use Rattle.toml.specs.View.{table_view, view}
 use Rattle.stm_chip.specs.Document.{HasId}

@@ -1,4 +1,4 @@
-use Rattle.std.proofs.Common.{◌≡◌, ◌==◌, ℕ, List, position, arith, ap, sym, ◌∙◌}
+use Rattle.std.proofs.Common.{◌==◌, ℕ, List, position, arith, ap, sym, ◌∙◌}
 use Rattle.std.proofs.lemmas.List.{take_rest}
 use Rattle.stm_disk.proofs.LineSizes.{next_line, no_line}
 use Rattle.stm_disk.proofs.crash_end.lines_size.Goals as goal

@@ -1,5 +1,5 @@
 -- So many lines are left, and those so far end here.
-use Rattle.std.proofs.Common.{◌≡◌, ◌≤◌, ℕ, ◌+◌, drop, length}
+use Rattle.std.proofs.Common.{◌≡◌, ◌≤◌, ◌+◌, drop, length}
 use Rattle.stm_disk.specs.UnsyncedEnd.{lines_size}
 use Rattle.stm_disk.proofs.crash_end.lines_size.Given as goal
 

@@ -1,5 +1,5 @@
 -- One piece more.
-use Rattle.std.proofs.Common.{ℕ, ◌≡◌, ◌≤◌, ◌+◌, ◌-◌, ◌++◌, ◌∙◌, List, Option, ap, arith, drop, length, length-drop, subst, sym, take, take_all}
+use Rattle.std.proofs.Common.{ℕ, ◌≡◌, ◌≤◌, ◌+◌, ◌-◌, ◌++◌, ◌∙◌, List, Option, ap, arith, drop, length, length-drop, sym, take, take_all}
 use Rattle.std.proofs.KnownBytes.{Appends-trans, Appends-nil}
 use Rattle.std.proofs.Math.Seq.{take-add}
 use Rattle.std.specs.Io.KnownBytes.{Appends}
@@ -20,8 +20,7 @@ more-is done count bytes = ap (λ rest. take done bytes ++ take count rest) (res
 added_more : (a b c : Option (List ℕ)) (done count : ℕ) (bytes : List ℕ) → Appends a b (take done bytes)
     → Appends b c (take count (take (length bytes - done) (drop done bytes))) → Appends a c (take (done + count) bytes)
 added_more a b c done count bytes before piece =
-    let P : List ℕ → Type 0 = λ added. Appends a c added in
-    subst P (more-is done count bytes) (Appends-trans a b c (take done bytes) (take count (take (length bytes - done) (drop done bytes))) before piece)
+    rw (more-is done count bytes) at (Appends-trans a b c (take done bytes) (take count (take (length bytes - done) (drop done bytes))) before piece)
 
 within_more : (done count : ℕ) (bytes : List ℕ) → done ≤ length bytes
     → count ≤ length (take (length bytes - done) (drop done bytes)) → done + count ≤ length bytes

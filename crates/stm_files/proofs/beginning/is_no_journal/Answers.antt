@@ -1,9 +1,8 @@
-use Rattle.std.proofs.Common.{◌≡◌, ℕ, [], take, subst, sym, ◌∙◌, arith, IfSome, fold}
+use Rattle.std.proofs.Common.{◌≡◌, [], take, sym, ◌∙◌, arith, fold}
 use Rattle.std.proofs.lemmas.Grind.{common_steps}
-use Rattle.std.specs.Io.KnownBytes.{Consumes, IsAtEnd}
-use Rattle.stm_files.specs.Beginning.{ReadsTo, read_on}
+use Rattle.std.specs.Io.KnownBytes.{IsAtEnd}
+use Rattle.stm_files.specs.Beginning.{read_on}
 use Rattle.stm_files.specs.NoJournal.{is_no_journal}
-use Rattle.stm_files.specs.declared.beginning.Beginning.{Beginning}
 use Rattle.stm_files.proofs.Beginnings.{known-said, known-whole, read-more}
 use Rattle.stm_files.proofs.beginning.is_no_journal.Goals as goal
 
@@ -13,11 +12,9 @@ returns-then-count-eq0 g c =
     let b = g.S.Read.remaining c.loop.source in
     let d = g.S.Read.remaining c.read_some.new.source in
     let none : c.in_ok-count.count ≡ 0 = omega (arith, c.if-count-eq0.true) in
-    let W : ℕ → Type 0 = λ n. Consumes b d (take n c.read_some.new.window) in
-    let is = read-more a b d c.loop.file [] c.loop.invariant (subst W none c.in_ok-count.ensures.taken) in
+    let is = read-more a b d c.loop.file [] c.loop.invariant (rw none at c.in_ok-count.ensures.taken) in
     let end : IsAtEnd d = c.in_ok-count.ensures.end none (omega arith) in
-    let T : _ → Type 0 = λ x. IfSome a (λ told. x ≡ is_no_journal told) in
-    subst T (sym c.is_no_journal.ensures) (known-whole a d c.loop.file is end)
+    rw c.is_no_journal.ensures (known-whole a d c.loop.file is end)
 
 pub returns-then-is_said : goal.returns-then-is_said
 returns-then-is_said g c =
@@ -26,10 +23,8 @@ returns-then-is_said g c =
     let d = g.S.Read.remaining c.read_some.new.source in
     let bytes = take c.in_ok-count.count c.read_some.new.window in
     let same : c.with-file.result ≡ fold read_on c.loop.file bytes = grind (arith, common_steps, c.with-file.ensures) in
-    let F : Beginning → Type 0 = λ f. ReadsTo a d f in
-    let is = subst F (sym same) (read-more a b d c.loop.file bytes c.loop.invariant c.in_ok-count.ensures.taken) in
-    let T : _ → Type 0 = λ x. IfSome a (λ told. x ≡ is_no_journal told) in
-    subst T (sym c.is_no_journal-then-is_said.ensures) (known-said a d c.with-file.result is (sym c.is_said.ensures ∙ c.if-is_said.true))
+    let is = rw (← same) at (read-more a b d c.loop.file bytes c.loop.invariant c.in_ok-count.ensures.taken) in
+    rw c.is_no_journal-then-is_said.ensures (known-said a d c.with-file.result is (sym c.is_said.ensures ∙ c.if-is_said.true))
 
 pub loop-preserved : goal.loop-preserved
 loop-preserved g c =
@@ -38,5 +33,4 @@ loop-preserved g c =
     let d = g.S.Read.remaining c.read_some.new.source in
     let bytes = take c.in_ok-count.count c.read_some.new.window in
     let same : c.with-file.result ≡ fold read_on c.loop.file bytes = grind (arith, common_steps, c.with-file.ensures) in
-    let F : Beginning → Type 0 = λ f. ReadsTo a d f in
-    subst F (sym same) (read-more a b d c.loop.file bytes c.loop.invariant c.in_ok-count.ensures.taken)
+    rw same (read-more a b d c.loop.file bytes c.loop.invariant c.in_ok-count.ensures.taken)

@@ -1,4 +1,4 @@
-use Rattle.std.proofs.Common.{◌≡◌, ◌++◌, ◌∙◌, List, ℕ, ap}
+use Rattle.std.proofs.Common.{◌++◌, ◌∙◌, List, ℕ, ap}
 use Rattle.stm_files.proofs.Checks.{page-line-is}
 use Rattle.stm_files.proofs.checking.add_page.Goals as goal
 

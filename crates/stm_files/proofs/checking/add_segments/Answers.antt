@@ -1,4 +1,4 @@
-use Rattle.std.proofs.Common.{◌≡◌, ◌++◌, ◌+◌, ◌∙◌, List, ℕ, ap, arith}
+use Rattle.std.proofs.Common.{◌++◌, ◌+◌, ◌∙◌, List, ℕ, ap, arith}
 use Rattle.stm_files.specs.Checking.{checked_segment}
 use Rattle.stm_files.proofs.Checks.{text-more}
 use Rattle.stm_files.proofs.checking.add_segments.Goals as goal

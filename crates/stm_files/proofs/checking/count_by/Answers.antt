@@ -1,6 +1,5 @@
-use Rattle.std.proofs.Common.{◌≡◌, ℕ, ◌+◌, ◌<◌, ◌≤◌, length, subst, sym, arith}
-use Rattle.stm_files.specs.Checking.{IsCounted, ReadsJournal}
-use Rattle.stm_files.proofs.Checks.{counted-all, counted-more, counted-none}
+use Rattle.std.proofs.Common.{◌≡◌, ◌+◌, ◌≤◌, length, arith}
+use Rattle.stm_files.proofs.Checks.{counted-all, counted-more}
 use Rattle.stm_files.proofs.checking.count_by.Goals as goal
 
 pub loop-n-preserved : goal.loop-n-preserved
@@ -21,8 +20,7 @@ loop-n-preserved g c =
           let within : n ≤ length after = omega (arith, c.in_ok-n.ensures.within, c.fetch.auto.buf) in
           let more = counted-more c.loop-n.at n before after c.loop-n.tally c.with-tally.result a b d model has got within c.with-tally.ensures in
           let exact : c.saturating_add-at.result ≡ c.loop-n.at + n = omega (arith, c.saturating_add-at.ensures, more.within, model.journal) in
-          let C : ℕ → Type 0 = λ at. IsCounted at c.with-tally.result a d in
-          subst C (sym exact) more;
+          rw exact more;
     }
 
 pub returns-then-n-eq0-clause-honest : goal.returns-then-n-eq0-clause-honest
@@ -33,5 +31,4 @@ returns-then-n-eq0-clause-honest g c = λ honest.
     let d = V c.fetch.new.rig in
     let has = c.loop-n.invariant.read honest in
     let none : c.in_ok-n.n ≡ 0 = omega (arith, c.if-n-eq0.true) in
-    let R : ℕ → Type 0 = λ n. ReadsJournal c.loop-n.at c.loop-n.buf c.fetch.new.buf n b d in
-    counted-all c.loop-n.at c.loop-n.buf c.fetch.new.buf c.loop-n.tally a b d has (subst R none (c.in_ok-n.ensures.honest has.stays.honest)) c.loop-n.invariant.some
+    counted-all c.loop-n.at c.loop-n.buf c.fetch.new.buf c.loop-n.tally a b d has (rw none at (c.in_ok-n.ensures.honest has.stays.honest)) c.loop-n.invariant.some

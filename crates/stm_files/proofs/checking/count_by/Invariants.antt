@@ -1,5 +1,4 @@
-use Rattle.std.proofs.Common.{◌≡◌, ◌-◌, ◌^◌, ◌<◌, ◌≤◌, length, take}
-use Rattle.stm_wire.specs.Rig.{StaysHonest}
+use Rattle.std.proofs.Common.{◌-◌, ◌^◌, ◌<◌, length}
 use Rattle.stm_files.specs.Checking.{IsCounted}
 use Rattle.stm_files.proofs.checking.count_by.Given as goal
 

@@ -1,7 +1,6 @@
-use Rattle.std.proofs.Common.{◌∙◌, ap, refl, subst, sym}
+use Rattle.std.proofs.Common.{◌∙◌, ap, refl, sym}
 use Rattle.std.proofs.lemmas.Result.{IfOk-weaker}
-use Rattle.stm_wire.specs.Device.{Phase, Connected, Gone}
-use Rattle.stm_files.specs.SimulatorFile.{Becomes, standing_at}
+use Rattle.stm_wire.specs.Device.{Connected, Gone}
 use Rattle.stm_files.specs.lemmas.SimulatorFileLaws.{connected, settles, from_there}
 use Rattle.stm_files.specs.Standing.{standing_phase}
 use Rattle.stm_files.proofs.restoring.stand.Goals as goal
@@ -24,8 +23,7 @@ returns-in_ok-feed-in-Connected c =
     let was = connected old.device old mid refl c.requires.fresh c.in_ok-feed-in-Connected.ensures in
     let rest = c.deref.result.now in
     let is = ap Connected c.deref.ensures.value ∙ sym (ap standing_phase c.in-Connected.is) in
-    let P : Phase → Type 0 = λ p. Becomes (standing_at p old.device) old new in
-    IfOk-weaker c.lengthen.result _ _ (λ stays h yes. subst P is (from_there (Connected rest) old.device old mid new was (h yes))) c.lengthen.ensures
+    IfOk-weaker c.lengthen.result _ _ (λ stays h yes. rw is at (from_there (Connected rest) old.device old mid new was (h yes))) c.lengthen.ensures
 
 pub returns-in_ok-feed-in-Gone : goal.returns-in_ok-feed-in-Gone
 returns-in_ok-feed-in-Gone c =
@@ -33,5 +31,4 @@ returns-in_ok-feed-in-Gone c =
     let mid = c.feed-in-Gone.new.rig in
     let new = c.leave.new.rig in
     let was = connected old.device old mid refl c.requires.fresh c.in_ok-feed-in-Gone.ensures in
-    let P : Phase → Type 0 = λ p. Becomes (standing_at p old.device) old new in
-    IfOk-weaker c.leave.result _ _ (λ left h yes. subst P (sym (ap standing_phase c.in-Gone.is)) (from_there Gone old.device old mid new was (h yes))) c.leave.ensures
+    IfOk-weaker c.leave.result _ _ (λ left h yes. rw (ap standing_phase c.in-Gone.is) (from_there Gone old.device old mid new was (h yes))) c.leave.ensures

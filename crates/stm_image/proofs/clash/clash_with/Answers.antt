@@ -1,5 +1,5 @@
-use Rattle.std.proofs.Common.{◌≡◌, ℕ, List, inl, inr, length, get_or, sym, ap, subst, ◌∙◌, arith}
-use Rattle.std.proofs.lemmas.Bool.{cases_lt}
+use Rattle.std.proofs.Common.{ℕ, List, length, get_or, sym, subst, ◌∙◌, arith}
+use borrow.Author.Count.{below_more}
 use Rattle.std.proofs.lemmas.List.{get_or_default, get_or-take, length-take}
 use Rattle.std.proofs.lemmas.List.Elements.{Contains-get_or}
 use Rattle.stm_image.specs.Lay.{AgreesWith, IsFirstDifference}
@@ -30,23 +30,17 @@ returns-in-Some c =
 
 -- one piece more agrees
 pub loop-piece-preserved : goal.loop-piece-preserved
-loop-piece-preserved c k d lt = elim (cases_lt k c.loop-piece.piece-index) [
-  | inl before ↦ c.loop-piece.invariant k d before
-  | inr here ↦
-      let list = c.args.list.now in
-      let i = c.loop-piece.piece-index in
-      let at : i ≡ k = omega arith in
-      let p : Piece = get_or list i record { first = 0; last = 0; place = 0 } in
-      let same : p ≡ get_or list k d = get_or_default list i _ d c.loop-piece-test.true ∙ ap (λ n. get_or list n d) at in
-      let B : List ℕ → Type 0 = λ b. AgreesWith c.args.set.now p.first b in
-      let A : Piece → Type 0 = λ q. AgreesWith c.args.set.now q.first (piece_bytes c.args.bytes.now q) in
-      subst A same (subst B c.bytes_in.ensures c.in-None.ensures)
-]
+loop-piece-preserved c k d lt =
+    let list = c.args.list.now in
+    let i = c.loop-piece.piece-index in
+    let A : Piece → Type 0 = λ q. AgreesWith c.args.set.now q.first (piece_bytes c.args.bytes.now q) in
+    let p : Piece = get_or list i record { first = 0; last = 0; place = 0 } in
+    let here : A (get_or list i d) = subst A (get_or_default list i _ d c.loop-piece-test.true) (rw c.bytes_in.ensures at c.in-None.ensures) in
+    below_more (λ n. A (get_or list n d)) i (λ n less. c.loop-piece.invariant n d less) here k lt
 
 -- all pieces would agree
 pub unreachable-requires : goal.unreachable-requires
 unreachable-requires c =
     let list = c.args.list.now in
-    let A : Piece → Type 0 = λ q. AgreesWith c.args.set.now q.first (piece_bytes c.args.bytes.now q) in
     c.requires.differs (all_agree c.args.set.now c.args.bytes.now list c.requires.stand c.requires.firsts
-    (λ r held. subst A held.2 (c.loop-piece.invariant held.0 r (omega (arith, held.1, c.loop-piece-test.false)))))
+    (λ r held. rw held.2 at (c.loop-piece.invariant held.0 r (omega (arith, held.1, c.loop-piece-test.false)))))

@@ -1,6 +1,5 @@
-use Rattle.std.proofs.Common.{◌≡◌, ◌+◌, ◌-◌, ℕ, List, length, sym, drop, get_or, subst, arith}
+use Rattle.std.proofs.Common.{◌≡◌, ◌+◌, ◌-◌, ℕ, length, drop, get_or, subst, arith}
 use Rattle.std.proofs.lemmas.List.Elements.{Contains-get_or}
-use Rattle.stm_image.specs.Clash.{Names, IsPutOver}
 use Rattle.stm_image.specs.Pieces.{pairs_at}
 use Rattle.stm_image.specs.declared.pieces.Piece.{Piece}
 use Rattle.stm_image.proofs.Clashing.{IsPutDown, has_all, none_put, piece_named, piece_put, all_put}
@@ -20,8 +19,7 @@ put_over-requires c =
     let bytes = c.args.bytes.now in
     let list = c.args.list.now in
     let p : Piece = get_or list (c.pieces.left - 1) record { first = 0; last = 0; place = 0 } in
-    let N : List ℕ → Type 0 = λ b. Names c.pieces.set p.first (length b) in
-    subst N (sym c.bytes_in.ensures) (piece_named c.pieces.set bytes list p c.pieces.invariant.down.all (Contains-get_or list (c.pieces.left - 1) _ (omega (arith, c.pieces-test.true, c.pieces.invariant.within))))
+    rw c.bytes_in.ensures (piece_named c.pieces.set bytes list p c.pieces.invariant.down.all (Contains-get_or list (c.pieces.left - 1) _ (omega (arith, c.pieces-test.true, c.pieces.invariant.within))))
 
 -- one piece more
 pub pieces-preserved : goal.pieces-preserved
@@ -34,10 +32,9 @@ pieces-preserved c =
     let inv = c.pieces.invariant in
     let next : c.pieces.left ≡ i + 1 = omega (arith, c.pieces-test.true) in
     let so_far = subst (λ (n : ℕ). IsPutDown c.pieces.set (pairs_at bytes list) (pairs_at bytes (drop n list))) next inv.down in
-    let O : List ℕ → Type 0 = λ b. IsPutOver c.pieces.set p.first b c.put_over.new.self in
     record {
       within = omega (arith, inv.within);
-      down = piece_put c.pieces.set c.put_over.new.self bytes list i d (omega (arith, c.pieces-test.true, inv.within)) so_far (subst O c.bytes_in.ensures c.put_over.ensures);
+      down = piece_put c.pieces.set c.put_over.new.self bytes list i d (omega (arith, c.pieces-test.true, inv.within)) so_far (rw c.bytes_in.ensures at c.put_over.ensures);
     }
 
 pub returns : goal.returns

@@ -1,9 +1,8 @@
-use Rattle.std.proofs.Common.{◌≡◌, inr, ℕ, ◌+◌, ◌-◌, ◌<◌, ◌≤◌, ◌++◌, List, length, drop, get_or, sym, ap, ap₂, subst, ◌∙◌, rules, arith}
+use Rattle.std.proofs.Common.{◌≡◌, inr, ℕ, ◌+◌, ◌-◌, ◌<◌, ◌≤◌, ◌++◌, List, length, drop, get_or, ap, ap₂, ◌∙◌, rules, arith}
 use Rattle.std.proofs.lemmas.List.{get_or_default}
 use Rattle.std.proofs.lemmas.List.Elements.{Contains-get_or}
-use Rattle.stm_image.specs.Layout.{IsAmong, Covers}
-use Rattle.stm_image.specs.Pairs.{Pairs, raw_pairs}
-use Rattle.stm_image.specs.Pieces.{piece_size, piece_bytes, pairs_at, pairs_in}
+use Rattle.stm_image.specs.Pairs.{raw_pairs}
+use Rattle.stm_image.specs.Pieces.{piece_size, piece_bytes, pairs_in}
 use Rattle.stm_image.specs.declared.pieces.Piece.{Piece}
 use Rattle.stm_image.proofs.Lying.{length-bytes_at}
 use Rattle.stm_image.proofs.Overlaps.{next_laid, none_laid, all_laid}
@@ -93,12 +92,10 @@ pub returns-clause-among : goal.returns-clause-among
 returns-clause-among c =
     let inv = c.loop-piece.invariant in
     let out = all_laid c.args.bytes.now c.args.list.now c.loop-piece.piece-index (pairs_in c.loop-piece.laid) inv.low c.loop-piece.next c.loop-piece-test.false inv.out in
-    let A : Pairs → Type 0 = λ set. IsAmong set (pairs_at c.args.bytes.now c.args.list.now) in
-    subst A (sym c.from_runs.ensures) out.among
+    rw c.from_runs.ensures out.among
 
 pub returns-clause-covers : goal.returns-clause-covers
 returns-clause-covers c =
     let inv = c.loop-piece.invariant in
     let out = all_laid c.args.bytes.now c.args.list.now c.loop-piece.piece-index (pairs_in c.loop-piece.laid) inv.low c.loop-piece.next c.loop-piece-test.false inv.out in
-    let A : Pairs → Type 0 = λ set. Covers set (pairs_at c.args.bytes.now c.args.list.now) in
-    subst A (sym c.from_runs.ensures) out.covers
+    rw c.from_runs.ensures out.covers

@@ -1,8 +1,7 @@
-use Rattle.std.proofs.Common.{◌≡◌, ℕ, List, length, sym, ap₂, subst}
+use Rattle.std.proofs.Common.{◌≡◌, List, length, sym, ap₂, subst}
 use Rattle.std.proofs.lemmas.List.Sorted.{IsPermutation-sym, IsPermutation-trans}
 use Rattle.stm_image.specs.Clash.{IsClash}
-use Rattle.stm_image.specs.Layout.{AllWithin, Covers}
-use Rattle.stm_image.specs.Pairs.{Pairs, Agree, IsSetOf}
+use Rattle.stm_image.specs.Layout.{Covers}
 use Rattle.stm_image.specs.Pieces.{Stand, pairs_at}
 use Rattle.stm_image.specs.declared.pieces.Piece.{Piece}
 use Rattle.stm_image.proofs.Overlaps.{within_moved, set_agreeing, set_moved, agree_moved, pairs_moved, pairs_differ}
@@ -13,16 +12,12 @@ use Rattle.stm_image.proofs.layout.sorted_set.Goals as goal
 pub lay_out-requires-clause-within : goal.lay_out-requires-clause-within
 lay_out-requires-clause-within c =
     let pieces = c.args.pieces in
-    let W : List Piece → Type 0 = λ l. AllWithin (length pieces.bytes.items) l in
-    let B : List ℕ → Type 0 = λ b. AllWithin (length b) c.as_slice-list.result.now in
-    subst B (sym c.as_slice-bytes.ensures.value) (subst W (sym c.as_slice-list.ensures.value) (within_moved (length pieces.bytes.items) pieces.list.items c.sort_pieces.new.list.items c.requires c.sort_pieces.ensures.moved))
+    rw c.as_slice-bytes.ensures.value (rw c.as_slice-list.ensures.value (within_moved (length pieces.bytes.items) pieces.list.items c.sort_pieces.new.list.items c.requires c.sort_pieces.ensures.moved))
 
 pub all_agree-requires : goal.all_agree-requires
 all_agree-requires c =
     let pieces = c.args.pieces in
-    let W : List Piece → Type 0 = λ l. AllWithin (length pieces.bytes.items) l in
-    let B : List ℕ → Type 0 = λ b. AllWithin (length b) c.as_slice-list.result.now in
-    subst B (sym c.as_slice-bytes.ensures.value) (subst W (sym c.as_slice-list.ensures.value) (within_moved (length pieces.bytes.items) pieces.list.items c.sort_pieces.new.list.items c.requires c.sort_pieces.ensures.moved))
+    rw c.as_slice-bytes.ensures.value (rw c.as_slice-list.ensures.value (within_moved (length pieces.bytes.items) pieces.list.items c.sort_pieces.new.list.items c.requires c.sort_pieces.ensures.moved))
 
 -- the set has each byte of the pieces
 pub returns-then-all_agree : goal.returns-then-all_agree
@@ -34,8 +29,7 @@ returns-then-all_agree c =
     let found = c.in_ok-set.ensures in
     let is = set_agreeing set bytes list c.rises.ensures.rises found.among found.covers c.if-all_agree.ensures in
     let same : pairs_at bytes list ≡ pairs_at pieces.bytes.items c.sort_pieces.new.list.items = ap₂ pairs_at c.as_slice-bytes.ensures.value c.as_slice-list.ensures.value in
-    let S : Pairs → Type 0 = λ ps. IsSetOf set ps in
-    let whole = set_moved set pieces.bytes.items pieces.list.items c.sort_pieces.new.list.items c.sort_pieces.ensures.moved (subst S same is) in
+    let whole = set_moved set pieces.bytes.items pieces.list.items c.sort_pieces.new.list.items c.sort_pieces.ensures.moved (rw same at is) in
     (whole, agree_from_set set _ whole)
 
 -- an address has two bytes: the pieces, back in their order
@@ -59,8 +53,7 @@ first_clash-requires-clause-differs c agree =
     let bytes = c.as_slice-bytes.result.now in
     let list = c.as_slice-list.result.now in
     let same : pairs_at bytes list ≡ pairs_at pieces.bytes.items c.sort_pieces.new.list.items = ap₂ pairs_at c.as_slice-bytes.ensures.value c.as_slice-list.ensures.value in
-    let A : Pairs → Type 0 = λ ps. Agree ps in
-    pairs_differ c.in_ok-set.set bytes list c.in_ok-set.ensures.among c.if-all_agree.ensures (subst A (sym same) (agree_moved pieces.bytes.items c.sort_back.new.list.items c.sort_pieces.new.list.items (IsPermutation-sym _ _ c.sort_back.ensures.moved) agree))
+    pairs_differ c.in_ok-set.set bytes list c.in_ok-set.ensures.among c.if-all_agree.ensures (rw same (agree_moved pieces.bytes.items c.sort_back.new.list.items c.sort_pieces.new.list.items (IsPermutation-sym _ _ c.sort_back.ensures.moved) agree))
 
 pub returns : goal.returns
 returns c =

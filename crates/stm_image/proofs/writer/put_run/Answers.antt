@@ -1,7 +1,6 @@
-use Rattle.std.proofs.Common.{◌≡◌, ◌+◌, ◌/◌, ◌%◌, ◌++◌, List, ℕ, length, take, drop, sym, ap, ap₂, subst, ◌∙◌, append_assoc, arith}
+use Rattle.std.proofs.Common.{◌≡◌, ◌+◌, ◌/◌, ◌%◌, ◌++◌, List, ℕ, length, take, drop, sym, ap, ap₂, ◌∙◌, append_assoc, arith}
 use Rattle.stm_image.specs.Canon.{lines, line, upper_line, parts_of, runs_of}
 use Rattle.stm_image.specs.Pairs.{raw_pairs}
-use Rattle.stm_image.specs.Parts.{IsBehind}
 use Rattle.stm_image.proofs.Cutting.{lines_part}
 use Rattle.stm_image.proofs.writer.put_run.Goals as goal
 
@@ -21,8 +20,7 @@ parts-preserved c =
     record {
       at = omega (arith, inv.at, split.front_len, split.back_len, part.within);
       written = λ later behind.
-          let B : ℕ → Type 0 = λ n. IsBehind n later in
-          let front = lines_part c.parts.high at count rest later part (subst B (sym inv.at) behind) in
+          let front = lines_part c.parts.high at count rest later part (rw inv.at behind) in
           let A = upper_line c.parts.high (at / 65536) in
           let L = line (at % 65536) 0 (take count rest) in
           let M = lines (at / 65536) (parts_of (runs_of (raw_pairs (at + count) (drop count rest) ++ later))) in

@@ -1,9 +1,8 @@
-use Rattle.std.proofs.Common.{◌≡◌, ◌+◌, ◌<◌, ◌++◌, List, ℕ, suc, length, drop, get_or, sym, ap, ap₂, subst, ◌∙◌, arith}
-use Rattle.std.specs.Prelude.{Contains}
+use Rattle.std.proofs.Common.{◌≡◌, ◌+◌, ◌<◌, ◌++◌, List, ℕ, suc, length, drop, get_or, sym, ap, ap₂, ◌∙◌, arith}
 use Rattle.std.proofs.lemmas.List.{drop_all, drop_more}
 use Rattle.stm_image.specs.Canon.{canon, lines, parts_of, runs_of}
 use Rattle.stm_image.specs.Pairs.{raw_pairs}
-use Rattle.stm_image.specs.Pieces.{Apart, pairs_at, piece_size}
+use Rattle.stm_image.specs.Pieces.{pairs_at, piece_size}
 use Rattle.stm_image.specs.Parts.{IsBehind}
 use Rattle.stm_image.specs.declared.pieces.Piece.{Piece}
 use Rattle.stm_image.proofs.Lying.{length-bytes_at}
@@ -44,15 +43,13 @@ loop-run-preserved c =
     let later = pairs_at bytes (drop (i + 1) list) in
     let own = c.bytes_in.result.now in
     let stand = stand_read runs bytes list c.as_slice-bytes.ensures.value c.as_slice-list.ensures.value c.runs-runs.ensures.runs.stand in
-    let A : List Piece → Type 0 = λ l. Apart 0 l in
-    let apart = subst A (sym c.as_slice-list.ensures.value) c.runs-runs.ensures.runs.apart in
+    let apart = rw (← c.as_slice-list.ensures.value) at c.runs-runs.ensures.runs.apart in
     let within = within_read runs bytes list i d c.as_slice-bytes.ensures.value c.as_slice-list.ensures.value c.runs-runs.ensures.runs.stand lt in
     let order = within.order in
     let long : length own ≡ piece_size p = ap (λ (b : List ℕ). length b) c.bytes_in.ensures ∙ length-bytes_at bytes p within.ends in
     let next : i + 1 ≡ suc i = omega arith in
     let behind : IsBehind (p.first + length own) later = λ q held.
-    let C : ℕ → Type 0 = λ n. Contains (pairs_at bytes (drop n list)) q in
-    let up = behind_piece bytes 0 (length bytes) 0 list i d q stand apart lt (subst C next held) in
+    let up = behind_piece bytes 0 (length bytes) 0 list i d q stand apart lt (rw next at held) in
     let r : p.first + length own < q.0 = omega arith in r in
     let whole : pairs_at bytes (drop i list) ≡ raw_pairs p.first own ++ later =
     ap (pairs_at bytes) (drop_more list i d lt) ∙ ap (λ b. raw_pairs p.first b ++ later) (sym c.bytes_in.ensures) in

@@ -1,8 +1,7 @@
-use Rattle.std.proofs.Common.{◌≡◌, ◌∙◌, ℕ, Some, Err, true, false, true≢false, rules, refl, sym, ap, subst, arith, inr, option_map}
+use Rattle.std.proofs.Common.{◌≡◌, ◌∙◌, ℕ, Some, None, Err, true, false, true≢false, rules, refl, sym, ap, subst, arith, inr, option_map}
 use Rattle.stm_wire.specs.Dialogue.{GoesOn}
 use Rattle.stm_wire.specs.Device.{Device}
 use Rattle.stm_wire.specs.Chip.{ChipData}
-use Rattle.stm_chip.specs.Document.{IsChipWith}
 use Rattle.stm_journal.specs.States.{intent_of, is_unfinished}
 use Rattle.stm_session.specs.declared.asking_board.Board.{Board}
 use Rattle.stm_session.specs.Unasked.{asking_refusal}
@@ -17,7 +16,7 @@ use Rattle.stm_session.proofs.Orders.{fetched_then}
 use Rattle.stm_session.proofs.Reaching.{err_then, told_then}
 use Rattle.stm_session.proofs.SentUndo.{own-id}
 use Rattle.stm_session.proofs.UndoStarts.{loaded_then, own_id, undoable_then}
-use Rattle.stm_session.proofs.Unasked.{asks_refused, found_unasked, none_finished, none_unfinished, unless_as, unless_refuses}
+use Rattle.stm_session.proofs.Unasked.{asks_refused, found_unasked, none_finished, unfinished_as, unless_as, unless_refuses}
 use Rattle.stm_session.proofs.Unwritings.{fetching_appends_nothing, then_appends_nothing}
 use Rattle.stm_session.proofs.board_session.ask_board.Goals as goal
 
@@ -178,7 +177,7 @@ returns g c =
           let found = c.in_ok-chip.ensures.chip in
           let is : is_unfinished l.state ≡ true = search (rules, c.is_unfinished.ensures, c.if-not-is_unfinished.false) in
           let named : option_map (λ header. header.id) l.state.header ≡ Some chip.id = sym c.in-Some.ensures ∙ ap (λ (n : ℕ). Some n) (sym found.id_is) in
-          let way = undo_way c.args.is_fresh chip.kind (intent_of l.state) in
+          let way = undo_way c.args.is_fresh chip.kind l.is_greeted (intent_of l.state) in
           told_then c.ask_unfinished.result _ _
           (λ board asks.
           record {
@@ -200,7 +199,7 @@ returns g c =
           let found = c.in_ok-chip.ensures.chip in
           let is : is_unfinished l.state ≡ true = search (rules, c.is_unfinished.ensures, c.if-not-is_unfinished.false) in
           let named : option_map (λ header. header.id) l.state.header ≡ Some chip.id = sym c.in-Some.ensures ∙ ap (λ (n : ℕ). Some n) (sym found.id_is) in
-          let way = undo_way c.args.is_fresh chip.kind (intent_of l.state) in
+          let way = undo_way c.args.is_fresh chip.kind l.is_greeted (intent_of l.state) in
           err_then c.ask_unfinished.result (λ e. GoesOn (AsksInPart table way (cause_of e) l.is_torn) b.calls d.calls) (λ e. AskingStops table c.args.is_fresh a d e)
           (λ e stops.
           inr (record {
@@ -215,12 +214,12 @@ returns g c =
           let V = g.R.Rig.view in
           let l = c.in_ok-journal.journal in
           let is : is_unfinished l.state ≡ true = search (rules, c.is_unfinished.ensures, c.if-not-is_unfinished.false) in
-          refused_nothing _ refusal (none_unfinished c.args.table.now l (V c.args.rig.now).journal (c.in_ok-journal.ensures.honest h).loaded c.in-Some.id is c.in-Some.ensures c.in_ok-chip.ensures.accepted) said);
+          refused_nothing _ refusal (unfinished_as c.args.table.now l (V c.args.rig.now).journal (c.in_ok-journal.ensures.honest h).loaded c.in-Some.id None is c.in-Some.ensures c.in_ok-chip.ensures.accepted) said);
       refused_calls = (λ h refusal said.
           let V = g.R.Rig.view in
           let l = c.in_ok-journal.journal in
           let is : is_unfinished l.state ≡ true = search (rules, c.is_unfinished.ensures, c.if-not-is_unfinished.false) in
-          refused_nothing _ refusal (none_unfinished c.args.table.now l (V c.args.rig.now).journal (c.in_ok-journal.ensures.honest h).loaded c.in-Some.id is c.in-Some.ensures c.in_ok-chip.ensures.accepted) said);
+          refused_nothing _ refusal (unfinished_as c.args.table.now l (V c.args.rig.now).journal (c.in_ok-journal.ensures.honest h).loaded c.in-Some.id None is c.in-Some.ensures c.in_ok-chip.ensures.accepted) said);
       finished = (λ h at said safe.
           let V = g.R.Rig.view in
           let l = c.in_ok-journal.journal in

@@ -1,4 +1,4 @@
-use Rattle.std.proofs.Common.{◌≡◌, ◌∙◌, None, Some, MatchResult, Ok, Err, Result, IsErrAnd, refl, sym, subst}
+use Rattle.std.proofs.Common.{◌≡◌, ◌∙◌, None, Some, MatchResult, Ok, Err, Result, IsErrAnd, sym, subst}
 use Rattle.stm_session.specs.declared.fault.Fault.{Fault}
 use Rattle.stm_session.specs.Unasked.{begun_refusal}
 use Rattle.stm_session.proofs.Unasked.{by_id, no_header}

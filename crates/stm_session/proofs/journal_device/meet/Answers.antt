@@ -122,7 +122,7 @@ returns-in-None-clause-elsewhere g c h said loaded harmless owed within =
 pub returns-in_err-settle_intended-clause-puts : goal.returns-in_err-settle_intended-clause-puts
 returns-in_err-settle_intended-clause-puts g c =
     let V = g.R.Rig.view in
-    let way = undo_way c.args.is_fresh c.args.chip.now.kind (intent_of c.args.journal.now.state) in
+    let way = undo_way c.args.is_fresh c.args.chip.now.kind c.args.journal.now.is_greeted (intent_of c.args.journal.now.state) in
     let byte = byte_of way in
     let limit = limit_of way in
     let a = (V c.args.rig.now).calls in
@@ -134,13 +134,13 @@ returns-in_err-settle_intended-clause-puts g c =
 put_then : (g : Over) (c : After-ask_misfit g) (whole : Bool)
     → GoesOn (IsPart None whole 268) (g.R.Rig.view c.settle_intended.new.rig).calls
     (g.R.Rig.view c.ask_misfit.new.rig).calls
-    → let way = undo_way c.args.is_fresh c.args.chip.now.kind
+    → let way = undo_way c.args.is_fresh c.args.chip.now.kind c.args.journal.now.is_greeted
     (intent_of c.args.journal.now.state) in
     GoesOn (IsSession None (byte_of way) (limit_of way) whole (most_of_reaching (limit_of way)))
     (g.R.Rig.view c.args.rig.now).calls (g.R.Rig.view c.ask_misfit.new.rig).calls
 put_then g c whole part =
     let V = g.R.Rig.view in
-    let way = undo_way c.args.is_fresh c.args.chip.now.kind (intent_of c.args.journal.now.state) in
+    let way = undo_way c.args.is_fresh c.args.chip.now.kind c.args.journal.now.is_greeted (intent_of c.args.journal.now.state) in
     let most = 4100 * (limit_of way + 4) in
     let a = (V c.args.rig.now).calls in
     let b = (V c.settle_intended.new.rig).calls in
@@ -152,7 +152,7 @@ put_then g c whole part =
 pub returns-in_err-misfit-clause-puts : goal.returns-in_err-misfit-clause-puts
 returns-in_err-misfit-clause-puts g c =
     let V = g.R.Rig.view in
-    let way = undo_way c.args.is_fresh c.args.chip.now.kind (intent_of c.args.journal.now.state) in
+    let way = undo_way c.args.is_fresh c.args.chip.now.kind c.args.journal.now.is_greeted (intent_of c.args.journal.now.state) in
     let a = (V c.args.rig.now).calls in
     let d = (V c.ask_misfit.new.rig).calls in
     let P : Bool → Type 0 =
@@ -184,7 +184,7 @@ returns-in-None-clause-puts g c =
 pub returns-in-None-clause-order : goal.returns-in-None-clause-order
 returns-in-None-clause-order g c torn =
     let V = g.R.Rig.view in
-    let way = undo_way c.args.is_fresh c.args.chip.now.kind (intent_of c.args.journal.now.state) in
+    let way = undo_way c.args.is_fresh c.args.chip.now.kind c.args.journal.now.is_greeted (intent_of c.args.journal.now.state) in
     let asked = c.in_ok-misfit.ensures.order torn c.in-None.is in (
       asked.0,
       asked.1,
@@ -196,7 +196,7 @@ returns-in-None-clause-order g c torn =
 pub returns-in_err-settle_intended-clause-stops : goal.returns-in_err-settle_intended-clause-stops
 returns-in_err-settle_intended-clause-stops g c torn =
     let V = g.R.Rig.view in
-    let way = undo_way c.args.is_fresh c.args.chip.now.kind (intent_of c.args.journal.now.state) in
+    let way = undo_way c.args.is_fresh c.args.chip.now.kind c.args.journal.now.is_greeted (intent_of c.args.journal.now.state) in
     let a = (V c.args.rig.now).calls in
     let b = (V c.settle_intended.new.rig).calls in
     by_fault (λ (k : Cause). GoesOn (ReachesInPart way k torn) a b) _ c.from_residual.result c.from_residual.ensures.1 (settle_stops way _ torn a b c.in_err-settle_intended.ensures.sent c.settle_intended.ensures.calls)
@@ -204,7 +204,7 @@ returns-in_err-settle_intended-clause-stops g c torn =
 pub returns-in_err-misfit-clause-stops : goal.returns-in_err-misfit-clause-stops
 returns-in_err-misfit-clause-stops g c torn =
     let V = g.R.Rig.view in
-    let way = undo_way c.args.is_fresh c.args.chip.now.kind (intent_of c.args.journal.now.state) in
+    let way = undo_way c.args.is_fresh c.args.chip.now.kind c.args.journal.now.is_greeted (intent_of c.args.journal.now.state) in
     let a = V c.args.rig.now in
     let d = V c.ask_misfit.new.rig in
     by_fault (λ (k : Cause). GoesOn (ReachesInPart way k torn) a.calls d.calls) _ c.from_residual-in_err-misfit.result c.from_residual-in_err-misfit.ensures.1
@@ -213,7 +213,7 @@ returns-in_err-misfit-clause-stops g c torn =
 pub returns-in-Some-clause-stops : goal.returns-in-Some-clause-stops
 returns-in-Some-clause-stops g c torn =
     let V = g.R.Rig.view in
-    let way = undo_way c.args.is_fresh c.args.chip.now.kind (intent_of c.args.journal.now.state) in
+    let way = undo_way c.args.is_fresh c.args.chip.now.kind c.args.journal.now.is_greeted (intent_of c.args.journal.now.state) in
     let a = V c.args.rig.now in
     let b = V c.settle_intended.new.rig in
     let d = V c.ask_misfit.new.rig in

@@ -108,33 +108,33 @@ returns-then-connects-clause-strays g c h said loaded harmless owed within =
 
 -- the way of a device that is connected, and of one that is settled
 way_there : (g : Over) (c : After-connect g)
-    → Connects ≡ undo_way c.args.is_fresh c.args.chip.now.kind (intent_of c.args.journal.now.state)
+    → Connects ≡ undo_way c.args.is_fresh c.args.chip.now.kind c.args.journal.now.is_greeted (intent_of c.args.journal.now.state)
 way_there g c =
-    sym (fresh_way c.args.is_fresh c.args.chip.now.kind (intent_of c.args.journal.now.state)
+    sym (fresh_way c.args.is_fresh c.args.chip.now.kind c.args.journal.now.is_greeted (intent_of c.args.journal.now.state)
     (sym c.connects.ensures ∙ c.if-connects.true))
 
 -- what holds of the intent and limit that were handed on holds of the journal's
 at_journal : (g : Over) (c : After-settle_under g) (P : Option Intent → ℕ → Type 0)
     → P c.last_intent.result c.settling_limit-limit.result
     → let intent = intent_of c.args.journal.now.state in
-    P intent (settling_limit c.args.chip.now.kind intent)
+    P intent (settling_limit c.args.chip.now.kind c.args.journal.now.is_greeted intent)
 at_journal g c P p =
     let intent = intent_of c.args.journal.now.state in
-    let limit = settling_limit c.args.chip.now.kind intent in
+    let limit = settling_limit c.args.chip.now.kind c.args.journal.now.is_greeted intent in
     subst (λ (o : Option Intent). P o limit) c.last_intent.ensures
     (subst (P c.last_intent.result) c.settling_limit-limit.ensures p)
 
 at_way : (g : Over) (c : After-settle_under g) (P : Way → Type 0)
-    → P (settling_way c.args.chip.now.kind (intent_of c.args.journal.now.state))
-    → P (undo_way c.args.is_fresh c.args.chip.now.kind (intent_of c.args.journal.now.state))
+    → P (settling_way c.args.chip.now.kind c.args.journal.now.is_greeted (intent_of c.args.journal.now.state))
+    → P (undo_way c.args.is_fresh c.args.chip.now.kind c.args.journal.now.is_greeted (intent_of c.args.journal.now.state))
 at_way g c P p =
     subst P
-    (plain_way c.args.is_fresh c.args.chip.now.kind (intent_of c.args.journal.now.state)
+    (plain_way c.args.is_fresh c.args.chip.now.kind c.args.journal.now.is_greeted (intent_of c.args.journal.now.state)
     (sym c.connects.ensures ∙ c.if-connects.false)) p
 
 -- and what was sent
 sent_there : (g : Over) (c : After-connect g)
-    → let way = undo_way c.args.is_fresh c.args.chip.now.kind
+    → let way = undo_way c.args.is_fresh c.args.chip.now.kind c.args.journal.now.is_greeted
     (intent_of c.args.journal.now.state) in
     GoesOn (SettlesWithin (byte_of way) (limit_of way)) (g.R.Rig.view c.args.rig.now).calls
     (g.R.Rig.view c.connect.new.rig).calls
@@ -145,7 +145,7 @@ sent_there g c =
     subst P (way_there g c) (connect_settles a b c.connect.ensures.speaks.part)
 
 sent_settling : (g : Over) (c : After-settle_under g)
-    → let way = undo_way c.args.is_fresh c.args.chip.now.kind
+    → let way = undo_way c.args.is_fresh c.args.chip.now.kind c.args.journal.now.is_greeted
     (intent_of c.args.journal.now.state) in
     GoesOn (SettlesWithin (byte_of way) (limit_of way)) (g.R.Rig.view c.args.rig.now).calls
     (g.R.Rig.view c.settle_under.new.rig).calls
@@ -157,7 +157,7 @@ sent_settling g c =
     λ o limit. GoesOn (SettlesWithin (settling_byte o) limit) a b in
     let P : Way → Type 0 = λ w. GoesOn (SettlesWithin (byte_of w) (limit_of w)) a b in
     at_way g c P
-    (way_sends c.args.chip.now.kind (intent_of c.args.journal.now.state) a b
+    (way_sends c.args.chip.now.kind c.args.journal.now.is_greeted (intent_of c.args.journal.now.state) a b
     (at_journal g c I c.settle_under.ensures.calls))
 
 pub returns-in_err-connect-clause-calls : goal.returns-in_err-connect-clause-calls
@@ -235,5 +235,5 @@ returns-clause-settled g c =
     let I : Option Intent → ℕ → Type 0 = λ o limit. GoesOn (EndsUnder o limit) a b in
     let P : Way → Type 0 = λ w. GoesOn (EndsWell w) a b in
     at_way g at P
-    (way_ends c.args.chip.now.kind (intent_of c.args.journal.now.state) a b
+    (way_ends c.args.chip.now.kind c.args.journal.now.is_greeted (intent_of c.args.journal.now.state) a b
     (at_journal g at I c.in_ok-settle_under.ensures.settled))

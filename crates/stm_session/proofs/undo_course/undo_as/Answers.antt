@@ -290,7 +290,7 @@ returns-in_err-meet-clause-puts g c =
     let intent = intent_of c.in_ok-journal.journal.state in
     let chip = c.in_ok-chip.chip.now in
     sends_failed c.args.table.now c.args.count a d _ (segments_of c.from_residual-in_err-meet.result) (err_of c.from_residual-in_err-meet.result _ c.from_residual-in_err-meet.ensures.1)
-    (sends_met c.args.table.now c.args.count a c.args.is_fresh intent c.in-Some.id chip c.in_ok-chip.ensures.chip (V c.load.new.rig) d _ c.in_ok-journal.ensures.calls c.in_err-meet.ensures.puts)
+    (sends_met c.args.table.now c.args.count a c.args.is_fresh c.in_ok-journal.journal.is_greeted intent c.in-Some.id chip c.in_ok-chip.ensures.chip (V c.load.new.rig) d _ c.in_ok-journal.ensures.calls c.in_err-meet.ensures.puts)
 
 pub returns-in_err-undo_confirmed-clause-puts : goal.returns-in_err-undo_confirmed-clause-puts
 returns-in_err-undo_confirmed-clause-puts g c =
@@ -302,7 +302,7 @@ returns-in_err-undo_confirmed-clause-puts g c =
     let taken = c.taken_count-segments in
     let limit : taken.result ≤ 65535 = omega (arith, taken.ensures.most, c.depth-depth.ensures.value, c.depth-depth.ensures.sound.depth) in
     sends_failed c.args.table.now c.args.count a d _ (segments_of c.from_residual-in_err-undo_confirmed.result) (err_of c.from_residual-in_err-undo_confirmed.result _ c.from_residual-in_err-undo_confirmed.ensures.1)
-    (sends_back c.args.table.now c.args.count a c.args.is_fresh intent c.in-Some.id chip c.in_ok-chip.ensures.chip taken.result (V c.load.new.rig) (V c.meet.new.rig) d _ limit taken.ensures.asked tt
+    (sends_back c.args.table.now c.args.count a c.args.is_fresh c.in_ok-journal.journal.is_greeted intent c.in-Some.id chip c.in_ok-chip.ensures.chip taken.result (V c.load.new.rig) (V c.meet.new.rig) d _ limit taken.ensures.asked tt
     c.in_ok-journal.ensures.calls c.in_ok-meet.ensures.puts c.in_err-undo_confirmed.ensures.puts)
 
 pub returns-clause-puts : goal.returns-clause-puts
@@ -314,7 +314,7 @@ returns-clause-puts g c =
     let chip = c.in_ok-chip.chip.now in
     let taken = c.taken_count-segments in
     let limit : taken.result ≤ 65535 = omega (arith, taken.ensures.most, c.depth-depth.ensures.value, c.depth-depth.ensures.sound.depth) in
-    sends_back c.args.table.now c.args.count a c.args.is_fresh intent c.in-Some.id chip c.in_ok-chip.ensures.chip taken.result (V c.load.new.rig) (V c.meet.new.rig) d _ limit taken.ensures.asked refl
+    sends_back c.args.table.now c.args.count a c.args.is_fresh c.in_ok-journal.journal.is_greeted intent c.in-Some.id chip c.in_ok-chip.ensures.chip taken.result (V c.load.new.rig) (V c.meet.new.rig) d _ limit taken.ensures.asked refl
     c.in_ok-journal.ensures.calls c.in_ok-meet.ensures.puts c.in_ok-undo_confirmed.ensures.puts
 
 pub returns-then-depth-eq0-clause-order : goal.returns-then-depth-eq0-clause-order
@@ -328,7 +328,7 @@ returns-clause-order g c some =
     let V = g.R.Rig.view in
     let l = c.in_ok-journal.journal in
     let chip = c.in_ok-chip.chip.now in
-    let way = undo_way c.args.is_fresh chip.kind (intent_of l.state) in
+    let way = undo_way c.args.is_fresh chip.kind l.is_greeted (intent_of l.state) in
     let a = (V c.args.rig.now).calls in
     let b = (V c.load.new.rig).calls in
     let d = (V c.meet.new.rig).calls in
@@ -353,7 +353,7 @@ returns-clause-given g c some =
     let V = g.R.Rig.view in
     let l = c.in_ok-journal.journal in
     let chip = c.in_ok-chip.chip.now in
-    let way = undo_way c.args.is_fresh chip.kind (intent_of l.state) in
+    let way = undo_way c.args.is_fresh chip.kind l.is_greeted (intent_of l.state) in
     let a = V c.args.rig.now in
     let b = V c.load.new.rig in
     let d = V c.meet.new.rig in
@@ -396,7 +396,7 @@ pub returns-in_err-meet-clause-stops : goal.returns-in_err-meet-clause-stops
 returns-in_err-meet-clause-stops g c =
     let V = g.R.Rig.view in
     let l = c.in_ok-journal.journal in
-    let way = undo_way c.args.is_fresh c.in_ok-chip.chip.now.kind (intent_of l.state) in
+    let way = undo_way c.args.is_fresh c.in_ok-chip.chip.now.kind l.is_greeted (intent_of l.state) in
     let a = V c.args.rig.now in
     let b = V c.load.new.rig in
     let d = V c.meet.new.rig in
@@ -419,7 +419,7 @@ returns-in_err-undo_confirmed-clause-stops g c =
     let chip = c.in_ok-chip.chip.now in
     let intent = intent_of l.state in
     let segments = pages_of_segments l.state.stack in
-    let way = undo_way c.args.is_fresh chip.kind intent in
+    let way = undo_way c.args.is_fresh chip.kind l.is_greeted intent in
     let a = V c.args.rig.now in
     let b = V c.load.new.rig in
     let d = V c.meet.new.rig in
@@ -472,7 +472,7 @@ returns-in_err-meet-clause-given_stops g c =
     let V = g.R.Rig.view in
     let l = c.in_ok-journal.journal in
     let chip = c.in_ok-chip.chip.now in
-    let way = undo_way c.args.is_fresh chip.kind (intent_of l.state) in
+    let way = undo_way c.args.is_fresh chip.kind l.is_greeted (intent_of l.state) in
     let a = V c.args.rig.now in
     let b = V c.load.new.rig in
     let d = V c.meet.new.rig in
@@ -495,7 +495,7 @@ returns-in_err-undo_confirmed-clause-given_stops g c =
     let chip = c.in_ok-chip.chip.now in
     let intent = intent_of l.state in
     let segments = pages_of_segments l.state.stack in
-    let way = undo_way c.args.is_fresh chip.kind intent in
+    let way = undo_way c.args.is_fresh chip.kind l.is_greeted intent in
     let a = V c.args.rig.now in
     let b = V c.load.new.rig in
     let d = V c.meet.new.rig in

@@ -1,7 +1,4 @@
-use Rattle.std.proofs.Common.{◌≡◌, ◌+◌, ◌-◌, ◌<◌, ◌≤◌, ℕ, arith}
-use Rattle.stm_journal.specs.KeptPlaces.{kept_count}
-use Rattle.stm_journal.specs.States.{StateData, depth}
-use Rattle.stm_work.proofs.Unchanged.{newer}
+use Rattle.std.proofs.Common.{◌-◌, arith}
 use Rattle.stm_work.proofs.way_back.count_to_change.Goals as goal
 
 pub loop-newer-init : goal.loop-newer-init

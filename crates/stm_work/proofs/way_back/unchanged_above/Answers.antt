@@ -1,5 +1,4 @@
-use Rattle.std.proofs.Common.{◌≡◌, ◌+◌, ◌-◌, ◌==◌, ◌∷◌, [], ◌++◌, ◌∙◌, ℕ, Bool, List, ap, arith, sym}
-use Rattle.std.specs.List.{range_with_len}
+use Rattle.std.proofs.Common.{◌+◌, ◌-◌, ◌==◌, ◌∷◌, [], ◌++◌, ◌∙◌, ℕ, List, ap, sym}
 use Rattle.stm_journal.specs.KeptPlaces.{kept_count}
 use Rattle.stm_journal.specs.States.{StateData}
 use Rattle.stm_work.specs.WayBack.{unchanged_in}

@@ -5,7 +5,6 @@ pub returns-in-Ok : goal.returns-in-Ok
 returns-in-Ok g c = λ zero. inl (record {
   request = c.in-Ok.request;
   asked = c.in-Ok.ensures.asked;
-  said = c.in-Ok.ensures.fresh;
   is_json = c.is_json_wanted-is_json.result;
   json = c.is_json_wanted-is_json.ensures;
   done = c.answer.ensures.done zero;

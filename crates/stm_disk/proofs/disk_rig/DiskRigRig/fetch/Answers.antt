@@ -22,15 +22,7 @@ returns-clause-rig g c =
     let rig = done.new.self in
     fetch_done c.args.at c.args.buf.now got.new.buf got.result done.result rig.journal_failures
     (g.L.Rig.view got.new.self) (disk c.args.self.now) (disk rig) (ap disk done.ensures.rest)
-    done.ensures.answer done.ensures.cause (record {
-      within = by.within;
-      cause = by.cause;
-      line_count = by.line_count;
-      recorded = by.recorded;
-      entered = by.entered;
-      aside = by.aside;
-      honest = by.honest;
-    })
+    done.ensures.answer done.ensures.cause (assumption by)
 
 pub returns-clause-crash : goal.returns-clause-crash
 returns-clause-crash g c =

@@ -17,14 +17,7 @@ pub returns-clause-rig : goal.returns-clause-rig
 returns-clause-rig g c =
     let old = disk_of g.L.Rig.view g.F.GrowingFile.view c.args.self.now in
     let by = c.get.ensures in
-    get_done c.args.patience c.get.result old (g.L.Rig.view c.get.new.self) (record {
-      cause = by.cause;
-      journal_count = by.journal_count;
-      recorded = by.recorded;
-      entered = by.entered;
-      aside = by.aside;
-      honest = by.honest;
-    })
+    get_done c.args.patience c.get.result old (g.L.Rig.view c.get.new.self) (assumption by)
 
 pub returns-clause-crash : goal.returns-clause-crash
 returns-clause-crash g c =

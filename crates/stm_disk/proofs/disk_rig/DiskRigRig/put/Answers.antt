@@ -17,14 +17,7 @@ pub returns-clause-rig : goal.returns-clause-rig
 returns-clause-rig g c =
     let old = disk_of g.L.Rig.view g.F.GrowingFile.view c.args.self.now in
     let by = c.put.ensures in
-    put_done c.args.byte c.put.result old (g.L.Rig.view c.put.new.self) (record {
-      cause = by.cause;
-      journal_count = by.journal_count;
-      recorded = by.recorded;
-      entered = by.entered;
-      aside = by.aside;
-      honest = by.honest;
-    })
+    put_done c.args.byte c.put.result old (g.L.Rig.view c.put.new.self) (assumption by)
 
 pub returns-clause-crash : goal.returns-clause-crash
 returns-clause-crash g c =

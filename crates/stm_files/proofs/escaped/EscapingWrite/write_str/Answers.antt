@@ -1,6 +1,5 @@
 use Rattle.std.proofs.Common.{◌≡◌, List, ℕ, ◌++◌, [], refl, sym, ap, subst, ◌∙◌, append-nil, append_assoc}
 use Rattle.std.specs.declared.str.Chars.{Chars}
-use Rattle.std.specs.Fmt.{HasWritten}
 use Rattle.std.specs.Str.{IsUtf8, encode_utf8_all}
 use Rattle.std.proofs.Output.{has_written_append, writes_in_calls_nil}
 use Rattle.std.proofs.lemmas.Str.{IsUtf8-past_char}
@@ -39,9 +38,8 @@ returns g c =
         c.utf8.text,
         λ plain.
             let done = now.2 plain in
-            let Wrote : List ℕ → Type 0 = λ bytes. HasWritten took c.args.self.now.to.now bytes c.loop-c.self.to.now in
             let none = escaped-none _ c.in-None.ensures.steps.0.0 in
             let whole : done.0 ≡ escaped c.args.text.now = sym (append-nil done.0) ∙ ap (λ (rest : List ℕ). done.0 ++ rest) (sym none) ∙ done.2 in
-            subst Wrote whole done.1,
+            rw whole at done.1,
       );
     }

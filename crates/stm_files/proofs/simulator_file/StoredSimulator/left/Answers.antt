@@ -1,4 +1,4 @@
-use Rattle.std.proofs.Common.{◌≡◌, ℕ, List, Option, Some, sym, ◌∙◌, ap, ap₂, subst}
+use Rattle.std.proofs.Common.{◌≡◌, ℕ, List, Option, Some, sym, ◌∙◌, ap, ap₂}
 use Rattle.std.specs.Prelude.{option_map}
 use Rattle.stm_wire.specs.Chip.{ChipData}
 use Rattle.stm_wire.specs.Device.{Device, Phase}
@@ -16,9 +16,8 @@ returns c honest =
     let stood : Phase = phase_from c.is_gone.result (option_map (λ r. r.now) c.rest.result) in
     let is : stood ≡ d.phase =
     phase-is d.phase c.is_gone.result c.rest.result c.is_gone.ensures c.rest.ensures in
-    let B : Phase → Type 0 = λ p. HasBytes p in
     let bytes : HasBytes stood =
-    subst B (sym is) (open-bytes d.chip d.codes d.phase honest.is_device.phase) in
+    rw is (open-bytes d.chip d.codes d.phase honest.is_device.phase) in
     let read : Some (standing_phase standing) ≡ standing_of c.as_slice.result.now =
     ap (λ (o : Option Standing). option_map standing_phase o) (sym c.in-Some.is)
     ∙ c.in_ok-standing.ensures in

@@ -1,8 +1,7 @@
 use Rattle.std.proofs.Common.{◌≡◌, ◌⊎◌, inl, inr, ◌∙◌, Err, subst, rules}
 use Rattle.stm_wire.specs.declared.fault.RigFault.TheVariants.{File}
-use Rattle.stm_sim.specs.Memory.{IsMemory}
-use Rattle.stm_wire.specs.Rig.{AppendsHonestly, RecordsAppend}
-use Rattle.stm_files.specs.SimulatorRig.{SimulatorState, AppendsToBoth, AppendsToFile, simulator_rig_state}
+use Rattle.stm_wire.specs.Rig.{RecordsAppend}
+use Rattle.stm_files.specs.SimulatorRig.{SimulatorState, AppendsToBoth, simulator_rig_state}
 use Rattle.stm_files.specs.lemmas.SimulatorRigLaws.{appended, append_recorded, refused_at_once}
 use Rattle.stm_files.proofs.Growing.{taken, failed, to_file}
 use Rattle.stm_files.proofs.simulator_rig.SimulatorRigRig.append.Goals as goal
@@ -26,10 +25,7 @@ returns-clause-honest g c =
       | in-Ok w ↦ inl (done.ensures.answer ∙ w.answer-is)
       | in-Err w ↦ inr (done.ensures.answer ∙ w.answer-is)
     ] in
-    let Goal : SimulatorState → Type 0 = λ s. IsMemory s.memory
-    → AppendsHonestly bytes done.result (simulator_rig_state s) (simulator_rig_state done.new.self) in
-    subst Goal c.self.view_is
-    (λ honest. appended bytes answer done.result File old done.new.self c.append-answer.new.self memory_is is (c.append-answer.ensures.honest honest))
+    rw (← c.self.view_is) (λ honest. appended bytes answer done.result File old done.new.self c.append-answer.new.self memory_is is (c.append-answer.ensures.honest honest))
 
 pub returns-clause-recorded : goal.returns-clause-recorded
 returns-clause-recorded g c =
@@ -69,5 +65,4 @@ returns-clause-in_file g c =
           failed bytes answer result old new c.append-answer.new.self c.append_to_file.new.self.file memory_is file_is does
           (done.ensures.answer ∙ w.answer-is) w.in-Err.ensures.err
     ] in
-    let Goal : SimulatorState → Type 0 = λ s. AppendsToFile bytes result s new in
-    subst Goal c.self.view_is (to_file bytes result old new (search (rules, c.has_failed.ensures, c.if-has_failed.false)) both)
+    rw c.self.view_is at (to_file bytes result old new (search (rules, c.has_failed.ensures, c.if-has_failed.false)) both)

@@ -1,7 +1,5 @@
-use Rattle.std.proofs.Common.{◌≡◌, subst}
-use Rattle.stm_sim.specs.Memory.{IsMemory}
-use Rattle.stm_wire.specs.Rig.{FetchesHonestly}
-use Rattle.stm_files.specs.SimulatorRig.{SimulatorState, simulator_rig_state}
+use Rattle.std.proofs.Common.{◌≡◌}
+use Rattle.stm_files.specs.SimulatorRig.{SimulatorState}
 use Rattle.stm_files.specs.lemmas.SimulatorRigLaws.{fetched}
 use Rattle.stm_files.proofs.simulator_rig.SimulatorRigRig.fetch.Goals as goal
 
@@ -14,7 +12,4 @@ returns-clause-honest g c =
     let old : SimulatorState =
     record { memory = c.self.inside.memory; file = c.self.inside.file; journal_failures = c.self.inside.journal_failures } in
     let memory_is : done.new.self.memory ≡ got.new.self = done.ensures.memory in
-    let Goal : SimulatorState → Type 0 = λ s. IsMemory s.memory
-    → FetchesHonestly at before got.new.buf done.result (simulator_rig_state s) (simulator_rig_state done.new.self) in
-    subst Goal c.self.view_is
-    (λ honest. fetched at before got.new.buf got.result done.result old done.new.self got.new.self memory_is done.ensures.answer (got.ensures.honest honest))
+    rw (← c.self.view_is) (λ honest. fetched at before got.new.buf got.result done.result old done.new.self got.new.self memory_is done.ensures.answer (got.ensures.honest honest))

@@ -16,11 +16,9 @@ loop-byte-preserved c =
     omega (arith, few, length-append bytes (take i more), length-take-le i more c.loop-byte.auto.byte-index-end, c.loop-byte-test.true) in
     let same : (bytes ++ take i more) ++ get_or more i 0 ∷ [] ≡ bytes ++ take (i + 1) more =
     append_assoc bytes (take i more) (get_or more i 0 ∷ []) ∙ ap (λ (xs : List ℕ). bytes ++ xs) (sym (take_more more i 0 c.loop-byte-test.true)) in
-    let T : List ℕ → Type 0 = λ xs. IsTallyOf xs c.with_byte-tally.result in
-    subst T same (c.with_byte-tally.ensures (bytes ++ take i more) now short)
+    rw same at (c.with_byte-tally.ensures (bytes ++ take i more) now short)
 
 pub returns : goal.returns
 returns c =
     λ bytes is few.
-    let T : List ℕ → Type 0 = λ xs. IsTallyOf xs c.loop-byte.tally in
-    subst T (ap (λ (xs : List ℕ). bytes ++ xs) (take_all c.loop-byte.byte-index c.args.more.now c.loop-byte-test.false)) (c.loop-byte.invariant bytes is few)
+    rw (ap (λ (xs : List ℕ). bytes ++ xs) (take_all c.loop-byte.byte-index c.args.more.now c.loop-byte-test.false)) at (c.loop-byte.invariant bytes is few)

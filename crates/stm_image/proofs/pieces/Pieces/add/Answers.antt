@@ -1,6 +1,6 @@
-use Rattle.std.proofs.Common.{◌≡◌, ℕ, ◌+◌, ◌-◌, ◌<◌, ◌^◌, slice_set, refl, length, List, sym, subst, arith}
+use Rattle.std.proofs.Common.{◌≡◌, ◌+◌, ◌-◌, ◌<◌, ◌^◌, refl, length, arith}
 use Rattle.std.proofs.lemmas.Bool.Decides.{nat_tests}
-use Rattle.stm_image.specs.Pieces.{AddsFrom, next_apart}
+use Rattle.stm_image.specs.Pieces.{next_apart}
 use Rattle.stm_image.specs.declared.pieces.Piece.{Piece}
 use Rattle.stm_image.proofs.Standing.{adds_on, next_at_last, none_before}
 use Rattle.stm_image.proofs.pieces.Pieces.add.Goals as goal
@@ -20,8 +20,7 @@ returns-then-piece-start-clause-ok c =
     let grown : c.args.start + (length more - 1) ≡ p.last + length more = omega arith in
     let fits : c.args.start + (length more - 1) < 2 ^ 32 = omega (arith, c.requires.fits) in
     let adds = adds_on old.bytes.items more old.list.items n c.args.start p q c.requires.stand count c.index-piece.ensures refl refl next grown fits in
-    let B : List ℕ → Type 0 = λ bytes. AddsFrom old.bytes.items old.list.items c.args.start more bytes (slice_set old.list.items n q) in
-    subst B (sym c.in_ok-extend_from_slice.ensures.items) adds
+    rw c.in_ok-extend_from_slice.ensures.items adds
 
 -- the new bytes do not go on there
 pub add_piece-requires-clause-apart : goal.add_piece-requires-clause-apart

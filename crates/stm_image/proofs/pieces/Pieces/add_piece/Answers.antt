@@ -1,5 +1,4 @@
-use Rattle.std.proofs.Common.{◌≡◌, ℕ, length, ◌∷◌, ◌++◌, [], List, sym, subst, arith}
-use Rattle.stm_image.specs.Pieces.{AddsFrom}
+use Rattle.std.proofs.Common.{◌≡◌, length, arith}
 use Rattle.stm_image.specs.declared.pieces.Piece.{Piece}
 use Rattle.stm_image.proofs.Standing.{adds_piece}
 use Rattle.stm_image.proofs.pieces.Pieces.add_piece.Goals as goal
@@ -12,6 +11,4 @@ returns-clause-ok c =
     let p : Piece = record { first = c.args.first; last = c.args.last; place = c.len-place.result } in
     let at : c.len-place.result ≡ length old.bytes.items = omega (arith, c.len-place.ensures, old.bytes.ok.0) in
     let adds = adds_piece old.bytes.items more old.list.items p given.stand at given.long given.some (omega arith) given.apart in
-    let B : List ℕ → Type 0 = λ bytes. AddsFrom old.bytes.items old.list.items c.args.first more bytes (old.list.items ++ p ∷ []) in
-    let L : List Piece → Type 0 = λ list. AddsFrom old.bytes.items old.list.items c.args.first more c.extend_from_slice.new.self.items list in
-    subst L (sym c.in-Ok.ensures.items) (subst B (sym c.in_ok-extend_from_slice.ensures.items) adds)
+    rw c.in-Ok.ensures.items (rw c.in_ok-extend_from_slice.ensures.items adds)

@@ -1,5 +1,4 @@
-use Rattle.std.proofs.Common.{ℕ, ◌≡◌, List, subst, rules, arith}
-use Rattle.stm_image.specs.Lay.{AreAlike, IsFirstOther}
+use Rattle.std.proofs.Common.{◌≡◌, rules, arith}
 use Rattle.stm_image.proofs.Laid.{past_all, none_differs, far_next, first_in_run, alike_more, run_fits}
 use Rattle.stm_image.proofs.set.Image.first_difference.Goals as goal
 
@@ -31,9 +30,8 @@ overflow_add-result c = let fits = run_fits c.args.self.now c.runs.at c.in-Some.
 -- the first place of the run that is another
 pub returns-in-Some-first_other : goal.returns-in-Some-first_other
 returns-in-Some-first_other c =
-    let O : List ℕ → Type 0 = λ b. IsFirstOther c.in-Some.held.now b c.in-Some-first_other.place in
     first_in_run c.args.self.now c.args.address c.runs.at c.in-Some.start c.in-Some-first_other.place c.args.bytes.now c.in-Some.held.now c.rises.ensures.rises c.in-Some.ensures c.runs.invariant.from
-    (subst O c.split_at.ensures.back c.in-Some-first_other.ensures) c.runs.invariant.same
+    (rw c.split_at.ensures.back at c.in-Some-first_other.ensures) c.runs.invariant.same
 
 -- the run is alike
 pub runs-preserved : goal.runs-preserved
@@ -41,7 +39,6 @@ runs-preserved c =
     let run = c.in-Some.ensures in
     let from = run.from in
     let low = c.runs.invariant.from in
-    let A : List ℕ → Type 0 = λ b. AreAlike c.in-Some.held.now b in
     let at : c.from-in-None-first_other.result ≡ c.in-Some.start = first_of (omega (arith, c.from-in-None-first_other.ensures), search (rules, c.from-in-None-first_other.ensures)) in
-    let more = alike_more c.args.self.now c.args.address c.runs.at c.in-Some.start c.args.bytes.now c.in-Some.held.now c.rises.ensures.rises run low (subst A c.split_at.ensures.back c.in-None-first_other.ensures) c.runs.invariant.same in
+    let more = alike_more c.args.self.now c.args.address c.runs.at c.in-Some.start c.args.bytes.now c.in-Some.held.now c.rises.ensures.rises run low (rw c.split_at.ensures.back at c.in-None-first_other.ensures) c.runs.invariant.same in
     record { from = omega (arith, at); same = λ p lt. more p (omega (arith, at, lt)) }

@@ -1,18 +1,16 @@
-use Rattle.std.proofs.Common.{◌≡◌, ◌+◌, ℕ, length, sym, subst, arith}
-use Rattle.stm_image.proofs.LaidRuns.{IsLaidTo, laid_start, laid_run, laid_all, laid_none, laid_far}
+use Rattle.std.proofs.Common.{◌≡◌, arith}
+use Rattle.stm_image.proofs.LaidRuns.{laid_start, laid_run, laid_all, laid_none, laid_far}
 use Rattle.stm_image.proofs.set.Image.lay.Goals as goal
 
 pub runs-init : goal.runs-init
 runs-init c =
     let at : c.from-at.result ≡ c.args.address = c.from-at.ensures in
-    let L : ℕ → Type 0 = λ n. IsLaidTo c.args.self.now c.args.address c.args.bytes.now n c.args.bytes.now in
-    subst L (sym at) (laid_start c.args.self.now c.args.address c.args.bytes.now)
+    rw at (laid_start c.args.self.now c.args.address c.args.bytes.now)
 
 -- one run more
 pub runs-preserved : goal.runs-preserved
 runs-preserved c =
-    let L : ℕ → Type 0 = λ n. IsLaidTo c.args.self.now c.args.address c.args.bytes.now (n + length c.in-Some.held.now) c.put_at.new.to in
-    subst L (sym c.from-in-Some.ensures) (laid_run c.args.self.now c.args.address c.runs.at c.in-Some.start c.args.bytes.now c.runs.bytes c.put_at.new.to c.in-Some.held.now c.rises.ensures.rises c.in-Some.ensures c.runs.invariant c.put_at.ensures)
+    rw c.from-in-Some.ensures (laid_run c.args.self.now c.args.address c.runs.at c.in-Some.start c.args.bytes.now c.runs.bytes c.put_at.new.to c.in-Some.held.now c.rises.ensures.rises c.in-Some.ensures c.runs.invariant c.put_at.ensures)
 
 -- nothing more is in the image
 pub returns-in-None : goal.returns-in-None

@@ -1,11 +1,8 @@
 use Rattle.std.proofs.Common.{◌≡◌, ◌<◌, ◌≤◌, ◌+◌, ◌-◌, ℕ, List, length, sym, ap, ◌∙◌, subst, arith}
-use Rattle.std.specs.Prelude.{All}
 use Rattle.std.specs.List.{AllWithin}
-use Rattle.std.specs.List.Sorted.{IsNonDecreasingBy}
 use Rattle.std.proofs.lemmas.Bool.Decides.{nat_tests}
 use Rattle.std.proofs.lemmas.List.{with_items_is}
-use Rattle.stm_image.specs.Clash.{IsPutOver, Names}
-use Rattle.stm_image.specs.Lay.{IsPutAt}
+use Rattle.stm_image.specs.Clash.{Names}
 use Rattle.stm_image.specs.Pairs.{Pairs, IsImage}
 use Rattle.stm_image.specs.Pieces.{Stand, pairs_at}
 use Rattle.stm_image.specs.declared.pieces.Piece.{Piece}
@@ -25,17 +22,15 @@ High list address place = AllWithin (λ (p : Piece). address ≤ p.last) list pl
 pub first_ending_from-place-requires : goal.first_ending_from-place-requires
 first_ending_from-place-requires c =
     let runs = c.self.inside.runs in
-    let R : List Piece → Type 0 = λ l. IsNonDecreasingBy (λ (p : Piece). p.last) l in
-    subst R (sym c.as_slice.ensures.value) (lasts_rise 0 (length runs.bytes.items) 0 runs.list.items c.self.invariant.stand c.self.invariant.apart)
+    rw c.as_slice.ensures.value (lasts_rise 0 (length runs.bytes.items) 0 runs.list.items c.self.invariant.stand c.self.invariant.apart)
 
 pub index-piece-requires : goal.index-piece-requires
 index-piece-requires c =
     let runs = c.self.inside.runs in
     let place = c.first_ending_from-place.result in
-    let N : Pairs → Type 0 = λ ps. Names ps c.args.address (length c.args.bytes.now) in
     let low = subst (λ (l : List Piece). Low l c.args.address place) c.as_slice.ensures.value c.first_ending_from-place.ensures.before in
     let some : 0 < length c.args.bytes.now = grind (arith, nat_tests) in
-    let lt = reaches runs.bytes.items runs.list.items place c.args.address (length c.args.bytes.now) c.self.invariant.stand low (subst N (sym c.self.view_is) c.requires) some in
+    let lt = reaches runs.bytes.items runs.list.items place c.args.address (length c.args.bytes.now) c.self.invariant.stand low (rw c.self.view_is c.requires) some in
     omega (arith, lt, runs.list.ok.0)
 
 -- The piece that was found, in which the bytes lie.
@@ -101,8 +96,7 @@ invariant_of-self c =
     let long : length new ≡ length runs.bytes.items = c.put_at.ensures.same_length ∙ ap (λ (b : List ℕ). length b) c.as_mut_slice.ensures.value in
     let stand = subst (λ (n : ℕ). Stand 0 n runs.list.items) (sym long) c.self.invariant.stand in
     let is = with_items_is runs.bytes new (omega (arith, long, runs.bytes.ok.0)) in
-    let B : List ℕ → Type 0 = λ bytes. All (λ b. b < 256) bytes in
-    let image = is_image new (length new) runs.list.items stand c.self.invariant.apart (subst B (c.as_slice-2.ensures.value ∙ is) c.are_bytes.ensures) in
+    let image = is_image new (length new) runs.list.items stand c.self.invariant.apart (rw (c.as_slice-2.ensures.value ∙ is) at c.are_bytes.ensures) in
     record {
       stand = subst (λ (b : List ℕ). Stand 0 (length b) runs.list.items) (sym is) stand;
       apart = c.self.invariant.apart;
@@ -116,17 +110,12 @@ returns c =
     let piece = c.index-piece.result.now in
     let skip = piece.place + (c.args.address - piece.first) in
     let new = c.put_at.new.to in
-    let P : List ℕ → Type 0 = λ b. IsPutAt c.args.bytes.now b skip new in
     let over = puts_over runs.bytes.items runs.list.items c.first_ending_from-place.result piece
     c.self.invariant.stand c.self.invariant.apart (found at).lt (found at).is
     c.args.address c.args.bytes.now new (low at) (found at).high (named at) (some at)
-    (subst P c.as_mut_slice.ensures.value c.put_at.ensures) in
+    (rw c.as_mut_slice.ensures.value at c.put_at.ensures) in
     let long : length new ≡ length runs.bytes.items =
     c.put_at.ensures.same_length
     ∙ ap (λ (b : List ℕ). length b) c.as_mut_slice.ensures.value in
     let is = with_items_is runs.bytes new (omega (arith, long, runs.bytes.ok.0)) in
-    let B : List ℕ → Type 0 =
-    λ b. IsPutOver c.args.self.now c.args.address c.args.bytes.now (pairs_at b runs.list.items) in
-    let S : Pairs → Type 0 =
-    λ ps. IsPutOver ps c.args.address c.args.bytes.now (pairs_at new runs.list.items) in
-    subst B (sym is) (subst S c.self.view_is over)
+    rw is (rw c.self.view_is at over)

@@ -1,8 +1,6 @@
 use Rattle.std.proofs.Common.{◌≡◌, ◌<◌, ◌≤◌, ◌+◌, ◌-◌, ℕ, List, length, drop, get_or, sym, ap, ap₂, ◌∙◌, subst, arith}
-use Rattle.std.specs.List.{AllWithin}
-use Rattle.std.specs.List.Sorted.{IsNonDecreasingBy}
 use Rattle.std.proofs.lemmas.List.{get_or_default}
-use Rattle.stm_image.specs.Pairs.{Pairs, HasNone}
+use Rattle.stm_image.specs.Pairs.{Pairs}
 use Rattle.stm_image.specs.Pieces.{pairs_at, piece_bytes, piece_size}
 use Rattle.stm_image.specs.Runs.{IsRunFrom}
 use Rattle.stm_image.specs.declared.pieces.Piece.{Piece}
@@ -13,8 +11,7 @@ use Rattle.stm_image.proofs.set.Image.run_from.Goals as goal
 pub first_ending_from-place-requires : goal.first_ending_from-place-requires
 first_ending_from-place-requires c =
     let runs = c.self.inside.runs in
-    let R : List Piece → Type 0 = λ l. IsNonDecreasingBy (λ (p : Piece). p.last) l in
-    subst R (sym c.as_slice-list.ensures.value) (lasts_rise 0 (length runs.bytes.items) 0 runs.list.items c.self.invariant.stand c.self.invariant.apart)
+    rw c.as_slice-list.ensures.value (lasts_rise 0 (length runs.bytes.items) 0 runs.list.items c.self.invariant.stand c.self.invariant.apart)
 
 pub bytes_in-bytes-requires : goal.bytes_in-bytes-requires
 bytes_in-bytes-requires c =
@@ -85,8 +82,6 @@ pub returns-then-place-list : goal.returns-then-place-list
 returns-then-place-list c =
     let runs = c.self.inside.runs in
     let place = c.first_ending_from-place.result in
-    let W : List Piece → Type 0 = λ l. AllWithin (λ (p : Piece). p.last < c.args.address) l 0 place in
-    let N : Pairs → Type 0 = λ ps. HasNone ps c.args.address in
     let same = ap (λ (l : List Piece). length l) c.as_slice-list.ensures.value in
     let all : length runs.list.items ≤ place = omega (arith, same, c.if-place-list.true) in
-    subst N c.self.view_is (none_from runs.bytes.items (length runs.bytes.items) c.args.address runs.list.items place c.self.invariant.stand (subst W c.as_slice-list.ensures.value c.first_ending_from-place.ensures.before) all)
+    rw c.self.view_is at (none_from runs.bytes.items (length runs.bytes.items) c.args.address runs.list.items place c.self.invariant.stand (rw c.as_slice-list.ensures.value at c.first_ending_from-place.ensures.before) all)

@@ -1,4 +1,4 @@
-use Rattle.std.proofs.Common.{◌∙◌, ◌∷◌, []}
+use Rattle.std.proofs.Common.{◌∙◌, []}
 use Rattle.std.proofs.lemmas.Result.{on_ok_weaker}
 use Rattle.stm_journal.specs.InMemory.{filled}
 use Rattle.stm_journal.proofs.Appending.{Appends-added}
@@ -15,7 +15,7 @@ returns-clause-honest g c = λ honest tied printable.
     let e = filled c.args.entry c.args.held.now in
     let A : Entry → Type 0 = λ x. IsTrue (allows c.args.self.now.state x) in
     let adds = c.append.ensures.honest honest in
-    Appends-added (e ∷ []) c.args.self.now c.prepare.new.self c.deref.result.now (V c.args.rig.now) (V c.append.new.rig) c.append.result (g.met.R.Rig.model c.append.new.rig adds.honest)
+    Appends-added e [] c.args.self.now c.prepare.new.self c.deref.result.now (V c.args.rig.now) (V c.append.new.rig) c.append.result (g.met.R.Rig.model c.append.new.rig adds.honest)
     (record { text = c.deref.ensures.value ∙ c.in_ok-text.ensures.text; after = c.in_ok-text.ensures.after }) tied (AllAllowed-one e c.args.self.now printable (subst A (sym c.requires.held) c.requires.allowed)) adds
 
 pub returns-clause-text : goal.returns-clause-text

@@ -1,5 +1,6 @@
-use Rattle.std.proofs.Common.{◌∙◌, arith}
-use Rattle.stm_journal.specs.Journals.{first_entries}
+use Rattle.std.proofs.Common.{◌∙◌, ◌∷◌, [], arith}
+use Rattle.stm_journal.specs.declared.entry.Entry.TheVariants.{Names, Opens}
+use Rattle.stm_journal.specs.Journals.{version_for}
 use Rattle.stm_journal.proofs.Appending.{Appends-added}
 use Rattle.std.proofs.lemmas.Result.{on_ok_weaker}
 use Rattle.stm_journal.proofs.InTexts.{InText-first}
@@ -10,7 +11,7 @@ pub returns-clause-honest : goal.returns-clause-honest
 returns-clause-honest g c = λ honest tied.
     let V = g.R.Rig.view in
     let adds = c.append.ensures.honest honest in
-    Appends-added (first_entries c.args.id c.args.unique.now) c.args.self.now c.prepare_first.new.self c.deref.result.now (V c.args.rig.now) (V c.append.new.rig) c.append.result (g.met.R.Rig.model c.append.new.rig adds.honest)
+    Appends-added (Names (version_for c.args.unique.now) c.args.id c.args.unique.now) (Opens 1 ∷ []) c.args.self.now c.prepare_first.new.self c.deref.result.now (V c.args.rig.now) (V c.append.new.rig) c.append.result (g.met.R.Rig.model c.append.new.rig adds.honest)
     (record { text = c.deref.ensures.value ∙ c.in_ok-text.ensures.text; after = c.in_ok-text.ensures.after }) tied (AllAllowed-first c.args.id c.args.unique.now c.args.self.now (omega arith) c.requires.told c.requires.fresh) adds
 
 pub returns-clause-text : goal.returns-clause-text

@@ -9,4 +9,4 @@ pub returns : goal.returns
 returns c =
     let L : Loaded → Type 0 = λ l. IsRead l c.new-2.result [] in
     let S : Summary → Type 0 = λ y. IsRead empty_loaded y [] in
-    subst L (sym c.new.ensures) (subst S (sym c.new-2.ensures) (record { text = empty_state; means = refl; state = refl; lines = refl; size = refl; rest = refl }))
+    subst L (sym c.new.ensures) (subst S (sym c.new-2.ensures) (record { text = empty_state; means = refl; state = refl; lines = refl; size = refl; greeted = refl; rest = refl }))

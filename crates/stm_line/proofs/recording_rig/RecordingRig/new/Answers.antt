@@ -7,5 +7,4 @@ use Rattle.stm_line.proofs.recording_rig.RecordingRig.new.Goals as goal
 pub returns-clause-honest : goal.returns-clause-honest
 returns-clause-honest g c = λ h.
     let V = g.R.Rig.view in
-    subst (λ (cs : List Answered). IsRecordOf cs (stands (V c.args.inner))) (sym c.new.ensures.items)
-    (starts (V c.args.inner) (g.met.R.Rig.model c.args.inner) h)
+    rw c.new.ensures.items (starts (V c.args.inner) (g.met.R.Rig.model c.args.inner) h)

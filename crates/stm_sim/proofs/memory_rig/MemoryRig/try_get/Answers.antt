@@ -1,10 +1,10 @@
-use Rattle.std.proofs.Common.{◌++◌, ◌∷◌, [], ◌∙◌, ap, refl, sym, subst, arith, List, ℕ, Option, Some, None}
+use Rattle.std.proofs.Common.{◌++◌, ◌∷◌, [], ◌∙◌, ap, refl, subst, arith, List, ℕ, Option, Some, None}
 use Rattle.std.specs.Option.{option_map}
 use Rattle.stm_wire.specs.declared.rig.RigCall.{RigCall}
 use Rattle.stm_sim.specs.declared.past.PastStep.{PastStep}
 use Rattle.stm_wire.specs.declared.rig.RigCall.TheVariants.{Get}
 use Rattle.stm_sim.specs.declared.past.PastStep.TheVariants.{Taken, Nothing}
-use Rattle.stm_wire.specs.Device.{Device, IsDevice}
+use Rattle.stm_wire.specs.Device.{Device}
 use Rattle.stm_sim.specs.Memory.{MemoryData, memory_of, first_device, GetsFrom}
 use Rattle.stm_sim.specs.lemmas.Past.{keeps-quiet, taken-step, taken-rest, taken-first, taken-device, is-with_call}
 use Rattle.stm_sim.proofs.memory_rig.MemoryRig.try_get.Goals as goal
@@ -29,13 +29,12 @@ invariant_of-self-in-None c =
     let i = c.self.inside in
     let first : Option (List ℕ) = option_map (λ v. v.items) i.first in
     let m = memory_of i.simulator i.journal.items i.line_failures i.journal_failures i.calls.items i.room i.plan first i.begun i.start i.past.items in
-    let P : Device → Type 0 = λ d. IsDevice d in
     let keeps =
     keeps-quiet (Get None) Nothing m c.take.new.self _ _ _ c.in-None.ensures.1
     (c.push_reserved-in-None.ensures.items ∙ ap (λ (xs : List RigCall). xs ++ Get None ∷ []) c.reserve_entry.ensures.calls)
     (ap (λ (d : Device). first_device first d) c.in-None.ensures.1)
     (c.push_reserved-in-None-2.ensures.items ∙ ap (λ (xs : List PastStep). xs ++ Nothing ∷ []) c.reserve_entry.ensures.past)
-    c.self.invariant.0 (subst P (sym c.in-None.ensures.1) c.self.invariant.0.is_device) refl in
+    c.self.invariant.0 (rw c.in-None.ensures.1 c.self.invariant.0.is_device) refl in
     (keeps, omega arith, omega arith)
 
 pub returns-in-Some-clause-ok : goal.returns-in-Some-clause-ok

@@ -1,5 +1,4 @@
-use Rattle.std.proofs.Common.{List, ℕ, ◌<◌, ◌∙◌, ap₂, arith, sym, subst}
-use Rattle.stm_wire.specs.Device.{Device, IsDevice}
+use Rattle.std.proofs.Common.{List, ℕ, ◌<◌, ◌∙◌, ap₂, arith}
 use Rattle.stm_sim.specs.Simulator.{simulated_device, device_of}
 use Rattle.stm_sim.specs.lemmas.SimulatedDevice.{simulated_device-IsDevice}
 use Rattle.stm_sim.proofs.simulator.Simulator.feed.Goals as goal
@@ -9,12 +8,8 @@ invariant_of-self-2 c =
     let i = c.self.inside in
     let byte = c.args.byte in
     let small : byte < 256 = omega arith in
-    let P : Device → Type 0 = λ d. IsDevice d in
     let old = device_of i.chip i.flash.items i.owed.items i.rest.bytes.items i.stage in (
-      subst P
-          (sym
-          (c.feed.ensures.device
-          ∙ ap₂ (λ (owed rest : List ℕ). simulated_device byte (device_of i.chip i.flash.items owed rest i.stage)) c.in_ok-reserve.ensures.items c.in_ok-reserve-2.ensures.same))
-          (simulated_device-IsDevice byte old small c.self.invariant.0),
+      rw (c.feed.ensures.device
+          ∙ ap₂ (λ (owed rest : List ℕ). simulated_device byte (device_of i.chip i.flash.items owed rest i.stage)) c.in_ok-reserve.ensures.items c.in_ok-reserve-2.ensures.same) (simulated_device-IsDevice byte old small c.self.invariant.0),
       c.feed.ensures.current,
     )

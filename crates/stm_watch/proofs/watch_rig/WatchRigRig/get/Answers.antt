@@ -1,9 +1,6 @@
-use Rattle.std.proofs.Common.{◌≡◌, ◌∙◌, ℕ, Option, Some, Result, Ok, sym, subst, arith, rules}
-use Rattle.stm_wire.specs.declared.fault.RigFault.{RigFault}
-use Rattle.stm_wire.specs.Rig.{Records, entry_of_get, GetsHonestly}
+use Rattle.std.proofs.Common.{◌≡◌, ◌∙◌, Some, Ok, sym}
 use Rattle.stm_watch.proofs.Passing.{get-honest, refused-recorded, refused-entered, none-refused}
-use Rattle.stm_watch.proofs.Passing.{none-of}
-use Rattle.stm_watch.proofs.Passing.{never-honest}
+use Rattle.stm_watch.proofs.Passing.{none-of, never-honest}
 use Rattle.stm_watch.proofs.watch_rig.WatchRigRig.get.Goals as goal
 
 pub returns-then-hear-clause-honest : goal.returns-then-hear-clause-honest
@@ -12,14 +9,9 @@ returns-then-hear-clause-honest g c =
     let old = g.R.Rig.view rig.inner in
     let new = g.R.Rig.view c.get.new.self in
     let byte = c.in-Ok-Some.byte in
-    let is : c.get.result ≡ Ok (Some byte) =
-    first_of (
-      grind (arith, c.in-Ok-Some.is, c.in-Ok-Some.field-0-is),
-      search (rules, c.in-Ok-Some.is, c.in-Ok-Some.field-0-is),
-    ) in
-    let P : Result (Option ℕ) RigFault → Type 0 = λ r. old.is_honest → GetsHonestly r old new in
+    let is : c.get.result ≡ Ok (Some byte) = cc in
     get-honest (Ok (Some byte)) rig.watch c.hear.new.self rig.refusal rig.line_failures
-    rig.journal_failures old new c.hear.ensures.whole (subst P is c.get.ensures.honest)
+    rig.journal_failures old new c.hear.ensures.whole (rw is at c.get.ensures.honest)
     (sym c.hear.ensures.due ∙ c.if-hear.true, c.hear.ensures.heard c.if-hear.true)
 
 pub returns-else-hear-clause-recorded : goal.returns-else-hear-clause-recorded
@@ -28,17 +20,10 @@ returns-else-hear-clause-recorded g c =
     let old = g.R.Rig.view rig.inner in
     let new = g.R.Rig.view c.get.new.self in
     let byte = c.in-Ok-Some.byte in
-    let is : c.get.result ≡ Ok (Some byte) =
-    first_of (
-      grind (arith, c.in-Ok-Some.is, c.in-Ok-Some.field-0-is),
-      search (rules, c.in-Ok-Some.is, c.in-Ok-Some.field-0-is),
-    ) in
+    let is : c.get.result ≡ Ok (Some byte) = cc in
     let none = none-of rig.refusal (sym c.is_some.ensures ∙ c.if-is_some.false) in
-    let P : Result (Option ℕ) RigFault
-    → Type 0 = λ r. Records (entry_of_get r) r old.calls new.calls in
     refused-recorded rig.watch rig.refusal rig.line_failures rig.journal_failures old new.calls
-    byte none
-    (subst P is c.get.ensures.recorded)
+    byte none (rw is at c.get.ensures.recorded)
 
 pub returns-else-hear-clause-entered : goal.returns-else-hear-clause-entered
 returns-else-hear-clause-entered g c room =
@@ -46,17 +31,10 @@ returns-else-hear-clause-entered g c room =
     let old = g.R.Rig.view rig.inner in
     let new = g.R.Rig.view c.get.new.self in
     let byte = c.in-Ok-Some.byte in
-    let is : c.get.result ≡ Ok (Some byte) =
-    first_of (
-      grind (arith, c.in-Ok-Some.is, c.in-Ok-Some.field-0-is),
-      search (rules, c.in-Ok-Some.is, c.in-Ok-Some.field-0-is),
-    ) in
+    let is : c.get.result ≡ Ok (Some byte) = cc in
     let none = none-of rig.refusal (sym c.is_some.ensures ∙ c.if-is_some.false) in
-    let P : Result (Option ℕ) RigFault
-    → Type 0 = λ r. Records (entry_of_get r) r old.calls new.calls in
     refused-entered rig.watch rig.refusal rig.line_failures rig.journal_failures old new.calls
-    byte none
-    (subst P is c.get.ensures.recorded)
+    byte none (rw is at c.get.ensures.recorded)
 
 pub returns-else-hear-clause-honest : goal.returns-else-hear-clause-honest
 returns-else-hear-clause-honest g c honest =
@@ -64,13 +42,8 @@ returns-else-hear-clause-honest g c honest =
     let old = g.R.Rig.view rig.inner in
     let new = g.R.Rig.view c.get.new.self in
     let byte = c.in-Ok-Some.byte in
-    let is : c.get.result ≡ Ok (Some byte) =
-    first_of (
-      grind (arith, c.in-Ok-Some.is, c.in-Ok-Some.field-0-is),
-      search (rules, c.in-Ok-Some.is, c.in-Ok-Some.field-0-is),
-    ) in
-    let P : Result (Option ℕ) RigFault → Type 0 = λ r. old.is_honest → GetsHonestly r old new in
+    let is : c.get.result ≡ Ok (Some byte) = cc in
     absurd
     (never-honest rig.watch rig.refusal rig.line_failures rig.journal_failures old
-    (none-refused byte rig.watch old new c.hear.ensures.whole (subst P is c.get.ensures.honest)
+    (none-refused byte rig.watch old new c.hear.ensures.whole (rw is at c.get.ensures.honest)
     (sym c.hear.ensures.due ∙ c.if-hear.false)) honest)

@@ -4,7 +4,7 @@ use Rattle.stm_sim.specs.declared.simulator.rest.Rest.{Rest}
 use Rattle.stm_wire.specs.Chip.{ChipData}
 use Rattle.stm_wire.specs.Exchange.{all_exist, verdict}
 use Rattle.stm_sim.specs.Rest.{IsAwaiting, IsCurrent, named_pages}
-use Rattle.stm_sim.proofs.Opening.{open_more}
+use Rattle.stm_sim.specs.lemmas.SimulatedDevice.{open-more}
 use Rattle.stm_sim.proofs.simulator.rest.Rest.push.Goals as goal
 use Rattle.stm_sim.proofs.simulator.rest.Rest.push.Goals.{then-self-gt1, else-self-gt1}
 
@@ -20,7 +20,7 @@ kept : (chip : ChipData) (codes : List ℕ) (old new : Rest) (byte : ℕ) (exist
     → all_exist chip (named_pages (old.bytes.items ++ byte ∷ [])) ≡ all_exist chip (named_pages old.bytes.items) && exists
     → IsCurrent chip codes new
 kept chip codes old new byte exists k items none awaited check pages named = record {
-  no_verdict = rw items (open_more chip codes old.bytes.items byte k.no_verdict none);
+  no_verdict = rw items (open-more chip codes old.bytes.items byte k.no_verdict none);
   awaited = rw items awaited;
   check = rw items (check ∙ ap (λ r. bit_xor r byte) k.check ∙ sym (fold_push bit_xor 0 old.bytes.items byte));
   pages_exist = rw items (pages ∙ ap (λ t. t && exists) k.pages_exist ∙ sym named);

@@ -1,4 +1,0 @@
-pub mod Keeping
-pub mod Power
-pub mod Boards
-pub mod Swap
