@@ -33,14 +33,14 @@
 #               the same code for Windows without waiting for proofs, at bin/stmflash-unproved.exe, which says so: three minutes
 #   make web    over what `make` proved, a page that flashes from a browser, at bin/web: static files, with their sums
 #   make web-unproved
-#               the same page without waiting for proofs, which says so: two minutes. `web/serve` serves it, with a simulated board
+#               the same page without waiting for proofs, as it says: four minutes. `web/serve` serves it, with a simulated board
 #   make deb    a Debian package of the proved program, in bin/ (dpkg-deb, binutils); of another one: STMFLASH_BINARY=; of the one for
 #               64-bit ARM: ARCH=arm64
 #   make release
-#               packages for both processors and of stm32flash's words, made twice and the same, with SHA256SUMS and notes, in
-#               bin/release/; how they are signed is printed
+#               packages for both processors and of stm32flash's words, and a zip for Windows, made twice and the same, with
+#               SHA256SUMS and notes, in bin/release/; how they are signed is printed
 #   make pictures
-#               draws docs/pictures/ from runs of the program and from the figures that `make bench` left (python3)
+#               draws docs/pictures/ from runs of the program and of bin/web, and from the figures that `make bench` left (python3)
 #   make pages  makes anew docs/MAP.md, PROVED.md and STATEMENT.md: of the first comments of files, of contracts, and of what the
 #               headline rests on. Their heads are in docs/heads/ (python3)
 #   make bench  builds what is measured, measures it beside its peers, and prints ratios (needs python3; Debian's binutils
@@ -86,6 +86,9 @@ bin/stmflash:
 bin/stmflash-arm64:
 	@$(MAKE) --no-print-directory arm64
 
+bin/stmflash.exe:
+	@$(MAKE) --no-print-directory windows
+
 arm64:
 	@python3 -B arm64/build bin/stmflash-arm64
 	@ln -sf ../arm64/under-qemu bin/stmflash-arm64-under-qemu
@@ -99,7 +102,7 @@ web:
 	@python3 -B web/build bin/web
 
 web-unproved:
-	@python3 -B web/build --unproved bin/web
+	@{ test -x bin/stmflash-unproved || sh tools/demo.sh; } && python3 -B web/build --unproved bin/web
 
 windows:
 	@python3 -B windows/build bin/stmflash.exe
@@ -124,7 +127,6 @@ TESTS_stm_image = stm_rows
 TESTS_stm_chip = stm_rows
 TESTS_stm_journal = stm_rows
 TESTS_stm_session = stm_rows
-TESTS_stm_client = stm_session_tests
 TESTS_stm_any_line = stm_session_tests
 TESTS_stm_weak = stm_rows
 NAMED = $(if $(wildcard crates/$(CRATE)/src),$(CRATE),$(error CRATE= is the name of a crate, one of $(notdir $(wildcard crates/*))))
@@ -198,8 +200,8 @@ deb: $(STMFLASH_BINARY)
 	@mkdir -p bin
 	@packaging/deb $(STMFLASH_BINARY) bin
 
-release: bin/stmflash bin/stmflash-arm64
-	@packaging/release $(CURDIR)/bin/release bin/stmflash bin/stmflash-arm64
+release: bin/stmflash bin/stmflash-arm64 bin/stmflash.exe
+	@packaging/release $(CURDIR)/bin/release $^
 
 pages:
 	python3 tools/map
@@ -211,10 +213,10 @@ pictures:
 	python3 tools/pictures/stopped-write $(SOAKED) docs/pictures/stopped-write.svg
 	python3 tools/pictures/session $(SOAKED) docs/pictures/session.cast docs/pictures/session.svg
 	python3 tools/pictures/ratios bench/figures.json docs/pictures/ratios.svg
+	python3 tools/pictures/page $(SOAKED) docs/pictures
 
 bench: all
-	cd crates/bench && rt run > /dev/null
-	@$(MAKE) --no-print-directory web
+	cd crates/bench && rt run > /dev/null && $(MAKE) --no-print-directory web
 	for it in hex layers sessions read program line words web; do python3 bench/$$it || exit 1; done
 
 beside: all

@@ -15,6 +15,7 @@ import sys
 import tempfile
 import threading
 import time
+import types
 import unittest
 import unittest.mock
 
@@ -146,6 +147,34 @@ class Gate(unittest.TestCase):
         self.assertEqual(most, {"quick": 3, "others": 2})
         self.assertEqual({path: [test.name for test in tests] for path, tests in ended.items()},
                          {"quick": names, "slow-unproved": names, "brief": names[:-1]})
+
+
+class Mutants(unittest.TestCase):
+    """tools/mutants: which faults a sample has, and by which tests each is looked for."""
+
+    def test_a_sample_is_of_the_seed_and_stays_while_faults_come(self):
+        mutants = script("tools", "mutants")
+        make = lambda group, name: mutants.planted.Fault(group, name, "", 0, 0, "", "", "", "")
+        faults = [make(group, f"{group} {number}") for group in mutants.planted.GROUPS for number in range(50)]
+        names = {it.name for it in mutants.sampled(faults, 12, "a")}
+        self.assertEqual(collections.Counter(name.split()[0] for name in names), {"program": 4, "companions": 4, "layers": 2, "packages": 2})
+        self.assertNotEqual(names, {it.name for it in mutants.sampled(faults, 12, "b")})
+        self.assertEqual(names, {it.name for it in mutants.sampled(faults[::-1], 12, "a")})
+        # one that comes takes the place of one at the most
+        for number in range(20):
+            more = {it.name for it in mutants.sampled([make("program", f"new {number}"), *faults], 12, "a")}
+            self.assertIn(len(names - more), (0, 1))
+
+    def test_a_fault_is_looked_for_by_the_test_that_found_it_and_then_by_some_that_reach_it(self):
+        mutants = script("tools", "mutants")
+        looking = mutants.Looking.__new__(mutants.Looking)
+        looking.found, looking.most = {"it": "c"}, 25
+        looking.reach = types.SimpleNamespace(of=lambda fault: ["a", "b", "c", "d"], seconds={"a": 10, "b": 10, "c": 10})
+        fault = mutants.planted.Fault("program", "it", "x.rt", 0, 0, "", "", "", "")
+        self.assertEqual(looking.tests_of(fault), ["c", "a", "b"])
+        self.assertEqual(looking.tests_of(fault._replace(name="other")), ["a", "b"])
+        self.assertEqual(looking.tests_of(fault._replace(test="named")), ["named"])
+        self.assertEqual([it for it in looking.parts(["a", "b", "c", "d"]) if it], [["a"], ["b", "c"], ["d"]])
 
 
 class KeptModule(unittest.TestCase):

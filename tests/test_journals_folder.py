@@ -130,7 +130,7 @@ class JournalsFolder(Served):
         for board in UNIQUE:
             self.store(f"{board}.line", b"fresh\n")
         self.assertTold(self.at("c", "write", "--fresh", "image"), "segment 1: 1 pages written\n")
-        self.assertTold(self.at("a", "undo", "--fresh"), "undone 1\n")
+        self.assertTold(self.at("a", "undo", variables={"STMFLASH_FRESH": "1"}), "undone 1\n")
         self.assertFile("a", COUNTING)
         self.assertFile(name_of("b"), journal)
         self.assertFault(self.at("b", "write", "--fresh", "image"), "unfinished command, undo first")
@@ -142,7 +142,14 @@ class JournalsFolder(Served):
         self.assertFile("a.line", b"rest 43BC7F\n")
 
     def test_all_that_are_unfinished_are_named(self):
+        """In whatever order they and names that are no text come."""
+        def make_no_text(begin):
+            for byte in range(begin, 256, 2):
+                self.store(os.path.join(b"journals", bytes([byte]) + b".journal").decode(errors="surrogateescape"), b"")
+
+        make_no_text(0xE0)
         journals = {board: self.stop(board) for board in ("b", "a")}
+        make_no_text(0xE1)
         told = UNFINISHED % f"{name_of('a')}, {name_of('b')}"
         for board in UNIQUE:
             self.assertFault(self.at(board, "undo"), told)

@@ -184,11 +184,13 @@ class Serving(LinePlace):
 
     def test_places_that_are_taken(self):
         self.plain()
-        self.store("board", b"kept")
-        said = self.line("ttyUSB0", "--socket", "board")
-        self.assertLineFault(said, "board: something else stands there already; give --socket another name")
-        self.assertFile("board", b"kept")
-        self.remove("board")
+        for make in (lambda: self.store("board", b"kept"), lambda: os.symlink("nowhere", self.path("board"))):
+            make()
+            before = os.lstat(self.path("board"))
+            said = self.line("ttyUSB0", "--socket", "board")
+            self.assertLineFault(said, "board: something else stands there already; give --socket another name")
+            self.assertEqual(os.lstat(self.path("board")), before)
+            self.remove("board")
         # a socket that nobody listens at any more is replaced, and one that somebody listens at is not
         with self.listen("board"):
             said = self.line("ttyUSB0", "--socket", "board")

@@ -97,9 +97,15 @@ class Journals(Unnamed):
         self.assertEqual(board.store(), COUNTING)
 
     def test_boards_that_tell_none_have_the_ports(self):
+        before = self.telling("B2")
+        self.assertWell(self.short("ttyUSB0", "write", "fw.bin"), "segment 1: 1 pages written\n", self.journal("B2"))
+        before.stop()
+        self.remove("ttyUSB0.flash.board")
         board = self.telling(None)
         rest = ", of this port: the board tells no unique id"
         self.assertWell(self.short("ttyUSB0", "write", "fw.bin"), "segment 1: 1 pages written\n", self.nameless(), rest)
+        # the board that was there before is there no more, also for what asks none
+        self.assertEqual(self.short("ttyUSB0", "log").err.decode(), self.told(self.nameless()))
         self.assertWell(self.short("ttyUSB0", "undo"), "undone 1\n", self.nameless(), rest)
         self.assertEqual(board.store(), COUNTING)
         # nor is one asked that isn't to be
@@ -111,11 +117,11 @@ class Journals(Unnamed):
         self.telling()
         os.mkdir(self.path("folder"))
         for words, settings in ((("--journal", "one"), {}), (("--journal=one",), {}), (("--journals", "folder"), {}),
-                                ((), {"STMFLASH_JOURNAL": "one"}), ((), {"STMFLASH_JOURNALS": "folder"})):
+                                (("--journals=folder",), {}), ((), {"STMFLASH_JOURNAL": "one"}), ((), {"STMFLASH_JOURNALS": "folder"})):
             with self.subTest(words=words, settings=settings):
                 said = self.short("ttyUSB0", "--", "stmflash", "info", *words, **settings)
                 self.assertEqual((said.status, said.err), (0, b""))
-        for command in (("sh", "-c", "stmflash info"), ("stmflash", "info", "--device", "sim:0412:flash")):
+        for command in (("sh", "-c", "stmflash info"), ("stmflash", "info", "--device", "sim:0412:flash"), ("stmflash", "info", "--device=sim:0412:flash")):
             self.assertEqual(self.short("ttyUSB0", "--", *command).status, 2)
         self.assertFalse(os.path.exists(self.state))
 

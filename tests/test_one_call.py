@@ -86,12 +86,14 @@ class OneCall(Place):
 
     def test_a_name_that_is_there(self):
         self.store("kept", b"another")
-        for name in ("kept", "image", "table", "journal", "flash.line", "none/kept"):
-            with self.subTest(name=name):
-                self.store("flash.line", b"fresh\n")
-                self.assertFault(self.write("--keep-to", name), f"cannot write {name}")
-                self.assertFiles({"kept": b"another", "flash": None, "journal": None})
-                self.remove("flash.line")
+        os.symlink("nowhere", self.path("link"))
+        for name in ("kept", "image", "table", "journal", "flash.line", "none/kept", "link"):
+            for again in ((), ("--again", "2")):
+                with self.subTest(name=name, again=again):
+                    self.store("flash.line", b"fresh\n")
+                    self.assertFault(self.write("--keep-to", name, *again), f"cannot write {name}")
+                    self.assertFiles({"kept": b"another", "flash": None, "journal": None})
+                    self.remove("flash.line")
 
     def test_bad_numbers(self):
         for words in (("--keep", "--go", "08"), ("--again", "0"), ("--again", "1001"), ("--again", "x")):

@@ -9,6 +9,7 @@ import place
 import telling
 from place import COUNTING, WAIT, ZEROS, files
 from served import Served
+from test_crashed import LEFT
 
 OURS, OTHER = 0, 4242
 UNIQUE = "2B0035000A51363034393332"
@@ -145,6 +146,10 @@ class Owners(Served):
         said = self.use("info", "--json")
         self.assertEqual(said.out.split(b",")[0], b'{"fault":"not_trusted"')
         self.assertEqual(self.call("keep", "--journal", "journal", WORD).status, 0)
+        # nor is what a crash left there cut off
+        self.make("journal", Planted(OTHER, OTHER, 0o644), LEFT)
+        self.assertFault(self.use("undo", "--recover"), f"journal {OWNER}")
+        self.assertFiles({"journal": LEFT, "journal.cut": None})
 
     def test_root_trusts_who_called_sudo(self):
         """A number that isn't one is nobody's."""

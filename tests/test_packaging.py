@@ -1,12 +1,15 @@
 """What packaging/deb refuses: no package says of a program that it is proved which isn't. And what a release is made of."""
 
 import glob
+import hashlib
 import os
 import re
 import shutil
+import stat
 import subprocess
 import tempfile
 import unittest
+import zipfile
 
 from place import PATIENCE, TOP, is_unproved, program
 
@@ -15,6 +18,11 @@ def settings(path):
     """What a unit sets, the last of each name."""
     with open(path, encoding="utf-8") as file:
         return dict(line.rstrip().split("=", 1) for line in file if "=" in line and not line.startswith("#"))
+
+
+def sum_of(path):
+    with open(path, "rb") as file:
+        return hashlib.md5(file.read()).hexdigest()
 
 
 class Packaging(unittest.TestCase):
@@ -123,9 +131,10 @@ class Packaging(unittest.TestCase):
                 fields = dict(line.rstrip("\n").split(": ", 1) for line in file if re.match(r"[\w-]+: ", line))
             self.assertEqual((fields["Package"], fields["Conflicts"], fields["Replaces"]), ("stmflash-unproved", "stmflash", "stmflash"))
             self.assertEqual(fields["Depends"].split(", ")[-2:], ["python3", "python3-serial"])
-            with open(f"{room}/tree/DEBIAN/md5sums", "rb") as file:
-                names = [line.split(b"  ", 1)[1] for line in file]
-            self.assertEqual(names, sorted(names))
+            with open(f"{room}/tree/DEBIAN/md5sums", encoding="utf-8") as file:
+                sums = [tuple(line.rstrip("\n").split("  ", 1)) for line in file]
+            there = sorted(path for path in glob.glob("usr/**", root_dir=f"{room}/tree", recursive=True) if stat.S_ISREG(os.lstat(f"{room}/tree/{path}").st_mode))
+            self.assertEqual(sums, [(sum_of(f"{room}/tree/{path}"), path) for path in there])
             packed = glob.glob(f"{room}/tree/usr/share/**/*.gz", recursive=True)
             self.assertGreater(len(packed), 3)
             for path in packed:
@@ -135,8 +144,8 @@ class Packaging(unittest.TestCase):
             with open(f"{room}/tree/usr/bin/stmflash", "rb") as file:
                 self.assertNotIn(b".comment", file.read()[-20000:])
 
-    def release(self, clone, folder):
-        words = [os.path.join(clone, "packaging", "release"), folder]
+    def release(self, clone, folder, *programs):
+        words = [os.path.join(clone, "packaging", "release"), folder, *programs]
         ran = subprocess.run(words, capture_output=True, text=True, timeout=60)
         return ran.returncode, ran.stderr, ran.stdout
 
@@ -170,8 +179,20 @@ class Packaging(unittest.TestCase):
             self.assertEqual(self.release(clone, folder), (1, "packaging/release: there are changes that aren't committed\n", ""))
             self.assertFalse(os.path.exists(folder))
             os.remove(os.path.join(clone, "more"))
-            status, err, out = self.release(clone, folder)
+            program = os.path.join(room, "one.exe")
+            for said in ("0.2.0, not proved", f"{released[released.index('## 0') + 3:].split()[0]}, proved by rattle logic dac8208d650f15bf"):
+                with open(program, "w", encoding="utf-8") as file:
+                    file.write(f"MZ {said}")
+                status, err, out = self.release(clone, folder, program)
+                if said.endswith("not proved"):
+                    self.assertEqual((status, err), (1, f"packaging/zip: {program} isn't proved, and no zip is made of it\n"))
             self.assertEqual((status, err), (0, ""))
+            with zipfile.ZipFile(os.path.join(folder, "stmflash-windows-x64.zip")) as made:
+                names = {os.path.basename(name): made.read(name) for name in made.namelist()}
+            self.assertEqual(sorted(names), ["LICENSE", "WINDOWS.md", "chips.toml", "stmflash.exe"])
+            self.assertTrue(names["WINDOWS.md"].startswith(b"## On Windows\n") and b"Nothing was run on Windows" in names["WINDOWS.md"])
+            with open(os.path.join(folder, "SHA256SUMS"), encoding="utf-8") as file:
+                self.assertIn("./stmflash-windows-x64.zip\n", file.read())
             self.assertIn("git tag --sign", out)
             with open(os.path.join(folder, "NOTES.md"), encoding="utf-8") as file:
                 notes = file.read()

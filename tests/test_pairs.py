@@ -3,7 +3,7 @@ change what another one means.
 
 What a flag does shows beside the same call without it. One that leaves something as it is, as the flash, the journal or what is told,
 leaves it so beside another one too; so of two flags each does what it does alone. What both change is joined line by line, or said
-here. A flag that the help names and no row here has fails.
+here. A flag that the help names and no row here has fails. Where a variable stands for a flag, it does the same, alone and where a call goes another way.
 """
 
 import json
@@ -41,6 +41,10 @@ FLAGS = {"--table": (), "--device": (), "--journal": (), "--journals": ("--journ
 REFUSED = {"another board": ("--board", "0" * 24), "a stop": ("--stop", "3"), "a bad wait": ("--wait", "0")}
 # those beside which each other one is tried
 BESIDE = ("--journals", "--again", "--watch", "--json", "--fresh", "--keep", "--board", "-v", "--hex", "a socket")
+# the flags for which a variable of that name stands, and what it has
+VARIABLES = {"--fresh": "1", "--no-board": "1", "--no-lock": "1", "--json": "1", "--board": UNIQUE, "--baud": "115200", "--journals": "journals"}
+# those by which a call goes another way, beside which each variable is tried
+OTHER_WAYS = ("--journals", "--again", "--fresh", "a socket")
 IN_SESSION = "--in-session asks the board nothing first: no --board, --journals or --watch"
 # those that are refused together, and how
 NOT_BOTH = {("--journals", "--no-board"): "give --journals or --no-board, not both", ("a socket", "--stop"): "--stop needs a simulator",
@@ -64,12 +68,12 @@ class Pairs(Served):
         found = re.findall(r"^ +(-\w|--[\w-]+)(?=[ ,])", self.call(name, "--help").out.decode(), re.M)
         return [it for it in found if it != "-h"] + ["a socket"] * ("--device" in found)
 
-    def came(self, name, *flags):
-        """What comes of a call with these flags, part by part."""
-        if flags not in self.known:
-            words = []
+    def came(self, name, *flags, by=None):
+        """What comes of a call with these flags, part by part; for one of them its variable may stand."""
+        if (flags, by) not in self.known:
+            words, variables = [], {"STMFLASH_" + by[2:].upper().replace("-", "_"): VARIABLES[by]} if by else {}
             for flag in flags:
-                asked = FLAGS[flag] if flag in FLAGS else REFUSED[flag]
+                asked = () if flag == by else FLAGS[flag] if flag in FLAGS else REFUSED[flag]
                 words += [it for it in asked if it not in words or not it.startswith("--")]
             self.begin(name, flags)
             used, other = (FOLDER, PLACE) if "--journals" in flags else (PLACE, FOLDER)
@@ -78,7 +82,8 @@ class Pairs(Served):
             if "a socket" in flags:
                 self.serve(1, number="0410")
                 before = ("--table", "table", "--device", "board", *(() if "--wait" in words else ("--wait", WAIT)))
-            said = self.call(name, *before, *(("--journal", PLACE) if used == PLACE else ()), *words, *(() if "--all" in flags else behind))
+            said = self.call(name, *before, *(("--journal", PLACE) if used == PLACE else ()), *words, *(() if "--all" in flags else behind),
+                             variables=variables)
             if "a socket" in flags:
                 if said.status == 2:
                     self.leave(self.connect())
@@ -89,9 +94,9 @@ class Pairs(Served):
                 journal = journal and journal.replace(head, b"")
             # how many bytes came, and how long it takes, another word may change
             err = re.sub(rb"\d+ bytes of replies|, \d+ s left|no answer yet.*\n", b"", said.err)
-            self.known[flags] = {"status": said.status, "out": said.out, "err": sorted(err.splitlines()), "flash": self.held("flash"),
+            self.known[flags, by] = {"status": said.status, "out": said.out, "err": sorted(err.splitlines()), "flash": self.held("flash"),
                                  "line": self.held("flash.line"), "journal": journal, "file": self.held("out"), "kept": self.held("kept")}
-        return self.known[flags]
+        return self.known[flags, by]
 
     def assertPair(self, name, one, two):
         """Of a pair each does what it does alone; or both are refused."""
@@ -140,6 +145,10 @@ class Pairs(Served):
                 if two not in BESIDE[:at + 1]:
                     with self.subTest(one=one, two=two):
                         self.assertPair(name, one, two)
+        for flag in flags:
+            for beside in ((), *((it,) for it in OTHER_WAYS if it in flags and it != flag)) if flag in VARIABLES else ():
+                with self.subTest(variable=flag, beside=beside):
+                    self.assertEqual(self.came(name, flag, *beside, by=flag), self.came(name, flag, *beside))
         for why in REFUSED if "a socket" in flags else ():
             for flag in flags:
                 if not {flag, *FLAGS[flag]} & {"--no-board", "--in-session", "a socket", REFUSED[why][0]}:

@@ -54,7 +54,9 @@ class SimulatedBoard(telling.Told):
         self.store("flash.board", f"unique {NAME.lower()}".encode())
         self.assertFault(self.at("undo", "--board", OTHER[-4:]), "device is another board")
         self.assertTold(self.at("undo", "--board", NAME[-4:]), "undone 1\n")
-        self.assertFile("flash", COUNTING + COUNTING)
+        # of what goes into a file nothing is told
+        self.assertTold(self.at("read", "out"), "")
+        self.assertFiles({"flash": COUNTING + COUNTING, "out": COUNTING + COUNTING})
 
     def test_a_size_alone_is_told(self):
         self.store("flash.board", b"size 16\n")

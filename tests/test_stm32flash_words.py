@@ -690,6 +690,13 @@ class Dropping(unittest.TestCase):
             self.assertIn("ended-000002 was removed\n", told)
         self.assertEqual((self.numbers(), self.numbers("ended")), ([1, 3], []))
 
+    def test_all_that_may_be_of_a_board_are_ended_however_old(self):
+        self.keep(b"stmjournal 3 0412 " + 12 * b"A1")
+        for number in range(12):
+            self.keep(f"stmjournal 3 0412 {number:024X}".encode())
+        self.journals.set_apart(module("owner").Owner("0412", "A1" * 12))
+        self.assertEqual((self.numbers(), self.numbers("ended")), (list(range(2, 14)), [1]))
+
     def test_one_that_cant_be_removed_stays(self):
         for _ in range(8):
             self.keep(b"stmjournal 2 0412")
@@ -885,12 +892,13 @@ class Parts(unittest.TestCase):
     def test_a_write_that_differs_is_done_again_as_often_as_is_asked(self):
         fault, actions = module("fault"), module("actions")
 
-        def tries(retries, *faults, written=True, stays=False):
+        def tries(retries, *faults, written=True, stays=False, is_large=False):
             """How often it was done and undone, and whether it ended well; `written`: it has changed something, `stays`: that can't
-            be undone."""
+            be undone, `is_large`: the journal of before is put aside."""
             board, results = unittest.mock.Mock(), iter([*map(fault.Failed, faults), "done"])
-            board.journals.is_large.return_value = board.is_unfinished.return_value = False
+            board.journals.is_large.return_value, board.is_unfinished.return_value = is_large, False
             board.undoable.return_value = 1
+            board.put_aside.side_effect = lambda: setattr(board.undoable, "return_value", 0)
 
             def change():
                 board.undoable.return_value += written
@@ -921,10 +929,22 @@ class Parts(unittest.TestCase):
         self.assertEqual(tries(10, one, one), (2, 2, False))
         self.assertEqual(tries(10, "device does not follow the protocol"), (1, 1, False))
         self.assertEqual(tries(10, "device does not follow the protocol", written=False), (1, 0, False))
+        self.assertEqual(tries(10, "device does not follow the protocol", written=False, is_large=True), (1, 0, False))
         self.assertEqual(tries(10, "no answer from the device"), (1, 0, False))
         # what stands isn't done again, and a write of before isn't undone
         self.assertEqual(tries(10, one, stays=True), (1, 1, False))
         self.assertEqual(tries(10, one, written=False), (2, 0, True))
+
+    def test_a_call_of_stmflash_ends_with_a_fault_of_ours(self):
+        board = module("board").Board.__new__(module("board").Board)
+        with tempfile.TemporaryDirectory() as folder:
+            board.tools, board.settings = unittest.mock.Mock(stmflash=os.path.join(folder, "stmflash")), os.environ
+            with open(board.tools.stmflash, "w", encoding="ascii") as file:
+                file.write(f"#!/bin/sh\ntrap 'touch {folder}/ended; exit' TERM\necho reading page 1 >&2\nfor i in $(seq 100); do sleep 0.1; done\n")
+            os.chmod(board.tools.stmflash, 0o755)
+            with unittest.mock.patch.object(module("board"), "follow", side_effect=lambda stream, _: stream.readline().fails):
+                self.assertRaises(AttributeError, board.run_once, ["info"])
+            self.assertTrue(os.path.exists(f"{folder}/ended"))
 
     def test_a_ctrl_c_says_what_stands(self):
         told = io.StringIO()

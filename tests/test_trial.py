@@ -584,6 +584,39 @@ class Pages(unittest.TestCase):
             "--pages: this chip's are 0 to 31, but for 255"])
 
 
+PARTS = """
+from types import SimpleNamespace as Of
+import builtins, rows_reading, trial
+from board import Board
+from settling import limit_of
+made = Board.__new__(Board)
+made.words, made.compare = Of(pages=(5,)), lambda pages=None: [9, 2, 5]
+def tell(act, of):
+    try: print(act(of))
+    except Exception as fault: print(type(fault).__name__, fault, getattr(of, 'harm', ''), sep='; ')
+tell(lambda it: it.expect('it'), made)
+for saved, wrong in ((None, []), (b'', []), (b'', [3])):
+    tell(rows_reading.read_again.act, Of(saved=saved, compare=lambda _: wrong, model=Of(starts=[0]), words=Of(pages=[]), harm=''))
+print(limit_of(Of(code=0x44, page=7), 'erase'))
+ids = [it for held in rows_reading.SIZE_REGISTERS.values() for it in held]
+print(len(ids) - len({*ids}))
+asking = trial.Trial.__new__(trial.Trial)
+asking.words, asking.board = Of(yes=False, only_read=False, save='saved', pages=[1]), Of(model=True)
+asking.progress = Of(clear=lambda: None)
+for answer in (' Yes ', 'no'):
+    builtins.input = lambda _: answer
+    tell(lambda it: it.ask(), asking)
+"""
+
+
+class Parts(unittest.TestCase):
+    def test_what_they_answer(self):
+        self.assertEqual(of_modules(PARTS).splitlines(), [
+            "Differs; it: page 2, 5, 9 has other bytes than it should; page 2, 9 was changed, and wasn't named",
+            "NotTried; the flash wasn't saved; ", "None",
+            "Differs; page 3 has other bytes when it is read again; what is read can't be trusted", "3606", "0", "None", "Refused; nothing was changed; "])
+
+
 class Companion(Place):
     def test_what_it_is_told(self):
         """stmflash-line gets the port, the speed, a socket, and the wiring if there is one."""
