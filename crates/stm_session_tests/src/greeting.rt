@@ -1,20 +1,62 @@
-// A greeting ahead of an undo, wherever a write was stopped before, and wherever a greeting was.
-use crate::devices::{answers, counting, failed_at, is_counting, rig_of, stop, table_of, write_of};
+// A greeting ahead of an undo, behind stops of a write, and behind stops of a greeting.
 use std::test::Fail;
-use stm_chip::Table;
-use stm_session::{greet, undo};
+use stm_chip::{Table, read_table};
+use stm_image::read_raw;
+use stm_session::{Command, greet, run, undo};
 use stm_sim::MemoryRig;
 
 /// A table of chip 0414, whose pages are erased by numbers of two bytes.
 const TABLE: &str =
     "[[chip]]\nid = 0x414\nbase = 0x08000000\npages = [[4, 256]]\nerase = \"extended\"\n";
 
+/// How many stops are tried, eleven steps apart: a write of one page has some 1,100.
+const TURNS: u64 = 110;
+
+/// The table of that text.
+fn the_table(rt: &HostRuntime) -> Result<Table, Fail> {
+    match read_table(rt.alloc(), TABLE.as_bytes()) {
+        Ok(table) => Ok(table),
+        Err(_) => Err(Fail::new("no table")),
+    }
+}
+
+/// A test's failure at a number of steps.
+fn failed_at(steps: u64) -> Fail {
+    Fail::new(format_args!("something else than is due at {steps}"))
+}
+
+/// A flash of 1,024 bytes, of which byte i is i modulo 251.
+fn counting(rt: &HostRuntime) -> Result<Vec<u8>, Fail> {
+    let mut bytes = Vec::new(rt.alloc());
+    for place in 0..1_024_u32 {
+        bytes.push((place % 251) as u8)?;
+    }
+    Ok(bytes)
+}
+
+/// Whether byte i is i modulo 251.
+fn is_counting(bytes: &[u8]) -> bool {
+    let mut due = 0_u8;
+    for byte in bytes {
+        if *byte != due {
+            return false;
+        }
+        due = if due < 250 { due + 1 } else { 0 };
+    }
+    true
+}
+
 /// A device on which a write was stopped after so many steps, and that may be reset then.
 fn stopped(rt: &HostRuntime, table: &Table, steps: u64, resets: bool) -> Result<MemoryRig, Fail> {
-    let flash = counting(rt, 1024)?;
-    let mut rig = rig_of(rt, table, 0x0414, flash, Vec::new(rt.alloc()))?;
-    let commands = write_of(rt, &[1, 2, 3], 0x0800_0000)?;
-    let _fault = stop(rt, table, &mut rig, &commands, steps);
+    let chip = table.find(0x0414).ok_or("no chip")?.clone()?;
+    let journal = Vec::new(rt.alloc());
+    let mut rig = MemoryRig::new(rt.alloc(), chip, counting(rt)?, journal).ok_or("no rig")?;
+    let Ok(image) = read_raw(rt.alloc(), &[1, 2, 3], 0x0800_0000) else {
+        return Err(Fail::new("no image"));
+    };
+    rig.stop_after(steps);
+    let _stop = run(rt.alloc(), &mut rig, table, &[Command::Write(image)]);
+    rig.stop_after(u64::MAX);
     if resets {
         rig.reset();
     }
@@ -62,10 +104,11 @@ fn gives_back(rt: &HostRuntime, rig: &mut MemoryRig, table: &Table, steps: u64) 
 }
 
 #[test]
-fn a_greeting_is_one_wherever_a_write_was_stopped(rt: HostRuntime) -> Result<(), Fail> {
-    let table = table_of(&rt, TABLE)?;
+fn a_greeting_is_one_where_a_write_was_stopped(rt: HostRuntime) -> Result<(), Fail> {
+    let table = the_table(&rt)?;
     let mut last = false;
-    for steps in 0..1_000_u64 {
+    for turn in 0..TURNS {
+        let steps = turn.saturating_mul(11);
         for resets in [false, true] {
             let mut rig = stopped(&rt, &table, steps, resets)?;
             last = last || is_intent_last(rig.journal());
@@ -74,13 +117,18 @@ fn a_greeting_is_one_wherever_a_write_was_stopped(rt: HostRuntime) -> Result<(),
             }
         }
     }
-    answers(last, true)
+    if last {
+        Ok(())
+    } else {
+        Err(Fail::new("no stop was behind the intent"))
+    }
 }
 
 #[test]
 fn an_undo_behind_a_greeting_gives_all_back(rt: HostRuntime) -> Result<(), Fail> {
-    let table = table_of(&rt, TABLE)?;
-    for steps in 0..1_000_u64 {
+    let table = the_table(&rt)?;
+    for turn in 0..TURNS {
+        let steps = turn.saturating_mul(11);
         for resets in [false, true] {
             let mut rig = stopped(&rt, &table, steps, resets)?;
             if !gives_back(&rt, &mut rig, &table, steps % 40) {
