@@ -1,7 +1,7 @@
 // Tries what the page answers to the program, noun by noun: node web/test_layer.mjs [FOLDER [MODULE]]
 //
 // FOLDER has the files to be tried, web/page where none is given: test_layer.py hands over copies with a fault planted in one. It
-// ends with 0 where all holds. With a MODULE it compares what that asks for with what is answered.
+// ends with 0 where all holds; behind --first at once where something doesn't. With a MODULE it compares what that asks for with answers.
 import * as fs from 'node:fs';
 import * as os from 'node:os';
 import { pathToFileURL } from 'node:url';
@@ -21,7 +21,9 @@ const said = (_, it) => (typeof it === 'bigint' ? `${it}n` : it instanceof Uint8
 function holds(what, one, other = true) {
   all++;
   held += same(one, other);
-  if (!same(one, other)) console.log(`FAILED: ${what}: ${JSON.stringify(one, said)}, not ${JSON.stringify(other, said)}`);
+  if (same(one, other)) return;
+  console.log(`FAILED: ${what}: ${JSON.stringify(one, said)}, not ${JSON.stringify(other, said)}`);
+  if (process.argv.includes('--first')) process.exit(1);
 }
 const soon = (millis = 0) => new Promise((resolve) => setTimeout(resolve, millis));
 /** A promise that has to end: `late` where it doesn't. */
@@ -130,21 +132,20 @@ const disks = (count) => Array.from({ length: count }, () => inMemory());
 // the store: names on the disk. A disk that loses its power has of each sector that was written since the last flush the old bytes, the
 // new ones, or some of both.
 function weak() {
-  let held = new Uint8Array(), kept = held;
-  const write = (bytes, at) => { const now = new Uint8Array(Math.max(held.length, at + bytes.length)); now.set(held); now.set(bytes, at); held = now; };
-  return { read: (bytes, { at }) => { const part = held.subarray(at, at + bytes.length); bytes.set(part); return part.length; },
-    write: (bytes, { at }) => { write(bytes, at); return bytes.length; }, getSize: () => held.length, close() {},
-    truncate: (size) => { const now = new Uint8Array(size); now.set(held.subarray(0, size)); held = now; }, flush() { this.before?.(); kept = held; this.after?.(); },
+  const disk = inMemory(), all = () => { const bytes = new Uint8Array(disk.getSize()); disk.read(bytes, { at: 0 }); return bytes; };
+  let kept = all();
+  return Object.assign(disk, { flush() { this.before?.(); kept = all(); this.after?.(); },
     /** What is there after a loss of power: sector by sector the old one or the new one, as `choose` says. */
     lose(choose) {
-      const now = new Uint8Array(choose() & 1 ? held.length : kept.length);
+      const held = all(), now = new Uint8Array(choose() & 1 ? held.length : kept.length);
       for (let at = 0; at < now.length; at += 512) {
         const cut = at + [0, 512, 20, 511][choose() % 4];
         now.set(kept.subarray(at, Math.min(at + 512, now.length)), at);
         now.set(held.subarray(at, Math.min(cut, now.length)), at);
       }
-      held = kept = now;
-    } };
+      disk.truncate(0);
+      disk.write(kept = now, { at: 0 });
+    } });
 }
 const contents = (store) => Object.fromEntries(store.list(JOURNALS).map(({ name }) => {
   const node = store.open(`${JOURNALS}/${name}`, {}), bytes = new Uint8Array(node.size());

@@ -11,6 +11,7 @@ import importlib.machinery
 import importlib.util
 import json
 import os
+import pathlib
 import random
 import re
 import shutil
@@ -162,14 +163,12 @@ def bytes_of_hex(text):
 
 class Layer(unittest.TestCase):
     def setUp(self):
+        for tool in ("node", "gcc", "tsc", "objcopy", "rt"):
+            if shutil.which(tool) is None:
+                self.skipTest(f"there is no {tool}")
         room = tempfile.TemporaryDirectory(prefix="stmflash-web-")
         self.addCleanup(room.cleanup)
         self.room = room.name
-
-    def need(self, *tools):
-        for tool in tools:
-            if shutil.which(tool) is None:
-                self.skipTest(f"there is no {tool}")
 
     def try_page(self, folder, *words):
         return run([*NODE, f"{HERE}/test_layer.mjs", folder, *words])
@@ -185,39 +184,28 @@ class Layer(unittest.TestCase):
         folder = f"{self.room}/{number}"
         shutil.copytree(f"{HERE}/page", folder)
         shutil.copy(f"{HERE}/memory.c", folder)
-        with open(f"{folder}/{name}", encoding="utf-8") as file:
-            text = file.read()
-        with open(f"{folder}/{name}", "w", encoding="utf-8") as file:
-            file.write(text.replace(old, new))
+        path = pathlib.Path(folder, name)
+        text = path.read_text()
+        path.write_text(text.replace(old, new))
         if text.count(old) != 1:
             return None
-        return self.try_memory(f"{folder}/{name}", "-w") if name.endswith(".c") else self.try_page(folder)
+        return self.try_memory(f"{folder}/{name}", "-w") if name.endswith(".c") else self.try_page(folder, "", "--first")
 
     def assertHolds(self, ran):
         self.assertEqual((ran.returncode, ran.stderr), (0, ""), ran.stdout[:2000])
         self.assertRegex(ran.stdout, r"\A(\d+) of \1 hold\n\Z")
 
     def test_the_page(self):
-        self.need("node")
-        self.assertHolds(self.try_page(f"{HERE}/page"))
-
-    def test_what_the_module_asks_for(self):
-        self.need("node")
-        if not os.path.exists(MODULE):
-            self.skipTest("there is no bin/web")
         self.assertHolds(self.try_page(f"{HERE}/page", MODULE))
 
     def test_memory(self):
-        self.need("gcc")
         self.assertHolds(self.try_memory(f"{HERE}/memory.c", "-Wall", "-Wextra", "-Werror"))
 
     def test_types(self):
-        self.need("tsc")
         ran = run(["tsc", "-p", f"{HERE}/tsconfig.json"])
         self.assertEqual((ran.returncode, ran.stdout), (0, ""))
 
     def test_finds_each_fault(self):
-        self.need("node", "gcc")
         planted = [(name, what, *edit) for name, faults in FAULTS.items() for what, edit in faults.items()]
         # each mostly waits for its lines
         with concurrent.futures.ThreadPoolExecutor(2) as pool:
@@ -229,7 +217,6 @@ class Layer(unittest.TestCase):
 
     def test_the_proved_module_is_retargeted(self):
         """What is 64-bit ARM's goes, and neighbours are added lane by lane; other code of one processor ends the build."""
-        self.need("rt")
         sys.dont_write_bytecode = True
         loader = importlib.machinery.SourceFileLoader("web_build", f"{HERE}/build")
         build = importlib.util.module_from_spec(importlib.util.spec_from_loader(loader.name, loader))
@@ -248,7 +235,6 @@ class Layer(unittest.TestCase):
                 list(build.retarget.retarget(build.TARGET, build.without_arm([line])))
 
     def test_wirings_are_those_of_stmflash_line(self):
-        self.need("node")
         sys.path.insert(0, f"{TOP}/line")
         from stmflash_line.sequences import read_sequence, read_wiring
 
@@ -265,27 +251,20 @@ class Layer(unittest.TestCase):
 
     def test_images_are_those_of_objcopy(self):
         """Segments in any order, over an end of 64 KiB, one stored elsewhere than it runs, and one that has no bytes."""
-        self.need("node", "objcopy")
         some = random.Random(5)
         segments = [(0x0800FFF3, 0x0800FFF3, some.randbytes(1000)), (0x08000001, 0x08000001, some.randbytes(1)), (0x08020000, 0x20000000, some.randbytes(77))]
-        with open(f"{self.room}/made.elf", "wb") as file:
-            file.write(elf(segments))
+        pathlib.Path(f"{self.room}/made.elf").write_bytes(elf(segments))
         script = f"""import {{ imageOf }} from '{HERE}/page/image.js'; import * as fs from 'node:fs';
-            const it = imageOf('a', fs.readFileSync('{self.room}/made.elf')); fs.writeFileSync('{self.room}/made.hex', it.bytes); console.log(it.says);"""
-        ran = run([*NODE, "--input-type=module", "-e", script])
-        self.assertEqual((ran.returncode, ran.stdout), (0, "a: ELF, 1078 bytes from 08000001 to 0802004C\n"), ran.stderr)
-        with open(f"{self.room}/made.hex", encoding="ascii") as file:
-            ours = bytes_of_hex(file.read())
+            const it = imageOf('a', fs.readFileSync('{self.room}/made.elf')); console.log(`${{it.says}}\n${{new TextDecoder().decode(it.bytes)}}`);"""
+        says, made = run([*NODE, "--input-type=module", "-e", script]).stdout.split("\n", 1)
+        self.assertEqual(says, "a: ELF, 1078 bytes from 08000001 to 0802004C")
+        ours = bytes_of_hex(made)
         self.assertEqual(ours, {at + i: it for at, _, data in segments for i, it in enumerate(data)})
         # objcopy knows sections alone: each segment is handed to it as one
         theirs = {}
         for i, (at, _, data) in enumerate(segments):
-            with open(f"{self.room}/{i}.bin", "wb") as file:
-                file.write(data)
-            words = ["-I", "binary", "-O", "ihex", f"--change-addresses={at}", f"{self.room}/{i}.bin", f"{self.room}/{i}.hex"]
-            self.assertEqual(run(["objcopy", *words]).returncode, 0)
-            with open(f"{self.room}/{i}.hex", encoding="ascii") as file:
-                theirs |= bytes_of_hex(file.read())
+            pathlib.Path(f"{self.room}/{i}.bin").write_bytes(data)
+            theirs |= bytes_of_hex(run(["objcopy", "-I", "binary", "-O", "ihex", f"--change-addresses={at}", f"{self.room}/{i}.bin", "/dev/stdout"]).stdout)
         self.assertEqual(ours, theirs)
 
 
