@@ -120,11 +120,9 @@ function serve(socket, module) {
 }
 
 const [first, ...rest] = process.argv.slice(2);
-if (!isMainThread) {
-  carry(workerData);
-} else if (first === '--serve') {
-  serve(rest[0], compiled(rest[1]));
-} else {
+if (!isMainThread) carry(workerData);
+else if (first === '--serve') serve(rest[0], compiled(rest[1]));
+else {
   const isPiped = rest.includes('/dev/stdin');
   process.exitCode = await once(compiled(first), rest, process.env, isPiped ? fs.readFileSync(0) : undefined,
     (stream, bytes) => { for (let at = 0; at < bytes.length;) at += fs.writeSync(stream, bytes, at); });

@@ -12,6 +12,7 @@ import base64
 import concurrent.futures
 import hashlib
 import os
+import pathlib
 import random
 import shutil
 import socket
@@ -19,6 +20,7 @@ import subprocess
 import sys
 import tempfile
 import time
+import tomllib
 import unittest
 
 HERE = os.path.dirname(os.path.abspath(__file__))
@@ -58,18 +60,13 @@ class InFirefox(unittest.TestCase):
     browser_of, samples = Firefox, SAMPLES // 3
 
     def setUp(self):
-        for what, is_there in ((self.browser_of.program, shutil.which(self.browser_of.program)), ("bin/web", os.path.exists(f"{PAGE}/stmflash.wasm")), ("program", os.path.exists(PROGRAM)),
-                               ("python3-aiohttp", subprocess.run(["/usr/bin/python3", "-c", "import aiohttp"], capture_output=True).returncode == 0)):
-            if not is_there:
-                self.skipTest(f"there is no {what}")
         room = tempfile.TemporaryDirectory(prefix="stmflash-web-", ignore_cleanup_errors=True)
         self.addCleanup(room.cleanup)
         self.room, self.some = room.name, random.Random(f"{SEED} {self._testMethodName}")
         self.flash, self.folder, self.socket = f"{self.room}/flash", f"{self.room}/page", f"{self.room}/board"
         shutil.copytree(PAGE, self.folder)
         self.before = self.some.randbytes(SIZE)
-        with open(self.flash, "wb") as file:
-            file.write(self.before)
+        pathlib.Path(self.flash).write_bytes(self.before)
         words = [f"{HERE}/serve", self.folder, "--program", PROGRAM, "--flash", self.flash, "--socket", self.socket, "--pace", "460800", "--port", "0"]
         self.server = subprocess.Popen(words, stdout=subprocess.PIPE, text=True)
         self.addCleanup(self.end_server)
@@ -80,8 +77,7 @@ class InFirefox(unittest.TestCase):
         self.addCleanup(lambda: self.browser.kill())
 
     def end_server(self):
-        if self.server.poll() is None:
-            self.server.terminate()
+        self.server.terminate()
         try:
             self.server.wait(PATIENCE)
         except subprocess.TimeoutExpired:
@@ -111,6 +107,9 @@ class InFirefox(unittest.TestCase):
     def click(self, tab, selector):
         tab.js(f"document.getElementById('told').hidden = true, document.querySelector({selector!r}).click()")
 
+    def choose(self, tab, field, value):
+        tab.js(f"document.getElementById('{field}').value = '{value}', document.getElementById('{field}').onchange()")
+
     def do(self, tab, selector, wanted="^Done: ", why=""):
         """Clicks, and waits until all is done; what was told then, which has to be so."""
         self.click(tab, selector)
@@ -119,8 +118,8 @@ class InFirefox(unittest.TestCase):
         self.assertRegex(told, wanted, f"{why}; the page says: {tab.said()}")
         return told
 
-    def journal_of(self, tab):
-        return base64.b64decode(tab.js(f"stmflash.ask('get', {{ path: '/boards/{JOURNAL}' }}).then((it) => btoa(String.fromCharCode(...it.bytes)))"))
+    def journal_of(self, tab, board=UNIQUE):
+        return base64.b64decode(tab.js(f"stmflash.ask('get', {{ path: '/boards/{board}.journal' }}).then((it) => btoa(String.fromCharCode(...it.bytes)))"))
 
     def hold_write(self, tab):
         """Begins a write, and waits until the board has sent so many bytes of it, and then no more: it is in the middle of its pages."""
@@ -242,11 +241,9 @@ class Page(InFirefox):
         made = held(f"{self.folder}/offline.js")
         for name in names:
             was = held(f"{self.folder}/{name}")
-            with open(f"{self.folder}/{name}", "wb") as file:
-                file.write(was + b"/* another version */\n")
+            pathlib.Path(f"{self.folder}/{name}").write_bytes(was + b"/* another version */\n")
             made = made.replace(*(hashlib.sha256(it).hexdigest().encode() for it in (was, held(f"{self.folder}/{name}"))))
-        with open(f"{self.folder}/offline.js", "wb") as file:
-            file.write(made.replace(b"'stmflash-", b"'stmflash-another-"))
+        pathlib.Path(f"{self.folder}/offline.js").write_bytes(made.replace(b"'stmflash-", b"'stmflash-another-"))
         tab.js("navigator.serviceWorker.getRegistration().then((it) => it.update()).then(() => 1)")
         tab.until("navigator.serviceWorker.getRegistration().then((it) => it.waiting !== null)", "the update isn't kept")
         self.assertEqual(tab.js(marks), [False, False])
@@ -268,6 +265,30 @@ class Page(InFirefox):
                 self.do(tab, "#write", "^Done: segment")
                 self.assertFlash(self.before[:at[0]] + at[1] + self.before[at[0] + len(at[1]):])
                 self.undo(tab, name)
+
+    def test_chip_and_board_by_their_names(self):
+        """A board with another chip than the one that was chosen is left alone, and so is another board than the journal's."""
+        tab = self.tab()
+        with open(f"{TOP}/chips.toml", "rb") as file:
+            chips = {f"{it['id']:04X}": it["name"] for it in tomllib.load(file)["chip"]}
+        self.assertEqual(tab.js("Object.fromEntries([...document.getElementById('kind').options].slice(1).map((it) => [it.value, it.text]))"), {it: f"{name} ({it})" for it, name in chips.items()})
+        self.choose(tab, "board", ":new")
+        tab.js("document.getElementById('name').value = 'kitchen'")
+        for chip, said, flash in (("0412", f"^Not done: the board has another chip, {chips['0410']} ", self.before), ("0410", "^Done: ", self.after)):
+            self.choose(tab, "kind", chip)
+            self.do(tab, "#write", said)
+            self.assertFlash(flash)
+        self.assertEqual(tab.js("[document.getElementById('board').value, stmflash.state.names]"), ["kitchen", ["kitchen.journal"]])
+        self.assertIn(f"chip {chips['0410']} (0410)", tab.js("document.getElementById('journals').innerText"))
+        # a journal of another board: nothing is sent but what asks which it is
+        other = self.journal_of(tab, "kitchen").replace(UNIQUE.encode(), UNIQUE[::-1].encode())
+        tab.js(f"stmflash.takeJournal({named(('other.journal', other))})")
+        self.choose(tab, "board", "other")
+        self.do(tab, "#write", "^Not done: .*another board")
+        self.choose(tab, "kind", "")
+        self.choose(tab, "board", "kitchen")
+        self.do(tab, "#compare")
+        self.undo(tab, "by its name")
 
     def test_a_board_that_another_client_has(self):
         """A page that comes meanwhile isn't let in to be answered too late: its line opens once the board is free."""
@@ -301,11 +322,9 @@ class Page(InFirefox):
         tab = self.tab()
         self.do(tab, "#write")
         path = f"{self.room}/{JOURNAL}"
-        with open(path, "wb") as file:
-            file.write(self.journal_of(tab))
+        pathlib.Path(path).write_bytes(self.journal_of(tab))
         self.assertFlash(self.after)
-        with open(f"{self.room}/image", "wb") as file:
-            file.write(self.image)
+        pathlib.Path(f"{self.room}/image").write_bytes(self.image)
 
         def call(*words):
             ran = subprocess.run([PROGRAM, *words[:1], "--table", f"{TOP}/chips.toml", "--device", self.socket, "--wait", str(WAIT), "--journal", path, *words[1:]],
@@ -354,7 +373,7 @@ class Page(InFirefox):
             if (it := tab.js("document.activeElement.id || document.activeElement.textContent")) in reached:
                 break
             reached.append(it)
-        wanted = ["port", "baud", "wiring", "fresh", "ask", "file", "address", "write", "compare", "upload", "read", "form"]
+        wanted = ["port", "baud", "wiring", "fresh", "kind", "board", "ask", "file", "address", "write", "compare", "upload", "read", "form"]
         self.assertEqual([it for it in reached if it in wanted], wanted)
 
     def test_a_file_that_is_no_image(self):
@@ -370,14 +389,15 @@ class Page(InFirefox):
                 else:
                     self.do(tab, "#write", f"^Not done: .*{says}")
         path = f"{self.room}/a.bin"
-        with open(path, "wb") as file:
-            file.write(self.image)
+        pathlib.Path(path).write_bytes(self.image)
         tab.call("DOM.setFileInputFiles", files=[path], objectId=tab.call("Runtime.evaluate", expression="document.getElementById('file')")["result"]["objectId"])
         tab.until("document.getElementById('image').innerText.includes('5020')")
-        for field, text in (("address", "0x8"), ("name", "a b")):
+        for field, text, board in (("address", "0x8", ""), ("name", "a b", ":new"), ("name", "", ":new")):
+            self.choose(tab, "board", board)
             tab.js(f"document.getElementById('{field}').value = '{text}'")
-            self.do(tab, "#write", "^Not done: The ")
+            self.do(tab, "#write", f"^Not done: The {field} ")
             tab.js(f"document.getElementById('{field}').value = document.getElementById('{field}').defaultValue")
+        self.choose(tab, "board", "")
         with open(path, "ab") as file:
             file.write(b"more")
         self.do(tab, "#write", "^Not done: a.bin: .*changed or removed")

@@ -2,15 +2,16 @@
 //
 // Each button is one call of the program, whose words stand here; the files and the line are the worker's.
 // @ts-check
+import { chipsOf } from './chips.js';
 import { imageOf } from './image.js';
 import { WIRINGS } from './wiring.js';
 
 const $ = (/** @type {string} */ id) => /** @type {any} */ (document.getElementById(id));
-const FOLDER = 'boards', ENDING = '.journal', DEVICE = '/dev/board';
+const FOLDER = 'boards', ENDING = '.journal', DEVICE = '/dev/board', NEW = ':new';
 // what the program says in words of the command line, in the page's
 /** @type {[RegExp, string][]} */
 const MEANT = [[/; say --board .* say --fresh$/, '; undo first, or reset the board, and say above that you did'], [/: undo --recover.*/, ': download it, and undo by the command line, with --recover'],
-  [/: --journal names its journal$/, ': give its journal a name, above'], [/; now: undo 1 --fresh$/, '; reset it, say above that you did, and undo']];
+  [/: --journal names its journal$/, ': choose a board with a name of its own, above'], [/; now: undo 1 --fresh$/, '; reset it, say above that you did, and undo']];
 // why a line ended, as Web Serial names it
 /** @type {Record<string, string>} */
 const ENDED = { ParityError: 'A byte came wrong: look at the speed, the wiring and ground.', FramingError: 'A byte came wrong: look at the speed, the wiring and ground.',
@@ -23,8 +24,8 @@ const worker = new Worker('worker.js', { type: 'module' });
 /** @type {Map<number, (answer: any) => void>} */
 const asked = new Map();
 /** @type {{ busy: boolean, ready: boolean, isKept: boolean, isQuiet: boolean, names: string[], unfinished: string[], file?: File,
- *   image?: ReturnType<typeof imageOf>, line?: any, last?: any, plan?: any, wait?: number, isHeld?: boolean, compiled?: number }} */
-const state = { busy: false, ready: false, isKept: false, isQuiet: false, names: [], unfinished: [] };
+ *   chips: ReturnType<typeof chipsOf>, image?: ReturnType<typeof imageOf>, line?: any, plan?: any, wait?: number, isHeld?: boolean, compiled?: number }} */
+const state = { busy: false, ready: false, isKept: false, isQuiet: false, names: [], unfinished: [], chips: [] };
 let count = 0;
 
 /** @param {string} act @param {object} [given] @returns {Promise<any>} */
@@ -53,8 +54,7 @@ function hear(stream, text) {
   if (last) {
     const [, what, at, all] = last;
     say('step', `${what === 'written' ? 'Written' : what === 'read' ? 'Checked' : `Page ${what}`}: step ${at} of ${all}`);
-    $('bar').max = Number(all);
-    $('bar').value = Number(at);
+    Object.assign($('bar'), { max: Number(all), value: Number(at) });
   }
   $('said').append(text);
   $('said').scrollTop = $('said').scrollHeight;
@@ -63,9 +63,8 @@ function hear(stream, text) {
 /** What came of it, for whoever reads or hears the page.
  * @param {'good' | 'bad'} kind @param {string[]} lines @param {HTMLElement[]} [more] */
 function tell(kind, lines, more = []) {
-  const word = { good: 'Done: ', bad: 'Not done: ' }[kind];
   $('told').className = kind;
-  $('told').replaceChildren(...lines.map((text, i) => element('p', (i ? '' : word) + text)), ...more);
+  $('told').replaceChildren(...lines.map((text, i) => element('p', (i ? '' : { good: 'Done: ', bad: 'Not done: ' }[kind]) + text)), ...more);
   $('told').hidden = false;
   $('told').scrollIntoView({ block: 'nearest' });
 }
@@ -85,6 +84,9 @@ function button(text, act, about) {
   return it;
 }
 
+/** @param {string} value @param {string} text */
+const option = (value, text) => Object.assign(element('option', text), { value });
+
 /** Asks before what can't be undone, or shows what will be.
  * @param {string} head @param {string[]} lines @param {string} says @param {string} yes */
 function isSure(head, lines, says, yes) {
@@ -100,12 +102,17 @@ function isSure(head, lines, says, yes) {
   });
 }
 
+/** What the program says of a chip, with its name.
+ * @param {string} text */
+const withName = (text) => state.chips.reduce((it, { id, name }) => it.replace(`unknown chip ${id}`, `the board has another chip, ${name} (${id}): choose that one above, or connect the other board`)
+  .replace(RegExp(`^id ${id}$`, 'm'), `chip ${name} (${id})`), text);
+
 /** One call of the program.
  * @param {string[]} words @param {{ onBoard?: boolean, isQuiet?: boolean }} [how] */
 async function run(words, how = {}) {
   const { onBoard = false, isQuiet = false } = how, none = { status: 1, out: '', err: '' };
   if (state.busy) return none;
-  const typed = onBoard && (wrong('name') || (words.includes('-S') && wrong('address')));
+  const typed = onBoard && (($('board').value === NEW && wrong('name')) || (words.includes('-S') && wrong('address')));
   if (typed) return { ...none, err: `stmflash: ${typed}\n` };
   Object.assign(state, { busy: true, isQuiet });
   shows();
@@ -113,7 +120,7 @@ async function run(words, how = {}) {
   if (!onBoard || state.line || await choose()) {
     const baud = Number($('baud').value), wiring = $('wiring').value;
     const fresh = [...(wiring || $('fresh').checked ? ['--fresh'] : []), ...(state.wait ? ['--wait', String(state.wait)] : [])];
-    const all = onBoard ? [words[0], '--table', '/chips.toml', '--device', DEVICE, '--baud', String(baud), ...fresh, ...words.slice(1)] : words;
+    const all = onBoard ? [words[0], '--table', $('kind').value ? '/chip.toml' : '/chips.toml', '--device', DEVICE, '--baud', String(baud), ...fresh, ...words.slice(1)] : words;
     // what is sent from here on counts: the board isn't fresh any more
     if (onBoard) $('fresh').checked = false;
     if (!isQuiet) {
@@ -132,24 +139,20 @@ async function run(words, how = {}) {
   return { ...none, ...answer };
 }
 
-/** What is wrong in a field, which is shown then; '' where nothing is.
+/** What is wrong in a field, which the browser shows then; '' where nothing is.
  * @param {string} id */
-function wrong(id) {
-  if ($(id).validity.valid) return '';
-  $(id).closest('details')?.setAttribute('open', '');
-  $(id).focus();
-  return $(id).title;
-}
+const wrong = (id) => ($(id).reportValidity() ? '' : $(id).title);
 
 /** Why a run ended, in the program's words, and what Web Serial said.
  * @param {any} it */
 function whyNot(it) {
   const lines = `${it.err}`.split('\n').filter((line) => line.startsWith('stmflash: ') || line.startsWith('hint: '));
-  return [...(it.error ? [it.error] : []), ...lines.map((line) => MEANT.reduce((it, [from, to]) => it.replace(from, to), line.replace(/^stmflash: /, ''))), ...(ENDED[it.ended] ? [ENDED[it.ended]] : [])];
+  return [...(it.error ? [it.error] : []), ...lines.map((line) => MEANT.reduce((it, [from, to]) => it.replace(from, to), withName(line.replace(/^stmflash: /, '')))), ...(ENDED[it.ended] ? [ENDED[it.ended]] : [])];
 }
 
-/** Which journal a board has: its own by its unique id, or the one that was named. */
-const named = () => ($('name').value ? ['--journal', `${FOLDER}/${$('name').value}${ENDING}`] : ['--journals', FOLDER]);
+/** The board that was chosen by its journal, or named; '' where any may answer that tells which it is. */
+const board = () => ($('board').value === NEW ? $('name').value : $('board').value);
+const named = () => (board() ? ['--journal', `${FOLDER}/${board()}${ENDING}`] : ['--journals', FOLDER]);
 
 /** @param {string} name */
 async function download(name) {
@@ -179,11 +182,9 @@ async function onImage(act, how, done) {
 
 const acts = {
   async ask() {
-    const it = await run(['info', ...named()], { onBoard: true });
-    if (it.status) return end(it, []);
-    const lines = it.out.trim().replace(/^not tried: .*/m, 'tried by nobody yet').split('\n').map((/** @type {string} */ line) => line.split(/ (.*)/s));
-    $('chip').replaceChildren(...lines.flatMap((/** @type {string[]} */ [name, value]) => [element('dt', name), element('dd', value ?? '')]));
-    $('chip').hidden = false;
+    const it = await run(['info', ...named()], { onBoard: true }), lines = withName(it.out.trim()).split('\n').filter((line) => !line.match(/^(base|erased?|codes) /));
+    $('chip').hidden = Boolean(it.status);
+    $('chip').replaceChildren(...lines.map((line) => line.split(/ (.*)/s)).flatMap(([name, value]) => [element('dt', name), element('dd', value ?? '')]));
     return end(it, ['The board answered.']);
   },
   write: () => onImage('write', ['--progress', '-v'], (it) => it.out.trim().split('\n')),
@@ -214,7 +215,7 @@ async function says(name) {
   const it = await run(['log', '--json', '--journal', `${FOLDER}/${name}`], { isQuiet: true });
   try {
     const told = JSON.parse(it.out);
-    return { lines: told.lines ?? [told.says], isBad: !told.lines };
+    return { lines: (told.lines ?? [told.says]).map(withName), isBad: !told.lines };
   } catch {
     return { lines: whyNot(it), isBad: true };
   }
@@ -223,7 +224,6 @@ async function says(name) {
 /** Tells what came of a run, and looks what the journals say now.
  * @param {any} it @param {string[]} done */
 async function end(it, done) {
-  state.last = it;
   await journals();
   const more = it.error || !state.isKept ? state.names.map((/** @type {string} */ name) => button(`Download ${name}`, () => download(name))) : [];
   if (it.status === 0 && !it.error) tell('good', done, more);
@@ -245,6 +245,9 @@ async function journals() {
       Object.assign(element('div', undo, button('Download', () => download(name), board), keep), { className: 'row' })));
   }
   $('journals').replaceChildren(...(rows.length ? rows : [element('li', 'There is none yet. The first write makes one.')]));
+  const boards = state.names.map((/** @type {string} */ it) => it.slice(0, -ENDING.length)), chosen = $('board').value === NEW && !boards.includes(board()) ? NEW : board();
+  $('board').replaceChildren(option('', 'whichever answers'), ...boards.map((/** @type {string} */ it) => option(it, it)), option(NEW, 'one that tells no unique id…'));
+  $('board').value = chosen === NEW || boards.includes(chosen) ? chosen : '';
   const stopped = state.unfinished[0];
   $('stopped').hidden = !stopped;
   shows();
@@ -257,6 +260,7 @@ function shows() {
   for (const id of ['write', 'compare']) $(id).disabled = state.busy || !state.ready || !state.image;
   for (const it of $('journals').querySelectorAll('button')) it.disabled = state.busy || 'off' in it.dataset;
   $('by-hand').hidden = Boolean($('wiring').value);
+  $('naming').hidden = $('board').value !== NEW;
   $('start').hidden = !state.image?.isRaw;
 }
 
@@ -267,14 +271,8 @@ function takePort(port) {
   say('chosen', usbVendorId === undefined ? 'A serial port of this machine.' : `The USB adapter ${four(usbVendorId)}:${four(usbProductId)}.`);
 }
 
-async function choose() {
-  try {
-    takePort(await /** @type {any} */ (navigator).serial.requestPort());
-    return true;
-  } catch {
-    return Boolean(state.line);
-  }
-}
+/** Asks for a port; who takes none keeps the one before. */
+const choose = () => /** @type {any} */ (navigator).serial.requestPort().then(takePort, () => {}).then(() => Boolean(state.line));
 
 /** @param {File | undefined} file */
 async function take(file) {
@@ -303,17 +301,12 @@ async function takeJournal(file) {
   tell(isBad ? 'bad' : 'good', isBad ? lines : [`${name} is taken over.`]);
 }
 
-$('wiring').append(...WIRINGS.map((it) => {
-  const option = element('option', it.replace(/inverted-(\w+)-(\w+)/g, '$1-$2 by an inverter').replace(/,/, ', '));
-  /** @type {any} */ (option).value = it;
-  return option;
-}));
-$('wiring').onchange = shows;
+$('wiring').append(...WIRINGS.map((it) => option(it, it.replace(/inverted-(\w+)-(\w+)/g, '$1-$2 by an inverter').replace(/,/, ', '))));
+for (const id of ['wiring', 'board']) $(id).onchange = shows;
+// of a table that has one chip alone no other board is taken
+$('kind').onchange = () => ask('put', { path: '/chip.toml', bytes: new TextEncoder().encode(state.chips.find((it) => it.id === $('kind').value)?.entry) });
 $('port').onclick = choose;
-$('ask').onclick = acts.ask;
-$('write').onclick = acts.write;
-$('compare').onclick = acts.compare;
-$('read').onclick = acts.read;
+for (const id of /** @type {('ask' | 'write' | 'compare' | 'read')[]} */ (['ask', 'write', 'compare', 'read'])) $(id).onclick = acts[id];
 $('stopped-undo').onclick = () => acts.undo(state.unfinished[0], true);
 $('file').onchange = () => take($('file').files[0]);
 // a file that misses its place would be opened in the place of the page
@@ -336,11 +329,13 @@ async function begin() {
   if (lacks.length) throw new Error(`this browser lacks ${lacks.join(', ')}. Chrome and Edge have them, from 137 on`);
   shows();
   state.compiled = await begun;
+  state.chips = chipsOf(await (await fetch('chips.toml')).text());
+  $('kind').append(...state.chips.map(({ id, name }) => option(id, `${name} (${id})`)));
   state.ready = true;
   if (simulated) {
     state.line = { url: new URL(simulated, location.href.replace(/^http/, 'ws')).href };
     document.body.className = 'simulated';
-    say('chosen', 'A simulated board of whoever serves this page, in its bootloader.');
+    say('chosen', 'A simulated board, which comes with this page.');
   } else {
     const ports = await serial.getPorts();
     if (ports.length === 1) takePort(ports[0]);
@@ -349,9 +344,8 @@ async function begin() {
   shows();
   // some browsers ask their user, and answer when that did
   const version = (await run(['--version'], { isQuiet: true })).out.trim(), verdict = await (await fetch('verdict.txt')).text();
-  say('proved', `${version}. ${verdict.startsWith('logic=proved') ?
-    `What was proved is the program (${verdict.trim()}). What made WebAssembly of it, this page's own files, the browser and its system are trusted.` :
-    'Nothing was proved of this build.'}`);
+  say('proved', `${version}.${verdict.startsWith('logic=proved') ?
+    ` What was proved is the program (${verdict.trim()}). What made WebAssembly of it, this page's own files, the browser and its system are trusted.` : ''}`);
   const isKept = storage.persist().then((/** @type {boolean} */ it) => { state.isKept = it; return it; });
   return (await Promise.race([isKept, new Promise((resolve) => setTimeout(resolve, 1000, false))])) ? 'Ready.' :
     'Ready. This browser may clear the journals when it needs room: download each one after a write.';

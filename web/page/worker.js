@@ -88,14 +88,14 @@ const cleared = async () => navigator.storage.getDirectory().then((it) => it.get
 
 /** @type {Record<string, (given: any) => Promise<object>>} */
 const acts = {
-  async run({ words, line, input }) {
+  async run({ words, line }) {
     const gone = line && await cleared();
     if (gone) throw new Error(gone);
     const port = line && (line.url ? new SocketPort(line.url, { ...line.plan, held: () => postMessage({ held: true }) }) : await portOf(line.info));
     const on = port && new Line(port, line.baud, line.wiring && stepsOf(line.wiring)), began = performance.now();
     const said = ['', '', ''];
     try {
-      const status = await run(module, { words: ['stmflash', ...words], store, line: on, input,
+      const status = await run(module, { words: ['stmflash', ...words], store, line: on,
         say: (stream, bytes) => { said[stream] += decoder.decode(bytes); postMessage({ stream, text: decoder.decode(bytes) }); } });
       return { status, out: said[1], err: said[2], ended: on?.ended, millis: performance.now() - began, error: line && await cleared() };
     } finally {
@@ -105,7 +105,7 @@ const acts = {
   async put({ path, bytes }) { put(path, bytes); return {}; },
   async get({ path }) { return { bytes: get(path) }; },
   async remove({ path }) { store.remove(path); return {}; },
-  async list() { return { names: store.list(JOURNALS).map((it) => it.name), free: store.free() }; },
+  async list() { return { names: store.list(JOURNALS).map((it) => it.name) }; },
 };
 
 /** @type {Promise<unknown>} */
