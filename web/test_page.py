@@ -285,7 +285,6 @@ class Page(InFirefox):
         tab.js(f"stmflash.takeJournal({named(('other.journal', other))})")
         self.choose(tab, "board", "other")
         self.do(tab, "#write", "^Not done: .*another board")
-        self.choose(tab, "kind", "")
         self.choose(tab, "board", "kitchen")
         self.do(tab, "#compare")
         self.undo(tab, "by its name")
