@@ -71,7 +71,7 @@ class InFirefox(unittest.TestCase):
         self.server = subprocess.Popen(words, stdout=subprocess.PIPE, text=True)
         self.addCleanup(self.end_server)
         self.address = self.server.stdout.readline().strip()
-        self.image = self.some.randbytes(PAGES * 1024 - 100)
+        self.image = bytes(4) + self.some.randbytes(PAGES * 1024 - 104)  # a colon in front would make HEX of it
         self.after = self.image + self.before[len(self.image):]
         self.begin_browser()
         self.addCleanup(lambda: self.browser.kill())
