@@ -508,6 +508,8 @@ static void wait_for(int number, long long millis)
 {
     long long parts[2] = {millis / 1000, millis % 1000 * 1000}, writes[2] = {9, 0};
     HOLDS(sysv_setsockopt(number, 1, 20, parts, sizeof parts) == 0 && sysv_setsockopt(number, 1, 21, writes, sizeof writes) == 0);
+    if (!HOLDS(table[number]->read_wait == millis && table[number]->write_wait == 9000))
+        exit(1); // it would wait for ever
 }
 
 static void test_tcp(void)
