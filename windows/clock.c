@@ -2,20 +2,18 @@
 #include "layer.h"
 #include <cpuid.h>
 
-// clock_gettime, by the counter that never goes back (1) and by the time of day, each in seconds and nanoseconds.
+// clock_gettime, by the counter that never goes back (1) and by the time of day, each in seconds and nanoseconds. Windows' day is counted
+// from 1601 on, in ticks of 100 ns.
 ASKED(int, clock_gettime)(int clock, long long *time)
 {
-    FILETIME now;
-    LARGE_INTEGER ticks, second;
-    QueryPerformanceCounter(&ticks);
-    QueryPerformanceFrequency(&second);
-    if (clock != 1) {
-        GetSystemTimePreciseAsFileTime(&now);
-        ticks.QuadPart = ticks_of(now);
-        second.QuadPart = 10000000;
-    }
-    time[0] = ticks.QuadPart / second.QuadPart;
-    time[1] = ticks.QuadPart % second.QuadPart * 1000000000 / second.QuadPart;
+    union { FILETIME day; LARGE_INTEGER ticks; } now;
+    LARGE_INTEGER second = {.QuadPart = 10000000};
+    if (clock == 1)
+        QueryPerformanceCounter(&now.ticks), QueryPerformanceFrequency(&second);
+    else
+        GetSystemTimePreciseAsFileTime(&now.day), now.ticks.QuadPart -= 116444736000000000LL;
+    time[0] = now.ticks.QuadPart / second.QuadPart;
+    time[1] = now.ticks.QuadPart % second.QuadPart * 1000000000 / second.QuadPart;
     return 0;
 }
 
@@ -24,7 +22,6 @@ ASKED(long long, __sysv_signal)(int, long long) { return 0; }
 
 // glibc's: what CPUID says in the leaves 1, 7 and 80000001, and how much of it may be used. A proved program asks at its start.
 struct features { unsigned is[4], usable[4]; };
-
 ASKED(const struct features *, __x86_get_cpuid_feature_leaf)(unsigned leaf)
 {
     static const unsigned leaves[] = {1, 7, 0x80000001};

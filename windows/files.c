@@ -3,10 +3,7 @@
 
 struct opened *table[NUMBERS];
 
-struct opened *at(int number)
-{
-    return number >= 0 && number < NUMBERS ? table[number] : NULL;
-}
+struct opened *at(int number) { return number >= 0 && number < NUMBERS ? table[number] : NULL; }
 
 // What is open, before it has a number; NULL without memory.
 struct opened *made(enum kind kind, HANDLE handle)
@@ -19,13 +16,12 @@ struct opened *made(enum kind kind, HANDLE handle)
 
 static void end(struct opened *it)
 {
-    end_listing(it->listing);
     if (it->kind == A_PORT)
         close_port(it);
     if (it->socket != INVALID_SOCKET)
         closesocket(it->socket);
     if (it->handle != NULL && it->handle != INVALID_HANDLE_VALUE)
-        CloseHandle(it->handle);
+        (it->kind == A_LISTING ? FindClose : CloseHandle)(it->handle);
     free(it);
 }
 
@@ -63,12 +59,9 @@ ASKED(int, open)(const char *name, int flags, unsigned mode)
     if (is_private)
         access |= WRITE_DAC;
     DWORD how = !creates ? OPEN_EXISTING : flags & L_EXCLUSIVE ? CREATE_NEW : OPEN_ALWAYS;
-    DWORD is = writes ? INVALID_FILE_ATTRIBUTES : GetFileAttributesW(path);
-    HANDLE handle = INVALID_HANDLE_VALUE;
-    if (is != INVALID_FILE_ATTRIBUTES && (is & FILE_ATTRIBUTE_DIRECTORY))
-        handle = CreateFileW(path, access | GENERIC_WRITE, SHARED, NULL, how, FILE_FLAG_BACKUP_SEMANTICS, NULL);
-    if (handle == INVALID_HANDLE_VALUE)
-        handle = CreateFileW(path, access, SHARED, is_private ? for_user_alone() : NULL, how, FILE_FLAG_BACKUP_SEMANTICS, NULL);
+    DWORD is = writes || creates ? INVALID_FILE_ATTRIBUTES : GetFileAttributesW(path);
+    HANDLE handle = is != INVALID_FILE_ATTRIBUTES && (is & FILE_ATTRIBUTE_DIRECTORY) ? there(path, access, GENERIC_WRITE, 0)
+        : CreateFileW(path, access, SHARED, is_private ? for_user_alone() : NULL, how, FILE_FLAG_BACKUP_SEMANTICS, NULL);
     if (handle == INVALID_HANDLE_VALUE)
         return failed();
     BY_HANDLE_FILE_INFORMATION told;

@@ -6,15 +6,11 @@
 #pragma once
 #define WIN32_LEAN_AND_MEAN
 #define _WIN32_WINNT 0x0A00
-#include <winsock2.h>
-#include <ws2tcpip.h>
-#include <windows.h>
+#include <ws2tcpip.h> // and so winsock2.h and windows.h
 #include <stdbool.h>
 #include <stdint.h>
 #include <stdio.h>
 #include <stdlib.h>
-#include <string.h>
-#include <wchar.h>
 
 // a function that the program calls: windows/build gives each name that it asks for this prefix
 #define ASKED(type, name) __attribute__((sysv_abi)) type sysv_##name
@@ -33,25 +29,22 @@ enum { L_HERE = -100, L_NO_FOLLOW = 0x100, L_EMPTY_PATH = 0x1000 };
 #define PATH_ROOM 33000
 
 // What a number is open on.
-enum kind { A_FILE, A_FOLDER, A_CONSOLE, A_SOCKET, A_PORT, NEW_SOCKET };
+enum kind { A_FILE, A_FOLDER, A_LISTING, A_CONSOLE, A_SOCKET, A_PORT, NEW_SOCKET };
 struct opened {
     enum kind kind;
     int numbers;
     HANDLE handle;
     SOCKET socket;
     DWORD read_wait, write_wait; // in ms; 0: without an end
-    struct listing *listing;     // a folder's, once it is asked for
+    WIN32_FIND_DATAW next;       // a listing's entry, of which nobody was told yet; and whether there is none
+    bool is_over;
 };
 
-// errors.c
-int fail(int error), fail_of(DWORD windows_error), failed(void);
-// clock.c: since 1970, in ticks of 100 ns
-static inline long long ticks_of(FILETIME t) { return ((long long)t.dwHighDateTime << 32 | t.dwLowDateTime) - 116444736000000000LL; }
-// text.c
-char *narrow(const wchar_t *wide), *variable(const char *name);
-void turn_slashes(char *text);
+int fail(int error), fail_of(DWORD windows_error), failed(void); // errors.c
+char *narrow(const wchar_t *wide), *variable(const char *name);  // text.c
 // paths.c
 bool widen(const char *name, wchar_t *path);
+HANDLE there(const wchar_t *path, DWORD rights, DWORD more, DWORD flags);
 int standard_of(const char *name);
 // files.c
 #define NUMBERS 512
@@ -62,11 +55,8 @@ struct opened *at(int number), *made(enum kind kind, HANDLE handle);
 int numbered(struct opened *it, int from);
 ASKED(long long, read)(int number, void *buf, size_t room);
 ASKED(long long, write)(int number, const void *buf, size_t n);
-// rights.c
-SECURITY_ATTRIBUTES *for_user_alone(void);
+SECURITY_ATTRIBUTES *for_user_alone(void); // rights.c
 unsigned mode_of(HANDLE handle, bool is_folder, unsigned *owner);
-// folder.c
-void end_listing(struct listing *listing);
 // line.c, port.c, tcp.c
 extern const char *asked_speed, *asked_wiring;
 bool is_port(const char *name), is_tcp(const char *name);

@@ -4,32 +4,21 @@
 // Each begins as nothing: its name says what it is.
 ASKED(int, socket)(int family, int, int) { return family != 1 ? fail(L_EAFNOSUPPORT) : numbered(made(NEW_SOCKET, NULL), 3); }
 
-// The path of a Unix socket's address, for what isn't connected yet.
-static int name_of(const struct opened *it, const unsigned char *address, unsigned length, char *name)
+// connect, and bind, to what the path of a Unix socket's address names.
+static int open_line(int number, const unsigned char *address, unsigned length, bool listens)
 {
+    OPENED(it, number);
+    char name[128] = "";
     if (it->kind != NEW_SOCKET || length < 3 || length > 129)
         return fail(L_ENOTSOCK);
-    memcpy(memset(name, 0, 128), address + 2, length - 2);
-    return 0;
+    memcpy(name, address + 2, length - 2);
+    if (is_port(name) && !listens)
+        return open_port(it, name);
+    return is_tcp(name) ? open_tcp(it, name, listens) : fail(listens ? L_EAFNOSUPPORT : L_ENOENT);
 }
 
-ASKED(int, connect)(int number, const unsigned char *address, unsigned length)
-{
-    OPENED(it, number);
-    char name[128];
-    if (name_of(it, address, length, name) < 0)
-        return -1;
-    return is_port(name) ? open_port(it, name) : is_tcp(name) ? open_tcp(it, name, false) : fail(L_ENOENT);
-}
-
-ASKED(int, bind)(int number, const unsigned char *address, unsigned length)
-{
-    OPENED(it, number);
-    char name[128];
-    if (name_of(it, address, length, name) < 0)
-        return -1;
-    return is_tcp(name) ? open_tcp(it, name, true) : fail(L_EAFNOSUPPORT);
-}
+ASKED(int, connect)(int number, const unsigned char *address, unsigned length) { return open_line(number, address, length, false); }
+ASKED(int, bind)(int number, const unsigned char *address, unsigned length) { return open_line(number, address, length, true); }
 
 // setsockopt, of which the program asks for the waits of a read (20) and a write (21), in seconds and microseconds.
 ASKED(int, setsockopt)(int number, int level, int name, const unsigned char *value, unsigned length)
@@ -43,17 +32,15 @@ ASKED(int, setsockopt)(int number, int level, int name, const unsigned char *val
     return 0;
 }
 
-ASKED(long long, send)(int number, const void *buf, size_t n, int)
+static int connected(int number)
 {
     OPENED(it, number);
-    return it->kind != A_SOCKET && it->kind != A_PORT ? fail(L_ENOTSOCK) : sysv_write(number, buf, n);
+    return it->kind == A_SOCKET || it->kind == A_PORT ? 0 : fail(L_ENOTSOCK);
 }
 
-ASKED(long long, recv)(int number, void *buf, size_t room, int)
-{
-    OPENED(it, number);
-    return it->kind != A_SOCKET && it->kind != A_PORT ? fail(L_ENOTSOCK) : sysv_read(number, buf, room);
-}
+// send and recv, of what is connected: they are write and read.
+ASKED(long long, send)(int number, const void *buf, size_t n, int) { return connected(number) < 0 ? -1 : sysv_write(number, buf, n); }
+ASKED(long long, recv)(int number, void *buf, size_t room, int) { return connected(number) < 0 ? -1 : sysv_read(number, buf, room); }
 
 // poll, which is asked whether anybody reads a pipe: here the write says that nobody does.
 ASKED(int, poll)(void *, unsigned long long, int) { return 0; }

@@ -6,23 +6,13 @@ enum { DISPOSITION_EX = 21, RENAME_EX = 22, REPLACES = 1, DELETES = 1, POSIX_WAY
 
 static wchar_t room_one[PATH_ROOM], room_two[PATH_ROOM];
 
-static bool set(HANDLE handle, int what, void *value, DWORD size)
-{
-    return SetFileInformationByHandle(handle, (FILE_INFO_BY_HANDLE_CLASS)what, value, size);
-}
-
-static HANDLE to_change(const wchar_t *path, DWORD more)
-{
-    return CreateFileW(path, DELETE | SYNCHRONIZE | more, SHARED, NULL, OPEN_EXISTING, FILE_FLAG_BACKUP_SEMANTICS | FILE_FLAG_OPEN_REPARSE_POINT, NULL);
-}
+static bool set(HANDLE handle, int what, void *value, DWORD size) { return SetFileInformationByHandle(handle, (FILE_INFO_BY_HANDLE_CLASS)what, value, size); }
+static HANDLE to_change(const wchar_t *path, DWORD more) { return there(path, DELETE | SYNCHRONIZE, more, FILE_FLAG_OPEN_REPARSE_POINT); }
 
 // Whether it was a virus scanner or an indexer that has a file open for a moment: it is tried again for two seconds.
 static bool is_brief(DWORD error, int *tries)
 {
-    if ((error != ERROR_ACCESS_DENIED && error != ERROR_SHARING_VIOLATION) || ++*tries > 40)
-        return false;
-    Sleep(50);
-    return true;
+    return (error == ERROR_ACCESS_DENIED || error == ERROR_SHARING_VIOLATION) && ++*tries <= 40 && (Sleep(50), true);
 }
 
 // unlink: the name is gone at once, also where a program has the file open. Without POSIX's way Windows keeps it until the last one closes
@@ -49,7 +39,7 @@ ASKED(int, unlink)(const char *name)
 static void let_go(const wchar_t *path)
 {
     BY_HANDLE_FILE_INFORMATION named, other;
-    HANDLE handle = CreateFileW(path, FILE_READ_ATTRIBUTES, SHARED, NULL, OPEN_EXISTING, 0, NULL);
+    HANDLE handle = there(path, FILE_READ_ATTRIBUTES, 0, 0);
     bool told = GetFileInformationByHandle(handle, &named);
     CloseHandle(handle);
     for (int i = 3; told && i < NUMBERS; i++)
@@ -65,7 +55,6 @@ static bool rename_posix(const wchar_t *from, const wchar_t *to)
 {
     static struct { DWORD flags; HANDLE root; DWORD length; wchar_t name[PATH_ROOM]; } how;
     HANDLE handle = to_change(from, GENERIC_WRITE);
-    handle = handle != INVALID_HANDLE_VALUE ? handle : to_change(from, 0);
     how.flags = REPLACES | POSIX_WAY | ALSO_READ_ONLY_RENAMED;
     how.length = (DWORD)(wcslen(wcscpy(how.name, to)) * sizeof *to);
     bool done = set(handle, RENAME_EX, &how, sizeof how);

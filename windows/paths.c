@@ -29,10 +29,8 @@ static bool is_device(const wchar_t *path)
 bool widen(const char *name, wchar_t *path)
 {
     static wchar_t given[PATH_ROOM];
-    if (*name == 0)
-        return fail(L_ENOENT), false;
-    if (MultiByteToWideChar(CP_UTF8, MB_ERR_INVALID_CHARS, name, -1, given, PATH_ROOM - 8) == 0)
-        return fail(L_EINVAL), false;
+    if (*name == 0 || MultiByteToWideChar(CP_UTF8, MB_ERR_INVALID_CHARS, name, -1, given, PATH_ROOM - 8) == 0)
+        return fail(*name == 0 ? L_ENOENT : L_EINVAL), false;
     const wchar_t *beside = beside_program(name);
     DWORD n = GetFullPathNameW(beside != NULL ? beside : given, PATH_ROOM - 8, path, NULL);
     if (n == 0 || n >= PATH_ROOM - 8)
@@ -57,32 +55,28 @@ bool widen(const char *name, wchar_t *path)
 int standard_of(const char *name)
 {
     static const char *const names[] = {"/dev/stdin", "/dev/stdout", "/dev/stderr", "/dev/fd/0", "/dev/fd/1", "/dev/fd/2"};
-    int i = 0;
-    while (i < 6 && strcmp(name, names[i]) != 0)
-        i++;
-    return i < 6 ? i % 3 : -1;
+    for (int i = 0; i < 6; i++)
+        if (strcmp(name, names[i]) == 0)
+            return i % 3;
+    return -1;
 }
 
-// Linux's struct statx; a time is seconds and nanoseconds.
-struct when { long long sec; unsigned nsec; int none; };
-struct statx {
-    unsigned mask, blksize;
-    unsigned long long attributes;
-    unsigned nlink, uid, gid;
-    unsigned short mode, none0;
-    unsigned long long ino, size, blocks, attributes_mask;
-    struct when atime, btime, ctime, mtime;
-    unsigned rdev_major, rdev_minor, dev_major, dev_minor;
-    unsigned long long none[14];
-};
-_Static_assert(sizeof(struct statx) == 256, "statx");
+// Opens what is at a path, for others too; without the rights `more` where these are refused.
+HANDLE there(const wchar_t *path, DWORD rights, DWORD more, DWORD flags)
+{
+    HANDLE handle = CreateFileW(path, rights | more, SHARED, NULL, OPEN_EXISTING, FILE_FLAG_BACKUP_SEMANTICS | flags, NULL);
+    return handle != INVALID_HANDLE_VALUE || more == 0 ? handle : there(path, rights, 0, flags);
+}
 
-static struct when when_of(FILETIME t) { return (struct when){ticks_of(t) / 10000000, (unsigned)(ticks_of(t) % 10000000 * 100), 0}; }
+// Linux's struct statx. Times and blocks, for which nobody asks, aren't told: the mask says so.
+struct statx { unsigned mask, blksize; unsigned long long attributes; unsigned nlink, uid, gid; unsigned short mode, none0;
+    unsigned long long ino, size, none1[10]; unsigned rdev_major, rdev_minor, dev_major, dev_minor; unsigned long long none2[14]; };
+_Static_assert(sizeof(struct statx) == 256, "statx");
 
 static int tell_mode(struct statx *found, int mode)
 {
     // what is no disk is a console or NUL: both take bytes, as Linux's device 1, 3 does
-    *found = (struct statx){.mask = 0xfff, .blksize = 4096, .nlink = 1, .mode = (unsigned short)mode, .rdev_major = 1, .rdev_minor = 3};
+    *found = (struct statx){.mask = 0x31f, .blksize = 4096, .nlink = 1, .mode = (unsigned short)mode, .rdev_major = 1, .rdev_minor = 3};
     return 0;
 }
 
@@ -105,10 +99,6 @@ static int tell(HANDLE handle, bool of_link, struct statx *found)
     found->ino = (unsigned long long)told.nFileIndexHigh << 32 | told.nFileIndexLow;
     found->dev_minor = told.dwVolumeSerialNumber;
     found->size = (unsigned long long)told.nFileSizeHigh << 32 | told.nFileSizeLow;
-    found->blocks = (found->size + 511) / 512;
-    found->atime = when_of(told.ftLastAccessTime);
-    found->btime = when_of(told.ftCreationTime);
-    found->mtime = found->ctime = when_of(told.ftLastWriteTime);
     return 0;
 }
 
@@ -128,14 +118,9 @@ ASKED(int, statx)(int number, const char *name, int flags, unsigned, struct stat
     }
     if (it != NULL)
         return tell(it->handle, false, found);
-    if (is_port(name))
-        return fail(L_ENOENT);
-    if (!widen(name, path_room))
-        return -1;
-    DWORD how = FILE_FLAG_BACKUP_SEMANTICS | (flags & L_NO_FOLLOW ? FILE_FLAG_OPEN_REPARSE_POINT : 0);
-    HANDLE handle = CreateFileW(path_room, FILE_READ_ATTRIBUTES | READ_CONTROL, SHARED, NULL, OPEN_EXISTING, how, NULL);
-    if (handle == INVALID_HANDLE_VALUE)
-        handle = CreateFileW(path_room, FILE_READ_ATTRIBUTES, SHARED, NULL, OPEN_EXISTING, how, NULL);
+    if (is_port(name) || !widen(name, path_room))
+        return is_port(name) ? fail(L_ENOENT) : -1;
+    HANDLE handle = there(path_room, FILE_READ_ATTRIBUTES, READ_CONTROL, flags & L_NO_FOLLOW ? FILE_FLAG_OPEN_REPARSE_POINT : 0);
     if (handle == INVALID_HANDLE_VALUE)
         return failed();
     int done = tell(handle, (flags & L_NO_FOLLOW) != 0, found);
@@ -150,7 +135,7 @@ ASKED(char *, realpath)(const char *name, char *resolved)
         return strcpy(resolved, name);
     if (!widen(name, path_room))
         return NULL;
-    HANDLE handle = CreateFileW(path_room, FILE_READ_ATTRIBUTES, SHARED, NULL, OPEN_EXISTING, FILE_FLAG_BACKUP_SEMANTICS, NULL);
+    HANDLE handle = there(path_room, FILE_READ_ATTRIBUTES, 0, 0);
     if (handle == INVALID_HANDLE_VALUE)
         return failed(), NULL;
     DWORD n = GetFinalPathNameByHandleW(handle, final_room, PATH_ROOM, VOLUME_NAME_DOS);
@@ -163,7 +148,7 @@ ASKED(char *, realpath)(const char *name, char *resolved)
     char *text = narrow(path);
     bool fits = text != NULL && strlen(text) < 4096;
     if (fits)
-        turn_slashes(strcpy(resolved, text));
+        strcpy(resolved, text);
     free(text);
     return fits ? resolved : (fail(L_ENAMETOOLONG), NULL);
 }

@@ -54,20 +54,17 @@ int open_port(struct opened *it, const char *name)
     char *speed = colon != NULL ? _strdup(colon + 1) : setting(asked_speed, "STMFLASH_BAUD"), *wiring = setting(asked_wiring, "STMFLASH_WIRING");
     _snwprintf(path, 64, L"\\\\.\\%.*hs", colon != NULL ? (int)(colon - name) : 20, name);
     HANDLE port = CreateFileW(path, GENERIC_READ | GENERIC_WRITE, 0, NULL, OPEN_EXISTING, 0, NULL);
-    DCB set = {.DCBlength = sizeof set};
+    // (no flow control, of which the characters have to be two all the same)
+    DCB set = {.DCBlength = sizeof set, .BaudRate = speed != NULL && *speed != 0 ? (DWORD)atoi(speed) : 115200, .fBinary = TRUE, .fParity = TRUE,
+        .ByteSize = 8, .Parity = EVENPARITY, .StopBits = ONESTOPBIT, .fDtrControl = DTR_CONTROL_DISABLE, .fRtsControl = RTS_CONTROL_DISABLE,
+        .fAbortOnError = TRUE, .XonChar = 17, .XoffChar = 19};
     int status = 0;
     if (port == INVALID_HANDLE_VALUE)
         status = GetLastError() == ERROR_ACCESS_DENIED ? fail(L_EBUSY) : failed();
     else if ((speed != NULL && *speed != 0 && atoi(speed) <= 0) || (wiring != NULL && *wiring != 0 && pin(wiring, "reset", true) == 0))
         status = fail(L_EINVAL);
-    else if (!GetCommState(port, &set))
+    else if (!SetCommState(port, &set))
         status = failed();
-    else {
-        set = (DCB){.DCBlength = sizeof set, .BaudRate = speed != NULL && *speed != 0 ? (DWORD)atoi(speed) : 115200, .fBinary = TRUE, .fParity = TRUE,
-            .ByteSize = 8, .Parity = EVENPARITY, .StopBits = ONESTOPBIT, .fDtrControl = DTR_CONTROL_DISABLE, .fRtsControl = RTS_CONTROL_DISABLE,
-            .fAbortOnError = TRUE, .XonLim = set.XonLim, .XoffLim = set.XoffLim, .XonChar = set.XonChar, .XoffChar = set.XoffChar};
-        status = SetCommState(port, &set) ? 0 : failed();
-    }
     if (status == 0 && wiring != NULL && *wiring != 0)
         reset(port, wiring, true);
     if (status == 0) {
@@ -93,8 +90,7 @@ void close_port(struct opened *it)
 
 static bool set_waits(struct opened *it)
 {
-    COMMTIMEOUTS waits = {.ReadTotalTimeoutConstant = it->read_wait, .WriteTotalTimeoutConstant = it->write_wait};
-    return SetCommTimeouts(it->handle, &waits);
+    return SetCommTimeouts(it->handle, &(COMMTIMEOUTS){.ReadTotalTimeoutConstant = it->read_wait, .WriteTotalTimeoutConstant = it->write_wait});
 }
 
 // One byte within the wait, and with it those that are there by then. (Windows has waits that say just this; wine 8 hasn't.) A wrong byte,

@@ -6,13 +6,9 @@
 static PSID user(void)
 {
     static union { TOKEN_USER told; char room[256]; } user;
-    HANDLE token;
     DWORD n;
-    if (user.told.User.Sid == NULL && OpenProcessToken(GetCurrentProcess(), TOKEN_QUERY, &token)) {
-        if (!GetTokenInformation(token, TokenUser, &user, sizeof user, &n))
-            user.told.User.Sid = NULL;
-        CloseHandle(token);
-    }
+    if (user.told.User.Sid == NULL && !GetTokenInformation(GetCurrentProcessToken(), TokenUser, &user, sizeof user, &n))
+        user.told.User.Sid = NULL;
     return user.told.User.Sid;
 }
 
@@ -47,14 +43,11 @@ unsigned mode_of(HANDLE handle, bool is_folder, unsigned *owner)
     PSECURITY_DESCRIPTOR rights = NULL;
     PACL list = NULL;
     PSID whose = NULL;
-    DWORD asked = OWNER_SECURITY_INFORMATION | DACL_SECURITY_INFORMATION, may = 0;
+    DWORD asked = OWNER_SECURITY_INFORMATION | DACL_SECURITY_INFORMATION;
     DWORD error = GetSecurityInfo(handle, SE_FILE_OBJECT, asked, &whose, NULL, &list, NULL, &rights);
     bool has_rights = error == ERROR_SUCCESS && whose != NULL && !IsWellKnownSid(whose, WinWorldSid);
     *owner = has_rights && is_other(whose) ? *GetSidSubAuthority(whose, *GetSidSubAuthorityCount(whose) - 1) : 0;
-    if (error == ERROR_ACCESS_DENIED || (has_rights && list == NULL))
-        may = GENERIC_ALL;
-    else if (!has_rights)
-        may = FILE_READ_DATA;
+    DWORD may = error == ERROR_ACCESS_DENIED || (has_rights && list == NULL) ? GENERIC_ALL : has_rights ? 0 : FILE_READ_DATA;
     for (DWORD i = 0; has_rights && list != NULL && i < list->AceCount; i++) {
         ACCESS_ALLOWED_ACE *entry;
         if (GetAce(list, i, (void **)&entry) && entry->Header.AceType != ACCESS_DENIED_ACE_TYPE && !(entry->Header.AceFlags & INHERIT_ONLY_ACE)
@@ -71,11 +64,11 @@ unsigned mode_of(HANDLE handle, bool is_folder, unsigned *owner)
 ASKED(int, fchmod)(int number, unsigned mode)
 {
     OPENED(it, number);
-    union { ACL list; char room[64]; } none;
+    ACL none;
     FILE_BASIC_INFO told;
     unsigned owner;
-    if ((mode & 077) != 0 && (mode_of(it->handle, false, &owner) & 077) == 0 && InitializeAcl(&none.list, sizeof none, ACL_REVISION)) {
-        DWORD error = SetSecurityInfo(it->handle, SE_FILE_OBJECT, DACL_SECURITY_INFORMATION | UNPROTECTED_DACL_SECURITY_INFORMATION, NULL, NULL, &none.list, NULL);
+    if ((mode & 077) != 0 && (mode_of(it->handle, false, &owner) & 077) == 0 && InitializeAcl(&none, sizeof none, ACL_REVISION)) {
+        DWORD error = SetSecurityInfo(it->handle, SE_FILE_OBJECT, DACL_SECURITY_INFORMATION | UNPROTECTED_DACL_SECURITY_INFORMATION, NULL, NULL, &none, NULL);
         if (error != ERROR_SUCCESS)
             return fail_of(error);
     }

@@ -8,5 +8,4 @@ ASKED(int, fsync)(int number)
     OPENED(it, number);
     return FlushFileBuffers(it->handle) || it->kind == A_FOLDER ? 0 : failed();
 }
-
 ASKED(int, fdatasync)(int number) { return sysv_fsync(number); }

@@ -3,7 +3,6 @@
 
 bool is_tcp(const char *name) { return strncmp(name, "tcp:", 4) == 0; }
 static int failed_socket(void) { return fail_of((DWORD)WSAGetLastError()); }
-
 static void set_on(SOCKET socket, int level, int option) { setsockopt(socket, level, option, (const char *)&(BOOL){TRUE}, sizeof(BOOL)); }
 
 // Makes a socket that is connected to the address of a name, or that waits there for others. Each byte goes at once, as by a Unix socket.
@@ -58,18 +57,15 @@ ASKED(int, accept4)(int number, unsigned char *address, unsigned *length, int)
 }
 
 // Whether something can be read, or written, within so many ms; 0: without an end.
-static bool is_ready(SOCKET socket, bool to_read, DWORD wait)
+static bool is_ready(SOCKET socket, short how, DWORD wait)
 {
-    fd_set set;
-    struct timeval time = {(long)(wait / 1000), (long)(wait % 1000 * 1000)};
-    FD_ZERO(&set);
-    FD_SET(socket, &set);
-    return wait == 0 || select(0, to_read ? &set : NULL, to_read ? NULL : &set, NULL, &time) != 0;
+    WSAPOLLFD one = {.fd = socket, .events = how};
+    return wait == 0 || WSAPoll(&one, 1, (int)wait) != 0;
 }
 
 long long receive_tcp(struct opened *it, void *buf, size_t room)
 {
-    if (!is_ready(it->socket, true, it->read_wait))
+    if (!is_ready(it->socket, POLLRDNORM, it->read_wait))
         return fail(L_EAGAIN);
     int n = recv(it->socket, buf, (int)(room > 65536 ? 65536 : room), 0);
     return n >= 0 ? n : failed_socket();
@@ -77,7 +73,7 @@ long long receive_tcp(struct opened *it, void *buf, size_t room)
 
 long long transmit_tcp(struct opened *it, const void *buf, size_t n)
 {
-    if (!is_ready(it->socket, false, it->write_wait))
+    if (!is_ready(it->socket, POLLWRNORM, it->write_wait))
         return fail(L_EAGAIN);
     int done = send(it->socket, buf, (int)(n > 65536 ? 65536 : n), 0);
     return done >= 0 ? done : failed_socket();

@@ -33,10 +33,10 @@ WORDS = ["word", "", "zwei Wörter", "a\\b", "--baud", "57600", "--wiring=dtr-re
 # what is planted, by file: a text, which is there once, and the one in its place
 FAULTS = {
     "errors.c": {
-        "a fault is forgotten": ("    error_now = error;\n    return -1;", "    (void)error;\n    return -1;"),
+        "a fault is forgotten": ("error_now = error, -1", "(void)error, -1"),
         "errno isn't set": ("{ error_now = error; }", "{ (void)error; }"),
-        "a lock that another has is any fault": ("{ERROR_LOCK_VIOLATION, L_EAGAIN},", ""),
-        "a full disk is any fault": ("{ERROR_DISK_FULL, L_ENOSPC},", ""),
+        "a lock that another has is any fault": ("E(LOCK_VIOLATION, EAGAIN),", ""),
+        "a full disk is any fault": ("E(DISK_FULL, ENOSPC),", ""),
         "faults have no text": ("error == error ? texts[i].text", "error == error ? texts[0].text"),
     },
     "memory.c": {
@@ -46,8 +46,8 @@ FAULTS = {
         "what overlaps is lost": ("return memmove(to, from, n);", "for (size_t i = 0; i < n; i++) ((char *)to)[i] = ((const char *)from)[i];\n    return to;"),
     },
     "text.c": {
-        "slashes stay": ("*text = '/';", "*text = '\\\\';"),
-        "no variable is an empty one": ("narrow(value) : NULL", "narrow(value) : _strdup(\"\")"),
+        "slashes stay": ("? '/' : *it", "? *it : *it"),
+        "no variable is an empty one": ("        return NULL;\n", "        return _strdup(\"\");\n"),
     },
     "words.c": {
         "a text that fits just so is too long": ("length <= room", "length < room"),
@@ -57,11 +57,11 @@ FAULTS = {
         "the command line's own are entries": ("*it != L'=' && ", ""),
         "the speed is taken from the program": ('asked("--baud", false)', 'asked("--baud", true)'),
         "the wiring is the program's": ('asked("--wiring", true)', 'asked("--wiring", false)'),
-        "no settings": ('variable("APPDATA")', 'variable("APPDAT")'),
+        "no settings": ('"APPDATA"', '"APPDAT"'),
     },
     "clock.c": {
-        "both clocks are one": ("if (clock != 1)", "if (clock == 1)"),
-        "a tick is 10 ns": ("second.QuadPart = 10000000;", "second.QuadPart = 100000000;"),
+        "both clocks are one": ("if (clock == 1)", "if (clock != 1)"),
+        "a tick is 10 ns": ("second = {.QuadPart = 10000000}", "second = {.QuadPart = 100000000}"),
         "parts of a second are below 0": ("* 1000000000 / second", "* -1000000000 / second"),
     },
     "paths.c": {
@@ -75,7 +75,7 @@ FAULTS = {
         "sizes aren't told": ("found->size = (unsigned long long)told.nFileSizeHigh << 32 | told.nFileSizeLow;", ""),
         "a file that may not be written may be": ("who & 0444 : who", "who : who"),
         "a folder is a file": ("is & FILE_ATTRIBUTE_DIRECTORY ? L_FOLDER", "0 ? L_FOLDER"),
-        "a port is there": ("    if (is_port(name))\n        return fail(L_ENOENT);\n", "    if (is_port(name))\n        return tell_mode(found, L_CHARACTERS);\n"),
+        "a port is there": ("is_port(name) ? fail(L_ENOENT) : -1", "is_port(name) ? tell_mode(found, L_CHARACTERS) : -1"),
         "all places are one": ("found->ino = found->ino * 31 + (unsigned char)*p;", ""),
         "its user isn't told": ("found->uid = found->gid = owner;", ""),
         "NUL takes nothing": (".rdev_minor = 3", ".rdev_minor = 4"),
@@ -91,7 +91,7 @@ FAULTS = {
         "what is added lies anywhere": ("flags & L_APPENDS ? FILE_APPEND_DATA | FILE_WRITE_ATTRIBUTES | SYNCHRONIZE : GENERIC_WRITE", "GENERIC_WRITE"),
         "a folder is written": ("folder && writes ? fail(L_EISDIR) :", ""),
         "a private file is anybody's": ("is_private ? for_user_alone() : NULL", "NULL"),
-        "a folder can't be synced": ("access | GENERIC_WRITE", "access"),
+        "a folder can't be synced": ("there(path, access, GENERIC_WRITE, 0)", "there(path, access, 0, 0)"),
         "a place on no disk": (" || GetFileType(it->handle) != FILE_TYPE_DISK", ""),
         "others may not use it": ("(path, access, SHARED,", "(path, access, 0,"),
     },
@@ -131,7 +131,7 @@ FAULTS = {
         "a name isn't on the disk": ("        FlushFileBuffers(handle);\n", "        ;\n"),
         "a move isn't on the disk": ("MOVEFILE_REPLACE_EXISTING | MOVEFILE_WRITE_THROUGH", "MOVEFILE_REPLACE_EXISTING"),
         "no file is replaced": ("MOVEFILE_REPLACE_EXISTING | MOVEFILE_WRITE_THROUGH", "MOVEFILE_WRITE_THROUGH"),
-        "a scanner ends a write": ("++*tries > 40", "++*tries > 0"),
+        "a scanner ends a write": ("++*tries <= 40", "++*tries <= 0"),
         "what is removed goes later": ("DELETES | POSIX_WAY | ALSO_READ_ONLY", "DELETES"),
         "a name that stays": ("MoveFileExW(room_one, room_two, MOVEFILE_WRITE_THROUGH)", "0 && room_two[0]"),
         "a link that can't be given up": ("return !is_posix ? fail(L_EPERM) :", "return"),
@@ -141,18 +141,18 @@ FAULTS = {
         "an entry is as long as its name": ("(19 + strlen(name) + 1 + 7) / 8 * 8", "(19 + strlen(name))"),
         "lengths are below 256": ("buf[used] = 1;", "buf[used] = 0;"),
         "a file is a folder": ("!(is & FILE_ATTRIBUTE_DIRECTORY) ||", ""),
-        "each other entry is lost": ("&listing->next);\n        if", "&listing->next) || !FindNextFileW(listing->finding, &listing->next);\n        if"),
+        "each other entry is lost": ("&it->next);\n        if", "&it->next) || !FindNextFileW(it->handle, &it->next);\n        if"),
     },
     "line.c": {
         "any socket": ("family != 1 ?", "0 ?"),
         "a wait has no microseconds": (" + (parts[1] + 999) / 1000", ""),
         "the time to write is that to read": ("name == 20 ? &it->read_wait : &it->write_wait", "name == 21 ? &it->read_wait : &it->write_wait"),
-        "a socket that isn't connected sends": ("fail(L_ENOTSOCK) : sysv_write", "fail(L_EIO) : sysv_write"),
+        "a socket that isn't connected sends": ("A_PORT ? 0 : fail(L_ENOTSOCK)", "A_PORT ? 0 : fail(L_EIO)"),
     },
     "tcp.c": {
         "an address is shared": ("SO_EXCLUSIVEADDRUSE", "SO_REUSEADDR"),
         "a port is any text": (' || port[strspn(port, "0123456789")] != 0', ""),
-        "nothing in time is an end": ("if (!is_ready(it->socket, true, it->read_wait))\n        return fail(L_EAGAIN);", "if (!is_ready(it->socket, true, it->read_wait))\n        return 0;"),
+        "nothing in time is an end": ("if (!is_ready(it->socket, POLLRDNORM, it->read_wait))\n        return fail(L_EAGAIN);", "if (!is_ready(it->socket, POLLRDNORM, it->read_wait))\n        return 0;"),
         "a read waits for ever": ("return wait == 0 ||", "return true ||"),
     },
     "port.c": {

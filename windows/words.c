@@ -16,10 +16,9 @@ static long long put(const char *text, char *buf, size_t room)
     return text == NULL ? -1 : fits ? (long long)length : -2;
 }
 
-// The same with `/` between folders, and the text is freed.
+// The same, and the text is freed.
 static long long give(char *text, char *buf, size_t room)
 {
-    turn_slashes(text);
     long long length = put(text, buf, room);
     free(text);
     return length;
@@ -31,12 +30,9 @@ ASKED(long long, rattle_arg)(size_t i, char *buf, size_t room) { return put(i < 
 // The kit's: a variable's value. Where Linux has the user's settings and folder, Windows has APPDATA and USERPROFILE.
 ASKED(long long, rattle_env)(const char *name, char *buf, size_t room)
 {
+    const char *other = strcmp(name, "XDG_CONFIG_HOME") == 0 ? "APPDATA" : strcmp(name, "HOME") == 0 ? "USERPROFILE" : name;
     char *value = variable(name);
-    if (value == NULL && strcmp(name, "XDG_CONFIG_HOME") == 0)
-        value = variable("APPDATA");
-    if (value == NULL && strcmp(name, "HOME") == 0)
-        value = variable("USERPROFILE");
-    return give(value, buf, room);
+    return give(value != NULL ? value : variable(other), buf, room);
 }
 
 // The kit's: entry i of the environment, NAME=VALUE. Those that begin by `=` are the command line's own.
@@ -74,7 +70,7 @@ void read_words(void)
     wchar_t **given = CommandLineToArgvW(GetCommandLineW(), &count);
     words = calloc((size_t)count + 1, sizeof *words);
     for (int i = 0; i < count; i++)
-        turn_slashes(words[i] = narrow(given[i]));
+        words[i] = narrow(given[i]);
     words[0] = "stmflash"; // as it is told in a usage, under any name of the file
     asked_speed = asked("--baud", false);
     asked_wiring = asked("--wiring", true);
@@ -86,11 +82,10 @@ __attribute__((sysv_abi)) int rattle_main(void);
 // 0, 1 and 2 are what the program was started with; a console shows UTF-8 and colors meanwhile.
 int main(void)
 {
-    static const DWORD names[] = {STD_INPUT_HANDLE, STD_OUTPUT_HANDLE, STD_ERROR_HANDLE};
     UINT page = 0;
     read_words();
     for (int i = 0; i < 3; i++) {
-        HANDLE handle = GetStdHandle(names[i]);
+        HANDLE handle = GetStdHandle(STD_INPUT_HANDLE - (DWORD)i);
         DWORD mode;
         bool is_console = GetConsoleMode(handle, &mode);
         if (handle != NULL && handle != INVALID_HANDLE_VALUE)
