@@ -170,7 +170,8 @@ FAULTS = {
     },
 }
 
-# those whose names begin so; all of them where nothing is said. And how many of these, if not all
+# how many go on at once, which mostly wait; those whose names begin so, or all; and how many of these, if not all
+AT_ONCE = 6
 ONLY, SOME = os.environ.get("STMFLASH_WINDOWS_FAULT", ""), int(os.environ.get("STMFLASH_WINDOWS_FAULTS", "0"))
 
 
@@ -205,9 +206,9 @@ class Layer(unittest.TestCase):
         wine.begin()
         cls.room = tempfile.TemporaryDirectory()
         cls.addClassCleanup(cls.room.cleanup)
-        cls.objects = {}
-        for source in sorted(glob.glob(f"{HERE}/*.c")):
-            cls.objects[os.path.basename(source)] = cls.compiled(source, f"{cls.room.name}/{os.path.basename(source)}.o")
+        sources = {os.path.basename(source): source for source in sorted(glob.glob(f"{HERE}/*.c"))}
+        with concurrent.futures.ThreadPoolExecutor(AT_ONCE) as pool:
+            cls.objects = dict(zip(sources, pool.map(lambda name: cls.compiled(sources[name], f"{cls.room.name}/{name}.o"), sources)))
         cls.patience, begun = 900, time.monotonic()
         cls.sound = cls.ran_with_ports(cls.objects)
         # a layer that waits for ever is one that takes five times as long, on a machine as busy as this one
@@ -266,9 +267,21 @@ class Layer(unittest.TestCase):
 
     def test_finds_each_fault(self):
         planted = [(name, fault, *how) for name, faults in FAULTS.items() for fault, how in faults.items() if fault.startswith(ONLY)]
-        with concurrent.futures.ThreadPoolExecutor(3) as pool:
+        with concurrent.futures.ThreadPoolExecutor(AT_ONCE) as pool:
             going = [pool.submit(self.found, *it) for it in wine.some(planted, SOME, "planted faults")]
             self.assertEqual([it for it in (one.result() for one in going) if it], [])
+
+
+class Page(unittest.TestCase):
+    def test_the_readme_says_how_many_lines_are_trusted(self):
+        with open(f"{HERE}/../README.md", encoding="utf-8") as file:
+            said = re.search(r"([0-9,]+) lines of C \(\[docs/LINE.md\]", file.read())[1]
+        count = 0
+        for source in set(glob.glob(f"{HERE}/*.[ch]")) - {f"{HERE}/test_layer.c"}:
+            with open(source, encoding="utf-8") as file:
+                count += len(file.readlines())
+        self.assertEqual(said, f"{count:,}")
+        self.assertLess(count, 1100)
 
 
 class Fits(unittest.TestCase):
