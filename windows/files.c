@@ -97,7 +97,7 @@ ASKED(long long, read)(int number, void *buf, size_t room)
     DWORD n = 0, most = room > 0x40000000 ? 0x40000000 : (DWORD)room;
     if (it->kind == A_SOCKET || it->kind == A_PORT)
         return it->kind == A_PORT ? receive_port(it, buf, room) : receive_tcp(it, buf, room);
-    if (it->kind == A_FOLDER)
+    if (it->kind == A_FOLDER || it->kind == A_LISTING)
         return fail(L_EISDIR);
     if (!ReadFile(it->handle, buf, most, &n, NULL))
         return GetLastError() == ERROR_BROKEN_PIPE || GetLastError() == ERROR_HANDLE_EOF ? 0 : failed();

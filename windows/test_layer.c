@@ -248,7 +248,7 @@ static void test_words(void)
     HOLDS(sysv_rattle_arg(1, buf, 3) == -2 && memcmp(buf, "wor#", 4) == 0 && sysv_rattle_arg(1, buf, 4) == 4 && sysv_rattle_arg(2, NULL, 0) == 0);
     HOLDS(sysv_rattle_arg(SIZE_MAX, buf, 60) == -1 && strcmp(asked_speed, "57600") == 0 && strcmp(asked_wiring, "dtr-reset,rts-boot0") == 0);
     memset(buf, '#', sizeof buf);
-    HOLDS(is_put(sysv_rattle_env("FIRST", buf, 60), buf, "one") && sysv_rattle_env("FIRS", buf, 60) == -1);
+    HOLDS(is_put(sysv_rattle_env("FIRST", buf, 60), buf, "one") && sysv_rattle_env("FIRS", buf, 60) == -1 && sysv_rattle_env("EMPTY", buf, 60) == 0);
     long long n = sysv_rattle_env("XDG_CONFIG_HOME", buf, 60);
     HOLDS(n > 3 && memcmp(buf + 1, ":/", 2) == 0 && n == sysv_rattle_env("APPDATA", buf, 60) && memchr(buf, '\\', (size_t)n) == NULL);
     HOLDS(sysv_rattle_env("HOME", buf, 60) > 0);

@@ -21,5 +21,6 @@ char *variable(const char *name)
     // (its room is asked for: that of an empty one is 1, for the 0)
     if (MultiByteToWideChar(CP_UTF8, 0, name, -1, wide, 256) == 0 || GetEnvironmentVariableW(wide, NULL, 0) == 0)
         return NULL;
+    *value = 0;
     return GetEnvironmentVariableW(wide, value, PATH_ROOM) < PATH_ROOM ? narrow(value) : NULL;
 }
