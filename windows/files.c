@@ -139,4 +139,4 @@ ASKED(int, ftruncate)(int number, long long length)
     return SetFileInformationByHandle(it->handle, FileEndOfFileInfo, &to, sizeof to) ? 0 : failed();
 }
 
-ASKED(int, isatty)(int number) { return at(number) != NULL && at(number)->kind == A_CONSOLE; }
+ASKED(int, isatty)(int number) { return at(number) != NULL && at(number)->kind == A_CONSOLE; } // isatty: a console

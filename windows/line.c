@@ -1,7 +1,7 @@
 // A line to a board, which the program asks for as a Unix socket: a port of this PC, or a place of TCP, by its name.
 #include "layer.h"
 
-// Each begins as nothing: its name says what it is.
+// socket: each begins as nothing, and its name says what it is.
 ASKED(int, socket)(int family, int, int) { return family != 1 ? fail(L_EAFNOSUPPORT) : numbered(made(NEW_SOCKET, NULL), 3); }
 
 // connect, and bind, to what the path of a Unix socket's address names.

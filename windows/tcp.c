@@ -33,13 +33,13 @@ int open_tcp(struct opened *it, const char *name, bool listens)
     return 0;
 }
 
+// listen, and accept4: who connects is told as a Unix socket without a name.
 ASKED(int, listen)(int number, int most)
 {
     OPENED(it, number);
     return it->kind != A_SOCKET ? fail(L_ENOTSOCK) : listen(it->socket, most) == 0 ? 0 : failed_socket();
 }
 
-// accept4. Who connects is told as a Unix socket without a name.
 ASKED(int, accept4)(int number, unsigned char *address, unsigned *length, int)
 {
     OPENED(it, number);
