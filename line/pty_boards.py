@@ -48,17 +48,19 @@ class PtyBoard:
         self.thread.start()
 
     def renew(self):
-        """A new pseudo-terminal under the old name. One that an exclusive program had when it was killed can't be opened anew
-        by others than root, as a port could."""
+        """A new pseudo-terminal under the old name, and of the old one's number, which the thread may be about to read. One that an
+        exclusive program had when it was killed can't be opened anew by others than root, as a port could."""
         master, slave = os.openpty()
         tty.setraw(slave)
         unready = self.name + ".unready"
         os.symlink(os.ttyname(slave), unready)
         os.rename(unready, self.name)
         os.close(slave)
-        before, self.master = self.master, master
-        if before is not None:
-            os.close(before)
+        if self.master is None:
+            self.master = master
+        else:
+            os.dup2(master, self.master, inheritable=False)
+            os.close(master)
 
     def hear(self, count):
         """From now on the board gets so many bytes of its host and no more, as of one that has stopped there; None: all of them."""

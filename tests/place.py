@@ -10,6 +10,7 @@ import select
 import socket
 import subprocess
 import tempfile
+import threading
 import time
 import typing
 import unittest
@@ -37,6 +38,12 @@ UNREAD = "address {:08X}: the device refused to read it: is the flash readout-pr
 def program():
     """The path of the program."""
     return os.path.abspath(os.environ.get("STMFLASH") or os.path.join(TOP, "bin", "stmflash-unproved"))
+
+
+def text_in(*parts):
+    """The text of a file of the repository."""
+    with open(os.path.join(TOP, *parts), encoding="utf-8") as file:
+        return file.read()
 
 
 def is_slow(path=None):
@@ -121,6 +128,25 @@ class Place(unittest.TestCase):
         listener.bind(self.path(name))
         listener.listen()
         return listener
+
+    def beside(self, listener, serve):
+        """Serves at a listener in a thread of its own. It has ended before the listener is closed, whatever comes: else it might take
+        another's for it, of the same number."""
+        def run():
+            with contextlib.suppress(OSError):
+                serve()
+
+        def end():
+            # nobody is waited for any more
+            with contextlib.suppress(OSError):
+                listener.shutdown(socket.SHUT_RDWR)
+            serving.join(PATIENCE)
+            self.assertFalse(serving.is_alive(), "what serves here doesn't end")
+
+        serving = threading.Thread(target=run)
+        serving.start()
+        self.addCleanup(end)
+        return serving
 
     def until_it_waits(self, process):
         """Returns once a process waits for something, as one does that can't write; a simulator does so for 10 s at most."""

@@ -2,7 +2,6 @@
 
 import contextlib
 import socket
-import threading
 import time
 
 from place import PATIENCE, Place, first_of, readable, served
@@ -53,17 +52,17 @@ class Served(Place):
     def between(self, change, name="stand", wire=lambda line: line):
         """Somebody between one client at a socket of this name and the simulator, who changes its replies so. `self.line` is the
         client's line, and `wire` makes what is used of it."""
-        with self.listen(name) as listener:
+        listener = self.listen(name)
 
-            def hand_on():
-                self.line, _ = listener.accept()
-                with self.line, self.connect() as board:
-                    relay(wire(self.line), board, change)
+        def hand_on():
+            self.line, _ = listener.accept()
+            with self.line, self.connect() as board:
+                relay(wire(self.line), board, change)
 
-            serving = threading.Thread(target=hand_on)
-            serving.start()
-            yield
-            serving.join(PATIENCE)
+        serving = self.beside(listener, hand_on)
+        yield
+        serving.join(PATIENCE)
+        listener.close()
         self.remove(name)
         self.assertServed()
 

@@ -6,10 +6,9 @@ answers it (AN3155, section 3.4).
 
 import contextlib
 import socket
-import threading
-import time
 
-from place import PATIENCE, WAIT, Place, files, readable, served
+from place import PATIENCE, WAIT, files, readable, served
+from served import Served
 
 ACK = b"\x79"
 NACK = b"\x1f"
@@ -22,7 +21,7 @@ TABLE = b'[[chip]]\nid = 0x410\nbase = 0x08000000\npages = [[128, 1024]]\nerase 
         b"unique = [0x1FFFF7E8, 12]\nsize_at = 0x1FFFF7E0\n"
 
 
-class Told(Place):
+class Told(Served):
     """A test that has a table of that chip."""
 
     def setUp(self):
@@ -31,12 +30,12 @@ class Told(Place):
 
     def run_on(self, serve, name, *words, variables=None):
         """Runs the program on a board that is served so, with its own table where it names none."""
-        with self.listen("board") as listener:
-            ran = self.start(name, *files("board")["--table" in words and 2:], "--wait", WAIT, *words, variables=variables)
-            serving = threading.Thread(target=serve, args=(listener,))
-            serving.start()
-            said = self.ended(ran)
-            serving.join(PATIENCE)
+        listener = self.listen("board")
+        ran = self.start(name, *files("board")["--table" in words and 2:], "--wait", WAIT, *words, variables=variables)
+        serving = self.beside(listener, lambda: serve(listener))
+        said = self.ended(ran)
+        serving.join(PATIENCE)
+        listener.close()
         self.remove("board")
         return said
 
@@ -126,26 +125,11 @@ class Stand:
                 self.step(came)
 
 
-def reach(path, simulator):
-    """Connects to a simulator once it listens."""
-    end = time.monotonic() + PATIENCE
-    while True:
-        client = socket.socket(socket.AF_UNIX, socket.SOCK_STREAM)
-        client.settimeout(PATIENCE)
-        try:
-            client.connect(path)
-            return client
-        except (FileNotFoundError, ConnectionRefusedError):
-            client.close()
-            assert simulator.poll() is None and time.monotonic() < end, "the simulator doesn't listen"
-            time.sleep(0.01)
-
-
 @contextlib.contextmanager
 def simulated(place, flash, name):
     """A line to a simulator of its own on this flash, at a socket of this name, which has stored what was left in the end."""
     simulator = place.start(*served("0410", flash, name))
-    with reach(place.path(name), simulator) as board:
+    with place.reach(name, simulator) as board:
         yield board
         board.shutdown(socket.SHUT_WR)
         place.ended(simulator)

@@ -3,10 +3,9 @@
 import os
 import signal
 import socket
-import threading
 
 import syncs
-from place import COUNTING, ERASED, PATIENCE, TABLE, ZEROS, Place, Said, files, new, served
+from place import COUNTING, ERASED, TABLE, ZEROS, Place, Said, all_from, files, new, served
 from test_disk import files_up_to
 
 NO_OUTPUT = "it is no file, terminal or pipe that is read"
@@ -267,17 +266,11 @@ class Files(Place):
     def test_out_may_be_a_pipe_a_device_or_standard_output(self):
         self.store("flash", COUNTING)
         os.mkfifo(self.path("pipe"))
-        came = []
-
-        def take():
-            with open(self.path("pipe"), "rb") as pipe:
-                came.append(pipe.read())
-
-        taker = threading.Thread(target=take)
-        taker.start()
+        # a pipe holds as many bytes as that
+        reader = os.open(self.path("pipe"), os.O_RDONLY | os.O_NONBLOCK)
         self.assertSilent(self.use("read", "pipe"))
-        taker.join(PATIENCE)
-        self.assertEqual(came, [COUNTING])
+        self.assertEqual(all_from(reader), COUNTING)
+        os.close(reader)
         self.assertSilent(self.use("read", "/dev/null"))
         for name in ("/dev/full", "/dev/zero"):
             self.assertFault(self.use("read", name), f"cannot write {name}: {NO_OUTPUT}")

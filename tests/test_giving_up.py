@@ -1,6 +1,5 @@
 """Devices that answer nothing, or something else, or late, and when they are given up."""
 
-import contextlib
 import itertools
 import socket
 import threading
@@ -28,26 +27,18 @@ class Peer:
     """A listener that hands each of its lines to a function, in a thread of its own."""
 
     def __init__(self, test, name, serve):
-        self.serve, self.ending = serve, threading.Event()
-        self.listener = test.listen(name)
-        self.thread = threading.Thread(target=self.run)
-        self.thread.start()
-        test.addCleanup(self.end)
+        self.serve, self.ending, self.listener = serve, threading.Event(), test.listen(name)
+        self.thread = test.beside(self.listener, self.run)
+        test.addCleanup(self.ending.set)
 
     def run(self):
-        try:
-            line, _ = self.listener.accept()
-        except OSError:
-            return
-        with line, contextlib.suppress(OSError):
+        line, _ = self.listener.accept()
+        with line:
             self.serve(line, self.ending)
 
     def end(self):
         self.ending.set()
-        # nobody is waited for any more
-        with contextlib.suppress(OSError):
-            self.listener.shutdown(socket.SHUT_RDWR)
-        self.listener.close()
+        self.listener.shutdown(socket.SHUT_RDWR)
         self.thread.join(PATIENCE)
 
 

@@ -152,10 +152,12 @@ class Meanwhile(Place):
         coming = threading.Thread(target=come)
         if words[0] == "sim":
             coming.start()
-        yield
-        ended.set()
-        if words[0] == "sim":
-            coming.join()
+        try:
+            yield
+        finally:
+            ended.set()
+            if words[0] == "sim":
+                coming.join()
 
     def behind(self, *acts):
         """What comes of these, one behind the other."""

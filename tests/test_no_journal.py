@@ -2,10 +2,8 @@
 
 import os
 import random
-import socket
-import threading
 
-from place import Place
+from place import Place, readable
 
 REFUSED = "journal is no journal: name another, or move it away"
 IMAGE = b"\x00" * 1024
@@ -88,15 +86,10 @@ class NoJournal(Place):
     def test_is_refused_before_a_byte_is_sent(self):
         """Nobody is asked for a line to the device."""
         self.store("journal", b"precious")
-        with socket.socket(socket.AF_UNIX) as server:
-            server.bind(self.path("device"))
-            server.listen()
-            came = []
-            threading.Thread(target=lambda: came.append(server.accept()), daemon=True).start()
-            said = self.use("erase", "5", device="device")
-            self.assertFault(said, REFUSED)
-            self.assertEqual(came, [])
-            self.assertFile("journal", b"precious")
+        listener = self.listen("device")
+        self.assertFault(self.use("erase", "5", device="device"), REFUSED)
+        self.assertEqual(readable([listener], 0), [])
+        self.assertFile("journal", b"precious")
 
     def test_is_refused_in_a_folder_of_journals(self):
         os.mkdir(self.path("folder"))

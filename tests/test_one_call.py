@@ -3,7 +3,6 @@
 import fcntl
 import os
 import subprocess
-import threading
 import time
 
 from place import PATIENCE, SIZE, WAIT, ZEROS, Place, Said, files
@@ -168,16 +167,11 @@ class Lines(Served):
 
         def carry():
             for turn in range(clients):
-                try:
-                    host, _ = listener.accept()
-                    with host, self.connect("board") as board:
-                        self.carry(host, board, cuts[turn] if turn < len(cuts) else None)
-                except OSError:
-                    return
+                host, _ = listener.accept()
+                with host, self.connect("board") as board:
+                    self.carry(host, board, cuts[turn] if turn < len(cuts) else None)
 
-        thread = threading.Thread(target=carry, daemon=True)
-        thread.start()
-        return thread
+        self.beside(listener, carry)
 
     def tearDown(self):
         # the board's files are written once its client is gone

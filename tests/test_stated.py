@@ -1,12 +1,10 @@
 """What the program was specified to say: each text of it word for word, and its worked examples (tests/stated.rows)."""
 
-import contextlib
 import os
 import re
 import resource
-import threading
 
-from place import COUNTING, TOP, Said, is_slow, program
+from place import COUNTING, Said, is_slow, program, text_in
 from served import Served
 
 # a part of a file's bytes, and how often it comes
@@ -44,8 +42,7 @@ def bytes_of(told):
 
 def cases():
     """Each case: its title, and its lines as their sign and what is behind it."""
-    with open(os.path.join(TOP, "tests", "stated.rows"), encoding="utf-8") as file:
-        blocks = re.sub(r"(?m)^#.*\n", "", file.read()).strip().split("\n\n")
+    blocks = re.sub(r"(?m)^#.*\n", "", text_in("tests", "stated.rows")).strip().split("\n\n")
     for block in blocks:
         title, *lines = block.split("\n")
         yield title, [line.split(" ", 1) for line in lines]
@@ -56,8 +53,7 @@ class Stated(Served):
 
     def setUp(self):
         super().setUp()
-        with open(os.path.join(TOP, "tests", "stated.toml"), "rb") as file:
-            self.chips = file.read()
+        self.chips = text_in("tests", "stated.toml").encode()
 
     def begin(self):
         """An empty folder, but for the chips; the simulator of the case before is ended."""
@@ -76,15 +72,14 @@ class Stated(Served):
 
         def hear():
             line, _ = listener.accept()
-            with line, contextlib.suppress(ConnectionError):
+            with line:
                 if replies:
                     line.recv(1)
                     line.sendall(replies)
                     while line.recv(4096):
                         pass
 
-        serving = threading.Thread(target=hear, daemon=True)
-        serving.start()
+        self.beside(listener, hear)
 
     def ask(self, sent, due):
         """Sends bytes to the served simulator, over one line for all of a case."""

@@ -6,7 +6,6 @@ import os
 import re
 import subprocess
 import sys
-import threading
 
 from place import COUNTING, PATIENCE, TABLE, TOP, WAIT, Said, had
 from served import Served, relay
@@ -50,8 +49,7 @@ class Relay:
         test.clear("relay")
         self.listener = test.listen("relay")
         self.board = board
-        self.thread = threading.Thread(target=self.serve)
-        self.thread.start()
+        self.thread = test.beside(self.listener, self.serve)
 
     def serve(self):
         line, _ = self.listener.accept()
