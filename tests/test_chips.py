@@ -5,7 +5,7 @@ import os
 import re
 import tomllib
 
-from place import TOP, WAIT, is_slow
+from place import TOP, WAIT, is_slow, text_in
 from served import Served
 
 TABLE = os.path.join(TOP, "chips.toml")
@@ -102,8 +102,7 @@ class Chips(Served):
 
     def test_each_is_in_the_page(self):
         """FORMATS has a table with each id and its parts, and none besides."""
-        with open(os.path.join(TOP, "docs", "FORMATS.md"), encoding="utf-8") as page:
-            table = page.read().split("| Family | Ids |\n|---|---|\n")[1].split("\n\n")[0]
+        table = text_in("docs", "FORMATS.md").split("| Family | Ids |\n|---|---|\n")[1].split("\n\n")[0]
         told = [it.strip() for row in table.splitlines() for it in row.split("|")[2].split(". ")]
         self.assertEqual(sorted(told), sorted(f"{number} " + re.sub("^STM32(?!W)", "", chip["name"]) for number, chip in CHIPS.items()))
 

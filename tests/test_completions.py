@@ -10,7 +10,7 @@ import subprocess
 import sys
 import time
 
-from place import PATIENCE, TOP, Place, readable
+from place import PATIENCE, TOP, Place, readable, text_in
 
 FOLDER = os.path.join(TOP, "packaging", "completions")
 LINE = os.path.join(TOP, "line", "stmflash-line")
@@ -140,8 +140,7 @@ class Completions(Place):
     def test_all_offer_what_the_trial_takes(self):
         """And its manual page has it."""
         taken = self.trial_options()
-        with open(os.path.join(TOP, "line", "stmflash-trial.1"), encoding="utf-8") as file:
-            manual = file.read().replace("\\", "")
+        manual = text_in("line", "stmflash-trial.1").replace("\\", "")
         self.assertEqual([option for option in taken - {"-h", "--help"} if f" {option}" not in manual], [])
         with open(os.path.join(FOLDER, "_stmflash"), encoding="utf-8") as file:
             part = file.read().split("$service == stmflash-trial")[1].split("    fi\n")[0]

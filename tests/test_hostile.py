@@ -12,7 +12,7 @@ import typing
 import hostile
 from hostile import FLASH, Line
 from hostile_kinds import GIVE_UP, GONE, KINDS, LONG_WAIT
-from place import TOP, Place, Said, had
+from place import Place, Said, had, text_in
 from test_giving_up import Peer
 
 # how much longer than it waits for an answer a session may take, in seconds; one that took longer beside others, on a busy machine,
@@ -191,8 +191,7 @@ class Hostile(Place):
 
     def test_the_table_tells_each(self):
         """docs/UNDO.md has a row for each kind, with each fault and the hints that are told there; and no row without one."""
-        with open(os.path.join(TOP, "docs", "UNDO.md"), encoding="utf-8") as file:
-            part = file.read().split("\n### Boards that aren't well\n")[1].split("\n## ")[0]
+        part = text_in("docs", "UNDO.md").split("\n### Boards that aren't well\n")[1].split("\n## ")[0]
         rows = {row.split(" | ")[0].removeprefix("| "): row for row in part.splitlines() if row.startswith("| ")}
         self.assertEqual(set(rows) - {"The board"}, {kind.row for kind in KINDS.values()})
         self.assertIn(f"has {len(KINDS)} kinds", part)

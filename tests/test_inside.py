@@ -6,7 +6,7 @@ import glob
 import os
 import re
 
-from place import TOP
+from place import TOP, text_in
 from served import Served
 
 # a step of a table; its calls, and their files
@@ -18,8 +18,7 @@ BYTES = re.compile(r"([<>]) ((?:[0-9A-F]{2}(?: |$|(?=`)))+)")
 
 
 def page():
-    with open(os.path.join(TOP, "docs", "INSIDE.md"), encoding="utf-8") as file:
-        return file.read()
+    return text_in("docs", "INSIDE.md")
 
 
 def steps():

@@ -12,13 +12,8 @@ import sys
 import tempfile
 import xml.etree.ElementTree
 
-from place import TOP, Place, is_unproved
+from place import TOP, Place, is_unproved, text_in
 from test_completions import options
-
-
-def held(*parts):
-    with open(os.path.join(TOP, *parts), encoding="utf-8") as file:
-        return file.read()
 
 
 def pages():
@@ -51,7 +46,7 @@ UNLISTED = re.compile(r"/(Answers|Invariants|Goals|Given|Proof|Lib|lemmas)\.antt
 class Pages(Place):
     def test_links_lead_somewhere(self):
         for page in pages():
-            for link in re.findall(r"\]\(([^)#\s]+)(?:#[^)]*)?\)", held(page)):
+            for link in re.findall(r"\]\(([^)#\s]+)(?:#[^)]*)?\)", text_in(page)):
                 if not re.match(r"[a-z]+:", link):
                     with self.subTest(page=os.path.relpath(page, TOP), link=link):
                         self.assertTrue(os.path.exists(os.path.join(os.path.dirname(page), link)))
@@ -59,7 +54,7 @@ class Pages(Place):
     def test_blocks_of_code_are_opened_and_closed(self):
         """Each on a line of its own, or all that follows is shown as code."""
         for page in pages():
-            fences = [line for line in held(page).splitlines() if "```" in line]
+            fences = [line for line in text_in(page).splitlines() if "```" in line]
             with self.subTest(page=os.path.relpath(page, TOP)):
                 self.assertEqual([it for it in fences[::2] if not re.fullmatch(r"```\w*", it)], [])
                 self.assertEqual(fences[1::2], ["```"] * (len(fences) // 2))
@@ -76,11 +71,11 @@ class Pages(Place):
         for path in pictures:
             with self.subTest(picture=os.path.basename(path)):
                 self.assertTrue(xml.etree.ElementTree.parse(path).getroot().tag.endswith("}svg"))
-                self.assertTrue("prefers-color-scheme: dark" in held(path))
+                self.assertTrue("prefers-color-scheme: dark" in text_in(path))
 
     def test_the_session_is_one(self):
         """A header of asciinema's version 2, and then times that don't fall."""
-        header, *events = [json.loads(line) for line in held("docs", "pictures", "session.cast").splitlines()]
+        header, *events = [json.loads(line) for line in text_in("docs", "pictures", "session.cast").splitlines()]
         self.assertEqual(header["version"], 2)
         times = [at for at, kind, words in events if kind == "o" and isinstance(words, str)]
         self.assertEqual(len(times), len(events))
@@ -89,10 +84,10 @@ class Pages(Place):
     def test_one_version(self):
         said = self.call("--version").out.decode()
         version = re.fullmatch(r"stmflash (\d+\.\d+\.\d+), (not proved|proved by rattle logic \w+)\n", said)[1]
-        self.assertEqual(re.search(r"^## (\S+) ", held("CHANGELOG.md"), re.M)[1], version)
-        self.assertEqual(re.match(r"stmflash \((.*)-\d+\) ", held("packaging", "changelog"))[1], version)
+        self.assertEqual(re.search(r"^## (\S+) ", text_in("CHANGELOG.md"), re.M)[1], version)
+        self.assertEqual(re.match(r"stmflash \((.*)-\d+\) ", text_in("packaging", "changelog"))[1], version)
         for page in ("stmflash.1", *(os.path.join("line", f"stmflash-{it}.1") for it in ("line", "trial", "as-stm32flash"))):
-            self.assertRegex(held(page).split("\n")[0],
+            self.assertRegex(text_in(page).split("\n")[0],
                              rf'^\.TH STMFLASH\S* 1 \d{{4}}-\d\d-\d\d "stmflash {re.escape(version)}" "User Commands"$')
 
     def test_the_version_names_the_logic_that_proves(self):
@@ -100,12 +95,12 @@ class Pages(Place):
         if shutil.which("rt") is None:
             self.skipTest("there is no rt")
         logic = "rattle " + subprocess.run(["rt", "version"], capture_output=True, text=True, check=True).stdout.strip().partition(" ")[2]
-        code = held("crates", "stm_words", "src", "command_set.rt")
+        code = text_in("crates", "stm_words", "src", "command_set.rt")
         self.assertEqual(re.search(r'^const VERSION: &str = "\S+, proved by (.*)";$', code, re.M)[1], logic)
         self.assertEqual(self.call("--version").out.decode().split(", ")[1], "not proved\n" if is_unproved() else f"proved by {logic}\n")
 
     def test_the_manual_page_has_every_option(self):
-        page = held("stmflash.1").replace("\\", "")
+        page = text_in("stmflash.1").replace("\\", "")
         told = self.call("--help").out.decode()
         subcommands = set(re.findall(r"^  ([a-z]+) ", told.split("Commands:\n")[1].split("\n\n")[0], re.M)) - {"help"}
         missing = [name for name in subcommands if not re.search(rf'\.(B|BI|BR) "?{name}\b', page)]
@@ -120,7 +115,7 @@ class Pages(Place):
             with self.subTest(page=page):
                 ran = subprocess.run([sys.executable, "-B", os.path.join(TOP, "tools", tool), "--check"], cwd=TOP, capture_output=True, text=True)
                 self.assertEqual((ran.returncode, ran.stderr), (0, ""))
-                self.assertEqual(held("docs", page).partition("\n")[0], f"<!-- made by tools/{tool}: `make pages`; not by hand -->")
+                self.assertEqual(text_in("docs", page).partition("\n")[0], f"<!-- made by tools/{tool}: `make pages`; not by hand -->")
 
     def test_a_page_that_is_not_what_its_tool_makes_is_found(self):
         """In a copy: a page with a line more, and a file without a comment. A clause more is on the page by its name."""
@@ -150,7 +145,7 @@ class Pages(Place):
     def test_the_map_names_each_file(self):
         """Each file of code, definitions and lemmas in the section of its folder, with words; of tests, tools and the rest it or its
         folder."""
-        head, page = held("docs", "heads", "MAP.md"), held("docs", "MAP.md")
+        head, page = text_in("docs", "heads", "MAP.md"), text_in("docs", "MAP.md")
         rooms = {it.partition("\n")[0]: it for it in page.split("\n## ")}
         for path in subprocess.run(["git", "ls-files"], cwd=TOP, capture_output=True, text=True, check=True).stdout.splitlines():
             if re.search(r"^crates/\w+/(src|specs|proofs)/", path) and not UNLISTED.search(path):
@@ -166,12 +161,12 @@ class Pages(Place):
 
     def test_what_is_proved_names_each_public_function(self):
         """Each function that a library shows, in the section of its crate, with each of its clauses or without any."""
-        sections = {it.partition("\n")[0]: it for it in held("docs", "PROVED.md").split("\n## ")}
+        sections = {it.partition("\n")[0]: it for it in text_in("docs", "PROVED.md").split("\n## ")}
         count = 0
         for path in glob.glob(os.path.join(TOP, "crates", "*", "src", "lib.rt")):
             crate = path.split(os.sep)[-3]
-            code = "".join(held(it) for it in glob.glob(os.path.join(os.path.dirname(path), "**", "*.rt"), recursive=True))
-            for names in re.findall(r"^pub use [\w:]+?::(\{[^}]*\}|\w+);", held(path), re.M) if "_tests" not in crate else ():
+            code = "".join(text_in(it) for it in glob.glob(os.path.join(os.path.dirname(path), "**", "*.rt"), recursive=True))
+            for names in re.findall(r"^pub use [\w:]+?::(\{[^}]*\}|\w+);", text_in(path), re.M) if "_tests" not in crate else ():
                 for name in re.findall(r"\b[a-z]\w*\b", names):
                     with self.subTest(crate=crate, name=name):
                         row = re.search(rf"^- \*\*`{name}`\*\*.*", sections[crate], re.M)
@@ -186,10 +181,10 @@ class Pages(Place):
         """No two modules of specs define the same name; and undo is one word in the code."""
         defined, named = {}, []
         for path in glob.glob(os.path.join(TOP, "crates", "*", "specs", "**", "*.antt"), recursive=True):
-            for name in re.findall(r"^(?:pub )?(?:unfoldable|abbrev|record|data)(?: pub)? (\S+)", held(path), re.M):
+            for name in re.findall(r"^(?:pub )?(?:unfoldable|abbrev|record|data)(?: pub)? (\S+)", text_in(path), re.M):
                 defined.setdefault(name, set()).add(path)
         for path in glob.glob(os.path.join(TOP, "crates", "*", "[sp]*", "**", "*.*t*"), recursive=True):
-            named += re.findall(r"\b\w*(?:[Tt]ake[ns]?[-_]?[Bb]ack|[Gg]oe?s?[-_]?[Bb]ack)\w*", re.sub(r"(--|//).*", "", held(path)))
+            named += re.findall(r"\b\w*(?:[Tt]ake[ns]?[-_]?[Bb]ack|[Gg]oe?s?[-_]?[Bb]ack)\w*", re.sub(r"(--|//).*", "", text_in(path)))
         self.assertGreater(len(defined), 2000)
         self.assertEqual([it for it, paths in defined.items() if len(paths) > 1], [])
         self.assertEqual(named, [])
@@ -198,26 +193,26 @@ class Pages(Place):
         """What is defined in specs/lemmas serves a lemma there: no clause names it."""
         for path in glob.glob(os.path.join(TOP, "crates", "*", "specs", "lemmas", "*.antt")):
             crate, module = path.split(os.sep)[-4], os.path.basename(path)[:-5]
-            own = set(re.findall(r"^(?:pub )?(?:abbrev|record|data)(?: pub)? (\S+)", held(path), re.M))
+            own = set(re.findall(r"^(?:pub )?(?:abbrev|record|data)(?: pub)? (\S+)", text_in(path), re.M))
             for code in glob.glob(os.path.join(TOP, "crates", "*", "src", "**", "*.rt"), recursive=True):
-                for names in re.findall(rf"Rattle\.{crate}\.specs\.lemmas\.{module}\.{{([^}}]*)}}", held(code)):
+                for names in re.findall(rf"Rattle\.{crate}\.specs\.lemmas\.{module}\.{{([^}}]*)}}", text_in(code)):
                     with self.subTest(module=module, code=code):
                         self.assertFalse(own & set(re.findall(r"[^\s,]+", names)))
 
     def test_the_words_are_in_use(self):
         """MODEL has twenty, in their order; README leads to it. Each is in two more pages at least, or its parts are."""
-        words = re.findall(r"^\| ((?!Word \|)[\w, ]+) \|", held("docs", "MODEL.md").split("\n## Words\n")[1], re.M)
+        words = re.findall(r"^\| ((?!Word \|)[\w, ]+) \|", text_in("docs", "MODEL.md").split("\n## Words\n")[1], re.M)
         self.assertEqual(len(words), 20)
         self.assertEqual(words, sorted(words, key=str.lower))
-        self.assertIn("(docs/MODEL.md", held("README.md"))
-        texts = [re.sub(r"\s+", " ", held(page)) for page in pages() if os.path.basename(page) not in ("MODEL.md", "CHANGELOG.md")]
+        self.assertIn("(docs/MODEL.md", text_in("README.md"))
+        texts = [re.sub(r"\s+", " ", text_in(page)) for page in pages() if os.path.basename(page) not in ("MODEL.md", "CHANGELOG.md")]
         for word in (it for told in words for it in told.split(", ")):
             with self.subTest(word=word):
                 self.assertGreaterEqual(sum(bool(re.search(rf"\b{word}", it, re.I)) for it in texts), 2)
 
     def test_the_stopped_write_is_shown_without_bytes_of_the_protocol(self):
         """What is typed, the journal and the flash: no text of the picture is a run of bytes."""
-        texts = re.findall(r">([^<>]+)<", held("docs", "pictures", "stopped-write.svg"))
+        texts = re.findall(r">([^<>]+)<", text_in("docs", "pictures", "stopped-write.svg"))
         self.assertGreater(len(texts), 50)
         self.assertEqual([it for it in texts if re.search(r"\b[0-9A-F]{2}( [0-9A-F]{2})+\b|\b0x7F\b|\b7F\b", it)], [])
 
@@ -236,20 +231,20 @@ class Pages(Place):
     def test_each_crate_can_be_tried(self):
         """`make try CRATE=` runs tests for each crate: its own, those of another one, rows, those of the program, or a script. The programs
         that are measured have none, and `rt ci` compares what they print."""
-        makefile = held("Makefile")
+        makefile = text_in("Makefile")
         elsewhere = dict(re.findall(r"^TESTS_(\w+) = (\w+)$", makefile, re.M))
         by_program = re.search(r"^BY_PROGRAM = (.*)$", makefile, re.M)[1].split()
         for crate in sorted(os.listdir(os.path.join(TOP, "crates"))):
             if elsewhere.get(crate, crate) not in (*by_program, "stm_rows", "stm_histories", "bench", "refused_memory"):
                 with self.subTest(crate=crate):
                     code = glob.glob(os.path.join(TOP, "crates", elsewhere.get(crate, crate), "src", "**", "*.rt"), recursive=True)
-                    self.assertTrue(any("#[test]" in held(it) for it in code))
+                    self.assertTrue(any("#[test]" in text_in(it) for it in code))
 
     def test_the_ways_of_contributing_are_there(self):
         """Each target of make, tool and module of tests that a command in CONTRIBUTING or README names."""
-        targets = set(re.findall(r"^([\w-]+):", held("Makefile"), re.M))
+        targets = set(re.findall(r"^([\w-]+):", text_in("Makefile"), re.M))
         for page in ("CONTRIBUTING.md", "README.md"):
-            commands = re.findall(r"^    (.+)$|`([^`]+)`", re.sub(r"\n(?=\S)", " ", held(page)), re.M)
+            commands = re.findall(r"^    (.+)$|`([^`]+)`", re.sub(r"\n(?=\S)", " ", text_in(page)), re.M)
             commands = [it for pair in commands for it in pair if it]
             for target in {word for it in commands for word in re.findall(r"(?:^|&& |sudo )make ([a-z][\w-]*)", it)}:
                 with self.subTest(page=page, target=target):
@@ -265,16 +260,16 @@ class Pages(Place):
         """Each file of rows is in what `rt ci` or tools/rows compares, as often as its loops have it played."""
         ran = subprocess.run([os.path.join(TOP, "tools", "cases")], capture_output=True, text=True, check=True)
         counted = re.findall(r"stm_rows/data/(\S+): (\d+) rows, \d+ acts, played (\d+) times", ran.stdout)
-        told = re.findall(r"^(\S+): (\d+) rows, played (\d+) times, 0 differ$", held("crates/stm_rows/stdout") + held("crates/stm_rows/sweeps"), re.M)
+        told = re.findall(r"^(\S+): (\d+) rows, played (\d+) times, 0 differ$", text_in("crates/stm_rows/stdout") + text_in("crates/stm_rows/sweeps"), re.M)
         self.assertEqual(sorted(counted), sorted(told))
-        self.assertEqual(held("crates/stm_rows/args").split(), re.findall(r"^(\S+):", held("crates/stm_rows/stdout"), re.M))
+        self.assertEqual(text_in("crates/stm_rows/args").split(), re.findall(r"^(\S+):", text_in("crates/stm_rows/stdout"), re.M))
 
     def test_the_walk_names_code_that_is_there(self):
         """Each file and each function that INSIDE names; a file without a folder is in that of the one before it."""
         code = subprocess.run(["grep", "-rhoE", r"\bfn \w+|\b[A-Z]\w+\b", "--include=*.rt", os.path.join(TOP, "crates")],
                               capture_output=True, text=True, check=True).stdout.split("\n")
         functions = {words[3:] for words in code if words.startswith("fn ")}
-        for line in held("docs", "INSIDE.md").splitlines():
+        for line in text_in("docs", "INSIDE.md").splitlines():
             folder = ""
             for named in re.findall(r"`([^`]+)`", line):
                 with self.subTest(named=named):
@@ -289,14 +284,14 @@ class Pages(Place):
     def test_the_walk_names_what_decides_a_refusal(self):
         """Each function of that table is in a file of its row. And each function that makes a fault is there, with its file, but for those
         that hand on what the system, the line or the memory said."""
-        told = held("docs", "INSIDE.md").split("\n## What decides a refusal\n")[1]
+        told = text_in("docs", "INSIDE.md").split("\n## What decides a refusal\n")[1]
         named = set()
         for row in [it for it in told.splitlines() if it.startswith("| ") and "`" in it]:
             folder, files = "", []
             for name in re.findall(r"`([^`]+\.rt|stm\w+/specs/\w+)`", row.split("|")[3]):
                 folder = os.path.dirname(name) or folder
                 files.append(os.path.join(folder, os.path.basename(name)))
-            text = "".join(held("crates", it) for it in files if it.endswith(".rt"))
+            text = "".join(text_in("crates", it) for it in files if it.endswith(".rt"))
             for function in re.findall(r"`(?:\w+::)?([a-z]\w*)`", row.split("|")[2]):
                 with self.subTest(function=function):
                     self.assertTrue(re.search(rf"\bfn {function}\b", text))
@@ -304,7 +299,7 @@ class Pages(Place):
         made_in = set()
         for path in glob.glob(os.path.join(TOP, "crates", "*", "src", "**", "*.rt"), recursive=True):
             file, function = os.path.relpath(path, os.path.join(TOP, "crates")), ""
-            for line in held(path).splitlines():
+            for line in text_in(path).splitlines():
                 head = re.match(r" *(?:pub(?:\(crate\))? )?fn (\w+)", line)
                 function = head[1] if head else function
                 # what a pattern takes apart, ahead of its arrow, is made elsewhere
@@ -321,7 +316,7 @@ class Pages(Place):
         files = subprocess.run(["git", "ls-files"], cwd=TOP, capture_output=True, text=True, check=True).stdout.split()
         files = [it.removeprefix("crates/").removesuffix(".antt") for it in files]
         count = 0
-        for row in [it for it in held("CONTRIBUTING.md").splitlines() if it.startswith("| `")]:
+        for row in [it for it in text_in("CONTRIBUTING.md").splitlines() if it.startswith("| `")]:
             place = ""
             for name in re.findall(r"`([\w./-]+)`", row.split("|")[1]):
                 if "NAME" in name or not re.search(r"[./]\w|^[A-Z]\w+$", name) or "/" not in name and not place:
@@ -338,27 +333,27 @@ class Pages(Place):
     def test_the_wrong_bodies_are_as_many_as_are_told(self):
         """In GATE."""
         count = len(glob.glob(os.path.join(TOP, "crates", "*", "wrong-bodies", "*.edit")))
-        self.assertEqual(re.findall(r"The gate has (\d+) wrong bodies", held("docs", "GATE.md")), [str(count)])
+        self.assertEqual(re.findall(r"The gate has (\d+) wrong bodies", text_in("docs", "GATE.md")), [str(count)])
 
     def test_the_chips_are_as_many_as_are_told(self):
         """In README, FORMATS and SWITCH."""
-        count = len(re.findall(r"^\[\[chip\]\]$", held("chips.toml"), re.M))
+        count = len(re.findall(r"^\[\[chip\]\]$", text_in("chips.toml"), re.M))
         for page, words in (("README.md", r"`chips.toml` knows (\d+) chips"), ("docs/FORMATS.md", r"`chips.toml` is one with (\d+) chips"),
                             ("docs/SWITCH.md", r"\| (\d+) in `chips.toml`")):
             with self.subTest(page=page):
-                self.assertEqual(re.findall(words, held(page)), [str(count)])
+                self.assertEqual(re.findall(words, text_in(page)), [str(count)])
 
     def test_the_boards_that_chips_tell_are_as_many_as_are_told(self):
         """In FORMATS the entries that have both places, and those that have `unique` alone."""
-        chips = held("chips.toml").split("[[chip]]")[1:]
+        chips = text_in("chips.toml").split("[[chip]]")[1:]
         both = sum(bool(re.search(r"^unique\b", it, re.M) and re.search(r"^size_at\b", it, re.M)) for it in chips)
         alone = sum(bool(re.search(r"^unique\b", it, re.M)) for it in chips) - both
-        told = re.findall(r"both for (\d+) ids and\s+`unique`\s+alone for (\w+) more", held("docs", "FORMATS.md"))
+        told = re.findall(r"both for (\d+) ids and\s+`unique`\s+alone for (\w+) more", text_in("docs", "FORMATS.md"))
         self.assertEqual(told, [(str(both), {15: "fifteen"}.get(alone, str(alone)))])
 
     def test_links_lead_to_a_heading(self):
         """Each link with a place in a page: the heading is there, by the name that it has on GitHub."""
         for page in pages():
-            for link, place in re.findall(r"\]\(((?![a-z]+:)[^)#\s]*)#([^)]*)\)", held(page)):
+            for link, place in re.findall(r"\]\(((?![a-z]+:)[^)#\s]*)#([^)]*)\)", text_in(page)):
                 with self.subTest(page=os.path.relpath(page, TOP), link=link, place=place):
-                    self.assertIn(place, headings(held(os.path.join(os.path.dirname(page), link) if link else page)))
+                    self.assertIn(place, headings(text_in(os.path.join(os.path.dirname(page), link) if link else page)))

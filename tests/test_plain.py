@@ -8,7 +8,7 @@ import re
 import subprocess
 import unittest
 
-from place import TOP
+from place import TOP, text_in
 
 
 def is_made(path):
@@ -42,11 +42,6 @@ FONTS = {"B": " ", "I": " ", "SM": " ", "SB": " ", "BI": "", "IB": "", "BR": "",
 BREAKS = ("SH", "SS", "PP", "P", "LP", "TP", "TQ", "IP", "HP", "RS", "RE", "nf", "fi", "EX", "EE", "sp")
 # the sections of a manual page that have no sentences
 NO_SENTENCES = ("SYNOPSIS", "SEE ALSO")
-
-
-def held(name):
-    with open(os.path.join(TOP, name), encoding="utf-8") as file:
-        return file.read()
 
 
 # A piece is what is read by itself: a paragraph, an item of a list, a cell of a table, a term. It is a list of its lines, each with
@@ -161,12 +156,12 @@ def cut_of(name, text):
 
 class Plain(unittest.TestCase):
     def test_no_sentence_is_too_long(self):
-        faults = [fault for name in PAGES + MANUALS for fault in too_long(name, held(name))]
+        faults = [fault for name in PAGES + MANUALS for fault in too_long(name, text_in(name))]
         self.assertTrue(not faults, "\n" + "\n".join(faults))
 
     def test_words_that_were_settled(self):
         faults = [f"{name}:{number}: `{found}`, say `{better}`: {said}" for name in EVERY + MANUALS
-                  for number, found, better, said in unsettled(name, held(name))]
+                  for number, found, better, said in unsettled(name, text_in(name))]
         self.assertTrue(not faults, "\n" + "\n".join(faults))
 
     def test_a_word_that_was_settled_is_found(self):
@@ -176,7 +171,7 @@ class Plain(unittest.TestCase):
                  "What was begun, an erase, was taken back.": "undo", "It took that one back, or will.": "undo"}
         well = ("It stands for one word.", "It has stand-ins.", "A page is given back.", "Take the way back.")
         for name in EVERY + MANUALS:
-            text = held(name)
+            text = text_in(name)
             cut, parted = cut_of(name, text), "\n\n" if name in EVERY else "\n.PP\n"
             planted = text[:cut] + parted.join((*worse, *well)) + parted + text[cut:]
             before = [said for _, _, _, said in unsettled(name, text)]
@@ -191,7 +186,7 @@ class Plain(unittest.TestCase):
         for printed in PRINTED:
             with self.subTest(printed=printed):
                 self.assertIn(printed, code)
-                self.assertTrue(any(printed in held(name) for name in EVERY))
+                self.assertTrue(any(printed in text_in(name) for name in EVERY))
 
     def test_a_sentence_that_is_too_long_is_found(self):
         """One word too many in each kind of place of each file; nothing at one word less."""
@@ -200,7 +195,7 @@ class Plain(unittest.TestCase):
         manual = (".PP\n{}\n", ".TP\n.B one\n{}\n", ".TP\n{}\nOne.\n", ".PP\nOne.\n{}\n", ".PP\n.I {}\n", ".IP one\n{}\n",
                   ".nf\none\n.fi\n{}\n")
         for name in PAGES + MANUALS:
-            text, forms = held(name), page if name in PAGES else manual
+            text, forms = text_in(name), page if name in PAGES else manual
             before = len(too_long(name, text))
             cut = cut_of(name, text)
             for form, (count, found) in itertools.product(forms, ((LIMIT, 0), (LIMIT + 1, 1))):

@@ -9,15 +9,14 @@ import subprocess
 import unittest
 
 from boards import LINE, PYTHON
-from place import COUNTING, PATIENCE, TOP
+from place import COUNTING, PATIENCE, text_in
 from test_line_elf import WRITTEN, elf
 from test_line_journals import RUNNER, Unnamed
 
 
 def recipe(first):
     """The block of the page whose first line this is."""
-    with open(os.path.join(TOP, "docs", "LINE.md"), encoding="utf-8") as page:
-        lines = page.read().split("\n")
+    lines = text_in("docs", "LINE.md").split("\n")
     at = lines.index("    " + first)
     end = next(number for number in range(at, len(lines)) if lines[number] and not lines[number].startswith("    "))
     return "\n".join(line[4:] for line in lines[at:end]).rstrip() + "\n"

@@ -4,7 +4,7 @@ import os
 import tomllib
 
 import telling
-from place import TOP, WAIT, Place, served
+from place import WAIT, Place, served, text_in
 from served import Served
 
 HEAD = "[[chip]]\n"
@@ -16,11 +16,10 @@ COUNTING = bytes(i % 251 for i in range(65536))
 
 def entry(number):
     """The entry of a chip in chips.toml, alone, since a whole table is read slowly; and how many bytes its unique id has."""
-    with open(os.path.join(TOP, "chips.toml")) as file:
-        for text in file.read().split(HEAD)[1:]:
-            chip = tomllib.loads(text)
-            if f"{chip['id']:04X}" == number:
-                return (HEAD + text).encode(), chip["unique"][1]
+    for text in text_in("chips.toml").split(HEAD)[1:]:
+        chip = tomllib.loads(text)
+        if f"{chip['id']:04X}" == number:
+            return (HEAD + text).encode(), chip["unique"][1]
     raise KeyError(number)
 
 
