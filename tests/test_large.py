@@ -1,28 +1,19 @@
 """Flashes, journals and tables as large as the limits allow."""
 
+import os
 import random
+import sys
 
-from place import Place, is_slow
+from place import TOP, Place, is_slow
+
+sys.path.insert(0, os.path.join(TOP, "tools"))
+
+from hex_text import text_of
 
 # a flash in 512 pages, of which one write changes all
 PAGES = 512
 BASE = 0x0800_0000
 CHIPS = 60
-
-
-def record(kind, offset, data):
-    body = bytes([len(data)]) + offset.to_bytes(2, "big") + bytes([kind]) + data
-    return b":" + body.hex().upper().encode() + b"%02X\n" % (-sum(body) & 0xFF)
-
-
-def hex_of(data, base):
-    """The text of these bytes, in records of 32, the last address first."""
-    text = []
-    for block in reversed(range(0, len(data), 65536)):
-        text.append(record(4, 0, ((base + block) >> 16).to_bytes(2, "big")))
-        for place in reversed(range(block, min(block + 65536, len(data)), 32)):
-            text.append(record(0, base + place & 0xFFFF, data[place:place + 32]))
-    return b"".join([*text, b":00000001FF\n"])
 
 
 class Large(Place):
@@ -41,7 +32,7 @@ class Large(Place):
         dice = random.Random(512)
         before, image = dice.randbytes(size), dice.randbytes(size)
         table = f'[[chip]]\nid = 0x470\nbase = 0x08000000\npages = [[{PAGES}, {size // PAGES}]]\nerase = "extended"\n'
-        self.store_all({"table": table.encode(), "flash": before, "image": hex_of(image, BASE)})
+        self.store_all({"table": table.encode(), "flash": before, "image": text_of(image, BASE, range(0, len(image), 32)[::-1], 32)})
         said = self.use("write", "-v", "image", device="sim:0470:flash")
         self.assertTold(said, f"segment 1: {PAGES} pages written\nverified {size} bytes\n")
         self.assertFile("flash", image)

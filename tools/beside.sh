@@ -23,7 +23,7 @@ fail() {
 
 # stm32flash with these words; what it says is kept in $room/said.
 other() {
-    python3 "$top/tools/stm32flash-shim" "$room/board" stm32flash -m 8n1 "$@" > "$room/said" 2>&1 ||
+    python3 "$top/tools/line-relay" --pty "$room/board" stm32flash -m 8n1 "$@" > "$room/said" 2>&1 ||
         fail "stm32flash $* fails: $(tail -n 2 "$room/said")"
 }
 

@@ -12,10 +12,11 @@ TOP = os.path.dirname(os.path.dirname(os.path.dirname(os.path.abspath(__file__))
 sys.dont_write_bytecode = True
 sys.path[:0] = [os.path.join(TOP, name) for name in ("line", "tools")]
 
+from hex_text import text_of
 from pty_boards import PtyBoard
 from simulator import Folder
 
-OURS, SHIM = os.path.join(TOP, "line", "stm32flash"), os.path.join(TOP, "tools", "stm32flash-shim")
+OURS, RELAY = os.path.join(TOP, "line", "stm32flash"), os.path.join(TOP, "tools", "line-relay")
 TABLE = os.path.join(TOP, "chips.toml")
 CHIP, SIZE, PAGE_SIZE, PATIENCE = "0412", 32768, 1024, 200
 
@@ -48,17 +49,8 @@ def images(folder):
     store("bad.hex", b":0400000001020304F3\n:00000001FF\n")
     for name, data, at in (("full.hex", full, 0x08000000), ("fw.hex", part, 0x08000000), ("at400.hex", part, 0x08000400),
                            ("at0.hex", part, 0)):
-        store(name, hex_text(data, at))
+        store(name, text_of(data, at, range(0, len(data), 16)))
     return store("first", chance.randbytes(SIZE))
-
-
-def hex_text(data, at):
-    def record(kind, offset, held):
-        whole = bytes([len(held)]) + offset.to_bytes(2, "big") + bytes([kind]) + held
-        return b":" + (whole + bytes([-sum(whole) % 256])).hex().upper().encode() + b"\n"
-    lines = [record(4, 0, (at >> 16).to_bytes(2, "big"))] if at >> 16 else []
-    lines += [record(0, (at + i) % 65536, data[i:i + 16]) for i in range(0, len(data), 16)]
-    return b"".join(lines) + record(1, 0, b"")
 
 
 class Room(Folder):
@@ -84,7 +76,7 @@ class Room(Folder):
                                       "--clients", "1"], cwd=self.folder, stdin=subprocess.DEVNULL)
         while not os.path.exists(self.path("board")):
             time.sleep(0.01)
-        ran = subprocess.run([sys.executable, SHIM, "board", "stm32flash", *mode(words), *plain(words)], cwd=self.folder,
+        ran = subprocess.run([sys.executable, RELAY, "--pty", "board", "stm32flash", *mode(words), *plain(words)], cwd=self.folder,
                              input=self.given(words), capture_output=True, timeout=PATIENCE)
         simulator.wait(PATIENCE)
         return self.result(ran, self.held("real"))
