@@ -167,7 +167,7 @@ install:
 	install -m 644 stmflash.1 $(share)/man/man1/stmflash.1
 	install -m 644 chips.toml $(share)/stmflash/chips.toml
 	install -d $(share)/doc/stmflash
-	install -m 644 docs/FORMATS.md docs/MODEL.md $(share)/doc/stmflash
+	install -m 644 docs/FORMATS.md docs/MODEL.md docs/answers.schema.json $(share)/doc/stmflash
 	install -d $(share)/bash-completion/completions $(share)/zsh/vendor-completions $(share)/fish/vendor_completions.d
 	install -m 644 $(completions)/stmflash.bash $(share)/bash-completion/completions/stmflash
 	install -m 644 $(completions)/_stmflash $(share)/zsh/vendor-completions/_stmflash

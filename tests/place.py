@@ -15,6 +15,8 @@ import time
 import typing
 import unittest
 
+import answers
+
 TOP = os.path.dirname(os.path.dirname(os.path.abspath(__file__)))
 # how long a call may take, in seconds, on a machine that is busy with other things
 PATIENCE = int(os.environ.get("STMFLASH_PATIENCE", "300"))
@@ -198,6 +200,7 @@ class Place(unittest.TestCase):
         except subprocess.TimeoutExpired:
             started.kill()
             raise
+        self.assertEqual(answers.others(out or b""), [], "docs/answers.schema.json takes no such line")
         return Said(started.returncode, out, err)
 
     def call(self, *words, given=None, **how):

@@ -1,10 +1,11 @@
 """What was done, told as lines of JSON."""
 
 import json
-import os
 import re
+import unittest
 
-from place import ERASED, SILENT, TOP, Place, had, new
+import answers
+from place import ERASED, SILENT, Place, had, new, text_in
 
 IMAGE = b"\x00" * 1024
 
@@ -113,13 +114,25 @@ class Json(Place):
         self.assertTold(self.use("read", "--", "--json"), "")
         self.assertTrue(self.is_there("--json"))
 
-    def test_the_page_has_each_name(self):
-        """docs/FORMATS.md names each answer and fault that the program has, and no other."""
-        with open(os.path.join(TOP, "docs", "FORMATS.md"), encoding="utf-8") as page:
-            answers, faults = page.read().split("\n### Answers\n")[1].split("\n### Faults of a call\n")
-        folder = os.path.join(TOP, "crates", "stm_work", "src")
-        for file, part in (("told_json.rt", answers), ("fault_name.rt", faults)):
-            with open(os.path.join(folder, file), encoding="utf-8") as source:
-                named = set(re.findall(r'=>\s+"([a-z_]+)",', source.read()))
+    def test_the_pages_have_each_name(self):
+        """docs/FORMATS.md and the schema name each answer and fault that the program has, and no other."""
+        parts = text_in("docs", "FORMATS.md").split("\n### Answers\n")[1].split("\n### Faults of a call\n")
+        kinds = [kind["properties"] for kind in json.loads(text_in(answers.PAGE))["oneOf"]]
+        for file, part, member in zip(("told_json.rt", "fault_name.rt"), parts, ("answer", "fault")):
+            named = set(re.findall(r'=>\s+"([a-z_]+)",', text_in("crates", "stm_work", "src", file)))
             rows = [line.split("|")[1] for line in part.splitlines() if line.startswith("| `")][1:]
             self.assertEqual({name for row in rows for name in re.findall("`([a-z_]+)`", row)}, named)
+            firsts = [kind[member] for kind in kinds if member in kind]
+            self.assertEqual({name for first in firsts for name in first.get("enum", [first.get("const")])}, named)
+
+    @unittest.skipUnless(answers.IS_HERE, "python3-jsonschema is not installed")
+    def test_the_schema_takes_no_other_line(self):
+        """Of what a call printed, one without a member, with another one, or with one of another kind; each other test's lines it takes."""
+        answers.checked().check_schema(answers.checked().schema)
+        told = self.lines(self.use("info", "--json")) + self.lines(self.use("info", "--json", device="nowhere"), 1)
+        self.assertEqual(len(told), 2)
+        for line in told:
+            wrong = [{name: line[name] for name in line if name != left} for left in line] + [{**line, "more": 1}]
+            for other in wrong + [{**line, name: [line[name]]} for name in line]:
+                with self.subTest(line=other):
+                    self.assertEqual(len(answers.others(json.dumps(other).encode() + b"\n")), 1)

@@ -11,7 +11,7 @@ import tempfile
 import unittest
 import zipfile
 
-from place import PATIENCE, TOP, is_unproved, program
+from place import PATIENCE, TOP, is_unproved, program, text_in
 
 
 def settings(path):
@@ -26,9 +26,14 @@ def sum_of(path):
 
 
 class Packaging(unittest.TestCase):
+    def needs(self, **packages):
+        """Leaves the test out where one of these tools isn't there, with the name of its package."""
+        for tool, package in packages.items():
+            if shutil.which(tool) is None:
+                self.skipTest(f"there is no {package}")
+
     def test_no_package_of_a_program_that_is_not_proved(self):
-        if shutil.which("readelf") is None:
-            self.skipTest("there is no binutils")
+        self.needs(readelf="binutils")
         with tempfile.TemporaryDirectory() as folder:
             # a program that isn't of the kit, and a file that is none, with the kit's word in it
             other, text = os.path.realpath(shutil.which("readelf")), os.path.join(folder, "text")
@@ -42,11 +47,8 @@ class Packaging(unittest.TestCase):
 
     def test_what_a_program_says_of_its_proof(self):
         """A program that says that it is proved has no package of one that isn't, and one that says nothing has none."""
-        for tool, package in (("readelf", "binutils"), ("gcc", "gcc")):
-            if shutil.which(tool) is None:
-                self.skipTest(f"there is no {package}")
-        with open(os.path.join(TOP, "packaging", "changelog"), encoding="utf-8") as file:
-            version = file.read()[len("stmflash ("):].split("-")[0]
+        self.needs(readelf="binutils", gcc="gcc")
+        version = text_in("packaging", "changelog")[len("stmflash ("):].split("-")[0]
         with tempfile.TemporaryDirectory() as folder:
             path = os.path.join(folder, "one")
             for said in (f"stmflash {version}, proved by rattle logic dac8208d650f15bf", f"stmflash {version}"):
@@ -60,9 +62,7 @@ class Packaging(unittest.TestCase):
 
     def test_a_proof_in_another_logic(self):
         """A program into which the compiler wrote another logic than the code names has no package."""
-        for tool, package in (("readelf", "binutils"), ("gcc", "gcc")):
-            if shutil.which(tool) is None:
-                self.skipTest(f"there is no {package}")
+        self.needs(readelf="binutils", gcc="gcc")
         with tempfile.TemporaryDirectory() as folder:
             path = os.path.join(folder, "one")
             for logic, fault in (("0123456789abcdef", "is proved in another logic than the code names"),
@@ -94,7 +94,7 @@ class Packaging(unittest.TestCase):
                 ran = subprocess.run([os.path.join(top, "bin", name), "--help"], capture_output=True, text=True, timeout=60)
                 self.assertEqual((ran.returncode, ran.stderr), (0, ""))
                 self.assertIn(f"{name} ", ran.stdout)
-        for path in ("share/zsh/vendor-completions/_stmflash", "share/doc/stmflash/FORMATS.md", "share/doc/stmflash/MODEL.md",
+        for path in ("share/zsh/vendor-completions/_stmflash", "share/doc/stmflash/FORMATS.md", "share/doc/stmflash/MODEL.md", "share/doc/stmflash/answers.schema.json",
                      "share/stmflash/chips.toml", "lib/udev/rules.d/70-stmflash.rules"):
             self.assertTrue(os.path.exists(os.path.join(top, path)), path)
         unit = os.path.join(top, "lib/systemd/system/stmflash-line@.service")
@@ -108,8 +108,7 @@ class Packaging(unittest.TestCase):
 
     def test_a_tagged_adapter_is_nobody_elses(self):
         """ModemManager leaves it alone, whoever sits there may use it, and it is quick."""
-        with open(os.path.join(TOP, "packaging", "70-stmflash.rules"), encoding="utf-8") as file:
-            rules = [line for line in file if not line.startswith("#")]
+        rules = [line for line in text_in("packaging", "70-stmflash.rules").splitlines(True) if not line.startswith("#")]
         for line in rules:
             self.assertTrue(line.startswith('ACTION!="remove", SUBSYSTEM=="tty", TAG=="stmflash", '), line)
         done = "".join(rules)
@@ -120,9 +119,7 @@ class Packaging(unittest.TestCase):
         """No time, no order of a language and no compiler's name, so that it is the same each time; and it can't stand beside a proved one."""
         if not is_unproved():
             return
-        for tool, package in (("dpkg-deb", "dpkg-dev"), ("strip", "binutils")):
-            if shutil.which(tool) is None:
-                self.skipTest(f"there is no {package}")
+        self.needs(strip="binutils", **{"dpkg-deb": "dpkg-dev"})
         with tempfile.TemporaryDirectory() as room:
             words = [os.path.join(TOP, "packaging", "deb"), "--unproved", program().removesuffix("-under-qemu"), room]
             made = subprocess.run(words, capture_output=True, text=True, timeout=PATIENCE, check=True).stdout.strip()
@@ -151,9 +148,7 @@ class Packaging(unittest.TestCase):
 
     def test_a_release(self):
         """It is made of what was committed and has a version, and its sums are those of its files."""
-        for tool, package in (("git", "git"), ("dpkg-deb", "dpkg-dev")):
-            if shutil.which(tool) is None:
-                self.skipTest(f"there is no {package}")
+        self.needs(git="git", **{"dpkg-deb": "dpkg-dev"})
         with tempfile.TemporaryDirectory() as room:
             clone, folder = os.path.join(room, "clone"), os.path.join(room, "release")
             shutil.copytree(TOP, clone, ignore=shutil.ignore_patterns("out", "bin", ".git", "crates", "__pycache__"))

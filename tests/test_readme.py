@@ -7,14 +7,13 @@ import shutil
 import subprocess
 
 from boards import LinePlace
-from place import COUNTING, PATIENCE, TOP, WAIT, Place, program
+from place import COUNTING, PATIENCE, TOP, WAIT, Place, program, text_in
 from test_image import HEX
 from test_plain import MANUALS, plain
 
 
 def page(name="README.md"):
-    with open(os.path.join(TOP, name), encoding="utf-8") as file:
-        return file.read()
+    return text_in(name)
 
 
 def blocks(name="README.md"):
@@ -102,13 +101,11 @@ class Readme(Place):
 
     def test_behind_make(self):
         """`make` leaves in bin what the demo leaves in bin/unproved."""
-        with open(os.path.join(TOP, "Makefile"), encoding="utf-8") as file:
-            self.assertIn("\tmkdir -p bin && cp crates/stmflash/out/stmflash bin/stmflash\n"
-                          "\tln -sf ../line/stmflash-line ../line/stmflash-trial bin\n", file.read())
+        self.assertIn("\tmkdir -p bin && cp crates/stmflash/out/stmflash bin/stmflash\n"
+                      "\tln -sf ../line/stmflash-line ../line/stmflash-trial bin\n", page("Makefile"))
 
     def test_the_gate_is_make_test(self):
-        with open(os.path.join(TOP, ".ci", "run"), encoding="utf-8") as file:
-            self.assertRegex(file.read().splitlines()[-1], r"^exec make --no-print-directory test ")
+        self.assertRegex(page(".ci/run").splitlines()[-1], r"^exec make --no-print-directory test ")
         self.assertIn("**`make test` is the gate**, which `.ci/run` calls", page())
 
     def test_it_is_short(self):
@@ -155,11 +152,10 @@ class Manuals(Place):
                         self.assertLessEqual(len(plain(line)), 72)
 
     def test_the_pages_that_they_name_are_installed(self):
-        named = {it for name in MANUALS for it in re.findall(r"\b[A-Z]+\.md\b", page(name))}
-        self.assertEqual(named, {"FORMATS.md", "MODEL.md"})
-        with open(os.path.join(TOP, "Makefile"), encoding="utf-8") as file:
-            self.assertEqual(re.findall(r"^\tinstall -m 644 (docs/.*) \$\(share\)/doc/stmflash$", file.read(), re.M),
-                             [" ".join(f"docs/{it}" for it in sorted(named))])
+        named = {it for name in MANUALS for it in re.findall(r"\b(?:[A-Z]+\.md|\w+\.schema\.json)\b", page(name))}
+        self.assertEqual(named, {"FORMATS.md", "MODEL.md", "answers.schema.json"})
+        self.assertEqual(re.findall(r"^\tinstall -m 644 (docs/.*) \$\(share\)/doc/stmflash$", page("Makefile"), re.M),
+                         [" ".join(f"docs/{it}" for it in sorted(named))])
 
     def test_the_examples_run(self):
         """Those of stmflash(1) but for the last, one after the other, at a simulator that they serve."""
