@@ -6,6 +6,8 @@ parts.
 
 import contextlib
 import os
+import pathlib
+import shutil
 import signal
 import socket
 import subprocess
@@ -38,6 +40,8 @@ def find_python():
 
 
 PYTHON = find_python()
+# the real stm32flash, where it is installed; ours is a script
+REAL = next((path for path in filter(None, [shutil.which("stm32flash")]) if pathlib.Path(path).read_bytes()[:4] == b"\x7fELF"), None)
 
 
 def default_signals():

@@ -91,7 +91,7 @@ class Commands(LinePlace):
         self.assertLineFault(said, "no-such-program: no such command", 127)
         self.store("bad", b"\x7fELF")
         os.chmod(self.path("bad"), 0o755)
-        self.assertLineFault(self.line("ttyUSB0", "--", "./bad"), "./bad: Exec format error")
+        self.assertLineFault(self.line("ttyUSB0", "--", "./bad"), "./bad: Exec format error; COMMAND is the name of a program in PATH, or its path")
 
     def test_a_signal_ends_the_command_too(self):
         """It gets the same signal, and may answer it."""
@@ -194,11 +194,11 @@ class Serving(LinePlace):
         # a socket that nobody listens at any more is replaced, and one that somebody listens at is not
         with self.listen("board"):
             said = self.line("ttyUSB0", "--socket", "board")
-            self.assertLineFault(said, "board: another program listens there already")
+            self.assertLineFault(said, "board: another program listens there already; give --socket another name")
         self.assertEqual(end_with(self.serve(), signal.SIGTERM), 0)
-        self.assertLineFault(self.line("ttyUSB0", "--socket", "none/board"), "none/board: No such file or directory")
+        self.assertLineFault(self.line("ttyUSB0", "--socket", "none/board"), "none/board: No such file or directory; give --socket another name")
         long = "a" * 200
-        self.assertLineFault(self.line("ttyUSB0", "--socket", long), f"{long}: AF_UNIX path too long")
+        self.assertLineFault(self.line("ttyUSB0", "--socket", long), f"{long}: AF_UNIX path too long; give --socket another name")
 
     def test_what_waited_is_dropped(self):
         master = self.plain()

@@ -102,13 +102,13 @@ class Plain(FarPlace):
         for url in ("socket://", "socket://here", "socket://:1", "rfc2217://here:0", "rfc2217://here:65536",
                     "rfc2217://here:1?logging=debug", "socket://here:1/", "socket://user@here:1"):
             kind = url.partition(":")[0]
-            self.assertLineFault(self.line(url, "--", "true"), f"{url}: is no far port: {kind}://HOST:PORT is")
+            self.assertLineFault(self.line(url, "--", "true"), f"{url}: is no far port; give {kind}://HOST:PORT")
 
     def test_nobody_there(self):
         port = self.listener.getsockname()[1]
         self.listener.close()
         for url in (self.url, f"rfc2217://127.0.0.1:{port}"):
-            self.assertLineFault(self.line(url, "--", "true"), f"{url}: Connection refused")
+            self.assertLineFault(self.line(url, "--", "true"), f"{url}: Connection refused; ser2net, or what else serves the port, has to run there")
 
 
 class Rfc2217(FarPlace):

@@ -1,16 +1,20 @@
 """What stmflash-line says where a port can't be had or goes: one line each, with what to do."""
 
+import ast
+import glob
 import grp
 import os
 import pwd
+import re
 import shutil
 import signal
 import subprocess
 import sys
 import termios
+import unittest
 
-from boards import LINE, LinePlace, default_signals, end_with
-from place import WAIT, Said
+from boards import LINE, REAL, LinePlace, default_signals, end_with
+from place import WAIT, Said, text_in
 
 NOBODY = 65534
 
@@ -51,9 +55,8 @@ class Faults(LinePlace):
             self.assertUnusable("socket", "socket: is not a serial port but a socket: hand it to stmflash itself, as --device")
         for port, kind in (("folder", "folder"), ("table", "file"), ("pipe", "file")):
             self.assertBegins(self.line(port, "--", "true"), f"{port}: is not a serial port but a {kind}; this machine has ")
-        self.assertUnusable("/dev/null", "/dev/null: is not a serial port")
-        for port in ("loop://", "none://here"):
-            self.assertUnusable(port, f"{port}: is not a serial port of this machine")
+        for port, of in (("/dev/null", ""), ("loop://", " of this machine"), ("none://here", " of this machine")):
+            self.assertBegins(self.line(port, "--", "true"), f"{port}: is not a serial port{of}; this machine has ")
 
     def test_held_by_another_line(self):
         """Who came first keeps the port, and its session isn't disturbed."""
@@ -185,3 +188,45 @@ class Pulled(LinePlace):
         self.assertEqual(said, Said(1, b"", b"stmflash: line failed\n" + self.UNPLUGGED.encode()))
         self.assertTold(self.through("undo"), "undone 1\n")
         self.assertEqual(board.store(), b"\x55" * 32768)
+
+
+def template(node):
+    """A text of the code, with {} for each value, and the system's reason as such."""
+    if isinstance(node, ast.JoinedStr):
+        return "".join(map(template, node.values))
+    if isinstance(node, ast.BinOp):
+        return template(node.left) + template(node.right)
+    if isinstance(node, ast.Constant):
+        return str(node.value)
+    return "{reason}" if "strerror" in ast.unparse(node) else "{}"
+
+
+class Texts(unittest.TestCase):
+    """What each fault in the code of the companions says: what it is about, what is so, and in the end what to do. As the real
+    stm32flash has them are those of its own texts, and behind some the usage follows."""
+
+    ABOUT = re.compile(r"\{\}|--?\w|[A-Z]{4}|\b(port|gpioset|GPIO|stmflash|an earlier call|table|others|objcopy)\b")
+    STEP = re.compile(r"(^|[:;(] )(\{\}|[^:;(]*((?<!\S)--?\w|[A-Z]{4}|\b(apt|chmod|chown|give|hand|move|ha(s|ve) to|tells|ends at|real stm32flash)\b)"
+                      r"[^;(]*)$")
+
+    def texts(self):
+        for path in sorted(glob.glob(os.path.join(os.path.dirname(LINE), "**", "*.py"), recursive=True)):
+            for call in ast.walk(ast.parse(text_in(path))):
+                if isinstance(call, ast.Call) and ast.unparse(call.func) in ("Fault", "Refused") and not call.keywords:
+                    yield f"{os.path.basename(path)}:{call.lineno}", template(call.args[0])
+
+    @unittest.skipIf(REAL is None, "stm32flash is not installed")
+    def test_each_says_what_it_is_about_and_what_to_do(self):
+        with open(REAL, "rb") as file:
+            theirs = file.read()
+        found = list(self.texts())
+        self.assertGreater(len(found), 90)
+        for place, text in found:
+            parts = [part for part in re.split(r"\{\w*\}|\n|0x|ERROR: ", text) if re.search("[a-z]{3}", part)]
+            # the last one is a user's own answer
+            if "System Error" in text or all(part.encode() in theirs for part in parts) or text == "nothing was changed":
+                continue
+            with self.subTest(place, text=text):
+                last = text.rpartition("\n")[2]
+                self.assertRegex(last, self.ABOUT)
+                self.assertRegex(last, self.STEP)

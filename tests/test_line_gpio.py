@@ -159,7 +159,7 @@ class Refused(GpioPlace):
     def test_other_versions(self):
         for tells in ("gpioset (libgpiod) v3.0", "gpioset (libgpiod) v0.3", "hello", ""):
             with self.subTest(tells=tells):
-                self.assertRefused(f"gpioset is of libgpiod 1 or 2, and this one says {tells!r}", GPIO_TELLS=tells)
+                self.assertRefused(f"gpioset is of libgpiod 1 or 2, and this one says {tells!r}: apt install gpiod", GPIO_TELLS=tells)
                 self.assertEqual(self.moves()[0], [])
 
     def test_a_line_that_others_have(self):
@@ -179,7 +179,7 @@ class Refused(GpioPlace):
                 ("error setting the GPIO line values: Permission denied", "no permission"),
                 ("cannot find GPIO chip 'gpiochip0'", None),
                 ("error setting the GPIO line values: No such file or directory", None),
-                ("unable to request lines: Invalid argument", "unable to request lines: Invalid argument")):
+                ("unable to request lines: Invalid argument", "unable to request lines: Invalid argument; gpioinfo tells its lines")):
             with self.subTest(said=said):
                 if text is None:
                     chips = sorted(name for name in os.listdir("/dev") if name.startswith("gpiochip"))
@@ -189,7 +189,7 @@ class Refused(GpioPlace):
                 self.assertRefused(at + text, GPIO_REFUSAL=said)
 
     def test_one_that_never_has_its_line(self):
-        self.assertRefused("GPIO line 18 of gpiochip0: gpioset didn't get it within 5 s", GPIO_HANGS="1")
+        self.assertRefused("GPIO line 18 of gpiochip0: gpioset didn't get it within 5 s; gpioinfo tells who has it", GPIO_HANGS="1")
 
     def test_words(self):
         """Those that can't be done are refused before anything is touched."""
@@ -247,7 +247,6 @@ class InWords(Words):
     def test_a_board_is_brought_in_and_out(self):
         os.mkdir(self.path("lines"))
         board = self.flash(ERASED)
-        self.store("image", b"new")
         said = self.well("-i", BOOT, "-w", "image", STM32FLASH_GPIO_CHIP="gpiochip4")
         self.assertEqual(board.store()[:4], b"new\xff")
         self.assertIn(b"GPIO sequence start\n setting gpio 18 to 1... OK\n setting gpio 23 to 0... OK\n delay 100000 us\n", said.out)

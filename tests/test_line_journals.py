@@ -8,7 +8,7 @@ import shutil
 import subprocess
 
 from boards import LINE, LinePlace
-from place import COUNTING, PATIENCE, SILENT, SIZE, TABLE, TOP, Said, program
+from place import COUNTING, PATIENCE, SILENT, SIZE, TABLE, TOP, Said, program, text_in
 from stmflash_line import journals
 
 BOARD = 12 * "A1"
@@ -164,6 +164,21 @@ class Journals(Unnamed):
                 self.remove("ttyUSB0.flash.board") if byte else None
 
 
+class Tables(Unnamed):
+    def test_the_one_that_is_installed_beside_it(self):
+        """Under any PREFIX; but not where stmflash finds one by itself, as the user's own."""
+        self.telling()
+        shutil.copytree(os.path.join(TOP, "line", "stmflash_line"), self.path("share/stmflash/stmflash_line"))
+        shutil.copy(LINE, self.path("bin/stmflash-line"))
+        self.store("share/stmflash/chips.toml", self.held("table"))
+        settings = self.settings()
+        del settings["STMFLASH_TABLE"]
+        self.assertIn(BOARD.encode(), self.line("ttyUSB0", line=("bin/stmflash-line",), **settings).out)
+        os.makedirs(self.path(".config/stmflash"))
+        self.store(".config/stmflash/chips.toml", b"[[chip]]\n")
+        self.assertIn(b"table: chip 1: missing", self.line("ttyUSB0", line=("bin/stmflash-line",), **settings).err)
+
+
 class Stopped(Unnamed):
     """Journals in which a command was stopped: their board may wait for the rest of it, and isn't asked."""
 
@@ -275,8 +290,7 @@ class Keystrokes(Unnamed):
     """The shortest calls of the page: each has as many keystrokes as it says, no more than the others', and does it."""
 
     def rows(self):
-        with open(os.path.join(TOP, "docs", "SWITCH.md"), encoding="utf-8") as page:
-            table = page.read().split(SECTION)[1].split("|---|---|---|---|---|\n")[1].split("\n\n")[0]
+        table = text_in("docs", "SWITCH.md").split(SECTION)[1].split("|---|---|---|---|---|\n")[1].split("\n\n")[0]
         return [[re.findall("`([^`]*)` ([0-9]+)", cell) for cell in row.strip("|").split("|")[1:]] for row in table.splitlines()]
 
     def test_they_are_counted(self):

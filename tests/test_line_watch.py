@@ -334,7 +334,7 @@ class Boards(WatchedPlace):
     def test_tables(self):
         self.plain()
         for text, told_of in ((None, "No such file or directory; --watch needs the chip table, which STMFLASH_TABLE names"),
-                              (b"[[chip", "is no chip table"), (b"[[chip]]\nid = 1\n", "is no chip table")):
+                              (b"[[chip", "is no chip table; STMFLASH_TABLE names one"), (b"[[chip]]\nid = 1\n", "is no chip table; STMFLASH_TABLE names one")):
             with self.subTest(text=text):
                 self.remove("table") if text is None else self.store("table", text)
                 said = self.line("ttyUSB0", "--watch", "--", "true", STMFLASH_TABLE=self.path("table"))

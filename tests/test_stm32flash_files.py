@@ -23,7 +23,6 @@ class Handed(Words):
 
     def test_what_is_written(self):
         board = self.flash(COUNTING)
-        self.store("image", b"new")
         os.symlink("/dev/stdin", self.path("linked"))
         with open(self.path("image"), "rb") as image:
             for name in ("/dev/stdin", "/dev/fd/0", f"/dev/fd/{image.fileno()}", f"/proc/self/fd/{image.fileno()}", "linked"):
@@ -184,7 +183,6 @@ class Standing(Words):
 
     def test_a_name_that_is_no_text_is_told(self):
         self.flash(COUNTING)
-        self.store("image", b"new")
         state = {"XDG_STATE_HOME": self.path("st\xe4te"), "PYTHONIOENCODING": "ascii"}
         self.well("-w", "image", **state)
         said = self.words("--log", **state)

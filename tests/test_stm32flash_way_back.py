@@ -15,10 +15,6 @@ UNCHANGED = b"stmjournal 2 0412\nopen 1\nend 1\n"
 
 
 class Place(Words):
-    def setUp(self):
-        super().setUp()
-        self.store("image", b"new")
-
     def folder_of_port(self):
         """Also while no board is there."""
         return os.path.join(".local", "state", "stmflash", "ports", places.named_by("ttyUSB0", self.path("ttyUSB0")))
@@ -101,7 +97,7 @@ class Unchanged(Place):
         self.well("-w", "image")
         before = self.held(self.name("journal"))
         said = self.words("-m", "8n1", "--undo")
-        self.assertEqual((said.status, said.out, said.err), (1, b"", NOTHING[:-1] + b", since it changed nothing\n"))
+        self.assertEqual((said.status, said.out, said.err), (1, b"", NOTHING.replace(b"; ", b", since it changed nothing; ")))
         self.assertFile(self.name("journal"), before)
 
     def test_what_was_stopped_before_it_changed_anything_is_undone_alone(self):

@@ -6,22 +6,22 @@ import importlib
 import io
 import os
 import re
+import shlex
 import shutil
 import signal
 import subprocess
 import sys
 import tempfile
-import threading
 import unittest
 import unittest.mock
 
-from boards import LinePlace, default_signals, pty_boards
-from place import COUNTING, ERASED, PATIENCE, SIZE, TABLE, TOP, Said, program
+from boards import REAL, LinePlace, default_signals, pty_boards
+from place import COUNTING, ERASED, PATIENCE, SIZE, TABLE, TOP, Said, program, readable, text_in
 from stmflash_line import journals as places
 
 WORDS = os.path.join(TOP, "line", "stm32flash")
 FLASH = 0x08000000
-NOTHING = b"ERROR: nothing that was written or erased at this port can be undone\n"
+NOTHING = b"ERROR: nothing that was written or erased at this port can be undone; --log tells what there is\n"
 # page 5 of a flash of 55 is to be erased, and was not yet
 STOPPED = "stmjournal 2 0412\nopen 1\npage 5 " + "55" * 1024 + "\nerase 5\n"
 # behind a header: that page can be given back
@@ -30,14 +30,7 @@ KEPT = b"open 1\npage 5 " + b"55" * 1024 + b"\nend 1\n"
 
 def module(name):
     """A module of the folder line/as_stm32flash."""
-    folder = os.path.join(TOP, "line")
-    before, sys.dont_write_bytecode = sys.dont_write_bytecode, True
-    sys.path.insert(0, folder)
-    try:
-        return importlib.import_module("as_stm32flash." + name)
-    finally:
-        sys.path.remove(folder)
-        sys.dont_write_bytecode = before
+    return importlib.import_module("as_stm32flash." + name)
 
 
 class Words(LinePlace):
@@ -47,6 +40,7 @@ class Words(LinePlace):
         self.addCleanup(os.umask, os.umask(0o022))
         os.mkdir(self.path("bin"))
         os.symlink(program(), self.path("bin/stmflash"))
+        self.store("image", b"new")
 
     def words(self, *words, port="ttyUSB0", given=None, **settings):
         """Runs stm32flash on these words and a port. The wait is a short one, which stmflash's own follows where it fails."""
@@ -125,15 +119,31 @@ class Words(LinePlace):
 
 
 class Refusals(Words):
+    @unittest.skipIf(REAL is None, "stm32flash is not installed")
+    def test_what_the_real_ones_help_has(self):
+        """Each option is taken as it is there, and each example, but for two that docs/SWITCH.md names."""
+        ran = subprocess.run([REAL, "-h"], capture_output=True, text=True, timeout=PATIENCE, check=False)
+        told, read = ran.stdout + ran.stderr, module("words")
+        self.assertEqual(sorted(letter + ":" * bool(value) for letter, value in re.findall(r"^\t-(\w)( \w)?", told, re.M)),
+                         sorted(re.findall("\\w:?", read.OPTIONS)))
+        refused = []
+        for example in re.findall(r"^\t\t\S*stm32flash (.*)$", told, re.M):
+            try:
+                asked = read.read(shlex.split(example))
+                module("sequence").refuse_late(asked.entry(), asked.leave())
+            except module("fault").Fault as fault:
+                refused.append(str(fault))
+        self.assertEqual([re.search("I2C|GPIO line 2", text)[0] for text in refused], ["I2C", "GPIO line 2"])
+
     def test_what_cant_be_is_refused_by_name_and_no_byte_is_sent(self):
         self.store_all({"bad.hex": b":0400000001020304F3\n:00000001FF\n", "cut.hex": b":04000000010203\n", "image": b"abc"})
         cases = [
             (("-a", "1", "/dev/i2c-0"), "ERROR: /dev/i2c-0: I2C isn't there; the real stm32flash has it"),
-            (("-m", "8n1", "/dev/null"), "ERROR: -m 8n1: isn't there; 8e1 is, which the bootloader of every STM32 has"),
+            (("-m", "8n1", "/dev/null"), "ERROR: -m 8n1: isn't there; give 8e1, which the bootloader of every STM32 has"),
             (("-m", "9e1"), "Invalid serial mode"),
             (("-b", "12345"), "Invalid baud rate, valid options are:"),
-            (("-i", "5,-06"), "ERROR: -i -06: no signal; rts, dtr, brk and numbers of GPIO lines are"),
-            (("-i", "rts:foo"), "ERROR: -i foo: no signal; rts, dtr, brk and numbers of GPIO lines are"),
+            (("-i", "5,-06"), "ERROR: -i -06: no signal; give rts, dtr, brk, or the number of a GPIO line"),
+            (("-i", "rts:foo"), "ERROR: -i foo: no signal; give rts, dtr, brk, or the number of a GPIO line"),
             (("-i", "5&6:5,7"), "ERROR: -i: GPIO line 7 is moved in the end alone; it has to be moved at the beginning too"),
             (("-c", "-i", "5:5"), "ERROR: -i: GPIO line 5 is moved in the end alone; it has to be moved at the beginning too"),
             (("-r", "a", "-w", "image"), "ERROR: Invalid options !"),
@@ -145,10 +155,10 @@ class Refusals(Words):
             (("--undo", "-g", "0"), "ERROR: Invalid usage, -g and -R don't go with --undo"),
             (("-R", "--log"), "ERROR: Invalid usage, -g and -R don't go with --log"),
             (("-g", "2"), "ERROR: Execution address must be word-aligned"),
-            (("-g", "0x20000000"), "ERROR: -g 0x20000000: not in the flash; RAM, option bytes and system memory aren't reached"),
-            (("-g", "start"), "ERROR: start is no number"),
+            (("-g", "0x20000000"), "ERROR: -g 0x20000000: not in the flash; RAM, option bytes and system memory aren't reached, but by the real stm32flash"),
+            (("-g", "start"), "ERROR: start is no number; give it as 64, 0x40 or 0100"),
             (("-r", "a", "-S", "0x1ffff7e8:12"),
-             "ERROR: -S 0x1ffff7e8: not in the flash; RAM, option bytes and system memory aren't reached"),
+             "ERROR: -S 0x1ffff7e8: not in the flash; RAM, option bytes and system memory aren't reached, but by the real stm32flash"),
             (("-S", "0x08000002"), "ERROR: Start address must be word-aligned"),
             (("-S", "0x08000000:0"), "ERROR: Invalid options, can't specify zero length"),
             (("-S", "0x08000000", "-s", "1"), module("words").PAGES_OR_ADDRESS),
@@ -180,7 +190,7 @@ class Refusals(Words):
     def test_tools_that_arent_there(self):
         os.remove(self.path("bin/stmflash"))
         said = self.words(PATH="/nowhere:/usr/bin", port="ttyUSB0")
-        self.assertEqual((said.status, said.err), (1, b"ERROR: stmflash isn't there, neither beside stm32flash nor in PATH\n"))
+        self.assertEqual((said.status, said.err), (1, b"ERROR: stmflash isn't there, neither beside stm32flash nor in PATH, which has to name its folder\n"))
 
     def test_a_hint_of_stmflash_is_handed_on(self):
         self.plain()
@@ -291,7 +301,6 @@ Wrote and verified address 0x080005dc (100.00%) Done.
     def test_nobody_who_reads_stops_nothing(self):
         """A full disk, and files that were closed: all is done, also what an earlier call has left."""
         board = self.flash(COUNTING)
-        self.store("image", b"new")
 
         def close():
             os.close(1)
@@ -346,7 +355,6 @@ class TakingBack(Words):
     def test_what_never_ended_is_undone_before_anything_else(self):
         board = self.flash(COUNTING)
         self.keep("journal", STOPPED.encode())
-        self.store("image", b"new")
         said = self.well("-w", "image")
         self.assertEqual(said.err, b"stm32flash: an earlier call was stopped in the midst of a write, an erase or an undo: that is"
                                    b" undone first\n")
@@ -384,7 +392,6 @@ class TakingBack(Words):
 
     def test_go_keeps_the_way_back(self):
         board = self.flash(COUNTING)
-        self.store("image", b"new")
         said = self.well("-w", "image", "-v", "-g", "0x0")
         self.assertIn(b"\nStarting execution at address 0x08000000... done.\n", said.out)
         self.assertEqual(self.journals(), ["kept-000001"])
@@ -397,7 +404,6 @@ class TakingBack(Words):
     def test_what_stands_behind_a_fault_is_told(self):
         """A write ended, and what compares it failed: it is undone where the board answers, and said to stand elsewhere."""
         board = self.flash(COUNTING)
-        self.store("image", b"new")
         fault = '[ "$1" != write ] || { $program "$@"; echo "stmflash: %s" >&2; exit 1; }'
         self.instead(fault % "device does not follow the protocol")
         said = self.words("-m", "8n1", "-w", "image")
@@ -415,12 +421,11 @@ class TakingBack(Words):
     def test_the_journal_in_use_isnt_replaced_unread(self):
         """Whatever stmflash is told to print, and where what it prints isn't known."""
         board = self.flash(COUNTING)
-        self.store("image", b"new")
         self.well("-w", "image", STMFLASH_JSON="1")
         self.keep("kept-000001", b"stmjournal 2 0412\n" + KEPT)
         before = [self.held(self.name(name)) for name in self.journals()]
         self.instead('[ "$1" != log ] || exec echo "{}"')
-        self.refused(b"/journal isn't understood\n", words=("--undo",))
+        self.refused(b"/journal isn't understood; ", words=("--undo",))
         self.assertEqual([self.held(self.name(name)) for name in self.journals()], before)
         self.instead()
         self.well("--undo", STMFLASH_JSON="1")
@@ -460,7 +465,6 @@ class TakingBack(Words):
 
     def test_a_killed_keep_is_ended(self):
         self.flash(COUNTING)
-        self.store("image", b"new")
         self.well("-w", "image")
         os.link(self.path(self.name("journal")), self.path(self.name("kept-000001")))
         self.well()
@@ -468,7 +472,6 @@ class TakingBack(Words):
 
     def test_protections_give_the_way_back_up(self):
         board = self.flash(COUNTING)
-        self.store("image", b"new")
         self.well("-w", "image")
         self.well("-u")
         self.assertEqual(self.journals(), ["kept-000001"])
@@ -606,7 +609,7 @@ class Boards(Words):
         self.well("--undo")
         self.assertEqual(board.store(), COUNTING)
         self.keep("journal", b"nonsense\n")
-        self.refused(b"ERROR: the journal of this port can't be read; it is " + self.path(self.folder_of_port()).encode())
+        self.refused(b"ERROR: the journal of this port can't be read; move " + self.path(self.folder_of_port()).encode())
 
 
 class Dropping(unittest.TestCase):
@@ -834,13 +837,8 @@ class Parts(unittest.TestCase):
         with subprocess.Popen([sys.executable, "-c", text], stdout=subprocess.PIPE) as started:
             child = int(started.stdout.readline())
             # its output ends with the last process that has it
-            ready = []
-            reader = threading.Thread(target=lambda: ready.append(started.stdout.read()), daemon=True)
-            reader.start()
-            reader.join(PATIENCE)
-            if not ready:
+            if not readable([started.stdout], PATIENCE):
                 os.kill(child, signal.SIGKILL)
-                reader.join()
                 self.fail("the inside goes on")
 
     def test_the_inside_is_as_a_program_that_was_started(self):
@@ -989,8 +987,7 @@ class Parts(unittest.TestCase):
         self.assertEqual(names, ["pci-usb-0:2", "pci-usb-0:2", "ttyS0", "ttyUSB1", "pci-usb-0:1"])
 
     def test_the_manual_page_has_every_option(self):
-        with open(os.path.join(TOP, "line", "stmflash-as-stm32flash.1"), encoding="ascii") as file:
-            page = file.read().replace("\\", "")
+        page = text_in("line", "stmflash-as-stm32flash.1").replace("\\", "")
         words = module("words")
         options = ["-" + letter for letter in words.OPTIONS if letter != ":"] + ["--" + name for name in words.OWN]
         self.assertEqual([option for option in options if not re.search(rf"\.(B|BI|BR) {option}\b", page)], [])

@@ -24,7 +24,7 @@ import tty
 import unittest
 
 from boards import LINE, PYTHON, LinePlace, default_signals
-from place import PATIENCE, TOP, Place, Said
+from place import PATIENCE, TOP, Place, Said, text_in
 from served import Served
 
 PLANTED = os.path.join(TOP, "tests", "planted")
@@ -121,8 +121,7 @@ class Simulators(TrialPlace):
         self.assertTrue(self.held("flash") == self.held("saved") == before, "the flash isn't what it was")
 
     def chips(self):
-        with open(os.path.join(TOP, "chips.toml"), "rb") as file:
-            return file.read()
+        return text_in("chips.toml").encode()
 
     def test_0412(self):
         self.holds_on("0412", 32768)
@@ -271,7 +270,7 @@ class Words(TrialPlace):
         os.symlink("saved", self.path("linked"))
         for words, text in (
             ((), "no board"),
-            (("--device", "none", "--yes"), "stmflash-trial: none: No such file or directory\n"),
+            (("--device", "none", "--yes"), "stmflash-trial: none: No such file or directory; --device names a socket that is served\n"),
             (("--device", "none"), "--yes, where nobody can be asked"),
             (("--device", "none", "--port", "none"), "either --device or --port"),
             (("--device", "none", "--wiring", "dtr-reset"), "--wiring is for --port"),
@@ -283,8 +282,8 @@ class Words(TrialPlace):
             (("--device", "none", "--yes", "--pages", "1,-2"), "--pages"),
             (("--device", "none", "--yes", "--wait", "0"), "--wait is 1 to 60000"),
             (("--device", "none", "--yes", "--save", "here"), "here: is there already; give --save another name\n"),
-            (("--device", "none", "--yes", "--table", "bad"), "bad: is no chip table\n"),
-            (("--device", "none", "--yes", "--table", "gone"), "gone: No such file or directory\n"),
+            (("--device", "none", "--yes", "--table", "bad"), "bad: is no chip table; --table names another\n"),
+            (("--device", "none", "--yes", "--table", "gone"), "gone: No such file or directory; --table names another\n"),
         ):
             with self.subTest(words=words):
                 self.assertRefused(self.trial(*words), text)
@@ -325,7 +324,7 @@ class Words(TrialPlace):
         with planted(self.folder, "none", "--pages", str(PAGES)) as board:
             said = self.trial("--device", "board", "--pages", "8", *QUICK)
             self.assertEqual((said.status, board.wait(PATIENCE)), (2, 0))
-        self.assertEqual(said.err, b"stmflash-trial: --pages: this chip's are 0 to 7, but for 255\n")
+        self.assertEqual(said.err, b"stmflash-trial: --pages: this chip has no such page; give 0 to 7, but for 255\n")
         self.assertFalse(self.is_there("saved"))
 
     def test_only_reads(self):
@@ -383,7 +382,7 @@ class Ports(LinePlace):
         self.assertHolds(self.line("--port", "ttyUSB0", *self.WORDS, line=(TRIAL,)), board)
         said = self.line("--port", "none", *self.WORDS, "--save", "other", line=(TRIAL,))
         self.assertEqual((said.status, said.out), (2, b""))
-        self.assertTrue(said.err.endswith(b"stmflash-trial: stmflash-line didn't open the port\n"), said.err)
+        self.assertTrue(said.err.endswith(b"stmflash-trial: stmflash-line didn't open the port; it tells why and what to do above\n"), said.err)
 
     def at_terminal(self, *call):
         """Runs a trial on a terminal at which Ctrl-C is pressed in the midst of its changes; its status, and what it said. One that had
@@ -548,13 +547,11 @@ class Told(TrialPlace):
         """It has of each row its name, what has to hold, and what it means where it differs; nothing else."""
         rows = [line.strip("|").split("|") for line in program_rows().splitlines()]
         table = "".join("|" + "|".join((row[0], row[1], row[4])) + "|\n" for row in rows)
-        with open(os.path.join(TOP, "docs", "TRIAL.md"), encoding="utf-8") as file:
-            self.assertIn("\n\n" + table + "\n", file.read())
+        self.assertIn("\n\n" + table + "\n", text_in("docs", "TRIAL.md"))
 
     def test_the_boards_of_the_page(self):
         """Each planted board, in the list of its verdict; and how many they are."""
-        with open(os.path.join(TOP, "docs", "TRIAL.md"), encoding="utf-8") as file:
-            part = file.read().split("\n## Boards that do otherwise\n")[1].split("\n## ")[0]
+        part = text_in("docs", "TRIAL.md").split("\n## Boards that do otherwise\n")[1].split("\n## ")[0]
         told = {}
         for verdict, names in re.findall(r"^The verdict is `([^`]+)` on:\n\n((?:- .*\n)+)", part, re.M):
             told.update((name, (verdict, does)) for name, does in re.findall(r"^- `([^`]+)`: (.*)$", names, re.M))
@@ -580,8 +577,8 @@ class Pages(unittest.TestCase):
                "    try: print(choose(named, count))\n" \
                "    except Exception as error: print(error)"
         self.assertEqual(of_modules(text.replace("from", "\nfrom", 1)).splitlines(), [
-            "[30, 31]", "[0]", "[253, 254]", "[254, 256]", "[3, 7]", "--pages: this chip's are 0 to 299, but for 255", "[256]",
-            "--pages: this chip's are 0 to 31, but for 255"])
+            "[30, 31]", "[0]", "[253, 254]", "[254, 256]", "[3, 7]", "--pages: this chip has no such page; give 0 to 299, but for 255", "[256]",
+            "--pages: this chip has no such page; give 0 to 31, but for 255"])
 
 
 PARTS = """
@@ -657,8 +654,7 @@ class Premises(unittest.TestCase):
 
 
 def page(name):
-    with open(os.path.join(TOP, "docs", name), encoding="utf-8") as file:
-        return file.read()
+    return text_in("docs", name)
 
 
 def part_of(text, title):

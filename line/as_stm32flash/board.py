@@ -103,7 +103,7 @@ class Board:
             return ""
         text = self.run(["log", "--journal", self.journals.live])
         if not re.search("^([0-9]+ can be undone|unfinished, undo first)$", text, re.M):
-            raise Fault(f"ERROR: what stmflash says of {self.journals.live} isn't understood")
+            raise Fault(f"ERROR: what stmflash says of {self.journals.live} isn't understood; stmflash and stm32flash have to be of one version")
         return text
 
     def is_unfinished(self):
@@ -172,7 +172,7 @@ class Board:
         try:
             self.run(["log", "--journal", path])
         except Failed as fault:
-            raise Fault(f"{fault}\nERROR: {path} is the newest and can't be read; without it, older ones would be undone") from None
+            raise Fault(f"{fault}\nERROR: {path} is the newest and can't be read: move it away to undo older ones without it") from None
 
     def ask_owner(self):
         """Which board is there; None where it doesn't answer."""

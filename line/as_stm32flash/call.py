@@ -82,7 +82,7 @@ def outside(program, given):
     leave = asked.leave()
     boot = None if asked.sequence is None else asked.entry() + ("" if leave is None else f":{leave}")
     patience = wait(os.environ.get("STMFLASH_WAIT"), asked.port, asked.baud)
-    chip = (os.environ.get(CHIP) or None) if sequence.gpio_lines(asked.entry()) else None
+    chip = (os.environ.get(CHIP) or None) if sequence.gpio_lines(sequence.read_sequence(asked.entry())) else None
     return line.use(asked.port, asked.baud, boot, chip,
                     lambda slowest: ended(lambda: inside(asked, below, table, patience, slowest)))
 
@@ -91,7 +91,7 @@ def refuse(asked, below):
     """What can be seen without the board that it can't be done; the chips of the table."""
     sequence.refuse_late(asked.entry(), asked.leave())
     if asked.mode != "8e1" and not is_pty(asked.port):
-        raise Fault(f"ERROR: -m {asked.mode}: isn't there; 8e1 is, which the bootloader of every STM32 has")
+        raise Fault(f"ERROR: -m {asked.mode}: isn't there; give 8e1, which the bootloader of every STM32 has")
     table = chips.read_table(below.tables)
     if asked.address is not None:
         chips.refuse_outside(table, asked.address, "-S")
@@ -158,7 +158,7 @@ def undo_first(board, asked):
         if not board.is_unfinished():
             return
     except Failed as fault:
-        raise Fault(f"{fault}\nERROR: the journal of this port can't be read; it is {board.journals.live}") from None
+        raise Fault(f"{fault}\nERROR: the journal of this port can't be read; move {board.journals.live} away to go on without it") from None
     if asked.action in READING and owner_of(board.journals.live).board is None:
         raise Fault("ERROR: an earlier call was stopped in the midst of a write, an erase or an undo at a board that doesn't tell which "
                     f"it is; if it is the one that is there, stm32flash --undo {asked.port} undoes that")
@@ -219,7 +219,7 @@ def undo(board, asked):
                 raise
             undone = undo_newest(board, asked)
     except Failed as fault:
-        raise Fault(f"{fault}\nERROR: not undone; the journal is {board.journals.live}") from None
+        raise Fault(f"{fault}\nERROR: not undone; the journal is {board.journals.live}, and --undo goes on with it") from None
     put(sys.stdout, f"Undone: {undone}.\n")
     return 0
 
@@ -233,7 +233,8 @@ def undo_newest(board, asked):
         board.undo(fresh=was_reset(board, asked))
         return NEWEST if any(kept[-1:]) else "a write or an erase at this port that was stopped before it changed anything"
     if not any(kept := kept_pages(board.journals.live)) and not board.take_newest():
-        raise Fault("ERROR: nothing that was written or erased at this port can be undone" + ", since it changed nothing" * bool(kept))
+        raise Fault("ERROR: nothing that was written or erased at this port can be undone" + ", since it changed nothing" * bool(kept)
+                    + "; --log tells what there is")
     kept = kept_pages(board.journals.live)
     passed = next(count for count, pages in enumerate(reversed(kept)) if pages)
     board.undo(count=passed + 1)

@@ -57,7 +57,7 @@ def read_one(path):
         with open(path, "rb") as file:
             return {entry["id"]: Chip(entry) for entry in tomllib.load(file)["chip"]}
     except (OSError, tomllib.TOMLDecodeError, KeyError, TypeError, ValueError) as error:
-        raise Fault(f"ERROR: the table of chips, {path}, can't be read: {getattr(error, 'strerror', None) or error}") from None
+        raise Fault(f"ERROR: the table of chips, {path}, can't be read: {getattr(error, 'strerror', None) or error}; STMFLASH_TABLE names one") from None
 
 
 def table_text(chips):
@@ -72,4 +72,4 @@ def table_text(chips):
 def refuse_outside(chips, address, option):
     """A fault where no chip of the table has its flash at an address: other memory isn't reached."""
     if not any(chip.base <= address <= chip.end for chip in chips.values()):
-        raise Fault(f"ERROR: {option} 0x{address:08x}: not in the flash; RAM, option bytes and system memory aren't reached")
+        raise Fault(f"ERROR: {option} 0x{address:08x}: not in the flash; RAM, option bytes and system memory aren't reached, but by the real stm32flash")

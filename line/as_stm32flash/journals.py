@@ -38,7 +38,7 @@ class Journals(journals.Journals):
         except FileNotFoundError:
             return []
         except OSError as error:
-            raise Fault(f"ERROR: {self.folder}: {error.strerror}; journals are kept there") from None
+            raise Fault(f"ERROR: {self.folder}: {error.strerror}; {journals.KEPT_THERE}") from None
         return [os.path.join(self.folder, name) for name in sorted(found)]
 
     def next_kept(self):
@@ -118,7 +118,7 @@ def rename(path, to):
     try:
         os.replace(path, to)
     except OSError as error:
-        raise Fault(f"ERROR: {path} to {to}: {error.strerror}") from None
+        raise Fault(f"ERROR: {path} to {to}: {error.strerror}; {journals.KEPT_THERE}") from None
 
 
 def remove(path):

@@ -19,7 +19,7 @@ def wait(given, port, baud):
     """The wait for a port at this speed, in ms; what STMFLASH_WAIT was outside decides where it was given."""
     if given:
         if not re.fullmatch("[1-9][0-9]{0,4}", given) or int(given) > 60000:
-            raise Fault(f"ERROR: STMFLASH_WAIT: {given} is no number from 1 to 60000")
+            raise Fault(f"ERROR: STMFLASH_WAIT: {given} is no such time; give 1 to 60000 ms")
         return int(given)
     held = hold(port)
     if held is None:

@@ -1,6 +1,8 @@
-"""The sequences of -i: signals of the port, and waits."""
+"""The sequences of -i: signals of the port, GPIO lines as stmflash-line takes them, and waits."""
 
 import re
+
+from stmflash_line.sequences import LINE, gpio_lines, read_sequence
 
 from .fault import Fault
 
@@ -12,27 +14,17 @@ def steps(text):
     return [(word, mark) for word, mark in re.findall("([^,&]*)([,&]?)", text) if word or mark]
 
 
-def is_line(name):
-    """Whether this is the number of a GPIO line of the machine, as stmflash-line takes it."""
-    return re.fullmatch("0|[1-9][0-9]{0,4}", name) is not None
-
-
-def gpio_lines(text):
-    """The GPIO lines that a sequence moves."""
-    return {int(name) for name in (word.removeprefix("-") for word, _ in steps(text)) if is_line(name)}
-
-
 def refuse_unknown(text):
     """A fault unless every signal of both sequences is one of the port, or a GPIO line."""
     for word, _ in steps(text.replace(":", ",", 1)):
         name = word.removeprefix("-")
-        if word and name not in SIGNALS and not is_line(name):
-            raise Fault(f"ERROR: -i {word}: no signal; rts, dtr, brk and numbers of GPIO lines are")
+        if word and name not in SIGNALS and not LINE.fullmatch(name):
+            raise Fault(f"ERROR: -i {word}: no signal; give rts, dtr, brk, or the number of a GPIO line")
 
 
 def refuse_late(entry, leave):
     """A fault where a GPIO line is moved in the end alone: whether it can be had is seen before a byte is sent."""
-    late = gpio_lines(leave or "") - gpio_lines(entry)
+    late = gpio_lines(read_sequence(leave or "")) - gpio_lines(read_sequence(entry))
     if late:
         raise Fault(f"ERROR: -i: GPIO line {min(late)} is moved in the end alone; it has to be moved at the beginning too")
 
@@ -43,7 +35,7 @@ def lines(text):
     for word, mark in steps(text):
         if word:
             name = word.removeprefix("-")
-            kind = "gpio" if is_line(name) else "port signal"
+            kind = "gpio" if LINE.fullmatch(name) else "port signal"
             told.append(f" setting {kind} {name} to {int(name == word)}... OK")
         if mark == ",":
             told.append(" delay 100000 us")

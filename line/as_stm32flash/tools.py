@@ -2,11 +2,9 @@
 
 import os
 
+from stmflash_line.tables import MACHINES, TABLES, users_own
+
 from .fault import Fault
-
-
-# the machine's own table of chips
-MACHINES = "/etc/stmflash/chips.toml"
 
 
 class Tools:
@@ -38,7 +36,7 @@ def find_program(beside, name):
         path = os.path.join(folder, name)
         if os.path.isfile(path) and os.access(path, os.X_OK):
             return path
-    raise Fault(f"ERROR: {name} isn't there, neither beside stm32flash nor in PATH")
+    raise Fault(f"ERROR: {name} isn't there, neither beside stm32flash nor in PATH, which has to name its folder")
 
 
 def find_tables(*folders):
@@ -47,19 +45,10 @@ def find_tables(*folders):
     found = [path for path in (users_own(), MACHINES) if os.path.exists(path)]
     places = [os.path.join(os.path.dirname(folder), "share", "stmflash", "chips.toml") for folder in folders]
     places += [os.path.join(os.path.dirname(folder), "chips.toml") for folder in folders]
-    places += ["/usr/local/share/stmflash/chips.toml", "/usr/share/stmflash/chips.toml"]
-    for path in places:
+    for path in (*places, *TABLES):
         if os.path.isfile(path):
             found.append(path)
             break
     if found:
         return found
     raise Fault("ERROR: there is no table of chips; STMFLASH_TABLE names one")
-
-
-def users_own():
-    """Where stmflash has the user's own table; nothing where there is no such place."""
-    config, home = (os.environ.get(name, "") for name in ("XDG_CONFIG_HOME", "HOME"))
-    if not config.startswith("/"):
-        config = home.startswith("/") and os.path.join(home, ".config")
-    return os.path.join(config, "stmflash", "chips.toml") if config else ""

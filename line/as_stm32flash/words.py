@@ -53,10 +53,10 @@ class Words:
 def number(text):
     """A number as the C library reads one: 0x is hexadecimal, a leading 0 octal."""
     if not re.fullmatch(r"0[xX][0-9a-fA-F]+|0[0-7]*|[1-9][0-9]*", text):
-        raise Fault(f"ERROR: {text} is no number")
+        raise Fault(f"ERROR: {text} is no number; give it as 64, 0x40 or 0100")
     value = int(text, 8) if re.fullmatch("0[0-7]+", text) else int(text, 0)
     if value >= 1 << 32:
-        raise Fault(f"ERROR: {text} is too large")
+        raise Fault(f"ERROR: {text} is too large; give 0xffffffff at most")
     return value
 
 

@@ -3,7 +3,7 @@
 import os
 import subprocess
 
-from .faults import Fault, say
+from .faults import NO_COMMAND, Fault, refused, say
 from .journals import Journals, is_stopped
 from .tied import tied
 from .words import SHORT
@@ -84,10 +84,10 @@ def ask(command, journal, run):
     try:
         status = run(begin)
     except OSError as error:
-        raise Fault(f"{words[0]}: {error.strerror}") from None
+        raise refused(words[0], error, NO_COMMAND) from None
     with asked[0].stdout as told:
         said = told.read()
     try:
         return status, None if status else json.loads(said).get("board")
     except ValueError:
-        raise Fault(f"{words[0]}: what it says of the board isn't understood") from None
+        raise Fault(f"{words[0]}: what it says of the board isn't understood; it and stmflash-line have to be of one version") from None

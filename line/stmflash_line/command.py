@@ -6,8 +6,9 @@ import subprocess
 import sys
 import time
 
-from .faults import UNDO, Fault, Gone, say
+from .faults import NO_COMMAND, UNDO, Gone, refused, say
 from .sockets import FOLDER
+from .tables import only_beside
 from .tied import tied
 
 # how long COMMAND has to end by itself once it was told to, in seconds; and behind the last byte that it sent to the board, since it
@@ -63,13 +64,15 @@ def start(command, path, fresh, wait, baud):
         settings["STMFLASH_WAIT"] = str(wait)
     if baud is not None and not settings.get("STMFLASH_BAUD"):
         settings["STMFLASH_BAUD"] = str(baud)
+    if not settings.get("STMFLASH_TABLE") and (table := only_beside()):
+        settings["STMFLASH_TABLE"] = table
     if callable(command):
         return command(settings)
     words = [word.replace("{}", path) for word in command]
     try:
         return subprocess.Popen(words, env=settings, preexec_fn=tied())
     except OSError as error:
-        raise Fault(f"{words[0]}: {error.strerror}") from None
+        raise refused(words[0], error, NO_COMMAND) from None
 
 
 def is_inner(device):

@@ -43,7 +43,7 @@ def hex_text(path):
                 text = file.read()
     if ran.returncode or not DATA.search(text):
         told = ran.stderr.decode(errors="replace").strip().splitlines()
-        raise Fault(f"{path}: is ELF, and makes no HEX: {told[-1] if told else 'it loads nothing'}")
+        raise Fault(f"{path}: is ELF, and makes no HEX: {told[-1] if told else 'it loads nothing'}; give HEX, or raw bytes with -S")
     return text, program
 
 

@@ -7,8 +7,10 @@ import socket
 import threading
 import time
 
-from .faults import HAS_NONE, UNDO, Fault, Gone, say
+from .faults import HAS_NONE, UNDO, Fault, Gone, refused, say
 
+# what to do where nobody is there
+THERE = "ser2net, or what else serves the port, has to run there"
 # how long the far end may take to be there, in seconds
 PATIENCE = 5
 # how long one that can tell of errors may take to say so
@@ -23,13 +25,13 @@ def open_far(word, baud):
     """The port that this word names. What it can't promise of parity is said."""
     found = re.fullmatch(r"(rfc2217|socket)://([^/?#@:\[\]]+|\[[0-9a-fA-F:.]+\]):([0-9]{1,5})", word)
     if found is None or not 0 < int(found[3]) < 65536:
-        raise Fault(f"{word}: is no far port: {word.partition(':')[0]}://HOST:PORT is")
+        raise Fault(f"{word}: is no far port; give {word.partition(':')[0]}://HOST:PORT")
     if found[1] == "rfc2217":
         return open_rfc2217(word, baud)
     try:
         connection = socket.create_connection((found[2].strip("[]"), int(found[3])), PATIENCE)
     except OSError as error:
-        raise Fault(f"{word}: {error.strerror or error}") from None
+        raise refused(word, error, THERE) from None
     connection.setsockopt(socket.IPPROTO_TCP, socket.TCP_NODELAY, 1)
     say(f"{word}: parity, speed and errors are the far end's: a byte that came with an error may be handed on")
     return SocketPort(connection, word, baud)
@@ -214,12 +216,12 @@ def open_rfc2217(word, baud):
     try:
         client.open()
     except ValueError:
-        raise Fault(f"{word}: doesn't take {baud} baud with 8 data bits and even parity") from None
+        raise Fault(f"{word}: doesn't take {baud} baud with 8 data bits and even parity; --baud names another speed") from None
     except OSError as error:
         # pyserial's own fault stands before the system's
         cause = error.__context__
         why = cause.strerror if isinstance(cause, OSError) and not isinstance(cause, serial.SerialException) else None
-        raise Fault(f"{word}: {why or 'speaks no RFC 2217; the bytes of a port alone are socket://HOST:PORT'}") from None
+        raise Fault(f"{word}: {f'{why}; {THERE}' if why else 'speaks no RFC 2217; the bytes of a port alone are socket://HOST:PORT'}") from None
     client.is_whole, client._read_buffer = True, inbox
     mask = rfc2217.TelnetSubnegotiation(client, "linestate", rfc2217.SET_LINESTATE_MASK, rfc2217.SERVER_SET_LINESTATE_MASK)
     client._rfc2217_options["linestate"] = mask

@@ -7,10 +7,17 @@ import sys
 UNDO = "where stmflash log says unfinished, stmflash undo 1 undoes what was begun"
 # a port without the signal of this name
 HAS_NONE = "has no {}; leave --wiring, --boot and --after out"
+# what to do where what is called isn't a program
+NO_COMMAND = "COMMAND is the name of a program in PATH, or its path"
 
 
 class Fault(Exception):
     """Why the line can't be had, or ended: one line for a user."""
+
+
+def refused(name, error, then):
+    """A fault of what the system refused at this name, with what to do."""
+    return Fault(f"{name}: {getattr(error, 'strerror', None) or error}; {then}")
 
 
 class Gone(Exception):

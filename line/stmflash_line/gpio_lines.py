@@ -8,7 +8,7 @@ import shutil
 import subprocess
 import time
 
-from .faults import Fault
+from .faults import Fault, refused
 from .holders import who_may
 from .tied import tied
 
@@ -44,14 +44,14 @@ class GpioLines:
             holder = subprocess.Popen([*self.words, f"{line}={int(is_high)}"], stdin=subprocess.DEVNULL, stdout=subprocess.DEVNULL,
                                       stderr=subprocess.PIPE, env=plain(), start_new_session=True, preexec_fn=tied())
         except OSError as error:
-            raise Fault(f"gpioset: {error.strerror}") from None
+            raise refused("gpioset", error, "apt install gpiod") from None
         until = time.monotonic() + PATIENCE
         while holder.poll() is None:
             if has_lines(holder.pid):
                 return holder
             if time.monotonic() > until:
                 end([holder])
-                raise Fault(f"GPIO line {line} of {self.chip}: gpioset didn't get it within {PATIENCE} s")
+                raise Fault(f"GPIO line {line} of {self.chip}: gpioset didn't get it within {PATIENCE} s; gpioinfo tells who has it")
             time.sleep(0.001)
         with holder:
             said = holder.stderr.read().decode(errors="replace").strip().split("\n")[-1].removeprefix("gpioset: ")
@@ -68,7 +68,7 @@ class GpioLines:
         if "No such file" in said or "annot find" in said:
             chips = sorted(glob.glob("/dev/gpiochip*"))
             return f"no such chip; this machine has {', '.join(map(os.path.basename, chips)) or 'none'}"
-        return said
+        return f"{said}; gpioinfo tells its lines"
 
     def let_go(self, lines):
         """Lets go of those among these lines that are held."""
@@ -86,11 +86,11 @@ def find_version():
         ran = subprocess.run(["gpioset", "--version"], stdin=subprocess.DEVNULL, stdout=subprocess.PIPE, stderr=subprocess.DEVNULL,
                              env=plain(), timeout=PATIENCE)
     except (OSError, subprocess.TimeoutExpired):
-        raise Fault("gpioset doesn't tell its version") from None
+        raise Fault("gpioset doesn't tell its version: apt install gpiod") from None
     told = ran.stdout.decode(errors="replace").split("\n")[0]
     found = re.search(r"libgpiod\)? v?([0-9]+)\.", told)
     if not found or int(found[1]) not in WORDS:
-        raise Fault(f"gpioset is of libgpiod 1 or 2, and this one says {told[:60]!r}")
+        raise Fault(f"gpioset is of libgpiod 1 or 2, and this one says {told[:60]!r}: apt install gpiod")
     return int(found[1])
 
 

@@ -6,12 +6,13 @@ import fcntl
 import os
 import re
 
-from .faults import Fault
+from .faults import Fault, refused
 from .opening import FAR
 from .patience import is_pty
 from .trusted import refuse_others
 
 BY_PATH = "/dev/serial/by-path"
+KEPT_THERE = "journals are kept there; XDG_STATE_HOME names another folder"
 # a journal whose last line that isn't void begins so has a command that didn't end; and how many bytes the longest line has at most
 BEGUN, LONGEST = (b"open ", b"page ", b"erase ", b"program "), 1 << 23
 
@@ -34,7 +35,7 @@ class Journals:
             try:
                 os.makedirs(folder, mode=0o700, exist_ok=True)
             except OSError as error:
-                raise Fault(f"{error.filename}: {error.strerror}; journals are kept there") from None
+                raise refused(error.filename, error, KEPT_THERE) from None
         self.refuse_others()
 
     def refuse_others(self):
@@ -59,7 +60,7 @@ class Journals:
                 os.fsync(held)
                 os.close(held)
         except OSError as error:
-            raise Fault(f"{self.last}: {error.strerror}") from None
+            raise refused(self.last, error, KEPT_THERE) from None
 
     def stopped(self):
         """The journals in which a command was stopped: of boards at any port, and of this port's that tell no unique id."""
@@ -86,7 +87,7 @@ def state_folder():
         home = os.path.join(os.path.expanduser("~"), ".local", "state")
     if not home.startswith("/"):
         # in each folder there would be others
-        raise Fault("HOME names no folder; journals are kept there")
+        raise Fault(f"HOME names no folder; {KEPT_THERE}")
     return os.path.join(home, "stmflash")
 
 

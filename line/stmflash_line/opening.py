@@ -8,7 +8,7 @@ import stat
 import termios
 import time
 
-from .faults import Fault, number_of, say
+from .faults import Fault, number_of, refused, say
 from .holders import holders, who_may
 from .patience import PTY_MAJORS
 from .port import Port
@@ -36,7 +36,7 @@ def open_port(word, baud):
     except (ValueError, serial.SerialException):
         port = None
     if not isinstance(port, serial.Serial):
-        raise Fault(f"{word}: is not a serial port of this machine")
+        raise Fault(f"{word}: is not a serial port of this machine; {ports_here()}")
     name = port.port
     place = find_place(name)
     is_pty = os.major(place.st_rdev) in PTY_MAJORS
@@ -59,7 +59,7 @@ def find_place(name):
     except (FileNotFoundError, NotADirectoryError):
         raise Fault(f"{name}: no such port; {ports_here()}") from None
     except OSError as error:
-        raise Fault(f"{name}: {error.strerror}") from None
+        raise refused(name, error, ports_here()) from None
     if stat.S_ISSOCK(place.st_mode):
         raise Fault(f"{name}: is not a serial port but a socket: hand it to stmflash itself, as --device")
     if not stat.S_ISCHR(place.st_mode):
@@ -149,5 +149,5 @@ def why_closed(name, place, baud, error):
     if number in (errno.ENOENT, errno.ENXIO, errno.ENODEV, errno.EIO):
         return f"no hardware answers there; {ports_here()}"
     if number == errno.ENOTTY:
-        return "is not a serial port"
-    return f"doesn't take {baud} baud with 8 data bits and even parity"
+        return f"is not a serial port; {ports_here()}"
+    return f"doesn't take {baud} baud with 8 data bits and even parity; --baud names another speed"

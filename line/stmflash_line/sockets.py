@@ -6,10 +6,11 @@ import shutil
 import socket
 import stat
 
-from .faults import Fault
+from .faults import Fault, refused
 
 # a private folder's name begins so; the names of its socket before and after it listens
 FOLDER, UNREADY, READY = "stmflash-line-", "unready", "socket"
+ELSEWHERE = "TMPDIR names another folder"
 
 
 def listen(path):
@@ -33,7 +34,7 @@ def refuse_served(path):
     if not stat.S_ISSOCK(os.lstat(path).st_mode):
         raise Fault(f"{path}: something else stands there already; give --socket another name")
     if not is_left(path):
-        raise Fault(f"{path}: another program listens there already")
+        raise Fault(f"{path}: another program listens there already; give --socket another name")
 
 
 def is_left(path):
@@ -50,12 +51,12 @@ def is_left(path):
 
 
 @contextlib.contextmanager
-def served(path):
-    """A socket at this path while it is needed."""
+def served(path, then="give --socket another name"):
+    """A socket at this path while it is needed; and what to do where there can't be one."""
     try:
         listener = listen(path)
     except OSError as error:
-        raise Fault(f"{path}: {error.strerror or error}") from None
+        raise refused(path, error, then) from None
     try:
         yield path, listener
     finally:
@@ -72,9 +73,9 @@ def served_privately():
         folder = os.path.join(temporary(), FOLDER + os.urandom(8).hex())
         os.mkdir(folder, 0o700)
     except OSError as error:
-        raise Fault(f"{error.filename}: {error.strerror}") from None
+        raise refused(error.filename, error, ELSEWHERE) from None
     try:
-        with served(os.path.join(folder, UNREADY)) as (unready, listener):
+        with served(os.path.join(folder, UNREADY), ELSEWHERE) as (unready, listener):
             ready = os.path.join(folder, READY)
             os.rename(unready, ready)
             yield ready, listener

@@ -114,7 +114,7 @@ def start_companion(words, path):
         # a Ctrl-C is ours alone: what was changed is put back over this line. Where we are killed the port is given back
         return subprocess.Popen(call, stdin=subprocess.DEVNULL, start_new_session=True, preexec_fn=tied())
     except OSError as error:
-        raise Refused(f"stmflash-line: {error.strerror}") from None
+        raise Refused(f"stmflash-line: {error.strerror}; it has to be beside stmflash-trial, or in PATH") from None
 
 
 def connect(path, companion):
@@ -127,9 +127,9 @@ def connect(path, companion):
         except OSError as error:
             client.close()
             if companion and companion.poll() is not None:
-                raise Refused("stmflash-line didn't open the port") from None
+                raise Refused("stmflash-line didn't open the port; it tells why and what to do above") from None
             if time.monotonic() > until:
-                raise Refused(f"{path}: {error.strerror or error}") from None
+                raise Refused(f"{path}: {error.strerror or error}; --device names a socket that is served") from None
         time.sleep(0.02)
 
 

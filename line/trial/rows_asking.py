@@ -108,7 +108,7 @@ def identify(board):
 def choose_pages(named, count):
     """The pages to work on: those that were named, or the last two. The byte of page 255 is FF, which means everything."""
     if any(page >= count or page == 255 for page in named):
-        raise Refused(f"--pages: this chip's are 0 to {count - 1}, but for 255")
+        raise Refused(f"--pages: this chip has no such page; give 0 to {count - 1}, but for 255")
     return named or [page for page in range(max(0, count - 3), count) if page != 255][-2:]
 
 

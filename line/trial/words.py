@@ -8,8 +8,8 @@ import tomllib
 
 from faults import Refused
 from rows import BACK, NAMES
+from stmflash_line.tables import BESIDE, TABLES
 
-TABLES = ("/usr/local/share/stmflash/chips.toml", "/usr/share/stmflash/chips.toml")
 DESCRIPTION = """Tries, row by row, whether a board follows the model that stmflash's promises rest on. It saves the whole flash
 to a file, erases and writes the named pages, puts back what it changed, and tells what it found."""
 ENDS = """status: 0 it follows the model; 1 it doesn't, or the trial wasn't ended; 2 the words can't be done, or the answer was no, and
@@ -87,7 +87,7 @@ def read(words, folder):
     given.save = given.save or f"flash-{datetime.datetime.now():%Y%m%d-%H%M%S}.bin"
     if os.path.lexists(given.save):
         raise Refused(f"{given.save}: is there already; give --save another name")
-    given.table = given.table or os.environ.get("STMFLASH_TABLE") or next(filter(os.path.exists, TABLES), TABLES[0])
+    given.table = given.table or os.environ.get("STMFLASH_TABLE") or next(filter(os.path.exists, (*TABLES, BESIDE)), TABLES[0])
     given.chips = read_table(given.table)
     for name, path in (("--save", given.save), ("the chip table", given.table)):
         if os.path.realpath(given.out) == os.path.realpath(path):
@@ -108,6 +108,6 @@ def read_table(path):
                 raise ValueError
         return chips
     except OSError as error:
-        raise Refused(f"{path}: {error.strerror}") from None
+        raise Refused(f"{path}: {error.strerror}; --table names another") from None
     except (ValueError, TypeError, KeyError):
-        raise Refused(f"{path}: is no chip table") from None
+        raise Refused(f"{path}: is no chip table; --table names another") from None

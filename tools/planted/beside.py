@@ -82,7 +82,7 @@ FAULTS = {
         "    first = wrong = differing(board)\n    for _ in range(0):", "test_trial.Simulators.test_0412"),
     # ---- words
     "a number that is no GPIO line is taken": (
-        "line/as_stm32flash/sequence.py", "0|[1-9][0-9]{0,4}", "[0-9]{1,5}",
+        "line/as_stm32flash/sequence.py", "not LINE.fullmatch(name)", "not LINE.match(name)",
         "test_stm32flash_words.Refusals.test_what_cant_be_is_refused_by_name_and_no_byte_is_sent"),
     "the lines of another chip are moved": (
         "line/as_stm32flash/call.py", "asked.baud, boot, chip,", "asked.baud, boot, None,",
