@@ -9,8 +9,7 @@ from place import TOP, WAIT, is_slow, text_in
 from served import Served
 
 TABLE = os.path.join(TOP, "chips.toml")
-with open(TABLE, "rb") as text:
-    CHIPS = {f"{chip['id']:04X}": chip for chip in tomllib.load(text)["chip"]}
+CHIPS = {f"{chip['id']:04X}": chip for chip in tomllib.loads(text_in(TABLE))["chip"]}
 # the one that no maker sells
 FOR_TESTS = "0A01"
 # chips that are served too: of many pages, of sectors of three sizes, erased by 44, erased to 00

@@ -142,8 +142,7 @@ class Completions(Place):
         taken = self.trial_options()
         manual = text_in("line", "stmflash-trial.1").replace("\\", "")
         self.assertEqual([option for option in taken - {"-h", "--help"} if f" {option}" not in manual], [])
-        with open(os.path.join(FOLDER, "_stmflash"), encoding="utf-8") as file:
-            part = file.read().split("$service == stmflash-trial")[1].split("    fi\n")[0]
+        part = text_in(FOLDER, "_stmflash").split("$service == stmflash-trial")[1].split("    fi\n")[0]
         self.assertEqual(set(re.findall(r"(?<=')--[a-z-]+(?=\[)|(?<=\()-h|--help(?=\))", part)), taken)
         self.assertEqual(self.bash("stmflash-trial", "-", function="_stmflash_trial"), taken)
         self.assertEqual(self.fish("stmflash-trial -"), taken)
@@ -162,8 +161,7 @@ class Completions(Place):
 
     def test_zsh_names_what_the_program_takes(self):
         self.shell("zsh", "-n", os.path.join(FOLDER, "_stmflash"))
-        with open(os.path.join(FOLDER, "_stmflash"), encoding="utf-8") as file:
-            text = file.read()
+        text = text_in(FOLDER, "_stmflash")
         lines = dict(re.findall(r"^        ([a-z]+)\) _arguments ((?:.*\\\n)*.*);;$", text, re.M))
         shared = {name: set(re.findall(r"(?<![\w-])(-\w|--[a-z][a-z-]*)(?=[\[,}])", body)) for name, body in
                   re.findall(r"^    (help|journal|lock|json|device|asked|range)=\((.*?)\)$", text, re.M | re.S)}

@@ -125,6 +125,13 @@ class Gate(unittest.TestCase):
                 ran = runs.Ran("program", name, faults, [], 0.0, 0.0)
                 self.assertEqual(runs.run_again("program", ran), came or ran)
 
+    def test_a_thread_that_goes_on_behind_its_test_is_a_fault(self):
+        runs, over = script("tests", "run"), threading.Event()
+        leaves = unittest.FunctionTestCase(threading.Thread(target=over.wait, name="a thread").start)
+        with unittest.mock.patch.object(unittest.defaultTestLoader, "loadTestsFromName", lambda _: leaves), unittest.mock.patch.dict(os.environ):
+            self.assertEqual(runs.run("program", "it").faults, ["it: a thread goes on behind it"])
+            over.set()
+
     def test_more_tests_of_a_quick_program_go_on_at_once_than_of_others(self):
         runs, lock, going = script("tests", "run"), threading.Lock(), collections.Counter()
         most = collections.Counter()

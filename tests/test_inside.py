@@ -41,8 +41,7 @@ def calls_by_function():
         if crate.endswith("_tests") or crate == "stm_rows":
             continue
         for path in glob.glob(os.path.join(TOP, "crates", crate, "src", "**", "*.rt"), recursive=True):
-            with open(path, encoding="utf-8") as file:
-                _, *functions = re.split(r"\bfn (?=\w)", re.sub(r"//.*", "", file.read()))
+            _, *functions = re.split(r"\bfn (?=\w)", re.sub(r"//.*", "", text_in(path)))
             for function in functions:
                 name, body = re.match(r"(\w+)([^\0]*)", function).groups()
                 made[name].update(re.findall(r"\b(\w+)\s*(?:::<[^>]*>)?\(", body))

@@ -9,15 +9,10 @@ import subprocess
 import time
 
 from boards import LinePlace, end_with
-from place import PATIENCE, TOP, WAIT, Place
+from place import PATIENCE, TOP, WAIT, Place, text_in
 
 UNIT = os.path.join(TOP, "packaging", "stmflash-line@.service")
 RULES = os.path.join(TOP, "packaging", "70-stmflash.rules")
-
-
-def read(path):
-    with open(path, encoding="utf-8") as held:
-        return held.read()
 
 
 class Idle(LinePlace):
@@ -74,7 +69,7 @@ class Idle(LinePlace):
 class Unit(LinePlace):
     def words_of_call(self, options=""):
         """The words of the unit's call for ttyUSB0, with its port and socket here."""
-        text = re.search("^ExecStart=(.*)$", read(UNIT), re.M)[1]
+        text = re.search("^ExecStart=(.*)$", text_in(UNIT), re.M)[1]
         text = text.replace("$LINE_OPTIONS", options).replace("/dev/%I", self.path("ttyUSB0"))
         program, *words = shlex.split(text.replace("/run/stmflash-%i/socket", self.path("board")))
         self.assertEqual(program, "/usr/bin/stmflash-line")
@@ -89,7 +84,7 @@ class Unit(LinePlace):
                 said = self.use("info", "--wait", WAIT, device="board")
                 self.assertEqual((said.status, said.out[:8], said.err), (0, b"id 0412\n", b""))
                 self.stop(started)
-        shown = re.search('LINE_OPTIONS=(--.*)"$', read(UNIT), re.M)[1]
+        shown = re.search('LINE_OPTIONS=(--.*)"$', text_in(UNIT), re.M)[1]
         said = self.line(*self.words_of_call(shown))
         self.assertLineFault(said, f"{self.path('ttyUSB0')}: has no RTS; leave --wiring, --boot and --after out")
 
@@ -103,7 +98,7 @@ CONFINING = "PrivateUsers ProtectHome PrivateTmp ProtectClock ProtectControlGrou
 class Confinement(Place):
     def test_the_unit_is_confined(self):
         """A user of its own, no capability, one port; systemd reckons its exposure at 2.0 of 10 at the most."""
-        lines = read(UNIT).splitlines()
+        lines = text_in(UNIT).splitlines()
         for line in ("DynamicUser=yes", "Group=dialout", "CapabilityBoundingSet=", "NoNewPrivileges=yes", "ProtectSystem=strict",
                      "DevicePolicy=closed", "DeviceAllow=/dev/%I rw", "SystemCallFilter=@system-service",
                      "RestrictAddressFamilies=AF_UNIX", "ProtectProc=invisible", "ProcSubset=pid", "IPAddressDeny=any", "UMask=0077",
@@ -121,7 +116,7 @@ class Confinement(Place):
         self.assertEqual(ran.returncode, 0, ran.stdout[-300:] + ran.stderr)
 
     def test_the_rule_is_for_tagged_adapters_alone(self):
-        rules = [line for line in read(RULES).splitlines() if line and not line.startswith("#")]
+        rules = [line for line in text_in(RULES).splitlines() if line and not line.startswith("#")]
         self.assertEqual(len(rules), 2)
         for rule in rules:
             parts = rule.split(", ")

@@ -186,11 +186,9 @@ class Packaging(unittest.TestCase):
                 names = {os.path.basename(name): made.read(name) for name in made.namelist()}
             self.assertEqual(sorted(names), ["LICENSE", "WINDOWS.md", "chips.toml", "stmflash.exe"])
             self.assertTrue(names["WINDOWS.md"].startswith(b"## On Windows\n") and b"Nothing was run on Windows" in names["WINDOWS.md"])
-            with open(os.path.join(folder, "SHA256SUMS"), encoding="utf-8") as file:
-                self.assertIn("./stmflash-windows-x64.zip\n", file.read())
+            self.assertIn("./stmflash-windows-x64.zip\n", text_in(folder, "SHA256SUMS"))
             self.assertIn("git tag --sign", out)
-            with open(os.path.join(folder, "NOTES.md"), encoding="utf-8") as file:
-                notes = file.read()
+            notes = text_in(folder, "NOTES.md")
             self.assertEqual(notes.count("\n## "), 0)
             self.assertTrue(notes.startswith("## 0") and notes in released)
             subprocess.run(["sha256sum", "--check", "--quiet", "SHA256SUMS"], cwd=folder, check=True)

@@ -139,8 +139,7 @@ class Pages(Place):
             with open(os.path.join(folder, "crates", "stm_session", "src", "undoing.rt"), "a", encoding="utf-8") as file:
                 file.write("\npub fn undo(count: u32) -> u32\n    ensures half { result ≡ count }\n{\n    count\n}\n")
             self.assertEqual(says("proved"), (0, ""))
-            with open(os.path.join(folder, "docs", "PROVED.md"), encoding="utf-8") as file:
-                self.assertIn("- **`undo`** (`undoing.rt`): *half* `result ≡ count`\n", file.read())
+            self.assertIn("- **`undo`** (`undoing.rt`): *half* `result ≡ count`\n", text_in(folder, "docs", "PROVED.md"))
 
     def test_the_map_names_each_file(self):
         """Each file of code, definitions and lemmas in the section of its folder, with words; of tests, tools and the rest it or its

@@ -7,7 +7,7 @@ import tomllib
 import unittest.mock
 
 from boards import pty_boards
-from place import COUNTING, ERASED, PATIENCE, TABLE, TOP, program
+from place import COUNTING, ERASED, PATIENCE, TABLE, TOP, program, text_in
 from test_stm32flash_words import WORDS, Words, module, places
 
 
@@ -151,8 +151,7 @@ class Tables(Words):
 
     def test_what_is_handed_on_is_the_same(self):
         chip = module("chip")
-        with open(os.path.join(TOP, "chips.toml"), "rb") as file:
-            entries = {entry["id"]: entry for entry in tomllib.load(file)["chip"]}
+        entries = {entry["id"]: entry for entry in tomllib.loads(text_in("chips.toml"))["chip"]}
         text = chip.table_text(chip.read_table([os.path.join(TOP, "chips.toml")]))
         made = {entry["id"]: entry for entry in tomllib.loads(text)["chip"]}
         self.assertEqual(made, {number: {key: entry[key] for key in chip.KEYS if key in entry} for number, entry in entries.items()})
