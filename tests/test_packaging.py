@@ -154,8 +154,7 @@ class Packaging(unittest.TestCase):
             shutil.copytree(TOP, clone, ignore=shutil.ignore_patterns("out", "bin", ".git", "crates", "__pycache__"))
             git = ["git", "-C", clone, "-c", "user.name=a", "-c", "user.email=a@example.org"]
             log = os.path.join(clone, "CHANGELOG.md")
-            with open(log, encoding="utf-8") as file:
-                text = file.read()
+            text = text_in(log)
             released = text[:text.index("## ")] + text[text.index("## 0"):]
             unreleased = released.replace("## 0", "## Unreleased\n\n- One.\n\n## 0", 1)
 

@@ -13,8 +13,7 @@ from place import TOP, text_in
 
 def is_made(path):
     """Whether a tool makes this page, as its first line says."""
-    with open(path, encoding="utf-8") as file:
-        return file.readline().startswith("<!-- made by ")
+    return text_in(path).startswith("<!-- made by ")
 
 
 PAGES = ("README.md", "CONTRIBUTING.md",

@@ -5,7 +5,7 @@ import shutil
 import subprocess
 import unittest
 
-from place import PATIENCE, Place, Said, program
+from place import PATIENCE, Place, Said, program, text_in
 from test_device import INFO, RAW
 
 # the folders of a test that stand where the system has its own
@@ -170,13 +170,11 @@ class Tables(Place):
         self.place(INSTALLED, (0x412, 0x1000000))
         for name in (MACHINES, self.home):
             path = self.place(name, (0x412, 0x1000000))
-            with open(path, "rb") as file:
-                held = file.read()
+            held = text_in(path)
             for words in (("read", "--device", "sim:0412:flash", "--journal", "journal", name),
                           ("info", "--device", "sim:0412:flash", "--journal", name),
                           ("info", "--device", f"sim:0412:{name}", "--journal", "journal"),
                           ("sim", "--id", "0412", "--flash", name, "--socket", "board")):
                 with self.subTest(words=words):
                     self.assertFault(self.see(*words), f"cannot write {name}")
-            with open(path, "rb") as file:
-                self.assertEqual(file.read(), held)
+            self.assertEqual(text_in(path), held)

@@ -6,6 +6,7 @@ import errno
 import fcntl
 import os
 import termios
+import time
 
 from .faults import HAS_NONE, UNDO, Fault, Gone, number_of
 from .unmark import Unmark
@@ -68,6 +69,8 @@ class Port:
         try:
             return os.write(self.descriptor, data)
         except BlockingIOError:
+            # a full pseudo-terminal says all the same that it can be written to
+            time.sleep(0.005)
             return 0
         except OSError as error:
             raise Gone from error
