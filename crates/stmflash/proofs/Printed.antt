@@ -73,11 +73,5 @@ module _ {A B : Type 0} (simulated : A → RigState) (connected : B → RigState
     pub is-done : IsStatusOf is_json hint steps old new status → (status ≡ 0 → steps.failure ≡ None)
         → status ≡ 0 → IsDone simulated connected request is_json old new
     is-done told whole zero =
-        record {
-          steps = steps;
-          of = of;
-          whole = whole zero;
-          hint = hint;
-          printed = printed steps.failure (ArePrinted is_json hint steps old new) _ status
-              (whole zero) told zero;
-        }
+        let text = printed steps.failure (ArePrinted is_json hint steps old new) _ status (whole zero) told zero in
+        record { steps = steps; of = of; whole = whole zero; hint = hint; printed = text }

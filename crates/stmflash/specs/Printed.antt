@@ -4,7 +4,7 @@ use Rattle.std.specs.Prelude.{MatchOption, codes}
 use Rattle.std.specs.Io.KnownBytes.{Appends}
 use Rattle.stm_wire.specs.Rig.{RigState}
 use Rattle.stm_words.specs.Json.{wants_json}
-use Rattle.stm_words.specs.Request.{IsAskedFor}
+use Rattle.stm_words.specs.Request.{AskForHelp, IsAskedFor}
 use Rattle.stm_words.specs.declared.environment.Environment.{Environment}
 use Rattle.stm_words.specs.declared.request.Request.{Request}
 use Rattle.stm_words.specs.declared.request.Request.TheVariants.{Use}
@@ -76,8 +76,8 @@ pub record IsServed {A B : Type 0} (simulated : A → RigState) (connected : B �
   pub json : is_json ≡ e.is_json || wants_json words
   pub done : IsDone simulated connected request is_json old new
 
--- What status 0 says: the request was done, or a text of help was printed whole.
+-- What status 0 says: the request was done, or help or the version was asked for, and a text printed.
 abbrev pub IsWell : {A B : Type 0} → (A → RigState) → (B → RigState) → Environment
     → List (List ℕ) → Option (List ℕ) → Option (List ℕ) → Type 0
 IsWell simulated connected e words old new =
-    IsServed simulated connected e words old new ⊎ ((text : List ℕ) × Appends old new text)
+    IsServed simulated connected e words old new ⊎ AskForHelp e words × ((text : List ℕ) × Appends old new text)

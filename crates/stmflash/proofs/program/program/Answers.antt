@@ -1,4 +1,6 @@
-use Rattle.std.proofs.Common.{inl}
+use Rattle.std.proofs.Common.{inl, inr, map, subst}
+use Rattle.stm_words.specs.Request.{AskForHelp, OnHelp}
+use Rattle.stm_words.specs.declared.unread.Unread.{Unread}
 use Rattle.stmflash.proofs.program.program.Goals as goal
 
 pub returns-in-Ok : goal.returns-in-Ok
@@ -9,3 +11,8 @@ returns-in-Ok g c = λ zero. inl (record {
   json = c.is_json_wanted-is_json.ensures;
   done = c.answer.ensures.done zero;
 })
+
+pub returns-in-Err-Help : goal.returns-in-Err-Help
+returns-in-Err-Help g c = λ zero.
+    let P : Unread → Type 0 = λ u. OnHelp u (AskForHelp c.args.environment (map (λ s. s.now) c.args.words.now)) in
+    inr (subst P c.in-Err-Help.field-0-is c.in-Err-Help.ensures.help, (_, c.print_help.ensures zero))
