@@ -213,7 +213,8 @@ class Board(telling.Told):
 
     def test_a_broken_off_write_is_undone_at_its_own_board(self):
         self.break_off()
-        journal = self.held("journal")
+        # each undo is greeted before it asks
+        journal = self.held("journal") + b"connect!\n"
         self.assertFault(self.at(THERE, "undo", flash="there"), ANOTHER)
         self.assertFiles({"there": COUNTING, "journal": journal})
         for words in (("write", "image"), ("info",)):
@@ -272,13 +273,13 @@ class Board(telling.Told):
                 self.assertTrue(self.stands[0].sent.startswith(b"\x7f\x7f\x7f" + ASKED), self.stands[0].sent[:20])
 
     def test_a_fresh_board_is_so_for_the_first_attempt_alone(self):
-        """The undo of a write that is broken off asks by settling, and so does the write behind it."""
+        """The undo of a write that is broken off greets, and asks by settling, and so does the write behind it."""
         self.store("flash.line", b"fresh\n")
         self.assertEqual(self.at(HERE, "write", "--fresh", "--again", "1", "image", cuts=(True, False, False)).status, 0)
         self.assertEqual(self.asked(), 3 * AGAIN)
         first, undo, second = (stand.sent for stand in self.stands)
         self.assertTrue(first.startswith(b"\x7f" + ASKED), first[:20])
-        self.assertFalse(undo.startswith(b"\x7f"), undo[:20])
+        self.assertTrue(undo.startswith(b"\x7f\x02\x02"), undo[:20])
         self.assertTrue(second.startswith(b"\x7f\x7f" + ASKED), second[:20])
         self.assertEqual(self.held("flash")[:9], b"an image" + COUNTING[8:9])
 

@@ -12,13 +12,15 @@ from test_silence import SETSOCKOPT, time_of
 TABLE = b'[[chip]]\nid = 0x410\nbase = 0x08000000\npages = [[128, 1024]]\nerase = "page"\n'
 FLASH = bytes(128 * 1024)
 BEFORE = b"stmjournal 2 0410\nopen 1\npage 127 " + b"0" * 2048 + b"\nerase 127\n"
-AFTER = BEFORE + b"erase 127\nprogram 127\nundone 1\n"
+AFTER = BEFORE + b"connect!\nerase 127\nprogram 127\nundone 1\n"
 # 256 pages, erased by numbers of two bytes
 WIDE = b'[[chip]]\nid = 0xA01\nbase = 0x08000000\npages = [[256, 256]]\nerase = "extended"\n'
 WIDE_FLASH = bytes(256 * 256)
 WIDE_BEFORE = b"stmjournal 2 0A01\nopen 1\npage 3 " + b"0" * 512 + b"\nerase 3\n"
 # what the device may have of the frame 43 BC 00 7F 7F, but for all of it
 RESTS = (b"43", b"43BC", b"43BC00", b"43BC007F")
+# what an undo adds before it sends 7F once
+GREETING = b"connect!\n"
 # a device is given up long before a wait for each of 130 bytes has gone by
 WORDS = ("--wait", "100", "--give-up", "5")
 
@@ -35,11 +37,11 @@ class Settling(Served):
                 self.assertHolds(FLASH, b"idle\n")
                 self.assertFile("journal", AFTER)
 
-    def undo(self, stands, *words, page=3, variables=None):
+    def undo(self, stands, *words, page=3, variables=None, greeted=b"", greets=b""):
         """Undoes at a board with a wide chip that stands so, and answers the times that the program sets for its line, one
-        behind another that differs from it, and how many seconds it took."""
+        behind another that differs from it, and how many seconds it took. The journal says that it was greeted, or comes to say so."""
         self.store_all({"table": WIDE, "flash": WIDE_FLASH, "flash.line": stands + b"\n"})
-        before = WIDE_BEFORE.replace(b" 3", b" %d" % page)
+        before = WIDE_BEFORE.replace(b" 3", b" %d" % page) + greeted
         self.store("journal", before)
         self.serve(1, number="0A01")
         times, began = [], time.monotonic()
@@ -50,7 +52,7 @@ class Settling(Served):
             raise unittest.SkipTest(str(why)) from None
         self.assertTold(said, "undone 1\n")
         self.assertServed()
-        self.assertFile("journal", before + b"erase %d\nprogram %d\nundone 1\n" % (page, page))
+        self.assertFile("journal", before + greets + b"erase %d\nprogram %d\nundone 1\n" % (page, page))
         return [at for at in times if at is not None], time.monotonic() - began
 
     def test_a_line_of_unknown_speed_has_a_wait_for_each_256_bytes(self):
@@ -60,28 +62,35 @@ class Settling(Served):
         self.assertEqual(waits[:5], [100, 400, 1700, 100, 20000])
 
     def test_a_known_speed_makes_it_short(self):
-        """A device that was reset takes 131,072 bytes FF without a word: batches of 256 bytes and of 1,024, 18 of 7,168, one of 512 and
+        """A device that was reset behind a greeting takes 131,072 bytes FF without a word: batches of 256 bytes and of 1,024, 18 of 7,168, one of 512 and
         one of 254; then two single bytes. Behind each a wait is as long as is said, and as its bytes are on the line. The reply to
         7F is waited for what all of these left of 20 s."""
-        waits, seconds = self.undo(b"fresh", "--wait", "100", "--baud", "4000000", page=255)
+        waits, seconds = self.undo(b"fresh", "--wait", "100", "--baud", "4000000", page=255, greeted=GREETING)
         left = 20000 - (101 + 103 + 18 * 120 + 102 + 101 + 2 * 101)
         self.assertEqual(waits[:7], [100, 101, 103, 120, 102, 101, left])
         # 22 waits, where there were 512
         self.assertLess(seconds, 30)
 
-    def test_a_device_that_was_reset_takes_as_many_bytes_as_its_page_needs(self):
-        """Of page 11 5,662: batches of 256 bytes, of 1,024, of 4,126 and of 254. Of page 0 two batches."""
-        waits, seconds = self.undo(b"fresh", "--wait", "500", "--baud", "115200", page=11)
-        left = 20000 - (525 + 598 + 894 + 525 + 2 * 501)
-        self.assertEqual(waits[:7], [500, 525, 598, 894, 525, 501, left])
-        # 6 waits, where there would be 25
-        self.assertLess(seconds, 15)
-        # and the last page of chips with 64: 32,390 bytes, of which four batches have 7,168 and one 2,182
-        waits, seconds = self.undo(b"fresh", "--baud", "115200", page=63)
-        left = 20000 - (425 + 498 + 4 * 1085 + 609 + 425 + 2 * 401)
-        self.assertEqual(waits[:8], [400, 425, 498, 1085, 609, 425, 401, left])
-        waits, seconds = self.undo(b"fresh", "--wait", "500", "--baud", "115200", page=0)
-        self.assertEqual(waits[:4], [500, 525, 501, 20000 - (2 * 525 + 2 * 501)])
+    def test_a_device_that_was_reset_is_greeted_at_a_known_speed(self):
+        """By one 7F, so that it is settled by a batch of 256 bytes and two single ones, whatever its page."""
+        for page in (0, 11, 63):
+            with self.subTest(page):
+                waits, seconds = self.undo(b"fresh", "--wait", "500", "--baud", "115200", page=page, greets=GREETING)
+                self.assertIn(525, waits)
+                self.assertNotIn(598, waits)
+                self.assertLess(seconds, 10)
+
+    def test_a_device_that_was_reset_behind_a_greeting_takes_a_long_list(self):
+        """Of page 11 65,052 bytes: batches of 256 bytes, of 1,024, eight of 7,168, of 6,172 and of 254."""
+        waits, seconds = self.undo(b"fresh", "--wait", "500", "--baud", "115200", page=11, greeted=GREETING)
+        left = 20000 - (525 + 598 + 8 * 1185 + 1090 + 525 + 2 * 501)
+        self.assertEqual(waits[:8], [500, 525, 598, 1185, 1090, 525, 501, left])
+        self.assertLess(seconds, 25)
+
+    def test_a_device_that_was_reset_is_not_greeted_at_an_unknown_speed(self):
+        """Of page 0 it takes two batches, behind each of which a wait is as long as is said, and two single bytes."""
+        waits, seconds = self.undo(b"fresh", "--wait", "500", page=0)
+        self.assertEqual(waits[:2], [500, 20000 - 4 * 500])
         self.assertLess(seconds, 10)
 
     def test_the_speed_may_be_a_variable(self):
@@ -105,7 +114,7 @@ class Settling(Served):
                                       ({"STMFLASH_WAIT": "399"}, (), 400), ({"STMFLASH_WAIT": "1"}, (), 400),
                                       ({"STMFLASH_WAIT": ""}, (), 400)):
             with self.subTest(variables):
-                waits, _ = self.undo(b"rest 44BB", "--baud", "4000000", *more, variables=variables)
+                waits, _ = self.undo(b"rest 44BB", *more, page=0, variables=variables)
                 self.assertEqual(waits[0], wait)
 
     def test_replies_to_a_large_batch_are_taken(self):

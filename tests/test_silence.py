@@ -28,6 +28,8 @@ FRESH = b"fresh"
 BOARD = b"unique " + 12 * b"A1" + b"\n"
 ACK, NACK = b"\x79", b"\x1f"
 BEFORE = b"stmjournal 2 0410\nopen 1\npage 5 " + b"0" * 2048 + b"\nerase 5\n"
+# and where an undo was stopped behind its 7F, so that the next one sends none ahead of the byte
+GREETED = BEFORE + b"connect!\n"
 
 
 def time_of(process, kind=RECEIVE_TIME):
@@ -124,11 +126,11 @@ class Silence(Served):
 
     @unittest.skipIf(shutil.which("strace") is None, "strace is not installed")
     def test_an_undo_at_a_device_that_was_reset_is_five_seconds(self):
-        """Of a chip erased by 43, without a word that it was reset: of all that is waited in vain, by the default."""
+        """Of a chip erased by 43, reset behind a greeting, without a word of it: of all that is waited in vain, by the default."""
         self.serve(1, number="0410")
         whole, _ = self.limits("--give-up", "2")
         self.assertServed()
-        self.store_all({"flash.line": FRESH + b"\n", "journal": BEFORE})
+        self.store_all({"flash.line": FRESH + b"\n", "journal": GREETED})
         self.serve(1, number="0410")
         waited = self.waited_in_vain("undo", whole=LATE)
         self.assertServed()
@@ -188,20 +190,20 @@ class Silence(Served):
         self.assertEqual(waits[:5], [LONG, "short", LONG, LOOK, WHOLE])
 
     def test_where_a_reset_is_not_said_the_79_is_measured_too(self):
-        """The line was quiet for a whole wait behind each batch and byte before that 7F. Then the silence of the byte behind it is
+        """Behind a greeting the line was quiet for a whole wait behind each batch and byte before that 7F. Then the silence of the byte behind it is
         due as well, and Get is out behind the next."""
-        self.store("journal", BEFORE)
+        self.store("journal", GREETED)
         waits = self.at(FRESH, "undo")
         self.assertEqual(waits[:2], [WHOLE, LONG - IN_VAIN * WHOLE])
         self.assertEqual(waits[2:waits.index(LONG)].count(WHOLE), 1)
         self.assertIn("short", waits)
 
     def test_of_a_lone_7f_the_silence_before_it_counts(self):
-        """Of an undo at a device that was reset, and ignores two batches and two bytes. What is left of `--give-up` is waited
+        """Of an undo at a device that was reset behind a greeting, and ignores two batches and two bytes. What is left of `--give-up` is waited
         for the reply to 7F, but as long as a reply may be late in any case; each other one is waited for as long as ever."""
         for give_up in (20, 9, 7):
             with self.subTest(give_up=give_up):
-                self.store("journal", BEFORE)
+                self.store("journal", GREETED)
                 waits = self.at(FRESH, "undo", "--give-up", str(give_up))
                 left = 1000 * give_up - IN_VAIN * WHOLE
                 # a time that is set already isn't set again

@@ -187,7 +187,8 @@ class Dead(Place):
         self.assertIn(b"journal is of another board\nERROR: what an earlier call has begun can't be undone now; its journal is ", said.err)
         self.assertEqual(self.words("-m", "8n1", "--undo").status, 1)
         self.assertEqual(self.unplugged(there), COUNTING)
-        self.assertFile(self.first, before)
+        # which board it is shows behind the greeting
+        self.assertFile(self.first, before + b"connect!\n")
 
     def test_a_board_that_was_asked_is_not_said_to_be_reset(self):
         self.instead(f'echo "$*" >> {self.path("called")}')

@@ -8,6 +8,7 @@ mod cut_journal;
 mod first_question;
 mod given_board;
 mod given_pages;
+mod greeted_session;
 mod journal_folder;
 mod journal_tasks;
 mod named_files;

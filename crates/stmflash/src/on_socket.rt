@@ -1,9 +1,10 @@
 // A use of a device behind a socket: its journal is opened, its line is connected, and both are
 // closed, whatever came of it.
 ghost use Rattle.std.specs.Prelude.{IfOk};
-ghost use Rattle.stmflash.specs.DeviceUse.{UsesPlan, goes_out};
+ghost use Rattle.stmflash.specs.DeviceUse.{UsesPlan, goes_out, greeted_at};
 
 use crate::first_question::Line;
+use crate::greeted_session::GreetedWhen;
 use crate::output::{Output, write_done};
 use crate::planned_session::{Shown, Taken, failed_if, take_on};
 use std::fs;
@@ -76,7 +77,7 @@ pub fn on_socket<'a, 'r, R: Locks + Net + Clock + AllocGlobal, W: Write + Drop>(
 ) -> Result<Steps<'a>, Failure<'a>>
     ensures { IfOk result (UsesPlan
         ⟦<Shown<'r, SocketRig<'r, UnixStream, R>, W, R> as Rig>⟧.view
-        (goes_out output.entry) plan.entry) }
+        (goes_out output.entry) (greeted_at options.now.baud) plan.entry) }
 {
     let name = plan.journal;
     let opened = JournalFile::open(rt, name, options.without_lock, options.trusts_others);
@@ -86,7 +87,8 @@ pub fn on_socket<'a, 'r, R: Locks + Net + Clock + AllocGlobal, W: Write + Drop>(
         None => connect_line(rt, options, path, give_up_of(options, plan.work.is_undo()))?,
     };
     let rig = SocketRig::new(line, journal);
-    let Taken { rig, done } = take_on(rt.alloc(), rig, plan, chips, watch, screen, hint);
+    let when = GreetedWhen::at(options.baud);
+    let Taken { rig, done } = take_on(rt.alloc(), rig, plan, when, chips, watch, screen, hint);
     let done = failed_if(rig.has_given_up(), done, Failure::NoAnswer);
     let done = done_on(rig.into_journal(), name, done);
     write_done(rt, done, output)

@@ -1,7 +1,8 @@
 // A session by a plan, over any Rig: it is shown, its last turns are kept, and it may be watched.
-ghost use Rattle.stmflash.specs.DeviceUse.{TakesAround, TakesPlan};
+ghost use Rattle.stmflash.specs.DeviceUse.{TakesAround};
 ghost use Rattle.stm_work.specs.Plan.{TellsSteps};
 
+use crate::greeted_session::{GreetedWhen, take_greeted};
 use std::alloc::Global;
 use std::io::Write;
 use std::os::unix::net::UnixStream;
@@ -11,8 +12,8 @@ use stm_files::{SimulatorRig, SocketRig};
 use stm_watch::{Watch, WatchRig};
 use stm_wire::Rig;
 use stm_work::{
-    Course, Failure, Hint, Keeper, Plan, ProgressRig, Screen, Steps, Watchable, done_watched,
-    failed_by, failure_of, take_watched, watched,
+    Course, Failure, Hint, Keeper, Plan, ProgressRig, Screen, Steps, done_watched, failed_by,
+    failure_of, watched,
 };
 
 /// A Rig that is shown and watched.
@@ -31,45 +32,26 @@ pub struct Taken<'a, L> {
     pub done: Result<Steps<'a>, Failure<'a>>,
 }
 
-/// Does what a plan says, on a Rig that can be watched.
-pub fn take_plan<'a, L: Watchable>(
-    alloc: Global,
-    rig: &mut L,
-    plan: Plan<'a>,
-) -> Result<Steps<'a>, Failure<'a>>
-    ensures { TakesPlan L.view plan.entry rig.old rig.new result }
-{
-    let Plan {
-        work,
-        question,
-        watching,
-        table,
-        journal,
-        sequel,
-    } = plan;
-    take_watched(
-        alloc, rig, table, work, question, journal, &sequel, &watching,
-    )
-}
-
 /// Does what a plan says, on a Rig; it is shown, and its last turns are kept. What they tell of a
-/// session that was broken off becomes `hint`. `chips` are those by which it is shown.
+/// session that was broken off becomes `hint`. `chips` are those by which it is shown, and
+/// `when` says whether an undo is greeted.
 pub fn take_on<'a, 's, L: Keeper + Drop, W: Write + Drop, C: Clock>(
     alloc: Global,
     rig: L,
     plan: Plan<'a>,
+    when: GreetedWhen,
     chips: &Table,
     watch: Watch,
     screen: Screen<'s, W, C>,
     hint: &mut Option<Hint>,
 ) -> Taken<'a, L>
     ensures { TakesAround ⟦<Shown<'s, L, W, C> as Rig>⟧.view (λ shown. shown.inner.inner) L.view
-        watch plan.entry rig result.rig result.done }
+        watch when plan.entry rig result.rig result.done }
 {
     let course = Course::new(alloc, chips, plan.work.goal());
     let is_watched = plan.is_watched();
     let mut rig = WatchRig::new(ProgressRig::new(rig, course, screen), watch);
-    let done = take_plan(alloc, &mut rig, plan);
+    let done = take_greeted(alloc, &mut rig, plan, when);
     let done = done_watched(&rig, done);
     let told = watched(&rig, is_watched, failure_of(&done));
     let rig = rig.into_inner();

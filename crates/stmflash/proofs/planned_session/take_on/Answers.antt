@@ -7,9 +7,9 @@ returns g c =
     let inner = ap (λ x. x.inner) c.new-rig.ensures.inner ∙ c.new.ensures in
     record {
       old = c.new-rig.result;
-      new = c.take_plan-done.new.rig;
-      done = c.take_plan-done.result;
-      takes = c.take_plan-done.ensures;
+      new = c.take_greeted-done.new.rig;
+      done = c.take_greeted-done.result;
+      takes = c.take_greeted-done.ensures;
       within = inner;
       begins = begun-inner g.L.Rig.view _ _ _ _ _ _ _ c.new-rig.ensures.watch
           c.new-rig.ensures.refusal inner;
