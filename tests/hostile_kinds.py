@@ -30,7 +30,7 @@ ID = "the board tells an id of {} bytes: stmflash knows ids of 2 bytes alone, an
 
 class Kind(typing.NamedTuple):
     """What makes a board's serving, and the command that always meets it; the row of docs/UNDO.md that tells of it; the
-    faults and the hints of which one each is told, and the faults that an undo may tell instead; the commands that may be done
+    faults and the hints of which one each is told, and those that an undo may tell instead; the commands that may be done
     there, and those at whose erase or write it is silent, which have 40 s; how long a reply may take; whether it answers as a
     board of the model does until then, so that it is timed from its last byte."""
 
@@ -40,6 +40,7 @@ class Kind(typing.NamedTuple):
     faults: typing.Tuple[str, ...]
     hints: typing.Tuple[typing.Optional[str], ...] = (None,)
     undo: typing.Tuple[str, ...] = ()
+    undo_hints: typing.Tuple[typing.Optional[str], ...] = ()
     may_end: typing.Tuple[str, ...] = ()
     is_slow_at: typing.Tuple[str, ...] = ()
     wait: float = WAIT
@@ -47,6 +48,9 @@ class Kind(typing.NamedTuple):
 
     def faults_at(self, command):
         return self.undo if command == "undo" and self.undo else self.faults
+
+    def hints_at(self, command):
+        return self.undo_hints if command == "undo" and self.undo_hints else self.hints
 
 
 MODEL = {"wait": LONG_WAIT, "is_model": True}
@@ -84,7 +88,7 @@ KINDS = {
     "deaf": Kind(plain(be_deaf), "undo", NOTHING, (GONE,), (SILENT,)),
     "takes one byte a second": Kind(of(Slowly), "info", SLOW, (GONE,), LATE),
     "echoes": Kind(plain(echo), "write", JOINED, (GONE,), (ECHO,), (WRONG,), wait=LONG_WAIT),
-    "echoes and answers": Kind(of(Echoing), "undo", "echoes and answers", (GONE,), (ECHO, NOISE), (WRONG,)),
+    "echoes and answers": Kind(of(Echoing), "undo", "echoes and answers", (GONE,), (ECHO, NOISE)),
     "doubles": Kind(of(Doubling), "read", "says each reply twice", (WRONG,), (ID.format(12), None), wait=LONG_WAIT),
     "always 1F": Kind(of(Always, NACK), "info", ALIKE, (WRONG,), wait=LONG_WAIT),
     "always 79": same(ACK, "write", ALIKE, None),
@@ -104,5 +108,6 @@ KINDS = {
     "one byte a second": Kind(of(Trickling), "write", SLOW, (GONE,), LATE, (WRONG, GONE)),
     "Get without an end": Kind(of(Endless), "info", "has a Get without an end", (WRONG,), **MODEL),
     "an id of 256 bytes": Kind(of(LongId), "read", "tells an id that isn't of 2 bytes", (WRONG,), (ID.format(256),), **MODEL),
-    "garbles each third byte": Kind(of(Garbling), "undo", STRANGE, (WRONG,), (NOISE,), wait=LONG_WAIT),
+    # an undo's first 7F is answered by 79, and no 1F by which the byte is refused comes first
+    "garbles each third byte": Kind(of(Garbling), "undo", STRANGE, (WRONG,), (NOISE,), (GONE,), (None,), wait=LONG_WAIT),
 }

@@ -124,14 +124,15 @@ class GivingUp(Served):
         self.assertLess(seconds, 4.6)
 
     def test_a_reply_to_7f_may_be_as_late_as_is_said(self):
-        """Also where the silence before it was longer than `--give-up`, as behind a greeting that a reset followed."""
-        for number, greeting in enumerate((b"", b"connect!\n")):
+        """Also where the silence before it was longer than `--give-up`, as behind a greeting that a reset followed. Of a greeting
+        itself the batch behind it is refused, and three whole waits follow, in which the board isn't given up."""
+        for number, (greeting, give_up) in enumerate(((b"", "4"), (b"connect!\n", "2"))):
             with self.subTest(greeting):
                 self.store_all({"flash": ZEROS, "flash.line": b"fresh\n",
                                 "journal": with_page(b"stmjournal 2 0412\nopen 1\npage 5 ", b"0", b"\nerase 5\n" + greeting)})
                 self.serve(1)
                 self.relay(lambda came: 0.5 if came == b"\x7f" else 0, f"slow{number}")
-                said = self.use("undo", "--wait", "900", "--give-up", "2", device=f"slow{number}")
+                said = self.use("undo", "--wait", "900", "--give-up", give_up, device=f"slow{number}")
                 self.assertTold(said, "undone 1\n")
                 self.assertServed()
 

@@ -147,7 +147,7 @@ class Hostile(Place):
             return
         self.assertEqual((came.said.status, came.said.out), (1, b""))
         told = [f"stmflash: {fault}\n" + (f"hint: {hint}\n" if hint else "")
-                for fault in kind.faults_at(command) for hint in kind.hints]
+                for fault in kind.faults_at(command) for hint in kind.hints_at(command)]
         self.assertIn(came.said.err.decode(), told)
 
     def assertDone(self, command, came):
