@@ -8,6 +8,7 @@ import typing
 
 from place import PATIENCE, files, served
 from served import Served, relay
+from test_protected import write_to
 
 # chips of four pages, erased by numbers of one byte and of two
 TABLE = b"".join(b'[[chip]]\nid = 0x%s\nbase = 0x08000000\npages = [[4, 256]]\nerase = "%s"\n' % kind
@@ -26,21 +27,6 @@ LATE = ("--wait", "300", "--give-up", "5")
 AT_ONCE = 12
 
 
-def check_of(data):
-    """The exclusive-or of these bytes."""
-    sum_of = 0
-    for one in data:
-        sum_of ^= one
-    return bytes([sum_of])
-
-
-def write_frame():
-    """The bytes of a Write Memory of page 3."""
-    address = (0x08000000 + PAGE * SIZE).to_bytes(4, "big")
-    block = bytes([SIZE - 1]) + DATA
-    return b"\x31\xce" + address + check_of(address) + block + check_of(block)
-
-
 class Stop(typing.NamedTuple):
     """A session that was stopped behind so many bytes of a frame: at a chip of this id, in an erase or in a write."""
 
@@ -49,7 +35,7 @@ class Stop(typing.NamedTuple):
     count: int
 
     def frame(self):
-        return ERASES[self.chip] if self.command == "erase" else write_frame()
+        return ERASES[self.chip] if self.command == "erase" else write_to(PAGE * SIZE, DATA)
 
     def journal(self):
         intents = b"erase 3\n" if self.command == "erase" else b"erase 3\nprogram 3\n"
