@@ -18,7 +18,7 @@ SIZES = [1024] * 32
 IMAGE = bytes(range(256)) * 12
 AT = BASE + 4 * 1024
 # what is told of page 5, by its number and by its address
-THEN = "If so: reset, protect write-unprotect --in-session --fresh, undo 1 --fresh"
+THEN = "If so: reset, protect write-unprotect --in-session --fresh, undo 1"
 NOT_ERASED = f"page 5: the device refused to erase it: is it write-protected? {THEN}"
 NOT_WRITTEN = f"address {AT + 1024:08X}: the device refused to write it: is its page write-protected? {THEN}"
 

@@ -22,7 +22,7 @@ AGAIN = [*BEFORE, UNIQUE_AT]
 INFO = "id 0410\nbase 08000000\npages %d\nsize %d\nerase 43\nerased FF\nversion 22\ncodes 00 01 02 11 21 31 43 73 82 92\n"
 INSIDE = INFO.replace(" 01", "")
 ANOTHER = "journal is of another board"
-OPEN_HINT = "to undo what a write-protected page refuses: reset, protect write-unprotect --in-session --fresh, undo 1 --fresh"
+OPEN_HINT = "to undo what a write-protected page refuses: reset, protect write-unprotect --in-session --fresh, undo 1"
 CHANGED = "another board answers than at first"
 
 
@@ -224,53 +224,28 @@ class Board(telling.Told):
         self.assertTold(self.at(HERE, "undo"), "undone 1\n")
         self.assertFile("flash", COUNTING)
 
-    def test_a_fresh_board_is_asked_and_then_goes_on(self):
+    def test_a_fresh_board_is_greeted_whatever_the_journal_says(self):
+        """By a word alone: else the board of another 7F, which the journal tells of, is settled by the byte."""
         self.break_off()
-        self.store("flash.line", b"fresh\n")
-        self.assertTold(self.at(HERE, "undo", "--fresh"), "undone 1\n")
-        self.assertEqual(self.asked(), AGAIN)
-        # one 7F alone, for which nothing else is sent
-        self.assertTrue(self.stands[0].sent.startswith(b"\x7f" + ASKED), self.stands[0].sent[:20])
-        self.assertFile("flash", COUNTING)
+        journal = self.held("journal") + b"connect!\n"
+        for words, first in (((), b"\x02\x02"), (("--fresh",), b"\x7f\x02")):
+            with self.subTest(words=words):
+                self.store_all({"flash.line": b"fresh\n", "journal": journal})
+                self.assertTold(self.at(HERE, "undo", *words), "undone 1\n")
+                self.assertEqual(self.asked(), AGAIN)
+                self.assertTrue(self.stands[0].sent.startswith(first), self.stands[0].sent[:20])
+                self.assertFile("flash", COUNTING)
 
-    def test_a_fresh_board_is_connected_by_the_first_question_alone(self):
-        """Whatever is to be done: one 7F and the question, and then the session settles. Without the word the question settles too,
-        with 7F until one is refused."""
+    def test_nothing_but_an_undo_goes_by_the_word_that_a_board_is_fresh(self):
+        """7F is sent until one is refused, whatever the board is."""
         uses = (("info",), ("read", "out"), ("crc",), ("verify", "flash"), ("write", "image"), ("erase", "3"), ("undo",))
         for words in (("info",), *((*words, "--fresh") for words in uses)):
             with self.subTest(words=words):
                 self.store("flash.line", b"fresh\n")
                 self.assertEqual(self.at(HERE, *words).status, 0)
-                first = b"\x7f" if "--fresh" in words else b"\x7f\x7f\x7f"
                 stand, = self.stands
-                self.assertEqual(stand.sent[:len(first) + 10], first + ASKED + b"\x7f\x7f" + ASKED)
+                self.assertEqual(stand.sent[:13], b"\x7f\x7f\x7f" + ASKED + b"\x7f\x7f" + ASKED)
         self.assertFile("flash", COUNTING)
-
-    def test_a_fresh_board_is_connected_by_the_question_before_it_leaves(self):
-        """Go and the protections are no other: their journal names a board."""
-        for words in self.leaving("--fresh"):
-            with self.subTest(words=words):
-                self.store_all({"flash": COUNTING, "flash.line": b"fresh\n", "journal": HEAD})
-                self.assertLeft(self.at(HERE, *words))
-                self.assertTrue(self.stands[0].sent.startswith(b"\x7f" + ASKED + b"\x7f\x7f"), self.stands[0].sent[:20])
-
-    def test_a_board_that_is_not_fresh_is_sent_one_byte(self):
-        """It says nothing to 7F, for which it waits for another byte: that ends the call."""
-        for words in (("info",), ("read", "out"), ("write", "image")):
-            with self.subTest(words=words):
-                self.store("flash.line", b"idle\n")
-                self.assertFault(self.at(HERE, *words, "--fresh", "--give-up", "1"), "no answer from the device", hint=SILENT)
-                self.assertEqual((self.asked(), self.stands[0].sent), ([], b"\x7f"))
-                self.assertFiles({"flash.line": b"rest 7F\n", "journal": None})
-                self.assertEqual(self.at(HERE, "info").status, 0)
-
-    def test_a_fresh_board_that_is_not_asked_is_settled(self):
-        """The word is about the question, but for an undo: that one connects it."""
-        for words in (("info",), ("read", "out"), ("write", "image")):
-            with self.subTest(words=words):
-                self.store("flash.line", b"fresh\n")
-                self.assertEqual(self.at(HERE, *words, "--fresh", "--no-board").status, 0)
-                self.assertTrue(self.stands[0].sent.startswith(b"\x7f\x7f\x7f" + ASKED), self.stands[0].sent[:20])
 
     def test_a_fresh_board_is_so_for_the_first_attempt_alone(self):
         """The undo of a write that is broken off greets, and asks by settling, and so does the write behind it."""
@@ -278,7 +253,7 @@ class Board(telling.Told):
         self.assertEqual(self.at(HERE, "write", "--fresh", "--again", "1", "image", cuts=(True, False, False)).status, 0)
         self.assertEqual(self.asked(), 3 * AGAIN)
         first, undo, second = (stand.sent for stand in self.stands)
-        self.assertTrue(first.startswith(b"\x7f" + ASKED), first[:20])
+        self.assertTrue(first.startswith(b"\x7f\x7f\x7f" + ASKED), first[:20])
         self.assertTrue(undo.startswith(b"\x7f\x02\x02"), undo[:20])
         self.assertTrue(second.startswith(b"\x7f\x7f" + ASKED), second[:20])
         self.assertEqual(self.held("flash")[:9], b"an image" + COUNTING[8:9])

@@ -128,7 +128,8 @@ class Completions(Place):
 
     def test_bash_offers_files_with_blanks(self):
         self.store("an image.hex", b"")
-        self.assertEqual(self.bash("stmflash", "write", "--table", "table", "an"), {"an image.hex"})
+        for words in (("write", "--table", "table"), ("write", "--table"), ("write", "--keep-to"), ("info", "--journals"), ("sim", "--flash"), ("sim", "--socket")):
+            self.assertEqual(self.bash("stmflash", *words, "an"), {"an image.hex"}, words)
         self.assertEqual(self.bash("stmflash", "info", "--device", "si"), {"sim:"})
 
     def test_bash_offers_what_the_line_takes(self):
@@ -136,6 +137,13 @@ class Completions(Place):
         self.assertEqual(self.bash("stmflash-line", "-", function="_stmflash_line") - {"--"}, taken)
         offered = self.bash("stmflash-line", "/dev/ttyUSB0", "--", "stmflash", "ver", function="_stmflash_line")
         self.assertEqual(offered, {"verify"})
+        self.assertEqual(self.bash("stmflash-line", "/dev/ttyUSB0", "--", "stmflash-trial", "--sp", function="_stmflash_line"), {"--speeds"})
+
+    def test_all_offer_the_same_ports(self):
+        kinds = set(re.search(r"tty\(([A-Z|]+)\)", text_in(FOLDER, "stmflash.bash"))[1].split("|"))
+        for name in ("_stmflash", "stmflash-line.fish", "stmflash-trial.fish"):
+            found = re.findall(r"/dev/tty(?:\(([A-Z|]+)\)|([A-Z]+))\*", text_in(FOLDER, name))
+            self.assertEqual({kind for one, other in found for kind in (one or other).split("|")}, kinds, name)
 
     def test_all_offer_what_the_trial_takes(self):
         """And its manual page has it."""

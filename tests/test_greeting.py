@@ -6,7 +6,7 @@ import socket
 import threading
 import typing
 
-from place import PATIENCE, files, served
+from place import PATIENCE, SILENT, files, served
 from served import Served, relay
 from test_protected import write_to
 
@@ -18,6 +18,7 @@ FLASH = bytes(i % 251 for i in range(1024))
 PAGE, SIZE = 3, 256
 BEGUN = b"stmjournal 2 %s\nopen 1\npage 3 " + FLASH[PAGE * SIZE:].hex().upper().encode() + b"\n"
 GREETING = b"connect!\n"
+SILENCE = b"silent!\n"
 # the frames that an erase and a write of page 3 send, and the line of the journal before each
 ERASES = {NARROW: bytes.fromhex("43bc000303"), WIDE: bytes.fromhex("44bb0000000303")}
 DATA = bytes(range(1, 256)) + b"\x02"
@@ -93,9 +94,9 @@ class Greeting(Served):
         flash, line = stop.stands()
         self.store_all({f"{room}/flash": flash, f"{room}/flash.line": b"fresh\n" if is_reset else line, f"{room}/journal": stop.journal()})
 
-    def undo(self, room, chip, *words, cut=None, is_deaf=False):
+    def undo(self, room, chip, *words, cut=None, is_deaf=False, is_away=False):
         """What an undo says, and the bytes that it sent, at a board whose line ends behind so many of them; one that is deaf hears
-        nothing behind a first byte that isn't 7F."""
+        nothing behind a first byte that isn't 7F, and one that is away nothing at all."""
         board = self.start(*served(chip), "--clients", "1", cwd=self.path(room))
         sent = []
 
@@ -105,7 +106,7 @@ class Greeting(Served):
                 line.settimeout(PATIENCE)
                 first = line.recv(1, socket.MSG_PEEK)
                 with self.reach(f"{room}/board", board) as at:
-                    if is_deaf and first[:1] != b"\x7f":
+                    if is_away or is_deaf and first[:1] != b"\x7f":
                         at.close()
                         while came := line.recv(4096):
                             sent.append(came)
@@ -153,6 +154,35 @@ class Greeting(Served):
         few = [*stops(NARROW, "erase", (0, 2, 5)), *stops(WIDE, "erase", (2, 3)), *stops(NARROW, "write", (2, 100)), *stops(WIDE, "write", (7,))]
         self.each(((stop, True, True) for stop in few), self.greeted)
 
+    def silent_then_reset(self, room, stop, words):
+        """An undo while the board is away, and one behind its reset."""
+        self.begin(room, stop, False)
+        said, sent = self.undo(room, stop.chip, *SPEED, is_away=True)
+        self.assertFault(said, "no answer from the device", hint=SILENT)
+        self.assertEqual(sent[:1], b"\x7f")
+        journal = stop.journal() + GREETING + SILENCE
+        self.assertFile(f"{room}/journal", journal)
+        self.store(f"{room}/flash.line", b"fresh\n")
+        said, sent = self.undo(room, stop.chip, *SPEED, *words, is_deaf=True)
+        self.assertTold(said, "undone 1\n")
+        self.assertEqual(sent[:1], b"\x7f")
+        self.assertFile(f"{room}/flash", FLASH)
+        self.assertEqual(self.held(f"{room}/journal")[:len(journal + GREETING)], journal + GREETING)
+
+    def test_a_board_that_was_away_and_then_reset(self):
+        """An undo that heard nothing to its end says so, and the next one greets again; also where the board is deaf."""
+        few = (*stops(NARROW, "erase", (0, 2)), *stops(NARROW, "write", (7,)), *stops(WIDE, "write", (7,)))
+        self.each(((stop, words) for stop in few for words in ((), ("--fresh",))), self.silent_then_reset)
+
+    def test_a_line_that_is_cut_is_no_silence(self):
+        """The board may be there, in the midst of a frame: the journal says nothing more, and no second 7F comes."""
+        stop = Stop(NARROW, "erase", 2)
+        room = self.room(0)
+        self.begin(room, stop, False)
+        _, sent = self.undo(room, stop.chip, *SPEED, cut=1)
+        self.assertEqual(sent[:1], b"\x7f")
+        self.assertFile(f"{room}/journal", stop.journal() + GREETING)
+
     def stopped_twice(self, room, stop, is_reset, cuts):
         """An undo that is stopped twice, with resets or without, and then one that isn't."""
         self.begin(room, stop, is_reset)
@@ -199,6 +229,18 @@ class Greeting(Served):
 
         for number, stop in enumerate((Stop(WIDE, "write", 7), Stop(NARROW, "erase", 2))):
             does(self.room(f"more{number}"), stop)
+
+    def test_an_erase_of_page_128(self):
+        """Its byte is 80, behind which 7F may be a command's second byte: it isn't greeted."""
+        flash, room = bytes(i % 251 for i in range(130 * SIZE)), self.room(0)
+        table = b'[[chip]]\nid = 0xA03\nbase = 0x08000000\npages = [[130, 256]]\nerase = "page"\n'
+        journal = b"stmjournal 2 0A03\nopen 1\npage 128 " + flash[128 * SIZE:129 * SIZE].hex().upper().encode() + b"\nerase 128\n"
+        self.store_all({f"{room}/table": table, f"{room}/flash": flash, f"{room}/flash.line": b"rest 43BC\n", f"{room}/journal": journal})
+        said, sent = self.undo(room, "0A03", *SPEED)
+        self.assertTold(said, "undone 1\n")
+        self.assertEqual(sent[:1], b"\x80")
+        self.assertFile(f"{room}/flash", flash)
+        self.assertNotIn(GREETING, self.held(f"{room}/journal"))
 
     def test_a_simulator_in_the_process(self):
         """It takes no step more than before, and no line."""

@@ -37,7 +37,7 @@ COMMANDS = {
     "undo": ("undo",),
 }
 # the lines that a session adds to a journal of page 5
-LINES = (b"stmjournal 2 0412", b"open 1", PAGE, b"connect!", b"erase 5", b"program 5", b"end 1", b"undone 1")
+LINES = (b"stmjournal 2 0412", b"open 1", PAGE, b"connect!", b"silent!", b"erase 5", b"program 5", b"end 1", b"undone 1")
 
 
 class Came(typing.NamedTuple):

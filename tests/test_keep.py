@@ -245,6 +245,12 @@ class KeepLast(Place):
                 self.assertTold(self.keep("--last", "1"), "kept 1\n1 can be undone\n")
                 self.assertFile("journal", head + b"open 1\nend 1\n")
 
+    def test_one_that_names_its_board_still_does(self):
+        head = b"stmjournal 3 0412 " + b"A1" * 12 + b"\n"
+        self.store("journal", head + b"open 1\nend 1\nopen 2\nend 2\n")
+        self.assertTold(self.keep("--last", "1"), "kept 1\n1 can be undone\n")
+        self.assertFile("journal", head + b"open 1\nend 1\n")
+
     def test_a_journal_of_nothing(self):
         """Of no line, of a header alone, and of what was taken off."""
         for text, cut in ((b"", b""), (b"!\n", b""), (b"stmjournal 2 0412\n", b"stmjournal 2 0412\n"),

@@ -166,7 +166,7 @@ class Journals(Unnamed):
 
 class Tables(Unnamed):
     def test_the_one_that_is_installed_beside_it(self):
-        """Under any PREFIX; but not where stmflash finds one by itself, as the user's own."""
+        """Under any PREFIX; but not where a variable names one, or stmflash finds one by itself, as the user's own."""
         self.telling()
         shutil.copytree(os.path.join(TOP, "line", "stmflash_line"), self.path("share/stmflash/stmflash_line"))
         shutil.copy(LINE, self.path("bin/stmflash-line"))
@@ -175,8 +175,11 @@ class Tables(Unnamed):
         del settings["STMFLASH_TABLE"]
         self.assertIn(BOARD.encode(), self.line("ttyUSB0", line=("bin/stmflash-line",), **settings).out)
         os.makedirs(self.path(".config/stmflash"))
-        self.store(".config/stmflash/chips.toml", b"[[chip]]\n")
+        own = ".config/stmflash/chips.toml"
+        self.store(own, b"[[chip]]\n")
         self.assertIn(b"table: chip 1: missing", self.line("ttyUSB0", line=("bin/stmflash-line",), **settings).err)
+        os.rename(self.path(own), self.path("named"))
+        self.assertIn(b"table: chip 1: missing", self.line("ttyUSB0", line=("bin/stmflash-line",), **settings, STMFLASH_TABLE=self.path("named")).err)
 
 
 class Stopped(Unnamed):
@@ -201,11 +204,13 @@ class Stopped(Unnamed):
         said = self.short("ttyUSB0", "undo", "1")
         self.assertEqual((said.status, said.err.decode().splitlines()[1]), (1, "stmflash: journal is of another board"))
         self.assertEqual(board.store(), COUNTING)
-        board.stop()
-        self.remove("ttyUSB0.flash.line")
-        self.board()
-        said = self.short("ttyUSB0", "write", "--fresh", "fw.bin")
-        self.assertEqual(said.status, 0, said)
+        for words, settings in ((("--fresh",), {}), ((), {"STMFLASH_FRESH": "1"})):
+            with self.subTest(words=words):
+                board.stop()
+                self.clear("ttyUSB0.flash.line")
+                board = self.board()
+                said = self.short("ttyUSB0", "write", *words, "fw.bin", **settings)
+                self.assertEqual(said.status, 0, said)
         self.assertTrue(os.path.exists(self.journal("B2")))
 
     def test_what_goes_on_in_its_session_asks_nothing(self):
@@ -214,7 +219,7 @@ class Stopped(Unnamed):
         board = self.telling()
         said = self.short("ttyUSB0", "protect", "write-unprotect", "--in-session", "--fresh")
         self.assertEqual((said.status, said.err.decode().splitlines()), (0, [
-            self.told(self.journal(), self.REST)[:-1], "hint: the board resets itself; now: undo 1 --fresh"]))
+            self.told(self.journal(), self.REST)[:-1], "hint: the board resets itself; now: undo 1"]))
         self.assertEqual(board.store(), COUNTING)
 
     def test_the_ports_own_goes_before_others(self):

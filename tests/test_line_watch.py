@@ -270,6 +270,13 @@ class Boards(WatchedPlace):
         text = b"stmflash-line: ttyUSB0: watched: nothing, since no chip of the table has told its codes and id\n"
         self.assertEqual((said.status, said.err), (0, text))
 
+    def test_two_sessions_on_one_line(self):
+        """What each of them was told is counted by itself."""
+        self.board(chip="0440")
+        said = self.line("ttyUSB0", "--watch", "--", "sh", "-c", '"$@" && "$@"', "sh", *self.stmflash("crc"), STMFLASH_TABLE=self.path("table"))
+        counts = re.findall(rb"watched: ([0-9]+) bytes", said.err)
+        self.assertEqual((said.status, counts), (0, 2 * counts[:1]), said.err)
+
     def test_a_board_that_tells_which_it_is(self):
         """It is asked before the session, and once more in it; what comes behind is watched too."""
         self.store("table", TABLE + b"unique = [0x1FFFF7AC, 12]\nsize_at = 0x1FFFF7CC\n")

@@ -5,8 +5,10 @@ import fcntl
 import os
 
 import syncs
+import telling
 from place import COUNTING, WAIT, Said, files, new, served
 from served import Served, relay
+from test_crashed import LEFT, WRITTEN
 
 # how many times two programs are started together, without a journal and with one; 100 are run by hand
 ROUNDS = int(os.environ.get("ROUNDS", "2"))
@@ -157,7 +159,7 @@ class Locks(Served):
             with self.subTest(text=text):
                 self.store_all({"flash": COUNTING, "journal": b""})
                 for name, words in (("journal", self.words_on("info")), ("journal", ("keep", "--journal", "journal")),
-                                    ("journal", self.words_on("erase", "5")),
+                                    ("journal", ("keep", "--journal", "journal", "--last", "1")), ("journal", self.words_on("erase", "5")),
                                     ("flash", served(at="s"))):
                     said, _ = self.hold(words, fails=0, **how)
                     self.assertFault(said, f"cannot lock {name}: {text}; --no-lock if no other program has it")
@@ -187,6 +189,22 @@ class Locks(Served):
                 for more, env in (((), {"STMFLASH_NO_LOCK": text}), (("--no-lock",) if status == 0 else (), {})):
                     said, _ = self.hold((*served(at="none/s"), *more), env=env, **how)
                     self.assertEqual(b"cannot lock flash" in said.err, status == 1, said.err)
+
+    def test_the_word_counts_wherever_a_file_is_opened(self):
+        """Over a socket, where a journal is cut before its undo, and where a board is asked for its journal."""
+        how = {"held": syncs.FLOCK, "error": errno.ENOLCK, "fails": range(100)}
+        self.store("flash", COUNTING)
+        self.serve(1)
+        said, _ = self.hold(("erase", *files("board"), "--wait", WAIT, "--no-lock", "5"), **how)
+        self.assertTold(said, "segment 1: 1 pages erased\n")
+        self.assertServed()
+        self.store_all({"flash": WRITTEN, "flash.line": b"idle\n", "journal": LEFT})
+        said, _ = self.hold(self.words_on("undo", "--recover", "--no-lock"), **how)
+        self.assertEqual((said.status, said.out), (0, b"undone 2\n"))
+        os.mkdir(self.path("journals"))
+        self.store_all({"table": telling.TABLE, "one": bytes(131072), "one.board": b"unique 2B0035000A51363034393332\n"})
+        said, _ = self.hold(("crc", "--table", "table", "--device", "sim:0410:one", "--journals", "journals", "--no-lock"), **how)
+        self.assertEqual((said.status, said.err), (0, b""))
 
     def test_without_a_lock_another_program_is_still_seen(self):
         """Where there are locks, `--no-lock` is no leave to use what another has."""
@@ -236,6 +254,12 @@ class Locks(Served):
                 self.remove("journal")
         self.assertServed()
         self.assertFile("flash", COUNTING)
+
+    def test_a_flash_made_meanwhile_is_not_used(self):
+        """The simulator's file isn't there when the program begins, and is when it would make it."""
+        said, _ = self.hold(self.words_on("info"), held=syncs.LINK, at=lambda number, _: self.store("flash", COUNTING))
+        self.assertFault(said, "simulator file is in use")
+        self.assertHolds(COUNTING, None)
 
     def words(self, words, device):
         name, *rest = words

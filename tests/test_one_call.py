@@ -80,7 +80,8 @@ class OneCall(Place):
         self.assertFile("flash", b"\xff" * SIZE)
 
     def test_go_wants_a_journal_that_is_kept(self):
-        self.assertFault(self.write(*GO), "usage: --go needs --keep or --keep-to", 2)
+        for again in ((), ("--again", "2")):
+            self.assertFault(self.write(*GO, *again), "usage: --go needs --keep or --keep-to", 2)
         self.assertFiles({"flash": None, "journal": None})
 
     def test_a_name_that_is_there(self):

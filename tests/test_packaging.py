@@ -115,31 +115,50 @@ class Packaging(unittest.TestCase):
         for part in ('ENV{ID_MM_PORT_IGNORE}="1"', 'TAG+="uaccess"', 'ATTR{device/latency_timer}="1"'):
             self.assertIn(part, done)
 
+    def packed(self, *words):
+        """What a script packs, whoever calls it: the fields of its control file, and the folder of its files. Each has its sum, and may be read by all."""
+        self.needs(**{"dpkg-deb": "dpkg-dev"})
+        held = tempfile.TemporaryDirectory()
+        self.addCleanup(held.cleanup)
+        room = held.name
+        made = subprocess.run([os.path.join(TOP, "packaging", words[0]), *words[1:], room], capture_output=True, text=True, timeout=PATIENCE,
+                              check=True, umask=0o077).stdout.strip()
+        subprocess.run(["dpkg-deb", "--raw-extract", made, f"{room}/tree"], check=True)
+        with open(f"{room}/tree/DEBIAN/control", encoding="utf-8") as file:
+            fields = dict(line.rstrip("\n").split(": ", 1) for line in file if re.match(r"[\w-]+: ", line))
+        with open(f"{room}/tree/DEBIAN/md5sums", encoding="utf-8") as file:
+            sums = [tuple(line.rstrip("\n").split("  ", 1)) for line in file]
+        paths = sorted(glob.glob("usr/**", root_dir=f"{room}/tree", recursive=True))
+        modes = {path: os.lstat(f"{room}/tree/{path}").st_mode for path in paths}
+        self.assertEqual(sums, [(sum_of(f"{room}/tree/{path}"), path) for path in paths if stat.S_ISREG(modes[path])])
+        self.assertEqual([path for path, mode in modes.items() if not mode & 0o004], [])
+        packed = glob.glob(f"{room}/tree/usr/share/**/*.gz", recursive=True)
+        self.assertGreater(len(packed), 2)
+        for path in packed:
+            with open(path, "rb") as file:
+                # no flag that a name stands there, and no time
+                self.assertEqual(file.read(8)[3:], bytes(5), path)
+        return fields, f"{room}/tree"
+
     def test_what_is_in_a_package(self):
         """No time, no order of a language and no compiler's name, so that it is the same each time; and it can't stand beside a proved one."""
         if not is_unproved():
             return
-        self.needs(strip="binutils", **{"dpkg-deb": "dpkg-dev"})
-        with tempfile.TemporaryDirectory() as room:
-            words = [os.path.join(TOP, "packaging", "deb"), "--unproved", program().removesuffix("-under-qemu"), room]
-            made = subprocess.run(words, capture_output=True, text=True, timeout=PATIENCE, check=True).stdout.strip()
-            subprocess.run(["dpkg-deb", "--raw-extract", made, f"{room}/tree"], check=True)
-            with open(f"{room}/tree/DEBIAN/control", encoding="utf-8") as file:
-                fields = dict(line.rstrip("\n").split(": ", 1) for line in file if re.match(r"[\w-]+: ", line))
-            self.assertEqual((fields["Package"], fields["Conflicts"], fields["Replaces"]), ("stmflash-unproved", "stmflash", "stmflash"))
-            self.assertEqual(fields["Depends"].split(", ")[-2:], ["python3", "python3-serial"])
-            with open(f"{room}/tree/DEBIAN/md5sums", encoding="utf-8") as file:
-                sums = [tuple(line.rstrip("\n").split("  ", 1)) for line in file]
-            there = sorted(path for path in glob.glob("usr/**", root_dir=f"{room}/tree", recursive=True) if stat.S_ISREG(os.lstat(f"{room}/tree/{path}").st_mode))
-            self.assertEqual(sums, [(sum_of(f"{room}/tree/{path}"), path) for path in there])
-            packed = glob.glob(f"{room}/tree/usr/share/**/*.gz", recursive=True)
-            self.assertGreater(len(packed), 3)
-            for path in packed:
-                with open(path, "rb") as file:
-                    # no flag that a name stands there, and no time
-                    self.assertEqual(file.read(8)[3:], bytes(5), path)
-            with open(f"{room}/tree/usr/bin/stmflash", "rb") as file:
-                self.assertNotIn(b".comment", file.read()[-20000:])
+        self.needs(strip="binutils")
+        fields, tree = self.packed("deb", "--unproved", program().removesuffix("-under-qemu"))
+        self.assertEqual((fields["Package"], fields["Conflicts"], fields["Replaces"]), ("stmflash-unproved", "stmflash", "stmflash"))
+        self.assertEqual(fields["Depends"].split(", ")[-2:], ["python3", "python3-serial"])
+        with open(f"{tree}/usr/bin/stmflash", "rb") as file:
+            self.assertNotIn(b".comment", file.read()[-20000:])
+
+    def test_what_the_package_of_stm32flashs_words_wants(self):
+        """Just the stmflash that it was made beside, whose answers it reads; it stands in the place of Debian's own."""
+        fields, tree = self.packed("deb-as-stm32flash")
+        full = text_in("packaging", "changelog").split("(")[1].split(")")[0]
+        self.assertEqual((fields["Version"], fields["Depends"]), (full, f"python3 (>= 3.11), stmflash (= {full})"))
+        self.assertEqual([fields[name].split(" ")[0] for name in ("Provides", "Conflicts", "Replaces")], 3 * ["stm32flash"])
+        self.assertTrue(os.access(f"{tree}/usr/bin/stm32flash", os.X_OK))
+        self.assertEqual(os.listdir(f"{tree}/usr/share/man/man1"), ["stmflash-as-stm32flash.1.gz"])
 
     def release(self, clone, folder, *programs):
         words = [os.path.join(clone, "packaging", "release"), folder, *programs]

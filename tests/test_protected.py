@@ -12,10 +12,10 @@ PAGE = 1024
 # over the pages 4 to 6
 IMAGE = bytes(range(256)) * 12
 AT = BASE + 4 * PAGE
-THEN = "If so: reset, protect write-unprotect --in-session --fresh, undo 1 --fresh"
+THEN = "If so: reset, protect write-unprotect --in-session --fresh, undo 1"
 NOT_ERASED = f"page 4: the device refused to erase it: is it write-protected? {THEN}"
-NOW_UNDO = "the board resets itself; now: undo 1 --fresh"
-IN_SESSION = "to undo what a write-protected page refuses: reset, protect write-unprotect --in-session --fresh, undo 1 --fresh"
+NOW_UNDO = "the board resets itself; now: undo 1"
+IN_SESSION = "to undo what a write-protected page refuses: reset, protect write-unprotect --in-session --fresh, undo 1"
 WIDE_TABLE = b'[[chip]]\nid = 0x412\nbase = 0x08000000\npages = [[32, 1024]]\nerase = "extended"\n'
 
 

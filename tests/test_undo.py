@@ -119,24 +119,21 @@ class Undo(Place):
         self.assertFile("out", ZEROS[:1024])
 
     def test_undoes_on_a_fresh_device(self):
-        """A device that was reset is connected behind 512 settling bytes, or at once where it is said that it was."""
+        """A simulator in the process that was reset is connected behind 512 settling bytes, whatever is said of it."""
         before = with_page(HEAD, b"0", b"\nerase 5\n")
         mended = before + b"erase 5\nprogram 5\nundone 1\n"
-        for words, steps, connected in ((("--fresh",), 2202, 2), ((), 2717, 517)):
+        for words in ((), ("--fresh",)):
             with self.subTest(words):
                 # settling, Get, Get ID
                 self.lay(before)
-                self.assertFault(self.use("undo", *words, "--stop", str(connected + 22)), "stopped", 3)
+                self.assertFault(self.use("undo", *words, "--stop", "539"), "stopped", 3)
                 self.assertHolds(ERASED, b"idle\n")
                 self.assertFile("journal", before)
                 self.lay(before)
-                self.assertFault(self.use("undo", *words, "--stop", str(steps - 1)), "stopped", 3)
+                self.assertFault(self.use("undo", *words, "--stop", "2716"), "stopped", 3)
                 self.lay(before)
-                self.assertTold(self.use("undo", *words, "--stop", str(steps)), "undone 1\n")
+                self.assertTold(self.use("undo", *words, "--stop", "2717"), "undone 1\n")
                 self.assertFile("journal", mended)
-        self.lay(before)
-        self.assertTold(self.use("undo", "--stop", "2202", variables={"STMFLASH_FRESH": "1"}), "undone 1\n")
-        self.assertFile("journal", mended)
 
     def lay(self, journal):
         """A device fresh from reset, whose flash is erased, and this journal."""
@@ -152,17 +149,5 @@ class Undo(Place):
         self.assertFiles({"flash.line": b"fresh\n", "journal": before})
         self.assertFault(self.use("undo", "--stop", "2579", device=WIDE_CHIP), "stopped", 3)
         self.assertFiles({"flash.line": b"idle\n", "journal": before})
-        self.store("flash.line", b"fresh\n")
-        self.assertTold(self.use("undo", "--fresh", "--stop", "1000", device=WIDE_CHIP), "undone 1\n")
-        self.assertFile("journal", before + b"erase 5\nprogram 5\nundone 1\n")
         self.store_all({"flash.line": b"fresh\n", "journal": before})
         self.assertTold(self.use("undo", device=WIDE_CHIP), "undone 1\n")
-
-    def test_takes_no_other_device_for_fresh(self):
-        """A device that is connected stays quiet at 7F: nothing is sent behind it, and nothing is added."""
-        before = with_page(HEAD, b"0", b"\nerase 5\n")
-        self.store_all({"journal": before, "flash.line": b"idle\n"})
-        self.assertFault(self.use("undo", "--fresh"), "device does not follow the protocol", hint=SILENT)
-        self.assertFiles({"flash.line": b"rest 7F\n", "journal": before})
-        self.assertTold(self.use("undo"), "undone 1\n")
-        self.assertHolds(ERASED[:5 * 1024] + ZEROS[5 * 1024:6 * 1024] + ERASED[6 * 1024:], b"idle\n")

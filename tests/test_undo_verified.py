@@ -91,18 +91,6 @@ class UndoVerified(OnBoard):
                 self.assertFile("flash", COUNTING)
                 self.remove("journal")
 
-    def test_a_fresh_device_is_connected_at_once(self):
-        """It is settled by one 7F, and not by the intent of the journal."""
-        board = self.written(PlantedBoard(0x412, SIZES, 0x43, {}, flash=COUNTING))
-        self.store("journal", self.held("journal").rsplit(b"end 1\n", 1)[0])
-        board.reset()
-        heard = []
-        feed, board.feed = board.feed, lambda byte: heard.append(byte) or feed(byte)
-        self.assertTold(self.on(board, "undo", "-v", "--fresh"), "undone 1, 3072 bytes verified\n")
-        # Get follows the 7F
-        self.assertEqual(bytes(heard[:3]), b"\x7f\x00\xff")
-        self.assertEqual(bytes(board.flash), COUNTING)
-
     def test_a_page_that_holds_other_bytes(self):
         """No segment is undone: a second undo undoes it. Without -v nobody looks."""
         board = self.written(Wavering(0))

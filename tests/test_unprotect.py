@@ -6,8 +6,8 @@ import json
 from place import COUNTING, SILENT, TABLE
 from refusing import AT, DEVICE, IMAGE, NOT_ERASED, NOT_WRITTEN, Guarded, OnBoard
 
-NOW_UNDO = "the board resets itself; now: undo 1 --fresh"
-IN_SESSION = "to undo what a write-protected page refuses: reset, protect write-unprotect --in-session --fresh, undo 1 --fresh"
+NOW_UNDO = "the board resets itself; now: undo 1"
+IN_SESSION = "to undo what a write-protected page refuses: reset, protect write-unprotect --in-session --fresh, undo 1"
 OPEN = "journal is open, refused"
 UNPROTECT = ("protect", "write-unprotect", "--in-session", "--fresh")
 KINDS = ("write-unprotect", "readout-protect", "readout-unprotect")

@@ -165,22 +165,6 @@ class Boards(Watching):
         self.assertWatched(self.simulated("undo", "--fresh", "--watch"), b"undone 1\n", end=f"\nnote: {had(1, left=0)}")
         self.assertFile("flash", COUNTING[:8192])
 
-    def test_a_fresh_board_beside_a_finished_journal(self):
-        """It is connected where it is asked which board it is, and where it is asked who it is alone."""
-        self.store_all({"table": PLANTED_TABLE + PLACES, "flash.board": f"unique {UNIQUE}\nsize 8\n".encode()})
-        for more in ((), ("--no-board",)):
-            for words in (("info",), ("read", "out"), ("erase", "3")):
-                with self.subTest(words=words, more=more):
-                    self.fresh()
-                    settled = self.simulated(*words, *more)
-                    self.assertEqual(settled.status, 0, settled.err)
-                    self.fresh()
-                    self.assertWatched(self.simulated(*words, *more, "--fresh", "--watch"), settled.out)
-                    self.store("flash.line", b"idle\n")
-                    said = self.simulated(*words, *more, "--fresh", "--watch")
-                    told = said.err.decode()
-                    self.assertEqual((said.status, told.startswith(NOTHING + "\nstmflash: device does not follow")), (1, True), told)
-
 
 class Line(Watching):
     """A simulator behind a relay, which garbles a byte of what it sends, or adds one."""
@@ -301,6 +285,13 @@ class Line(Watching):
         sent = [b"".join(data for kind, data in of.events if kind == "put") for of in (relay, more)]
         self.assertEqual(sent[1].replace(b"\x00\xff\x00\xff", b"\x00\xff", 1) == sent[0] or sent[1].count(b"\x00\xff"),
                          sent[0].count(b"\x00\xff") + 1)
+
+    def test_one_that_is_not_to_be_asked_is_not_read(self):
+        """Who it is is heard all the same, by its id."""
+        for words, is_read in (((), True), (("--no-board",), False)):
+            said, relay = self.through("info", "--watch", *words)
+            self.assertEqual(said.status, 0, said.err)
+            self.assertEqual(b"\x11\xee" in b"".join(data for kind, data in relay.events if kind == "put"), is_read)
 
 
 class Planted(Watching):

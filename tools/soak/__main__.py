@@ -111,9 +111,6 @@ class Story:
     def is_gone(self, name):
         return self.world.files.get(name + ".line") == b"gone\n"
 
-    def is_fresh(self, name):
-        return self.world.files.get(name + ".line", b"fresh\n") == b"fresh\n"
-
     def tell(self, text):
         self.told.append(text)
 
@@ -158,8 +155,8 @@ class Story:
         if use.again == 1000 and self.chips[name].size < self.kind.size:
             # one with all pages of its kind fails each time
             use.again = 3
-        if chance.random() < (0.3 if self.is_fresh(name) else 0.01):
-            use.is_fresh = True
+        # which changes nothing at a simulator in the process
+        use.is_fresh = chance.random() < 0.1
         if image is not None:
             self.write("I", image)
         if chance.random() < 0.4:
@@ -188,7 +185,6 @@ class Story:
         flash = self.flash(use.file)
         text = self.world.files.get("J", b"")
         journal = self.journal()
-        was_fresh = self.is_fresh(use.file)
         (status, out, err), rig = self.world.run(use)
         done = subprocess.run([self.program, *use.words()], cwd=self.room, capture_output=True)
         self.same("exit status", status, done.returncode)
@@ -207,8 +203,8 @@ class Story:
         self.counts["kept"] += kept
         self.counts["gone"] += use.go is not None and self.is_gone(use.file)
         self.counts["again"] += b"again 1 of" in err
-        if use.is_fresh and not was_fresh or use.name == "protect" and status == 3:
-            # it isn't known what 7F does there, nor what the settling of another board's journal
+        if use.name == "protect" and status == 3:
+            # it isn't known what the settling of another board's journal does there
             self.before = None
         self.look_elsewhere(use, status, flash, text, journal)
         # what leads back from here, where the journal was moved: as good as the flash is left alone

@@ -1,6 +1,5 @@
 """The program as docs/INSIDE.md tells it: files in, files, output and an exit status out."""
 
-import copy
 import re
 
 from device import CONNECT, CONNECTED, FRESH, GO, GONE, PROTECTIONS, Device
@@ -72,7 +71,7 @@ class World:
             return None
         if leaves and journal.unique is None and use.board is None:
             return None
-        board = session.ask_board(rig, self.table, use.is_fresh)
+        board = session.ask_board(rig, self.table)
         if use.board is not None and not board.unique:
             raise Fault(NO_BOARD)
         if use.board is not None and not board.unique.hex().endswith(use.board.lower()):
@@ -113,7 +112,7 @@ class World:
             board = self.ask(rig, use)
             table = self.table if board is None else board.table(self.table)
             before = session.load(rig).stack if use.name == "undo" else []
-            lines.append(do(rig, table, use, image, self.files, use.is_fresh and board is None))
+            lines.append(do(rig, table, use, image, self.files))
             self.note = note(use, lines[0], before, "J" in self.files)
             if use.name == "info" and board is not None:
                 lines.append(tell_board(board, session.find(table, board.number)))
@@ -149,9 +148,6 @@ class World:
         before, _ = self.standing()
         err = b""
         lines, fault, rig = self.once(use, image)
-        # behind the first contact it isn't fresh any more
-        later = copy.copy(use)
-        later.is_fresh = False
         for turn in range(use.again):
             if lines or not isinstance(fault, WireFault):
                 break
@@ -165,7 +161,7 @@ class World:
                 back = b"undone" if stays is None else b"not undone: " + text(stays)
             err += b"again %d of %d: %s; %s\n" % (turn + 1, use.again, why, back)
             if stays is None:
-                lines, fault, _ = self.once(later, image)
+                lines, fault, _ = self.once(use, image)
             else:
                 fault = stays
         if fault is not None and not lines:
@@ -335,7 +331,7 @@ def tell_tried(real, simulated):
     return b"tried on %s board%s\n" % (b"%d" % real if real else b"no", b"s" if real > 1 else b"" if real else b" yet")
 
 
-def do(rig, table, use, image, files, is_fresh):
+def do(rig, table, use, image, files):
     """What is printed."""
     if use.name == "info":
         return tell(*session.info(rig, table))
@@ -351,7 +347,7 @@ def do(rig, table, use, image, files, is_fresh):
         (segment, count), = session.run(rig, table, [Erase(pages)])
         return b"segment %d: %d pages erased\n" % (segment, count)
     if use.name == "undo":
-        return b"undone %d\n" % session.undo(rig, table, session.to_change(rig) if use.to_change else use.count or 0, is_fresh)
+        return b"undone %d\n" % session.undo(rig, table, session.to_change(rig) if use.to_change else use.count or 0)
     if use.name == "go":
         session.go(rig, use.address)
     else:

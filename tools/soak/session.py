@@ -76,13 +76,11 @@ class Board:
         return [chip.of_board(self.unique, self.kib) if chip.number == self.number else chip for chip in table]
 
 
-def ask_board(rig, table, is_fresh):
-    """The question before a session, of a device that is settled as the session will, or, where it is said to be fresh, connected."""
+def ask_board(rig, table):
+    """The question before a session, of a device that is settled as the session will."""
     journal = load(rig)
     if journal.is_unfinished():
-        settle_by(rig, journal, find(table, journal.number), is_fresh)
-    elif is_fresh:
-        wire.connect_alone(rig)
+        settle_by(rig, journal, find(table, journal.number))
     else:
         wire.settle(rig, CONNECT)
     wire.get_commands(rig)
@@ -306,13 +304,10 @@ def settling_limit(chip, intent):
     return wire.LIMIT if intent is None else wire.limit_for(settling_byte(intent), intent[0] == "erase" and chip.erase_code() != ERASE)
 
 
-def settle_by(rig, journal, chip, is_fresh):
-    """By the journal's intent, as a device of this chip; one that is said to be fresh from reset is connected."""
+def settle_by(rig, journal, chip):
+    """By the journal's intent, as a device of this chip."""
     intent = journal.intent()
-    if intent is not None and is_fresh:
-        wire.connect_alone(rig)
-    else:
-        wire.settle(rig, settling_byte(intent), settling_limit(chip, intent), in_batches=intent is not None)
+    wire.settle(rig, settling_byte(intent), settling_limit(chip, intent), in_batches=intent is not None)
 
 
 def pages_at_work(journal, page):
@@ -325,7 +320,7 @@ def to_change(rig):
     return next((count for count, segment in enumerate(reversed(load(rig).stack), 1) if segment.kept), 0)
 
 
-def undo(rig, table, count, is_fresh=False):
+def undo(rig, table, count):
     """How many segments were undone: the newest so many, or all where that is 0 or more than there are."""
     journal = load(rig)
     depth = journal.depth()
@@ -334,7 +329,7 @@ def undo(rig, table, count, is_fresh=False):
     chip = find(table, journal.number)
     check_of(journal, chip)
     work = journal.intent()
-    settle_by(rig, journal, chip, is_fresh)
+    settle_by(rig, journal, chip)
     _, codes = wire.get_commands(rig)
     if chip.erase_code() not in codes:
         raise Fault(NO_ERASE)

@@ -162,7 +162,6 @@ PLANTED = {
     "wants_any_board": (without("--board"), right),
     "minds_the_case_of_a_board": (minding_case, right),
     "asks_all_the_same": (without("--no-board"), right),
-    "takes_none_for_fresh": (without("--fresh"), right),
     "tells_no_board": (same, lambda words, out: re.sub(rb"board [0-9A-F]+\n", b"", out)),
 }
 

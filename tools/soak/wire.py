@@ -85,15 +85,6 @@ def connect(rig, byte):
         raise WireFault()
 
 
-def connect_alone(rig):
-    """7F once, for a device that is fresh."""
-    rig.begin("settle")
-    rig.put(CONNECT)
-    if rig.get() != ACK:
-        raise WireFault()
-    drain(rig)
-
-
 def send(rig, frame):
     """A step of a frame: its bytes, and the acknowledgement."""
     for byte in frame:

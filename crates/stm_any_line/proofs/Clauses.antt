@@ -1,5 +1,5 @@
 -- What a run and an undo did, by their clauses.
-use Rattle.std.proofs.Common.{◌≡◌, ◌⊎◌, inl, inr, ℕ, Bool, List, [], ◌∷◌, ◌++◌, length, refl, sym, ◌∙◌, subst}
+use Rattle.std.proofs.Common.{◌≡◌, ◌⊎◌, inl, inr, ℕ, List, [], ◌∷◌, ◌++◌, length, refl, sym, ◌∙◌, subst}
 use Rattle.stm_image.specs.Lay.{lay}
 use Rattle.stm_image.specs.Pairs.{Pairs}
 use Rattle.stm_wire.specs.Call.{Call}
@@ -12,12 +12,12 @@ use Rattle.stm_journal.specs.Newest.{pages_of_segments}
 use Rattle.stm_journal.specs.States.{intent_of}
 use Rattle.stm_session.specs.declared.fault.Fault.{Fault}
 use Rattle.stm_session.specs.Fault.{cause_of}
-use Rattle.stm_session.specs.Fresh.{contact_way, undo_way}
+use Rattle.stm_session.specs.Fresh.{contact_way, settling_way}
 use Rattle.stm_session.specs.Kept.{PutsBackFrom, UndoPutsBack, UndoStopsBack}
 use Rattle.stm_session.specs.Meaning.{CommandData}
 use Rattle.stm_session.specs.Order.{Step, Adds, Sends}
 use Rattle.stm_session.specs.Reaching.{IsConfirmedInPart, ReachesAndStops, ReachesInPart, Session}
-use Rattle.stm_session.specs.RunOrder.{AreBegun, AreDoneSomehow, RunStopsFrom, RunsInOrderFrom}
+use Rattle.stm_session.specs.RunOrder.{AreBegun, AreDoneSomehow, RunStops, RunsInOrder}
 use Rattle.stm_any_line.specs.Segments.{segments_behind, segments_behind_lines, segments_behind_steps}
 use Rattle.stm_any_line.specs.Texts.{IsLoadedAs, lines_of}
 use Rattle.stm_any_line.specs.Calls.{DoesBehind, IsOfIfAny, Made, RunSays, UndoSays}
@@ -55,54 +55,54 @@ same_pages l before tail loaded =
     subst P (sym (steps-lines [] before)) loaded.pages
 
 module _ (lengths : (set : Pairs) (address : ℕ) (bytes : List ℕ) → length (lay set address bytes) ≡ length bytes) where
-  pub run_does : (is_fresh : Bool) (table : List ChipData) (commands : List CommandData) (old new : RigState)
-      (calls : List Call) (before : List Step) (ran : RunsInOrderFrom is_fresh table commands old new)
+  pub run_does : (table : List ChipData) (commands : List CommandData) (old new : RigState)
+      (calls : List Call) (before : List Step) (ran : RunsInOrder table commands old new)
       → Made calls old new → DoesBehind RunSays ran.chip before ran.journal.is_torn calls
-  run_does is_fresh table commands old new calls before ran made =
+  run_does table commands old new calls before ran made =
       let chip = ran.chip in
       let s = ran.journal.state in
-      does_whole RunSays chip ran.journal.is_torn (contact_way is_fresh) before calls
+      does_whole RunSays chip ran.journal.is_torn contact_way before calls
       (AreDoneSomehow commands chip s) old new
       (λ b own p. (
         done_tracks lengths chip commands p.0 s p.1 _ b own p.2,
         done_say chip commands p.0 s p.1 own p.2,
       )) made ran.does
 
-  stopped_run : (is_fresh : Bool) (table : List ChipData) (commands : List CommandData) (old new : RigState)
+  stopped_run : (table : List ChipData) (commands : List CommandData) (old new : RigState)
       (fault : Fault) (calls : List Call) (before : List Step)
       (session : Session table old (λ chip l.
-      ReachesAndStops (contact_way is_fresh) chip.id l.is_torn
+      ReachesAndStops contact_way chip.id l.is_torn
       (IsConfirmedInPart chip (AreBegun fault chip commands l.state)) (cause_of fault) old new))
       → Made calls old new → DoesBehind RunSays session.chip before session.journal.is_torn calls
-  stopped_run is_fresh table commands old new fault calls before session made =
+  stopped_run table commands old new fault calls before session made =
       let chip = session.chip in
       let s = session.journal.state in
-      does_stopped RunSays chip session.journal.is_torn (contact_way is_fresh) before calls
+      does_stopped RunSays chip session.journal.is_torn contact_way before calls
       (AreBegun fault chip commands s) (cause_of fault) old new
       (λ b own p. (
         begun_track lengths fault chip commands s _ b own p,
         begun_say fault chip commands s own p,
       )) made session.does
 
-  pub run_stops_do : (is_fresh : Bool) (table : List ChipData) (commands : List CommandData) (old new : RigState)
+  pub run_stops_do : (table : List ChipData) (commands : List CommandData) (old new : RigState)
       (fault : Fault) (calls : List Call) (before : List Step) (chip : ChipData) (l : Loaded)
-      (stop : RunStopsFrom is_fresh table commands old new fault) → IsOfIfAny chip l stop
+      (stop : RunStops table commands old new fault) → IsOfIfAny chip l stop
       → Made calls old new → DoesBehind RunSays chip before l.is_torn calls
-  run_stops_do is_fresh table commands old new fault calls before chip l (inl unreached) own made =
-      does_unreached RunSays chip l.is_torn (contact_way is_fresh) before calls (cause_of fault) old new made
+  run_stops_do table commands old new fault calls before chip l (inl unreached) own made =
+      does_unreached RunSays chip l.is_torn contact_way before calls (cause_of fault) old new made
       (unreached l.is_torn)
-  run_stops_do is_fresh table commands old new fault calls before chip l (inr session) own made =
+  run_stops_do table commands old new fault calls before chip l (inr session) own made =
       does_as RunSays session.chip chip session.journal l before calls own.0 own.1
-      (stopped_run is_fresh table commands old new fault calls before session made)
+      (stopped_run table commands old new fault calls before session made)
 
-pub undo_does : (is_fresh : Bool) (table : List ChipData) (old new : RigState) (calls : List Call)
-    (before : List Step) (tail : List ℕ) (undid : UndoPutsBack is_fresh table old new)
+pub undo_does : (table : List ChipData) (old new : RigState) (calls : List Call)
+    (before : List Step) (tail : List ℕ) (undid : UndoPutsBack table old new)
     → IsLoadedAs undid.journal (lines_of before) tail → Made calls old new
     → DoesBehind UndoSays undid.chip before undid.journal.is_torn calls
-undo_does is_fresh table old new calls before tail undid loaded made =
+undo_does table old new calls before tail undid loaded made =
     let chip = undid.chip in
     let s = undid.journal.state in
-    does_whole UndoSays chip undid.journal.is_torn (undo_way is_fresh chip.kind undid.journal.is_greeted (intent_of s)) before calls
+    does_whole UndoSays chip undid.journal.is_torn (settling_way chip.kind undid.journal.is_greeted (intent_of s)) before calls
     (PutsBackFrom chip s) old new
     (λ b own p. (
       puts_track chip (pages_of_segments s.stack) _ b own
@@ -110,19 +110,19 @@ undo_does is_fresh table old new calls before tail undid loaded made =
       puts_say chip (pages_of_segments s.stack) own p,
     )) made undid.does
 
-stopped_undo : (is_fresh : Bool) (chip : ChipData) (l : Loaded) (old new : RigState)
+stopped_undo : (chip : ChipData) (l : Loaded) (old new : RigState)
     (fault : Fault) (calls : List Call) (before : List Step) (tail : List ℕ)
     → IsLoadedAs l (lines_of before) tail → Made calls old new
-    → (let way = undo_way is_fresh chip.kind l.is_greeted (intent_of l.state) in
+    → (let way = settling_way chip.kind l.is_greeted (intent_of l.state) in
     GoesOn (ReachesInPart way (cause_of fault) l.is_torn) old.calls new.calls
     ⊎ ReachesAndStops way chip.id l.is_torn (IsConfirmedInPart chip (PutsBackFrom chip l.state))
     (cause_of fault) old new)
     → DoesBehind UndoSays chip before l.is_torn calls
-stopped_undo is_fresh chip l old new fault calls before tail loaded made (inl unreached) =
-    does_unreached UndoSays chip l.is_torn (undo_way is_fresh chip.kind l.is_greeted (intent_of l.state)) before calls
+stopped_undo chip l old new fault calls before tail loaded made (inl unreached) =
+    does_unreached UndoSays chip l.is_torn (settling_way chip.kind l.is_greeted (intent_of l.state)) before calls
     (cause_of fault) old new made unreached
-stopped_undo is_fresh chip l old new fault calls before tail loaded made (inr stops) =
-    does_stopped UndoSays chip l.is_torn (undo_way is_fresh chip.kind l.is_greeted (intent_of l.state)) before calls
+stopped_undo chip l old new fault calls before tail loaded made (inr stops) =
+    does_stopped UndoSays chip l.is_torn (settling_way chip.kind l.is_greeted (intent_of l.state)) before calls
     (PutsBackFrom chip l.state) (cause_of fault) old new
     (λ b own p. (
       puts_track chip (pages_of_segments l.state.stack) _ b own (same_pages l before tail loaded) p,
@@ -130,14 +130,14 @@ stopped_undo is_fresh chip l old new fault calls before tail loaded made (inr st
     ))
     made stops
 
-pub undo_stops_do : (is_fresh : Bool) (table : List ChipData) (old new : RigState) (fault : Fault)
+pub undo_stops_do : (table : List ChipData) (old new : RigState) (fault : Fault)
     (calls : List Call) (before : List Step) (tail : List ℕ) (chip : ChipData) (l : Loaded)
-    (stop : UndoStopsBack is_fresh table old new fault) → IsOfIfAny chip l stop
+    (stop : UndoStopsBack table old new fault) → IsOfIfAny chip l stop
     → IsLoadedAs l (lines_of before) tail → Made calls old new → DoesBehind UndoSays chip before l.is_torn calls
-undo_stops_do is_fresh table old new fault calls before tail chip l (inl fetched) own loaded made =
+undo_stops_do table old new fault calls before tail chip l (inl fetched) own loaded made =
     does_nothing UndoSays chip l.is_torn before calls old new made fetched
-undo_stops_do is_fresh table old new fault calls before tail chip l (inr session) own loaded made =
+undo_stops_do table old new fault calls before tail chip l (inr session) own loaded made =
     let P : Loaded → Type 0 = λ x. IsLoadedAs x (lines_of before) tail in
     does_as UndoSays session.chip chip session.journal l before calls own.0 own.1
-    (stopped_undo is_fresh session.chip session.journal old new fault calls before tail
+    (stopped_undo session.chip session.journal old new fault calls before tail
     (subst P (sym own.1) loaded) made session.does)

@@ -43,23 +43,23 @@ module _ (lengths : (set : Pairs) (address : ℕ) (bytes : List ℕ) → length 
       (calls : List Call) (deed : Deed R) (before : List Step) (tail : List ℕ)
       → IsLoadedAs l (lines_of before) tail → Happens view chip l calls deed
       → DoesBehind (says_of deed) chip before l.is_torn calls
-  happens_does view chip l calls (ran is_fresh table commands old new) before tail loaded happens =
+  happens_does view chip l calls (ran table commands old new) before tail loaded happens =
       let session = happens.0.0 in
       let own = happens.0.1 in
       does_as RunSays session.chip chip session.journal l before calls own.0 own.1
-      (run_does lengths is_fresh table commands (view old) (view new) calls before session happens.1)
-  happens_does view chip l calls (run_stopped is_fresh table commands old new fault) before tail loaded happens =
-      run_stops_do lengths is_fresh table commands (view old) (view new) fault calls before chip l
+      (run_does lengths table commands (view old) (view new) calls before session happens.1)
+  happens_does view chip l calls (run_stopped table commands old new fault) before tail loaded happens =
+      run_stops_do lengths table commands (view old) (view new) fault calls before chip l
       happens.0.0 happens.0.1 happens.1
-  happens_does view chip l calls (undid is_fresh table old new) before tail loaded happens =
+  happens_does view chip l calls (undid table old new) before tail loaded happens =
       let session = happens.0.0 in
       let own = happens.0.1 in
       let P : Loaded → Type 0 = λ x. IsLoadedAs x (lines_of before) tail in
       does_as UndoSays session.chip chip session.journal l before calls own.0 own.1
-      (undo_does is_fresh table (view old) (view new) calls before tail session
+      (undo_does table (view old) (view new) calls before tail session
       (subst P (sym own.1) loaded) happens.1)
-  happens_does view chip l calls (undo_stopped is_fresh table old new fault) before tail loaded happens =
-      undo_stops_do is_fresh table (view old) (view new) fault calls before tail chip l
+  happens_does view chip l calls (undo_stopped table old new fault) before tail loaded happens =
+      undo_stops_do table (view old) (view new) fault calls before tail chip l
       happens.0.0 happens.0.1 loaded happens.1
 
   all_track : {R : Type 0} (view : R → RigState) (chip : ChipData) (before : List Step)

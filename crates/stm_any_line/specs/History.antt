@@ -9,7 +9,7 @@ use Rattle.stm_session.specs.declared.fault.Fault.{Fault}
 use Rattle.stm_session.specs.Kept.{UndoPutsBack, UndoStopsBack}
 use Rattle.stm_session.specs.Meaning.{CommandData}
 use Rattle.stm_session.specs.Order.{Step, Adds, Sends}
-use Rattle.stm_session.specs.RunOrder.{RunStopsFrom, RunsInOrderFrom}
+use Rattle.stm_session.specs.RunOrder.{RunStops, RunsInOrder}
 use Rattle.stm_any_line.specs.Calls.{AreSteps, DoesBehind, IsOf, IsOfIfAny, Made, RunSays, UndoSays}
 use Rattle.stm_any_line.specs.Texts.{IsJournalText, JournalIsHonest, appended_in, lines_of}
 use Rattle.stm_any_line.specs.Tracks.{Tracks}
@@ -17,36 +17,35 @@ use Rattle.stm_any_line.specs.Tracks.{Tracks}
 -- A call that returned, as its clauses tell it; an undo that finds nothing to undo is one that
 -- was stopped before it did anything.
 pub data Deed (R : Type 0) : Type 0 where
-  ran : (is_fresh : Bool) (table : List ChipData) (commands : List CommandData)
-      (old new : R) → Deed R
-  run_stopped : (is_fresh : Bool) (table : List ChipData) (commands : List CommandData)
+  ran : (table : List ChipData) (commands : List CommandData) (old new : R) → Deed R
+  run_stopped : (table : List ChipData) (commands : List CommandData)
       (old new : R) (fault : Fault) → Deed R
-  undid : (is_fresh : Bool) (table : List ChipData) (old new : R) → Deed R
-  undo_stopped : (is_fresh : Bool) (table : List ChipData) (old new : R) (fault : Fault) → Deed R
+  undid : (table : List ChipData) (old new : R) → Deed R
+  undo_stopped : (table : List ChipData) (old new : R) (fault : Fault) → Deed R
 
 -- it was of this chip, loaded this journal, and made these calls
 abbrev pub Happens : {R : Type 0} → (R → RigState) → ChipData → Loaded → List Call → Deed R → Type 0
-Happens view chip l calls (ran is_fresh table commands old new) =
-    ((session : RunsInOrderFrom is_fresh table commands (view old) (view new))
+Happens view chip l calls (ran table commands old new) =
+    ((session : RunsInOrder table commands (view old) (view new))
     × IsOf chip l session)
     × Made calls (view old) (view new)
-Happens view chip l calls (run_stopped is_fresh table commands old new fault) =
-    ((stop : RunStopsFrom is_fresh table commands (view old) (view new) fault)
+Happens view chip l calls (run_stopped table commands old new fault) =
+    ((stop : RunStops table commands (view old) (view new) fault)
     × IsOfIfAny chip l stop)
     × Made calls (view old) (view new)
-Happens view chip l calls (undid is_fresh table old new) =
-    ((session : UndoPutsBack is_fresh table (view old) (view new)) × IsOf chip l session)
+Happens view chip l calls (undid table old new) =
+    ((session : UndoPutsBack table (view old) (view new)) × IsOf chip l session)
     × Made calls (view old) (view new)
-Happens view chip l calls (undo_stopped is_fresh table old new fault) =
-    ((stop : UndoStopsBack is_fresh table (view old) (view new) fault) × IsOfIfAny chip l stop)
+Happens view chip l calls (undo_stopped table old new fault) =
+    ((stop : UndoStopsBack table (view old) (view new) fault) × IsOfIfAny chip l stop)
     × Made calls (view old) (view new)
 
 -- the lines that it may add
 abbrev pub says_of : {R : Type 0} → Deed R → (Entry → Type 0)
-says_of (ran is_fresh table commands old new) = RunSays
-says_of (run_stopped is_fresh table commands old new fault) = RunSays
-says_of (undid is_fresh table old new) = UndoSays
-says_of (undo_stopped is_fresh table old new fault) = UndoSays
+says_of (ran table commands old new) = RunSays
+says_of (run_stopped table commands old new fault) = RunSays
+says_of (undid table old new) = UndoSays
+says_of (undo_stopped table old new fault) = UndoSays
 
 -- a call, with what it loaded, its calls of the Rig, and the text behind it
 pub record Visit (R : Type 0) : Type 0 where

@@ -2,7 +2,7 @@
 //!
 //! Their premises are clauses of `run` and of `undo`, which hold on any line. A line that garbles
 //! makes at worst a kept page wrong whose reading it garbled: no page is changed that isn't kept.
-ghost use Rattle.std.specs.Prelude.{ℕ, Bool, List};
+ghost use Rattle.std.specs.Prelude.{ℕ, List};
 ghost use Rattle.stm_wire.specs.Call.{Call};
 ghost use Rattle.stm_wire.specs.Chip.{ChipData};
 ghost use Rattle.stm_journal.specs.Journals.{Loaded};
@@ -10,7 +10,7 @@ ghost use Rattle.stm_session.specs.declared.fault.Fault.{Fault};
 ghost use Rattle.stm_session.specs.Kept.{UndoPutsBack, UndoStopsBack};
 ghost use Rattle.stm_session.specs.Meaning.{CommandData};
 ghost use Rattle.stm_session.specs.Order.{Step};
-ghost use Rattle.stm_session.specs.RunOrder.{RunStopsFrom, RunsInOrderFrom};
+ghost use Rattle.stm_session.specs.RunOrder.{RunStops, RunsInOrder};
 ghost use Rattle.stm_any_line.specs.Calls.{DoesBehind, IsOfIfAny, Made, RunSays, UndoSays};
 ghost use Rattle.stm_any_line.specs.History.{HistoriesTrack, TextsGoOn};
 ghost use Rattle.stm_any_line.specs.Remembered.{ChangedIsKept, KeptWasRead};
@@ -25,14 +25,14 @@ use stm_wire::Rig;
 /// is in keeps the page by then. It sends no other frames but those that ask and read, and it takes no
 /// segment off.
 pub fn a_run_keeps_pages_as_they_were_read<R: Rig>()
-    ensures done { (is_fresh : Bool) (table : List ChipData) (commands : List CommandData)
+    ensures done { (table : List ChipData) (commands : List CommandData)
         (old new : R) (calls : List Call) (before : List Step)
-        → (ran : RunsInOrderFrom is_fresh table commands (R.view old) (R.view new))
+        → (ran : RunsInOrder table commands (R.view old) (R.view new))
         → Made calls (R.view old) (R.view new)
         → DoesBehind RunSays ran.chip before ran.journal.is_torn calls }
-    ensures stopped { (is_fresh : Bool) (table : List ChipData) (commands : List CommandData)
+    ensures stopped { (table : List ChipData) (commands : List CommandData)
         (old new : R) (fault : Fault) (calls : List Call) (before : List Step) (chip : ChipData)
-        (l : Loaded) → (stop : RunStopsFrom is_fresh table commands (R.view old) (R.view new) fault)
+        (l : Loaded) → (stop : RunStops table commands (R.view old) (R.view new) fault)
         → IsOfIfAny chip l stop → Made calls (R.view old) (R.view new)
         → DoesBehind RunSays chip before l.is_torn calls }
 {
@@ -44,14 +44,14 @@ pub fn a_run_keeps_pages_as_they_were_read<R: Rig>()
 /// keeps, and it takes a segment off behind all changes of the segment's pages. It keeps nothing
 /// and begins no segment.
 pub fn an_undo_changes_pages_that_the_lines_keep<R: Rig>()
-    ensures done { (is_fresh : Bool) (table : List ChipData) (old new : R) (calls : List Call)
+    ensures done { (table : List ChipData) (old new : R) (calls : List Call)
         (before : List Step) (tail : List ℕ)
-        → (undid : UndoPutsBack is_fresh table (R.view old) (R.view new))
+        → (undid : UndoPutsBack table (R.view old) (R.view new))
         → IsLoadedAs undid.journal (lines_of before) tail → Made calls (R.view old) (R.view new)
         → DoesBehind UndoSays undid.chip before undid.journal.is_torn calls }
-    ensures stopped { (is_fresh : Bool) (table : List ChipData) (old new : R) (fault : Fault)
+    ensures stopped { (table : List ChipData) (old new : R) (fault : Fault)
         (calls : List Call) (before : List Step) (tail : List ℕ) (chip : ChipData) (l : Loaded)
-        → (stop : UndoStopsBack is_fresh table (R.view old) (R.view new) fault)
+        → (stop : UndoStopsBack table (R.view old) (R.view new) fault)
         → IsOfIfAny chip l stop → IsLoadedAs l (lines_of before) tail
         → Made calls (R.view old) (R.view new) → DoesBehind UndoSays chip before l.is_torn calls }
 {}

@@ -196,17 +196,9 @@ module _ {R : Type 0} (view : R → RigState) (laws : Laws view) where
         let event = undid table count old new said in
         let leads : Leads view event (now_of (view old)) (now_of (view new)) = ((at.honest, refl), at.knows, takes.promised, refl) in
         goes-once event at.starts old new at.start leads (λ flash. refl) (laws.follows event at.starts (now_of (view old)) (now_of (view new)) at.start leads).honest
-    does-goes (action.UndoFresh count) old new result at can (said, takes, hands) =
-        let event = undid table count old new said in
-        let leads : Leads view event (now_of (view old)) (now_of (view new)) = ((at.honest, refl), at.knows, takes.promised can.said, refl) in
-        goes-once event at.starts old new at.start leads (λ flash. refl) (laws.follows event at.starts (now_of (view old)) (now_of (view new)) at.start leads).honest
     does-goes (action.UndoVerified count) old new result at can (said, takes, hands) =
         let event = undid table count old new (segments_of said) in
         let leads : Leads view event (now_of (view old)) (now_of (view new)) = ((at.honest, refl), at.knows, takes.promised, refl) in
-        goes-once event at.starts old new at.start leads (λ flash. refl) (laws.follows event at.starts (now_of (view old)) (now_of (view new)) at.start leads).honest
-    does-goes (action.UndoVerifiedFresh count) old new result at can (said, takes, hands) =
-        let event = undid table count old new (segments_of said) in
-        let leads : Leads view event (now_of (view old)) (now_of (view new)) = ((at.honest, refl), at.knows, takes.promised can.said, refl) in
         goes-once event at.starts old new at.start leads (λ flash. refl) (laws.follows event at.starts (now_of (view old)) (now_of (view new)) at.start leads).honest
     does-goes (action.Go address) old new result at can (said, goes, hands) = parts-goes _ _ _ old new said at can.stays goes.parts
     does-goes (action.Protect kind) old new result at can (said, parts, hands) = parts-goes _ _ _ old new said at can.stays parts

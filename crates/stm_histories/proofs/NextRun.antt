@@ -11,7 +11,7 @@ use Rattle.stm_work.specs.declared.action.Action.{Action}
 use Rattle.stm_work.specs.declared.action.Action.TheVariants as action
 use Rattle.stm_work.specs.declared.answer.Answer.{Answer}
 use Rattle.stm_work.specs.declared.failure.Failure.{Failure}
-use Rattle.stm_histories.specs.Histories.{ActionsAreHistories, CanAct, IsHistory, IsSaidRightly, StaysInSession, StoppedActionsAreUndone, StoredCanBegin, StoredGoesOn}
+use Rattle.stm_histories.specs.Histories.{ActionsAreHistories, CanAct, IsHistory, StaysInSession, StoppedActionsAreUndone, StoredCanBegin, StoredGoesOn}
 use Rattle.stm_files.specs.SimulatorFile.{StandsSo, simulator_at}
 use Rattle.stm_files.specs.SimulatorRig.{SimulatorState, simulator_rig_state}
 use Rattle.stm_histories.specs.Unpowered.{DoesOnFiles, IsUndoneUnpowered, Suits}
@@ -67,13 +67,11 @@ module _ (laws : FileLaws) (table : List ChipData) (starts : List (List ℕ)) (d
       let S : World → Type 0 = λ w. IsStart starts w in
       let K : World → Type 0 = λ w. Knows table w in
       let J : World → Type 0 = λ w. StaysInSession does w.journal in
-      let D : World → Type 0 = λ w. IsSaidRightly does w.device in
       record {
         honest = first_honest;
         start = subst S (sym first_world) is;
         knows = subst K (sym first_world) suits.knows;
         stays = subst J (sym first_world) suits.stays;
-        said = subst D (sym first_world) suits.said;
       }
 
   module _ (is : IsStart starts start) (suits : Suits table does start) where

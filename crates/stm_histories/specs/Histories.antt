@@ -8,7 +8,6 @@ use Rattle.stm_wire.specs.Rig.{RigState}
 use Rattle.stm_journal.specs.Journals.{journal_of}
 use Rattle.stm_session.specs.Events.{AllLead, Happening, Knows, Leads, World, end_of, lost_owed}
 use Rattle.stm_session.specs.Events.{lost_power, now_of, was_reset}
-use Rattle.stm_session.specs.Fresh.{IsReset}
 use Rattle.stm_session.specs.Headline.{IsStart, oldest_of, oldest_start}
 use Rattle.stm_session.specs.Moments.{SameMake}
 use Rattle.stm_session.specs.Refusal.{open_refusal}
@@ -46,18 +45,10 @@ StaysInSession (action.Verify content) journal = Unit {0}
 StaysInSession (action.Erase pages) journal = Unit {0}
 StaysInSession action.EraseAll journal = Unit {0}
 StaysInSession (action.Undo count) journal = Unit {0}
-StaysInSession (action.UndoFresh count) journal = Unit {0}
 StaysInSession (action.UndoVerified count) journal = Unit {0}
-StaysInSession (action.UndoVerifiedFresh count) journal = Unit {0}
 StaysInSession (action.Go address) journal = IsPartingRefused journal
 StaysInSession (action.Protect kind) journal = IsPartingRefused journal
 StaysInSession action.UnprotectFresh journal = ⊥
-
--- where the action says that the device is fresh from reset, it is
-abbrev pub IsSaidRightly : Action → Device → Type 0
-IsSaidRightly (action.UndoFresh count) d = IsReset d
-IsSaidRightly (action.UndoVerifiedFresh count) d = IsReset d
-IsSaidRightly does d = Unit {0}
 
 -- an action can be done on this Rig: what was begun before can be undone, and
 -- the table knows the device
@@ -67,7 +58,6 @@ pub record CanAct {R : Type 0} (view : R → RigState) (table : List ChipData)
   pub start : IsStart starts (now_of (view old))
   pub knows : Knows table (now_of (view old))
   pub stays : StaysInSession does (view old).journal
-  pub said : IsSaidRightly does (view old).device
 
 -- Each action is a history.
 abbrev pub ActionsAreHistories : (R : Type 0) → (R → RigState) → Type 0

@@ -13,7 +13,7 @@ use Rattle.stm_work.specs.declared.answer.Answer.{Answer}
 use Rattle.stm_work.specs.declared.failure.Failure.{Failure}
 use Rattle.stm_files.specs.declared.simulator_file.StoredSimulator.{StoredSimulator}
 use Rattle.stm_work.specs.Action.{DoesAction}
-use Rattle.stm_histories.specs.Histories.{IsSaidRightly, StaysInSession}
+use Rattle.stm_histories.specs.Histories.{StaysInSession}
 use Rattle.stm_files.specs.SimulatorFile.{simulator_at}
 use Rattle.stm_files.specs.SimulatorRig.{SimulatorState, simulator_rig_state}
 use Rattle.stm_files.specs.Standing.{standing_phase}
@@ -26,12 +26,10 @@ found stored journal =
       journal = journal;
     }
 
--- the table knows this device; the action stays in the session, and says rightly where the device
--- is fresh from reset
+-- the table knows this device, and the action stays in the session
 pub record Suits (table : List ChipData) (does : Action) (w : World) : Type 0 where
   pub knows : Knows table w
   pub stays : StaysInSession does w.journal
-  pub said : IsSaidRightly does w.device
 
 -- The action is done on the program's own Rig, over this memory, and leaves that one.
 pub record DoesOnFiles (table : List ChipData) (does : Action) (old new : MemoryData)

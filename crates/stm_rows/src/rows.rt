@@ -96,7 +96,7 @@ fn answered(
 fn own(stage: &mut Stage, tables: &Tables, words: &[&str]) -> Result<String, Stop> {
     let id = words.first().ok_or(Stop::Words)?;
     let (alloc, place) = (stage.alloc, stage.table);
-    let Ok(board) = ask_board(alloc, stage.line()?, tables.at(place)?, false) else {
+    let Ok(board) = ask_board(alloc, stage.line()?, tables.at(place)?) else {
         return Err(Stop::Words);
     };
     let told = board_text(alloc, &board)?;

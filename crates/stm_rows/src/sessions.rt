@@ -7,8 +7,8 @@ use std::alloc::Global;
 use stm_chip::Table;
 use stm_journal::{Journal, JournalFault};
 use stm_session::{
-    Board, Fault, Info, Returned, Told, ask_board, go, identify, info, info_fresh, protect, run,
-    run_fresh, undo, undo_fresh, undo_verified, undo_verified_fresh, unprotect_fresh,
+    Board, Fault, Greeting, Info, Returned, Told, ask_board, go, greet, identify, info, protect,
+    run, undo, undo_verified, unprotect_fresh,
 };
 use stm_weak::undo_segment;
 use stm_wire::{Commands, EraseKind, Protection};
@@ -23,6 +23,14 @@ fn done(alloc: Global, answer: Result<(), Fault>) -> Result<String, Stop> {
 fn undone(alloc: Global, answer: Result<u32, Fault>) -> Result<String, Stop> {
     match answer {
         Ok(count) => Ok(format!(in alloc; "{count}")?),
+        Err(fault) => Ok(format!(in alloc; "{fault}")?),
+    }
+}
+
+/// Whether 7F was sent.
+fn greeted(alloc: Global, answer: Result<bool, Fault>) -> Result<String, Stop> {
+    match answer {
+        Ok(is_sent) => Ok(format!(in alloc; "{is_sent}")?),
         Err(fault) => Ok(format!(in alloc; "{fault}")?),
     }
 }
@@ -107,20 +115,9 @@ fn loaded(alloc: Global, answer: Result<Journal, JournalFault>) -> Result<String
     }
 }
 
-fn runs(
-    alloc: Global,
-    line: &mut Line,
-    table: &Table,
-    words: &[&str],
-    is_fresh: bool,
-) -> Result<String, Stop> {
+fn runs(alloc: Global, line: &mut Line, table: &Table, words: &[&str]) -> Result<String, Stop> {
     let commands = commands_of(alloc, words)?;
-    let answer = if is_fresh {
-        run_fresh(alloc, line, table, &commands)
-    } else {
-        run(alloc, line, table, &commands)
-    };
-    match answer {
+    match run(alloc, line, table, &commands) {
         Ok(report) => outcomes_text(alloc, &report.outcomes, &commands, &line.memory),
         Err(fault) => Ok(format!(in alloc; "{fault}")?),
     }
@@ -146,7 +143,7 @@ fn undo_or_again(alloc: Global, line: &mut Line, table: &Table) -> Result<String
     }
 }
 
-/// An undo, and what it answers; None: it's another call.
+/// An undo, or a greeting ahead of one, and what it answers; None: it's another call.
 fn undoing(
     alloc: Global,
     line: &mut Line,
@@ -159,11 +156,10 @@ fn undoing(
             let count = count_of(words.first().ok_or(Stop::Words)?)?;
             undone(alloc, undo(alloc, line, table, count))?
         }
-        "undo-fresh" => undone(alloc, undo_fresh(alloc, line, table, 0))?,
+        "greet" => greeted(alloc, greet(alloc, line, table, Greeting::Plain))?,
         "undo-weak" => undone(alloc, undo_segment(alloc, line, table, 0))?,
         "undo-or-again" => undo_or_again(alloc, line, table)?,
         "undo-verified" => verified(alloc, undo_verified(alloc, line, table, 0))?,
-        "undo-verified-fresh" => verified(alloc, undo_verified_fresh(alloc, line, table, 0))?,
         _ => return Ok(None),
     }))
 }
@@ -177,10 +173,8 @@ fn asking(
 ) -> Result<Option<String>, Stop> {
     Ok(Some(match verb {
         "info" => informed(alloc, info(alloc, line, table))?,
-        "info-fresh" => informed(alloc, info_fresh(alloc, line, table))?,
         "identify" => identified(alloc, identify(alloc, line))?,
-        "board" => asked(alloc, ask_board(alloc, line, table, false))?,
-        "board-fresh" => asked(alloc, ask_board(alloc, line, table, true))?,
+        "board" => asked(alloc, ask_board(alloc, line, table))?,
         "load" => loaded(alloc, Journal::load(alloc, line))?,
         _ => return Ok(None),
     }))
@@ -195,8 +189,7 @@ pub fn call(
     words: &[&str],
 ) -> Result<Option<String>, Stop> {
     Ok(Some(match verb {
-        "run" => runs(alloc, line, table, words, false)?,
-        "run-fresh" => runs(alloc, line, table, words, true)?,
+        "run" => runs(alloc, line, table, words)?,
         "go" => {
             let address = hexadecimal(words.first().ok_or(Stop::Words)?)?;
             done(alloc, go(alloc, line, address))?

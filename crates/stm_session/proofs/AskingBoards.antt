@@ -35,7 +35,7 @@ use Rattle.stm_journal.specs.Journals.{Loaded, journal_of}
 use Rattle.stm_session.specs.AskingBoard.{AsksInPart}
 use Rattle.stm_session.specs.ToldBoard.{AsksFinished, AsksUnfinished, IsBoardOf, size_of, unique_of}
 use Rattle.stm_session.specs.Fault.{IsOfTalking, IsOutside, IsUnheard, fault_of_journal, of_file, of_line, of_memory, of_protocol, of_refusal, of_session}
-use Rattle.stm_session.specs.Fresh.{EndsWell, Way, byte_of, limit_of, undo_way}
+use Rattle.stm_session.specs.Fresh.{EndsWell, Way, byte_of, limit_of, settling_way}
 use Rattle.stm_session.proofs.AskingStops.{asked_puts}
 use Rattle.stm_session.proofs.Freshness.{limit_most}
 use Rattle.stm_session.specs.Moments.{BeginsNothing, IsSafe, IsUnbegun, SameMake}
@@ -339,11 +339,9 @@ board_is table a b d id unique size places at was still own told sized =
 pub settle_few : (byte limit : ℕ) (a b : Option (List Call)) → limit ≤ 131072 → GoesOn (SettlesWithin byte limit) a b → GoesOn (AreFew 537411600) a b
 settle_few byte limit a b le p = GoesOn-weaker (SettlesWithin byte limit) (AreFew 537411600) a b p (λ xs x. omega (arith, le, x.few, line_calls_are_few xs x.line))
 
-pub limit_small : (is_fresh : Bool) (kind : EraseKind) (g : Bool) (intent : Option Intent) → limit_of (undo_way is_fresh kind g intent) ≤ 131072
-limit_small false kind g None = limit_most kind g None
-limit_small false kind g (Some intent) = limit_most kind g (Some intent)
-limit_small true kind g None = limit_most kind g None
-limit_small true kind g (Some intent) = omega arith
+pub limit_small : (kind : EraseKind) (g : Bool) (intent : Option Intent) → limit_of (settling_way kind g intent) ≤ 131072
+limit_small kind g None = limit_most kind g None
+limit_small kind g (Some intent) = limit_most kind g (Some intent)
 
 -- and so is reading the journal
 pub fetch_few : (a b : Option (List Call)) → GoesOn AreFetches a b → GoesOn (AreFew 0) a b

@@ -12,29 +12,29 @@ use Rattle.stm_session.specs.declared.returned.Returned.{Returned}
 use Rattle.stm_session.specs.Boards.{IsForeign, IsOfItsBoard, OnlyAsks}
 use Rattle.stm_session.specs.Meaning.{CommandData}
 use Rattle.stm_session.specs.Reaching.{Session}
-use Rattle.stm_session.specs.UndoOrder.{GivesBackInOrder, UndoStopsAs, UndoesInOrderFrom}
-use Rattle.stm_session.specs.RunOrder.{RunStopsFrom, RunsInOrderFrom}
+use Rattle.stm_session.specs.UndoOrder.{GivesBackInOrder, UndoStopsAs, UndoesInOrder}
+use Rattle.stm_session.specs.RunOrder.{RunStops, RunsInOrder}
 use Rattle.stm_session.specs.Undoable.{good_state}
 
 own_session : (table : List ChipData) (old : RigState) (Does : ChipData → Loaded → Type 0) → Session table old Does → IsOfItsBoard table old
 own_session table old Does x = record { journal = x.journal; loaded = x.loaded; chip = x.chip; listed = x.listed; board = x.board }
 
-pub run_own : (is_fresh : Bool) (table : List ChipData) (commands : List CommandData) (old new : RigState) → RunsInOrderFrom is_fresh table commands old new → IsOfItsBoard table old
-run_own is_fresh table commands old new runs = own_session table old _ runs
+pub run_own : (table : List ChipData) (commands : List CommandData) (old new : RigState) → RunsInOrder table commands old new → IsOfItsBoard table old
+run_own table commands old new runs = own_session table old _ runs
 
-pub run_stops_own : (is_fresh : Bool) (table : List ChipData) (commands : List CommandData) (old new : RigState) (fault : Fault) → RunStopsFrom is_fresh table commands old new fault → OnlyAsks is_fresh old new fault ⊎ IsOfItsBoard table old
-run_stops_own is_fresh table commands old new fault (inl asks) = inl asks
-run_stops_own is_fresh table commands old new fault (inr does) = inr (own_session table old _ does)
+pub run_stops_own : (table : List ChipData) (commands : List CommandData) (old new : RigState) (fault : Fault) → RunStops table commands old new fault → OnlyAsks old new fault ⊎ IsOfItsBoard table old
+run_stops_own table commands old new fault (inl asks) = inl asks
+run_stops_own table commands old new fault (inr does) = inr (own_session table old _ does)
 
-pub undo_own : (is_fresh : Bool) (table : List ChipData) (taken : ℕ) (old new : RigState) → UndoesInOrderFrom is_fresh table taken old new → IsOfItsBoard table old
-undo_own is_fresh table taken old new does = own_session table old _ does
+pub undo_own : (table : List ChipData) (taken : ℕ) (old new : RigState) → UndoesInOrder table taken old new → IsOfItsBoard table old
+undo_own table taken old new does = own_session table old _ does
 
-pub return_own : (is_fresh again : Bool) (table : List ChipData) (returned : Returned) (old new : RigState) → GivesBackInOrder is_fresh again table returned old new → IsOfItsBoard table old
-return_own is_fresh again table returned old new does = own_session table old _ does
+pub return_own : (again : Bool) (table : List ChipData) (returned : Returned) (old new : RigState) → GivesBackInOrder again table returned old new → IsOfItsBoard table old
+return_own again table returned old new does = own_session table old _ does
 
-pub undo_stops_own : (is_fresh again : Bool) (table : List ChipData) (count : ℕ) (old new : RigState) (fault : Fault) → UndoStopsAs is_fresh again table count old new fault → GoesOn AreFetches old.calls new.calls ⊎ IsOfItsBoard table old
-undo_stops_own is_fresh again table count old new fault (inl fetches) = inl fetches
-undo_stops_own is_fresh again table count old new fault (inr does) = inr (own_session table old _ does)
+pub undo_stops_own : (again : Bool) (table : List ChipData) (count : ℕ) (old new : RigState) (fault : Fault) → UndoStopsAs again table count old new fault → GoesOn AreFetches old.calls new.calls ⊎ IsOfItsBoard table old
+undo_stops_own again table count old new fault (inl fetches) = inl fetches
+undo_stops_own again table count old new fault (inr does) = inr (own_session table old _ does)
 
 -- none is of its board that is foreign
 pub foreign_none : (table : List ChipData) (old : RigState) → old.is_honest → IsForeign table old.journal → IsOfItsBoard table old → ⊥

@@ -1,6 +1,6 @@
 -- A greeting keeps what can be undone, at each moment.
 use Rattle.std.proofs.Common.{◌≡◌, ◌⊎◌, inl, inr, ⊎_elim, ℕ, ◌<◌, ◌≤◌, Bool, true, false, not, ◌&&◌, List, [], ◌∷◌, ◌++◌, length, take, Option, Some, None, Result, Ok, Err, IsErrAnd, refl, sym, ◌∙◌, ap, ap₂, subst, subst₂, arith, append-nil, take_all}
-use Rattle.std.specs.Prelude.{Contains, IfErr, is_some}
+use Rattle.std.specs.Prelude.{Contains, IfErr, is_some, option_map}
 use Rattle.std.proofs.lemmas.Bool.{and_parts, true≢false}
 use Rattle.stm_wire.specs.declared.fault.WireFault.{WireFault}
 use Rattle.stm_wire.specs.declared.fault.WireFault.TheVariants.{Line, Nack, Quiet, Garbled}
@@ -16,7 +16,7 @@ use Rattle.stm_wire.specs.Intents.{intended_pages, settling_byte}
 use Rattle.stm_wire.specs.Moments.{LeavesOnly}
 use Rattle.stm_wire.specs.Rig.{RigState, IsModel, LeftByAppend, Rises}
 use Rattle.stm_wire.specs.Sending.{KeepsCount}
-use Rattle.stm_wire.specs.Settling.{HasLineCause, Keeps, LeftWith, PutsPart}
+use Rattle.stm_wire.specs.Settling.{HasLineCause, IsSettling, Keeps, LeftWith, PutsPart, Talks}
 use Rattle.stm_wire.specs.Stopped.{SendingIsHarmless}
 use Rattle.stm_wire.specs.lemmas.DialogueLaws.{GoesOn-append, GoesOn-weaker}
 use Rattle.stm_wire.specs.lemmas.MomentLaws.{joined, weaker}
@@ -32,7 +32,11 @@ use Rattle.stm_journal.specs.States.{IsSound, SegmentData, StateData, intent_at,
 use Rattle.stm_journal.specs.States.{newest_has, newest_intent}
 use Rattle.stm_session.specs.declared.fault.Fault.{Fault}
 use Rattle.stm_session.specs.Fault.{HasSessionCause, IsJournalOrMemory, IsOutsideFault, IsRefusal, KeepsFileCount, KeepsLineCount, RisesFor, fault_of, fault_of_journal}
-use Rattle.stm_session.specs.Greeting.{AmidGreeting, FreshIsGreetable, GreetsInPart, GreetsSafely, IsGreetable, LossIsGreetable, ReadsFirst, StoppedIsGreetable, WritesFirst, wants_greeting}
+use Rattle.stm_session.specs.declared.greeting.Greeting.{Greeting}
+use Rattle.stm_session.specs.declared.greeting.Greeting.TheVariants.{Brief, Fresh, Plain}
+use Rattle.stm_session.specs.Fresh.{IsReset}
+use Rattle.stm_session.specs.Greeting.{AmidGreeting, FreshIsGreetable, GreetsBy, GreetsInPart, GreetsInPartBy, GreetsOnce, GreetsSafely, IsGreetable, IsGreetableAs, LossIsGreetable, ReadsFirst, StoppedIsGreetable, WritesFirst, greets, greets_loaded, is_doubtful, is_erase, is_extended, is_long_list, is_wide, lists_wide, wants_greeting, wants_loaded}
+use Rattle.stm_session.specs.Refusal.{chip_with}
 use Rattle.stm_session.specs.Moments.{SameMake}
 use Rattle.stm_session.specs.Unasked.{asking_refusal}
 use Rattle.stm_session.specs.StepLaws.{StepLaws}
@@ -41,15 +45,52 @@ use Rattle.stm_session.specs.Undoable.{Undoable, good_state, risked_pages, state
 use Rattle.stm_session.specs.Undoes.{risked_at}
 use Rattle.stm_session.proofs.Awaiting.{greeted_under}
 use Rattle.stm_session.proofs.Going.{at_exit}
-use Rattle.stm_session.proofs.Keeping.{keeps_over, risked_is, undoable_with}
+use Rattle.stm_session.proofs.Keeping.{keeps_over, risked_is, text_is, undoable_with}
 use Rattle.stm_session.proofs.PowerLosses.{intent-risked, owed-keeps}
-use Rattle.stm_session.proofs.Settlings.{intent_text}
+use Rattle.stm_session.proofs.Settlings.{intent_text, settling_stands}
 use Rattle.stm_session.proofs.Unread.{IsBadLine, bad_good, by_fault, of_outside, untouched_make}
 
 -- what is asked of the journal in memory is so of its bytes
-pub wants_text : (l : Loaded) (journal : List ℕ) → IsLoaded l journal → (is_some (intent_of l.state) && allows_greeting l) ≡ wants_greeting journal
+wants_text : (l : Loaded) (journal : List ℕ) → IsLoaded l journal → wants_loaded l ≡ wants_greeting journal
 wants_text l journal loaded =
-    ap₂ (λ (a b : Bool). a && b) (ap (λ (o : Option Intent). is_some o) (intent_text l journal loaded)) (ap₂ (λ (t g : Bool). not t && not g) loaded.is_torn loaded.greeted)
+    ap₂ (λ (o : Option Intent) (a : Bool). is_some o && (not (is_doubtful o) && a)) (intent_text l journal loaded)
+    (ap₂ (λ (t g : Bool). not t && not g) loaded.is_torn loaded.greeted)
+
+long_text : (table : List ChipData) (l : Loaded) (journal : List ℕ) → IsLoaded l journal → (id : ℕ) → option_map (λ h. h.id) l.state.header ≡ Some id → (chip : ChipData) → chip_with table id ≡ Some chip
+    → (is_erase (intent_of l.state) && is_extended chip.kind) ≡ is_long_list table (state_at journal)
+long_text table l journal loaded id named chip has =
+    let header = ap (λ (s : StateData). s.header) loaded.state ∙ ap (λ (s : StateData). s.header) (text_is l journal loaded) in
+    let own = sym (ap (λ h. option_map (λ x. x.id) h) header) ∙ named in
+    let wide : lists_wide table (option_map (λ x. x.id) (state_at journal).header) ≡ is_extended chip.kind =
+    ap (λ (o : Option ℕ). lists_wide table o) own ∙ ap (λ (o : Option ChipData). is_wide o) has in
+    ap₂ (λ (o : Option Intent) (b : Bool). is_erase o && b) (intent_text l journal loaded) (sym wide)
+
+pub greets_text : (greeting : Greeting) (table : List ChipData) (l : Loaded) (journal : List ℕ) → IsLoaded l journal → (id : ℕ) → option_map (λ h. h.id) l.state.header ≡ Some id → (chip : ChipData) → chip_with table id ≡ Some chip
+    → greets_loaded greeting chip l ≡ greets greeting table journal
+greets_text Brief table l journal loaded id named chip has = ap₂ (λ (a b : Bool). a && not b) (wants_text l journal loaded) (long_text table l journal loaded id named chip has)
+greets_text Plain table l journal loaded id named chip has = wants_text l journal loaded
+greets_text Fresh table l journal loaded id named chip has = ap (λ (o : Option Intent). is_some o) (intent_text l journal loaded)
+
+wanted_allows : (l : Loaded) → wants_loaded l ≡ true → allows_greeting l ≡ true
+wanted_allows l w = (and_parts (not (is_doubtful (intent_of l.state))) (allows_greeting l) (and_parts (is_some (intent_of l.state)) _ w).1).1
+
+-- without a line of the journal only a device that is said to be fresh is greeted
+pub only_fresh : (greeting : Greeting) (chip : ChipData) (l : Loaded) → greets_loaded greeting chip l ≡ true → allows_greeting l ≡ false → greeting ≡ Fresh
+only_fresh Brief chip l w none = absurd (true≢false (sym (wanted_allows l (and_parts (wants_loaded l) _ w).0) ∙ none))
+only_fresh Plain chip l w none = absurd (true≢false (sym (wanted_allows l w) ∙ none))
+only_fresh Fresh chip l w none = refl
+
+-- what may be greeted so may be greeted
+greetable_now : (greeting : Greeting) (d : Device) (journal : List ℕ) → FreshMayBeGreeted → IsDevice d → IsGreetableAs greeting d journal → IsGreetable d journal
+greetable_now Brief d journal law is may = may
+greetable_now Plain d journal law is may = may
+greetable_now Fresh d journal law is may = λ wants. law d (intent_of (state_at journal)) (risked_at journal) is may.phase
+
+greetable_by : (greeting : Greeting) (table : List ChipData) (d : Device) (journal : List ℕ) → FreshMayBeGreeted → IsDevice d → IsGreetableAs greeting d journal → greets greeting table journal ≡ true
+    → MayBeGreeted d (intent_of (state_at journal)) (risked_at journal)
+greetable_by Brief table d journal law is may w = may (and_parts (wants_greeting journal) _ w).0
+greetable_by Plain table d journal law is may w = may w
+greetable_by Fresh table d journal law is may w = law d (intent_of (state_at journal)) (risked_at journal) is may.phase
 
 -- one that has an intent is unfinished
 pub intended_unfinished : (s : StateData) (b : Bool) → (is_some (intent_of s) && b) ≡ true → is_unfinished s ≡ true
@@ -71,6 +112,10 @@ not_greeted journal may = go (is_greeted journal) (and_parts _ (not (is_greeted 
     go : (g : Bool) → not g ≡ true → g ≡ false
     go true e = sym e
     go false e = refl
+
+wanted_may : (journal : List ℕ) → wants_greeting journal ≡ true → may_greet journal ≡ true
+wanted_may journal w = let o = intent_of (state_at journal) in
+    (and_parts (not (is_doubtful o)) (may_greet journal) (and_parts (is_some o) _ w).1).1
 
 -- so many of the byte suffice behind a greeting
 within_under : (start d : Device) (o : Option Intent) → d.chip ≡ start.chip → Awaits (settling_byte o) (most_greeted start.chip.kind o) d → AwaitsUnder true o d
@@ -102,10 +147,7 @@ module _ (laws : StepLaws) (counts : GreetingsCountAsNothing) (loses : LossMayBe
         lines = sym (append-nil before);
       })
 
-  module _ (wants : wants_greeting before ≡ true) (may : MayBeGreeted start (intent_of s) (risked_at before)) where
-    may_come : may_greet before ≡ true
-    may_come = (and_parts (is_some (intent_of s)) (may_greet before) wants).1
-
+  module _ (may_come : may_greet before ≡ true) (may : MayBeGreeted start (intent_of s) (risked_at before)) where
     abbrev part : ℕ → List ℕ
     part n = before ++ take n greeting_line
 
@@ -146,7 +188,7 @@ module _ (laws : StepLaws) (counts : GreetingsCountAsNothing) (loses : LossMayBe
     whole_greeted = (counts before s all u.good_journal may_come).1.0
 
     whole_unwanted : wants_greeting (part all) ≡ true → ⊥
-    whole_unwanted w = true≢false (sym (and_parts (is_some (intent_of (state_at (part all)))) (may_greet (part all)) w).1 ∙ (counts before s all u.good_journal may_come).1.1)
+    whole_unwanted w = true≢false (sym (wanted_may (part all) w) ∙ (counts before s all u.good_journal may_come).1.1)
 
     -- all of it is, and 7F may have been sent
     pub said : (d : Device) (journal : List ℕ) → (journal ≡ before ++ greeting_line) × IsGreeting (intent_of s) (risked_at before) start d → Amid d journal
@@ -166,10 +208,23 @@ module _ (laws : StepLaws) (counts : GreetingsCountAsNothing) (loses : LossMayBe
           lines = refl;
         })
 
+-- What a greeting begins with: what was begun can be undone, and the device may be greeted so.
+pub record Begins (flashes : List (List ℕ)) (greeting : Greeting) (old : RigState) : Type 0 where
+  pub laws : StepLaws
+  pub counts : GreetingsCountAsNothing
+  pub loses : LossMayBeGreeted
+  pub fresh : FreshMayBeGreeted
+  pub undoable : Undoable flashes old.device old.journal
+  pub may : IsGreetableAs greeting old.device old.journal
+  pub model : IsModel old
+
 -- The calls, one after another, and how the greeting ends.
-module _ (laws : StepLaws) (counts : GreetingsCountAsNothing) (loses : LossMayBeGreeted) (table : List ChipData) (flashes : List (List ℕ)) (old : RigState) (u : Undoable flashes old.device old.journal) (may : IsGreetable old.device old.journal) (model : IsModel old) where
+module _ (table : List ChipData) (flashes : List (List ℕ)) (greeting : Greeting) (old : RigState) (begins : Begins flashes greeting old) where
   abbrev Amidst : Device → List ℕ → Type 0
   Amidst d journal = AmidGreeting flashes old.device old.journal d journal
+
+  abbrev intent : Option Intent
+  intent = intent_of (state_at old.journal)
 
   pub greets_so : (new : RigState) (result : Result Bool Fault) → new.is_honest → IsModel new → LeavesOnly Amidst old new
       → IfErr result (λ fault. IsOutsideFault fault ⊎ (asking_refusal (journal_of old.journal) table ≡ Some fault)) → GreetsSafely table flashes old new result
@@ -177,35 +232,62 @@ module _ (laws : StepLaws) (counts : GreetingsCountAsNothing) (loses : LossMayBe
 
   -- the journal was read
   pub amid_read : (a : RigState) → LeavesOnly (IsUntouched old) old a → LeavesOnly Amidst old a
-  amid_read a moments = weaker (IsUntouched old) Amidst old a moments (unwritten laws counts loses flashes old.device old.journal model.device u may)
+  amid_read a moments = weaker (IsUntouched old) Amidst old a moments
+      (unwritten begins.laws begins.counts begins.loses flashes old.device old.journal begins.model.device begins.undoable
+      (greetable_now greeting old.device old.journal begins.fresh begins.model.device begins.may))
 
-  module _ (l : Loaded) (a : RigState) (loads : Loads old a (Ok l)) (wants : wants_greeting old.journal ≡ true) where
-    -- the line was appended, or a part of it
-    pub amid_line : {T : Type 0} (b : RigState) (made : Result T JournalFault) → AddsBytes greeting_line a b made → LeavesOnly Amidst old b
-    amid_line b made adds =
-        let L : Device → List ℕ → Device → List ℕ → Type 0 = λ start journal d j. ((n : ℕ) × (j ≡ journal ++ take n greeting_line)) × LosesOwed start d in
-        joined Amidst (LeftByAppend greeting_line a) Amidst old a b (amid_read a loads.moments) adds.moments (λ d journal p. p)
-        (λ d journal q. written laws counts loses flashes old.device old.journal model.device u wants (may wants) d journal (subst₂ (λ (x : Device) j. L x j d journal) loads.same_device loads.journal q))
+  module _ (l : Loaded) (a : RigState) (loads : Loads old a (Ok l)) where
+    -- 7F is sent and answered, without a line that says so
+    pub amid_connected : (b : RigState) → may_greet old.journal ≡ false → Keeps (IsSettling (settling_byte intent) (risked_at old.journal) a.device) a b → LeavesOnly Amidst old b
+    amid_connected b none keeps =
+        let S : Device → Device → Type 0 = λ start d. IsSettling (settling_byte intent) (risked_at old.journal) start d in
+        let L : Device → List ℕ → Device → List ℕ → Type 0 = λ start kept d j. (j ≡ kept) × S start d in
+        joined Amidst (LeftWith (S a.device) a.journal) Amidst old a b (amid_read a loads.moments) keeps.moments (λ d journal p. p)
+        (λ d journal q. by d journal (subst₂ (λ (x : Device) j. L x j d journal) loads.same_device loads.journal q))
+      where
+        by : (d : Device) (journal : List ℕ) → (journal ≡ old.journal) × IsSettling (settling_byte intent) (risked_at old.journal) old.device d → Amidst d journal
+        by d journal left =
+            let stands = (settling_stands begins.laws flashes l old a begins.model loads.loaded begins.undoable d journal left).0 in
+            record {
+              undoable = stands.undoable;
+              greetable = λ w. absurd (true≢false (sym (wanted_may journal w) ∙ ap (λ (j : List ℕ). may_greet j) left.0 ∙ none));
+              make = stands.make;
+              flash = left.1.flash;
+              written = 0;
+              lines = left.0 ∙ sym (append-nil old.journal);
+            }
 
-    -- and then 7F was sent, or not
-    pub amid_said : (b c : RigState) → AddsBytes greeting_line a b (Ok (tt {0})) → Keeps (IsGreeting (intent_of (state_at old.journal)) (risked_at old.journal) b.device) b c → LeavesOnly Amidst old c
-    amid_said b c adds keeps =
-        let o = intent_of (state_at old.journal) in
-        let pages = risked_at old.journal in
-        let G : Device → List ℕ → Device → List ℕ → Type 0 = λ start kept d j. (j ≡ kept) × IsGreeting o pages start d in
-        let same = adds.same_device ∙ loads.same_device in
-        let lines = adds.added ∙ ap (λ (j : List ℕ). j ++ greeting_line) loads.journal in
-        joined Amidst (LeftWith (IsGreeting o pages b.device) b.journal) Amidst old b c (amid_line b (Ok (tt {0})) adds) keeps.moments (λ d journal p. p)
-        (λ d journal q. said laws counts loses flashes old.device old.journal model.device u wants (may wants) d journal (subst₂ (λ (x : Device) j. G x j d journal) same lines q))
+    module _ (come : may_greet old.journal ≡ true) (due : greets greeting table old.journal ≡ true) where
+      may_now : MayBeGreeted old.device intent (risked_at old.journal)
+      may_now = greetable_by greeting table old.device old.journal begins.fresh begins.model.device begins.may due
 
-    -- a device that may be greeted still may behind the line
-    pub may_after : (b : RigState) → AddsBytes greeting_line a b (Ok (tt {0})) → MayBeGreeted b.device (intent_of (state_at old.journal)) (risked_at old.journal)
-    may_after b adds =
-        let M : Device → Type 0 = λ d. MayBeGreeted d (intent_of (state_at old.journal)) (risked_at old.journal) in
-        subst M (sym (adds.same_device ∙ loads.same_device)) (may wants)
+      -- the line was appended, or a part of it
+      pub amid_line : {T : Type 0} (b : RigState) (made : Result T JournalFault) → AddsBytes greeting_line a b made → LeavesOnly Amidst old b
+      amid_line b made adds =
+          let L : Device → List ℕ → Device → List ℕ → Type 0 = λ start journal d j. ((n : ℕ) × (j ≡ journal ++ take n greeting_line)) × LosesOwed start d in
+          joined Amidst (LeftByAppend greeting_line a) Amidst old a b (amid_read a loads.moments) adds.moments (λ d journal p. p)
+          (λ d journal q. written begins.laws begins.counts begins.loses flashes old.device old.journal begins.model.device begins.undoable come may_now d journal
+          (subst₂ (λ (x : Device) j. L x j d journal) loads.same_device loads.journal q))
 
-    pub few_after : (b : RigState) → AddsBytes greeting_line a b (Ok (tt {0})) → length b.device.owed ≤ 4096
-    few_after b adds = let F : Device → Type 0 = λ d. length d.owed ≤ 4096 in subst F (sym (adds.same_device ∙ loads.same_device)) u.owed
+      -- and then 7F was sent, or not
+      pub amid_said : (b c : RigState) → AddsBytes greeting_line a b (Ok (tt {0})) → Keeps (IsGreeting intent (risked_at old.journal) b.device) b c → LeavesOnly Amidst old c
+      amid_said b c adds keeps =
+          let pages = risked_at old.journal in
+          let G : Device → List ℕ → Device → List ℕ → Type 0 = λ start kept d j. (j ≡ kept) × IsGreeting intent pages start d in
+          let same = adds.same_device ∙ loads.same_device in
+          let lines = adds.added ∙ ap (λ (j : List ℕ). j ++ greeting_line) loads.journal in
+          joined Amidst (LeftWith (IsGreeting intent pages b.device) b.journal) Amidst old b c (amid_line b (Ok (tt {0})) adds) keeps.moments (λ d journal p. p)
+          (λ d journal q. said begins.laws begins.counts begins.loses flashes old.device old.journal begins.model.device begins.undoable come may_now d journal
+          (subst₂ (λ (x : Device) j. G x j d journal) same lines q))
+
+      -- a device that may be greeted still may behind the line
+      pub may_after : (b : RigState) → AddsBytes greeting_line a b (Ok (tt {0})) → MayBeGreeted b.device intent (risked_at old.journal)
+      may_after b adds =
+          let M : Device → Type 0 = λ d. MayBeGreeted d intent (risked_at old.journal) in
+          subst M (sym (adds.same_device ∙ loads.same_device)) may_now
+
+      pub few_after : (b : RigState) → AddsBytes greeting_line a b (Ok (tt {0})) → length b.device.owed ≤ 4096
+      few_after b adds = let F : Device → Type 0 = λ d. length d.owed ≤ 4096 in subst F (sym (adds.same_device ∙ loads.same_device)) begins.undoable.owed
 
 -- the faults
 pub outside_as : {T : Type 0} (table : List ChipData) (journal : List ℕ) (result : Result T Fault) (e : Fault) → IsErrAnd result (λ x. x ≡ e) → IsOutsideFault e
@@ -278,8 +360,25 @@ reads_then Then a b c p q = GoesOn-append AreFetches Then (ReadsFirst Then) a b 
 pub writes_then : (Says : List Call → Type 0) (a b c : Option (List Call)) → GoesOn (λ calls. calls ≡ Append greeting_line ∷ []) a b → GoesOn Says b c → GoesOn (WritesFirst Says) a c
 writes_then Says a b c p q = GoesOn-append (λ calls. calls ≡ Append greeting_line ∷ []) Says (WritesFirst Says) a b c p q (λ us vs u v. (vs, ap (λ (zs : List Call). zs ++ vs) u, v))
 
-pub reads_alone : (a b : Option (List Call)) → GoesOn AreFetches a b → GoesOn (ReadsFirst GreetsInPart) a b
-reads_alone a b p = GoesOn-weaker AreFetches (ReadsFirst GreetsInPart) a b p (λ us u. record { fetches = us; are_fetches = u; rest = []; is = sym (append-nil us); then = inl (inl refl) })
+pub part_by : (greeting : Greeting) (calls : List Call) → GreetsInPart calls → GreetsInPartBy greeting calls
+part_by Brief calls u = u
+part_by Plain calls u = u
+part_by Fresh calls u = inl u
+
+pub once_by : (greeting : Greeting) (calls : List Call) → GreetsOnce calls → GreetsBy greeting calls
+once_by Brief calls u = u
+once_by Plain calls u = u
+once_by Fresh calls u = inl u
+
+-- so many calls are as few as more
+pub more_calls : (P : List ℕ → Type 0) (a b : Option (List Call)) → GoesOn (Talks P 4099) a b → GoesOn (Talks P 8196) a b
+more_calls P a b p = GoesOn-weaker (Talks P 4099) (Talks P 8196) a b p (λ us t. record { line = t.line; puts = t.puts; few = omega (arith, t.few) })
+
+pub reads_alone : (greeting : Greeting) (a b : Option (List Call)) → GoesOn AreFetches a b → GoesOn (ReadsFirst (GreetsInPartBy greeting)) a b
+reads_alone greeting a b p = GoesOn-weaker AreFetches (ReadsFirst (GreetsInPartBy greeting)) a b p (λ us u. record { fetches = us; are_fetches = u; rest = []; is = sym (append-nil us); then = part_by greeting [] (inl (inl refl)) })
+
+pub reads_part : (greeting : Greeting) (a b c : Option (List Call)) → GoesOn AreFetches a b → GoesOn GreetsInPart b c → GoesOn (ReadsFirst (GreetsInPartBy greeting)) a c
+reads_part greeting a b c p q = reads_then (GreetsInPartBy greeting) a b c p (GoesOn-weaker GreetsInPart (GreetsInPartBy greeting) b c q (part_by greeting))
 
 pub line_in_part : (T : Type 0) (e : JournalFault) (a b : Option (List Call)) → GoesOn (AppendsOnce {T = T} greeting_line (Err e)) a b → GoesOn GreetsInPart a b
 line_in_part T e a b p = GoesOn-weaker (AppendsOnce {T = T} greeting_line (Err e)) GreetsInPart a b p (λ us u. inl (by e us u))

@@ -25,7 +25,7 @@ use Rattle.stm_session.specs.Answers.{OutcomeData}
 use Rattle.stm_session.specs.Meaning.{CommandData, is_change}
 use Rattle.stm_session.specs.Order.{Step, Adds, AreCutShort, IsAfter, page_reads, page_address}
 use Rattle.stm_session.specs.Reaching.{IsConfirmedInPart, ReachesAndDoes, ReachesAndStops, Session, SettlesThen, asking_steps}
-use Rattle.stm_session.specs.RunOrder.{AreBegun, AreDoneInOrder, none as nothing_done, more as more_done, IsBegunIf, IsDoneIf, IsReading, RunsInOrderFrom, RunStopsFrom}
+use Rattle.stm_session.specs.RunOrder.{AreBegun, AreDoneInOrder, none as nothing_done, more as more_done, IsBegunIf, IsDoneIf, IsReading, RunsInOrder, RunStops}
 use Rattle.stm_session.specs.Kept.{KeepsFirst, RunKeeps, RunStopsKept, reads}
 use Rattle.stm_session.specs.Undoable.{has_companion}
 use Rattle.stm_session.proofs.KeptSteps.{Leads, here, later as further, keeps_front, keeps_then, leads_nothing, leads_reads, leads_rewrite, leads_then}
@@ -237,10 +237,10 @@ module _ (lengths : (set : Pairs) (address : ℕ) (bytes : List ℕ) → length 
       subst P (sym begun.is) (keeps_then chip None begun.before begun.own before.keeps (subst Q (sym before.behind) (begun_by (is_change begun.command) chip begun.command begun.mid begun.own begun.is_begun)))
 
   -- runs
-  pub run_keeps : (is_fresh : Bool) (table : List ChipData) (commands : List CommandData) (old new : RigState) → RunsInOrderFrom is_fresh table commands old new → RunKeeps is_fresh table old new
-  run_keeps is_fresh table commands old new =
-      as_session table old _ _ (λ chip l sound. does_as (contact_way is_fresh) chip.id l.is_torn _ _ old new (after_as _ _ _ (λ steps are. let leads = done_leads chip commands are.0 l.state are.1 steps are.2 in (leads.keeps, leads.behind))))
+  pub run_keeps : (table : List ChipData) (commands : List CommandData) (old new : RigState) → RunsInOrder table commands old new → RunKeeps table old new
+  run_keeps table commands old new =
+      as_session table old _ _ (λ chip l sound. does_as contact_way chip.id l.is_torn _ _ old new (after_as _ _ _ (λ steps are. let leads = done_leads chip commands are.0 l.state are.1 steps are.2 in (leads.keeps, leads.behind))))
 
-  pub run_stops_kept : (is_fresh : Bool) (table : List ChipData) (commands : List CommandData) (old new : RigState) (fault : Fault) → RunStopsFrom is_fresh table commands old new fault → RunStopsKept is_fresh table old new fault
-  run_stops_kept is_fresh table commands old new fault (inl unreached) = inl unreached
-  run_stops_kept is_fresh table commands old new fault (inr cut) = inr (as_session table old _ _ (λ chip l sound. stops_as (contact_way is_fresh) chip.id l.is_torn _ _ (cause_of fault) old new (confirmed_as chip _ _ (λ steps are. begun_keep fault chip commands l.state steps are))) cut)
+  pub run_stops_kept : (table : List ChipData) (commands : List CommandData) (old new : RigState) (fault : Fault) → RunStops table commands old new fault → RunStopsKept table old new fault
+  run_stops_kept table commands old new fault (inl unreached) = inl unreached
+  run_stops_kept table commands old new fault (inr cut) = inr (as_session table old _ _ (λ chip l sound. stops_as contact_way chip.id l.is_torn _ _ (cause_of fault) old new (confirmed_as chip _ _ (λ steps are. begun_keep fault chip commands l.state steps are))) cut)

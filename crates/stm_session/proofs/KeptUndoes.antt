@@ -14,10 +14,10 @@ use Rattle.stm_journal.specs.States.{IsSound, SegmentData, StateData, intent_of,
 use Rattle.stm_session.specs.declared.fault.Fault.{Fault}
 use Rattle.stm_session.specs.declared.returned.Returned.{Returned}
 use Rattle.stm_session.specs.Fault.{cause_of}
-use Rattle.stm_session.specs.Fresh.{undo_way}
+use Rattle.stm_session.specs.Fresh.{settling_way}
 use Rattle.stm_session.specs.Kept.{IsOfNewest, PutsBack, PutsBackFrom, UndoPutsBack, UndoStopsBack, erases, erasing, programming, reads, undoing, writes}
 use Rattle.stm_session.specs.Order.{Step, Adds, Sends, Tells, AreAllUndone, AreGivenBack, AreRewritten, AreSegmentsUndone, IsGivenBack, IsSegmentUndone, tells_behind, Begin, OrMisread, page_address, page_reads, read_steps, give_back_steps, return_steps, rewrite_steps, untold, write_steps}
-use Rattle.stm_session.specs.UndoOrder.{AreUndoneInOrder, BeginTaking, GivesBackInOrder, UndoDoes, UndoStopsAs, UndoesInOrderFrom}
+use Rattle.stm_session.specs.UndoOrder.{AreUndoneInOrder, BeginTaking, GivesBackInOrder, UndoDoes, UndoStopsAs, UndoesInOrder}
 use Rattle.stm_session.specs.Reaching.{StepsOf}
 use Rattle.stm_session.specs.Work.{beside, pages_at_work, pages_of_intent}
 use Rattle.stm_session.proofs.Keeping.{newest-listed}
@@ -186,22 +186,22 @@ begun_puts_back true taken chip s steps sound (inr misread) =
     subst Q (sym misread.is) (puts_reads chip segments misread.before (page_reads chip misread.n misread.page) misread.reads all (λ later. puts_front chip later misread.reads misread.begun.0 (more later)))
 
 -- other steps are allowed too
-pub undo_does_as : (is_fresh : Bool) (table : List ChipData) (old new : RigState) (P Q : StepsOf) → ((chip : ChipData) (s : StateData) (steps : List Step) → P chip s steps → Q chip s steps) → UndoDoes is_fresh P table old new → UndoDoes is_fresh Q table old new
-undo_does_as is_fresh table old new P Q weaker =
-    as_session table old _ _ (λ chip l sound. does_as (undo_way is_fresh chip.kind l.is_greeted (intent_of l.state)) chip.id l.is_torn _ _ old new (after_as _ _ _ (λ steps are. weaker chip l.state steps are)))
+pub undo_does_as : (table : List ChipData) (old new : RigState) (P Q : StepsOf) → ((chip : ChipData) (s : StateData) (steps : List Step) → P chip s steps → Q chip s steps) → UndoDoes P table old new → UndoDoes Q table old new
+undo_does_as table old new P Q weaker =
+    as_session table old _ _ (λ chip l sound. does_as (settling_way chip.kind l.is_greeted (intent_of l.state)) chip.id l.is_torn _ _ old new (after_as _ _ _ (λ steps are. weaker chip l.state steps are)))
 
-pub undo_puts_back : (is_fresh : Bool) (table : List ChipData) (taken : ℕ) (old new : RigState) → UndoesInOrderFrom is_fresh table taken old new → UndoPutsBack is_fresh table old new
-undo_puts_back is_fresh table taken old new =
-    as_session table old _ _ (λ chip l sound. does_as (undo_way is_fresh chip.kind l.is_greeted (intent_of l.state)) chip.id l.is_torn _ _ old new (after_as _ _ _ (λ steps are. taken_puts_back false taken chip l.state steps sound are)))
+pub undo_puts_back : (table : List ChipData) (taken : ℕ) (old new : RigState) → UndoesInOrder table taken old new → UndoPutsBack table old new
+undo_puts_back table taken old new =
+    as_session table old _ _ (λ chip l sound. does_as (settling_way chip.kind l.is_greeted (intent_of l.state)) chip.id l.is_torn _ _ old new (after_as _ _ _ (λ steps are. taken_puts_back false taken chip l.state steps sound are)))
 
 -- and one that tells what it returned
-pub return_puts_back : (is_fresh again : Bool) (table : List ChipData) (returned : Returned) (old new : RigState) → GivesBackInOrder is_fresh again table returned old new → UndoPutsBack is_fresh table old new
-return_puts_back is_fresh again table returned old new =
-    as_session table old _ _ (λ chip l sound. does_as (undo_way is_fresh chip.kind l.is_greeted (intent_of l.state)) chip.id l.is_torn _ _ old new (after_as _ _ _ (λ steps are. taken_puts_back again returned.segments chip l.state steps sound are.0)))
+pub return_puts_back : (again : Bool) (table : List ChipData) (returned : Returned) (old new : RigState) → GivesBackInOrder again table returned old new → UndoPutsBack table old new
+return_puts_back again table returned old new =
+    as_session table old _ _ (λ chip l sound. does_as (settling_way chip.kind l.is_greeted (intent_of l.state)) chip.id l.is_torn _ _ old new (after_as _ _ _ (λ steps are. taken_puts_back again returned.segments chip l.state steps sound are.0)))
 
-pub undo_stops_back : (is_fresh again : Bool) (table : List ChipData) (count : ℕ) (old new : RigState) (fault : Fault) → UndoStopsAs is_fresh again table count old new fault → UndoStopsBack is_fresh table old new fault
-undo_stops_back is_fresh again table count old new fault (inl fetched) = inl fetched
-undo_stops_back is_fresh again table count old new fault (inr cut) =
+pub undo_stops_back : (again : Bool) (table : List ChipData) (count : ℕ) (old new : RigState) (fault : Fault) → UndoStopsAs again table count old new fault → UndoStopsBack table old new fault
+undo_stops_back again table count old new fault (inl fetched) = inl fetched
+undo_stops_back again table count old new fault (inr cut) =
     inr (as_session table old _ _ (λ chip l sound. ⊎_elim (λ reached. inl reached)
-    (λ stopped. inr (stops_as (undo_way is_fresh chip.kind l.is_greeted (intent_of l.state)) chip.id l.is_torn _ _ (cause_of fault) old new
+    (λ stopped. inr (stops_as (settling_way chip.kind l.is_greeted (intent_of l.state)) chip.id l.is_torn _ _ (cause_of fault) old new
     (confirmed_as chip (BeginTaking again count chip l.state) _ (λ steps (begun : BeginTaking again count chip l.state steps). begun_puts_back again begun.0 chip l.state steps sound begun.3)) stopped))) cut)

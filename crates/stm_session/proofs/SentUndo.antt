@@ -10,7 +10,7 @@ use Rattle.stm_wire.specs.Rig.{RigState}
 use Rattle.stm_chip.specs.Document.{IsChipWith}
 use Rattle.stm_journal.specs.Calls.{AreFetches}
 use Rattle.stm_session.specs.declared.fault.Fault.{Fault}
-use Rattle.stm_session.specs.Fresh.{byte_of, limit_of, undo_way}
+use Rattle.stm_session.specs.Fresh.{byte_of, limit_of, settling_way}
 use Rattle.stm_session.specs.Sending.{SendsAsUndo, is_whole, most_of_confirming, most_of_reaching, most_of_undo}
 use Rattle.stm_session.proofs.Sending.{fetches_get, fetches_put}
 
@@ -30,7 +30,6 @@ module _ (table : List ChipData) (count : ℕ) (old : RigState) where
       record {
         chip = None;
         listed = tt;
-        is_fresh = true;
         greeted = false;
         intent = None;
         taken = 0;
@@ -41,19 +40,18 @@ module _ (table : List ChipData) (count : ℕ) (old : RigState) where
       }
 
   -- the journal is one of a chip of the table
-  module _ (is_fresh greeted : Bool) (intent : Option Intent) (id : ℕ) (chip : ChipData) (listed : IsChipWith table id chip) where
+  module _ (greeted : Bool) (intent : Option Intent) (id : ℕ) (chip : ChipData) (listed : IsChipWith table id chip) where
     -- a device was met, or not
     pub sends_met : (mid new : RigState) (e : Fault) → GoesOn AreFetches old.calls mid.calls
-        → (let way = undo_way is_fresh chip.kind greeted intent in GoesOn (IsSession None (byte_of way) (limit_of way) (is_whole {T = ℕ} (Err e)) (most_of_reaching (limit_of way))) mid.calls new.calls) → SendsAsUndo table count old new (Err e)
+        → (let way = settling_way chip.kind greeted intent in GoesOn (IsSession None (byte_of way) (limit_of way) (is_whole {T = ℕ} (Err e)) (most_of_reaching (limit_of way))) mid.calls new.calls) → SendsAsUndo table count old new (Err e)
     sends_met mid new e fetches meets =
-        let way = undo_way is_fresh chip.kind greeted intent in
+        let way = settling_way chip.kind greeted intent in
         let byte = byte_of way in
         let limit = limit_of way in
         let whole = is_whole {T = ℕ} (Err e) in
         record {
           chip = Some chip;
           listed = own-id table id chip listed;
-          is_fresh = is_fresh;
           greeted = greeted;
           intent = intent;
           taken = 0;
@@ -66,16 +64,15 @@ module _ (table : List ChipData) (count : ℕ) (old : RigState) where
 
     -- and segments were undone
     pub sends_back : (taken : ℕ) (mid met new : RigState) (result : Result ℕ Fault) → taken ≤ 65535 → (0 < count → taken ≤ count) → IfOk result (λ n. n ≡ taken)
-        → GoesOn AreFetches old.calls mid.calls → (let way = undo_way is_fresh chip.kind greeted intent in GoesOn (IsSession None (byte_of way) (limit_of way) true (most_of_reaching (limit_of way))) mid.calls met.calls)
+        → GoesOn AreFetches old.calls mid.calls → (let way = settling_way chip.kind greeted intent in GoesOn (IsSession None (byte_of way) (limit_of way) true (most_of_reaching (limit_of way))) mid.calls met.calls)
         → GoesOn (IsPart (Some chip) (is_whole result) (most_of_confirming + most_of_undo taken)) met.calls new.calls → SendsAsUndo table count old new result
     sends_back taken mid met new result most asked told fetches meets back =
-        let way = undo_way is_fresh chip.kind greeted intent in
+        let way = settling_way chip.kind greeted intent in
         let byte = byte_of way in
         let limit = limit_of way in
         record {
           chip = Some chip;
           listed = own-id table id chip listed;
-          is_fresh = is_fresh;
           greeted = greeted;
           intent = intent;
           taken = taken;

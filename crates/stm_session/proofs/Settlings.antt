@@ -43,7 +43,7 @@ module _ (laws : StepLaws) (flashes : List (List ℕ)) (l : Loaded) (old new : R
   abbrev Both : Device → List ℕ → Type 0
   Both d journal = Stands [] flashes old d journal × KeepsFlashes flashes d (state_at old.journal)
 
-  settling_stands : (d : Device) (journal : List ℕ) → LeftBySettling (settling_byte (intent_of (state_at old.journal))) (risked_pages (state_at old.journal)) old.device old.journal d journal
+  pub settling_stands : (d : Device) (journal : List ℕ) → LeftBySettling (settling_byte (intent_of (state_at old.journal))) (risked_pages (state_at old.journal)) old.device old.journal d journal
       → Stands [] flashes old d journal × KeepsFlashes flashes d (state_at old.journal)
   settling_stands d journal left =
       let s = left.1 in

@@ -1,5 +1,5 @@
 -- What `ask_board` promises: on any line, and of a device that follows the model.
-use Rattle.std.specs.Prelude.{◌≡◌, ℕ, Bool, true, false, List, Some, Result, IfErr, IfOk}
+use Rattle.std.specs.Prelude.{◌≡◌, ℕ, true, false, List, Some, Result, IfErr, IfOk}
 use Rattle.stm_wire.specs.Chip.{ChipData}
 use Rattle.stm_wire.specs.Dialogue.{GoesOn}
 use Rattle.stm_wire.specs.Parts.{AreFew}
@@ -10,7 +10,6 @@ use Rattle.stm_session.specs.declared.asking_board.Board.{Board}
 use Rattle.stm_session.specs.declared.fault.Fault.{Fault}
 use Rattle.stm_session.specs.AskingBoard.{AnswersInOrder, AskingStops, AsksForBoard, most_of_board}
 use Rattle.stm_session.specs.Fault.{HasSessionCause}
-use Rattle.stm_session.specs.Fresh.{IsAsSaid}
 use Rattle.stm_session.specs.Moments.{IsSafe}
 use Rattle.stm_session.specs.Refusal.{RefusesUnsent}
 use Rattle.stm_session.specs.ToldBoard.{AsksFinished, AsksUnfinished, NamesKind}
@@ -20,16 +19,15 @@ use Rattle.stm_session.specs.Unwritten.{AppendsNothing}
 
 -- A device is asked which board it is: nothing is appended, few calls are made, and in this order;
 -- a journal that is bad, or is unfinished and fits no board, is refused before a byte is sent; and
--- of a device that follows the model, and is fresh if it is said to be, by whether its journal is
--- finished, what that leaves.
-pub record AsksWhich (table : List ChipData) (is_fresh : Bool) (old new : RigState)
-    (asked : Result Board Fault) : Type 0 where
+-- of a device that follows the model, by whether its journal is finished, what that leaves.
+pub record AsksWhich (table : List ChipData) (old new : RigState) (asked : Result Board Fault)
+    : Type 0 where
   pub unwritten : GoesOn AppendsNothing old.calls new.calls
   pub cause : HasSessionCause old new asked
   pub few : GoesOn (AreFew most_of_board) old.calls new.calls
-  pub order : IfOk asked (λ board. AsksForBoard table is_fresh old (λ way torn.
+  pub order : IfOk asked (λ board. AsksForBoard table old (λ way torn.
       AnswersInOrder table board way torn old new))
-  pub stops : IfErr asked (AskingStops table is_fresh old new)
+  pub stops : IfErr asked (AskingStops table old new)
   -- what is refused before a byte is sent, of any device
   pub refused : old.is_honest → (refusal : Fault)
       → asking_refusal (journal_of old.journal) table ≡ Some refusal
@@ -38,8 +36,7 @@ pub record AsksWhich (table : List ChipData) (is_fresh : Bool) (old new : RigSta
       → asking_refusal (journal_of old.journal) table ≡ Some refusal
       → GoesOn AreFetches old.calls new.calls
   pub finished : old.is_honest → is_unfinished_at old.journal ≡ false
-      → IsAsSaid is_fresh old.device → IsSafe old.device → AsksFinished table old new asked
+      → IsSafe old.device → AsksFinished table old new asked
   pub unfinished : old.is_honest → is_unfinished_at old.journal ≡ true
-      → IsAsSaid is_fresh old.device
       → (flashes : List (List ℕ)) → Undoable flashes old.device old.journal
       → NamesKind table old.device.chip → AsksUnfinished table flashes old new asked

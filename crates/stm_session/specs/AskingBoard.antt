@@ -22,7 +22,7 @@ use Rattle.stm_session.specs.declared.asking_board.Board.{Board}
 use Rattle.stm_session.specs.declared.fault.Fault.{Fault}
 use Rattle.stm_session.specs.Asking.{Asks}
 use Rattle.stm_session.specs.Fault.{Cause, HasSessionCause, IsOfTalking, IsOfLine, cause_of}
-use Rattle.stm_session.specs.Fresh.{Way, byte_of, contact_way, limit_of, undo_way}
+use Rattle.stm_session.specs.Fresh.{Way, byte_of, contact_way, limit_of, settling_way}
 use Rattle.stm_session.specs.Order.{Step, AreCutShort, Begin, IsInOrder, Sends, FaultEnds, acts_of}
 use Rattle.stm_session.specs.Reaching.{IsAsked, SettlesFirst, SettlesThen}
 use Rattle.stm_session.specs.Refusal.{chip_with}
@@ -111,26 +111,23 @@ pub record AsksSettled {T : Type 0} (most : ℕ) (Asked : T → List Step → Ty
   pub kept : old.is_honest → new.journal ≡ old.journal
   pub honest : old.is_honest → IsSettled old.device → Asks old new result Told
 
--- How the device is settled, by the journal: where that is finished, with 7F, or connected where it
--- is said to be fresh; else by the journal's intent, as one of the chip that it names, of which a
--- board may be the journal's, or connected where it is said to be fresh and there is such an intent.
-pub data IsWayOf (table : List ChipData) (is_fresh : Bool) (l : Loaded)
-    (way : Way) : Type 0 where
-  finished : is_unfinished l.state ≡ false → way ≡ contact_way is_fresh
-      → IsWayOf table is_fresh l way
+-- How the device is settled, by the journal: where that is finished, with 7F; else by the journal's
+-- intent, as one of the chip that it names, of which a board may be the journal's.
+pub data IsWayOf (table : List ChipData) (l : Loaded) (way : Way) : Type 0 where
+  finished : is_unfinished l.state ≡ false → way ≡ contact_way → IsWayOf table l way
   unfinished : (chip : ChipData) → is_unfinished l.state ≡ true → IsChipWith table chip.id chip
       → option_map (λ header. header.id) l.state.header ≡ Some chip.id
       → unasked_refusal chip l.state ≡ None
-      → way ≡ undo_way is_fresh chip.kind l.is_greeted (intent_of l.state)
-      → IsWayOf table is_fresh l way
+      → way ≡ settling_way chip.kind l.is_greeted (intent_of l.state)
+      → IsWayOf table l way
 
 -- A journal was loaded, and the device is settled so.
-pub record AsksForBoard (table : List ChipData) (is_fresh : Bool) (old : RigState)
-    (Does : Way → Bool → Type 0) : Type 0 where
+pub record AsksForBoard (table : List ChipData) (old : RigState) (Does : Way → Bool → Type 0)
+    : Type 0 where
   pub journal : Loaded
   pub loaded : old.is_honest → IsLoaded journal old.journal
   pub way : Way
-  pub is_way : IsWayOf table is_fresh journal way
+  pub is_way : IsWayOf table journal way
   pub does : Does way journal.is_torn
 
 -- It was settled, and asked; this was answered.
@@ -145,9 +142,9 @@ AsksInPart table way cause torn calls =
     ⊎ SettlesThen way (AreCutShort (Begin (AsksBoard table)) cause torn) calls
 
 -- at a fault: nothing was done but reading the journal, or that
-abbrev pub AskingStops : List ChipData → Bool → RigState → RigState → Fault → Type 0
-AskingStops table is_fresh old new fault = GoesOn AreFetches old.calls new.calls
-    ⊎ AsksForBoard table is_fresh old (λ way torn.
+abbrev pub AskingStops : List ChipData → RigState → RigState → Fault → Type 0
+AskingStops table old new fault = GoesOn AreFetches old.calls new.calls
+    ⊎ AsksForBoard table old (λ way torn.
     GoesOn (AsksInPart table way (cause_of fault) torn) old.calls new.calls)
 
 -- puts and gets of Get, Get ID, and of reads of 32 and of 2 bytes

@@ -19,11 +19,10 @@ pub record IsOfItsBoard (table : List ChipData) (old : RigState) : Type 0 where
   pub listed : IsChipWith table chip.id chip
   pub board : names_other_board chip.unique journal.state ≡ false
 
--- the device was settled by 7F, or connected, and asked, or a part of that, and nothing else was
--- sent or appended
-abbrev pub OnlyAsks : Bool → RigState → RigState → Fault → Type 0
-OnlyAsks is_fresh old new fault = (torn : Bool)
-    → GoesOn (ReachesInPart (contact_way is_fresh) (cause_of fault) torn) old.calls new.calls
+-- the device was settled by 7F and asked, or a part of that, and nothing else was sent or appended
+abbrev pub OnlyAsks : RigState → RigState → Fault → Type 0
+OnlyAsks old new fault = (torn : Bool)
+    → GoesOn (ReachesInPart contact_way (cause_of fault) torn) old.calls new.calls
 
 -- the journal names a board, and no chip of the table is of that one
 pub record IsForeign (table : List ChipData) (journal : List ℕ) : Type 0 where

@@ -1,7 +1,6 @@
--- How a session settles its device; and a device that was reset since the last
--- session, and is said to be.
-use Rattle.std.specs.Prelude.{◌≡◌, ℕ, ◌+◌, ◌*◌, ◌==◌, if◌then◌else◌, min, max, Bool, true, false}
-use Rattle.std.specs.Prelude.{List, [], Option, Some, None, IsTrue}
+-- How a session settles its device; and a device that was reset since the last session.
+use Rattle.std.specs.Prelude.{◌≡◌, ℕ, ◌+◌, ◌*◌, ◌==◌, if◌then◌else◌, min, max, Bool}
+use Rattle.std.specs.Prelude.{List, [], Option, Some, None}
 use Rattle.stm_wire.specs.declared.chip.EraseKind.{EraseKind}
 use Rattle.stm_wire.specs.declared.chip.EraseKind.TheVariants.{Page, Extended}
 use Rattle.stm_wire.specs.declared.intent.Intent.{Intent}
@@ -9,47 +8,37 @@ use Rattle.stm_wire.specs.declared.intent.Intent.TheVariants.{Erase, Program}
 use Rattle.stm_wire.specs.Call.{Call}
 use Rattle.stm_wire.specs.Device.{Device, Fresh}
 use Rattle.stm_wire.specs.Intents.{settling_byte}
-use Rattle.stm_wire.specs.SettlingCalls.{EndsInBatches, EndsSettled, IsConnected}
+use Rattle.stm_wire.specs.SettlingCalls.{EndsInBatches, EndsSettled}
 
 -- it waits for 7F and owes nothing
 pub record IsReset (d : Device) : Type 0 where
   pub phase : d.phase ≡ Fresh
   pub owed : d.owed ≡ []
 
--- what is said of it is so
-abbrev pub IsAsSaid : Bool → Device → Type 0
-IsAsSaid is_fresh d = IsTrue is_fresh → IsReset d
-
 -- with this byte until it is refused, so often at most: 7F byte by byte and others in batches, or
--- whatever the byte in batches; or it is connected, with 7F once
+-- whatever the byte in batches
 pub data Way : Type 0 where
   Settles : ℕ → ℕ → Way
   SettlesInBatches : ℕ → ℕ → Way
-  Connects : Way
 
 -- the byte that is put
 abbrev pub byte_of : Way → ℕ
 byte_of (Settles byte limit) = byte
 byte_of (SettlesInBatches byte limit) = byte
-byte_of Connects = 0x7F
 
 -- and how often at most, before 7F connects a device that has refused none
 abbrev pub limit_of : Way → ℕ
 limit_of (Settles byte limit) = limit
 limit_of (SettlesInBatches byte limit) = limit
-limit_of Connects = 0
 
 -- how that ends where the device is settled
 abbrev pub EndsWell : Way → List Call → Type 0
 EndsWell (Settles byte limit) calls = EndsSettled byte limit calls
 EndsWell (SettlesInBatches byte limit) calls = EndsInBatches byte limit calls
-EndsWell Connects calls = IsConnected calls
 
--- how a session whose journal has no intent settles its device: with 7F; one that is said to be
--- fresh is connected
-abbrev pub contact_way : Bool → Way
-contact_way false = Settles 0x7F 131072
-contact_way true = Connects
+-- how a session whose journal has no intent settles its device: with 7F
+abbrev pub contact_way : Way
+contact_way = Settles 0x7F 131072
 
 -- How often the byte of an erase is sent at most where pages have numbers of two bytes: behind 44 BB
 -- the byte twice is a count of 257 * byte + 1 pages; and with 7F once ahead of it, where that may
@@ -76,10 +65,3 @@ abbrev pub settling_way : EraseKind → Bool → Option Intent → Way
 settling_way kind greeted None = Settles 0x7F (settling_limit kind greeted None)
 settling_way kind greeted (Some intent) =
     SettlesInBatches (settling_byte (Some intent)) (settling_limit kind greeted (Some intent))
-
--- how an undo settles its device: one that is said to be fresh is connected,
--- unless 7F is the byte anyway
-abbrev pub undo_way : Bool → EraseKind → Bool → Option Intent → Way
-undo_way false kind greeted intent = settling_way kind greeted intent
-undo_way true kind greeted None = settling_way kind greeted None
-undo_way true kind greeted (Some intent) = Connects

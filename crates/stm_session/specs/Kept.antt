@@ -1,6 +1,6 @@
 -- What the journal kept of a page before it was changed is still kept, on any line: which frames
 -- may come behind which lines.
-use Rattle.std.specs.Prelude.{◌≡◌, ℕ, ◌+◌, ◌≤◌, Bool, List, [], ◌∷◌, length, map, Contains}
+use Rattle.std.specs.Prelude.{◌≡◌, ℕ, ◌+◌, ◌≤◌, List, [], ◌∷◌, length, map, Contains}
 use Rattle.std.specs.Prelude.{Option, Some, None}
 use Rattle.stm_wire.specs.Chip.{ChipData, page_size}
 use Rattle.stm_wire.specs.Dialogue.{Turn}
@@ -75,15 +75,15 @@ KeepsFirst chip kept (Sends turns ∷ steps) =
     MaySend chip (λ n. IsKept n kept) turns × KeepsFirst chip kept steps
 
 -- a run, at Ok: its steps are such, and none of its segments is left unfinished
-abbrev pub RunKeeps : Bool → List ChipData → RigState → RigState → Type 0
-RunKeeps is_fresh table old new = RunDoes is_fresh (λ chip s steps. KeepsFirst chip None steps
+abbrev pub RunKeeps : List ChipData → RigState → RigState → Type 0
+RunKeeps table old new = RunDoes (λ chip s steps. KeepsFirst chip None steps
     × (kept_behind_steps None steps ≡ None)) table old new
 
 -- a run, at a fault: nothing was sent but to settle and ask the device; or such steps were done,
 -- each whole but the last, which failed
-abbrev pub RunStopsKept : Bool → List ChipData → RigState → RigState → Fault → Type 0
-RunStopsKept is_fresh table old new fault =
-    RunDoesInPart is_fresh (λ chip s. KeepsFirst chip None) table old new fault
+abbrev pub RunStopsKept : List ChipData → RigState → RigState → Fault → Type 0
+RunStopsKept table old new fault =
+    RunDoesInPart (λ chip s. KeepsFirst chip None) table old new fault
 
 -- Of an undo. There are the pages of the segments that aren't taken off yet, the newest first:
 
@@ -116,11 +116,10 @@ abbrev pub PutsBackFrom : StepsOf
 PutsBackFrom chip s steps = PutsBack chip (pages_of_segments s.stack) steps
 
 -- an undo, at Ok: its steps are such
-abbrev pub UndoPutsBack : Bool → List ChipData → RigState → RigState → Type 0
-UndoPutsBack is_fresh table old new = UndoDoes is_fresh PutsBackFrom table old new
+abbrev pub UndoPutsBack : List ChipData → RigState → RigState → Type 0
+UndoPutsBack table old new = UndoDoes PutsBackFrom table old new
 
 -- an undo, at a fault: nothing was sent but to settle and ask the device; or such steps were done,
 -- each whole but the last, which failed
-abbrev pub UndoStopsBack : Bool → List ChipData → RigState → RigState → Fault → Type 0
-UndoStopsBack is_fresh table old new fault =
-    UndoDoesInPart is_fresh PutsBackFrom table old new fault
+abbrev pub UndoStopsBack : List ChipData → RigState → RigState → Fault → Type 0
+UndoStopsBack table old new fault = UndoDoesInPart PutsBackFrom table old new fault

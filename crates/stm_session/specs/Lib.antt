@@ -27,6 +27,7 @@ pub mod Lines
 pub mod Runs
 pub mod Undoes
 pub mod Greeting
+pub mod Silence
 pub mod Unprotecting
 pub mod Promises
 pub mod Events

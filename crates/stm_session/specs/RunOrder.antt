@@ -62,36 +62,26 @@ pub data AreDoneInOrder (chip : ChipData) : List CommandData → List OutcomeDat
       → length last.stack ≡ length mid.stack + segments_of_command c
       → AreDoneInOrder chip (commands ++ c ∷ []) (outcomes ++ said ∷ []) s last (before ++ own)
 
--- A run that does such steps: settling by 7F, or connecting where the device is said to be fresh,
--- Get, Get ID, by which the device is the chip, the question whether it is still the chip's board,
--- and then these.
-abbrev pub RunDoes : Bool → StepsOf → List ChipData → RigState → RigState → Type 0
-RunDoes is_fresh P table old new = Session table old (λ chip l.
-    ReachesAndDoes (contact_way is_fresh) chip.id l.is_torn
+-- A run that does such steps: settling by 7F, Get, Get ID, by which the device is the chip, the
+-- question whether it is still the chip's board, and then these.
+abbrev pub RunDoes : StepsOf → List ChipData → RigState → RigState → Type 0
+RunDoes P table old new = Session table old (λ chip l.
+    ReachesAndDoes contact_way chip.id l.is_torn
     (IsAfter (confirming chip) (P chip l.state)) old new)
 
 -- its commands, with these outcomes
-abbrev pub RunsTellingFrom : Bool → List ChipData → List CommandData → List OutcomeData → RigState
-    → RigState → Type 0
-RunsTellingFrom is_fresh table commands outcomes old new = RunDoes is_fresh (λ chip s steps.
-    (last : StateData) × AreDoneInOrder chip commands outcomes s last steps) table old new
-
--- behind settling
 abbrev pub RunsTelling : List ChipData → List CommandData → List OutcomeData → RigState → RigState
     → Type 0
-RunsTelling table commands outcomes old new = RunsTellingFrom false table commands outcomes old new
+RunsTelling table commands outcomes old new = RunDoes (λ chip s steps.
+    (last : StateData) × AreDoneInOrder chip commands outcomes s last steps) table old new
 
 -- or with some
 abbrev pub AreDoneSomehow : List CommandData → StepsOf
 AreDoneSomehow commands chip s steps = (outcomes : List OutcomeData) × (last : StateData)
     × AreDoneInOrder chip commands outcomes s last steps
 
-abbrev pub RunsInOrderFrom : Bool → List ChipData → List CommandData → RigState → RigState → Type 0
-RunsInOrderFrom is_fresh table commands old new =
-    RunDoes is_fresh (AreDoneSomehow commands) table old new
-
 abbrev pub RunsInOrder : List ChipData → List CommandData → RigState → RigState → Type 0
-RunsInOrder table commands old new = RunsInOrderFrom false table commands old new
+RunsInOrder table commands old new = RunDoes (AreDoneSomehow commands) table old new
 
 -- At a fault:
 
@@ -137,19 +127,13 @@ StopsTelling Allowed torn old new result =
 
 -- A run that is broken off: its device isn't reached, or isn't one for it; or it is, and then that
 -- question, and such steps, were cut short.
-abbrev pub RunDoesInPart : Bool → StepsOf → List ChipData → RigState → RigState → Fault → Type 0
-RunDoesInPart is_fresh P table old new fault =
-    ((torn : Bool)
-    → GoesOn (ReachesInPart (contact_way is_fresh) (cause_of fault) torn) old.calls new.calls)
-    ⊎ Session table old (λ chip l. ReachesAndStops (contact_way is_fresh) chip.id l.is_torn
+abbrev pub RunDoesInPart : StepsOf → List ChipData → RigState → RigState → Fault → Type 0
+RunDoesInPart P table old new fault =
+    ((torn : Bool) → GoesOn (ReachesInPart contact_way (cause_of fault) torn) old.calls new.calls)
+    ⊎ Session table old (λ chip l. ReachesAndStops contact_way chip.id l.is_torn
     (IsConfirmedInPart chip (P chip l.state)) (cause_of fault) old new)
 
 -- a beginning of its commands
-abbrev pub RunStopsFrom : Bool → List ChipData → List CommandData → RigState → RigState → Fault
-    → Type 0
-RunStopsFrom is_fresh table commands old new fault =
-    RunDoesInPart is_fresh (λ chip s. AreBegun fault chip commands s) table old new fault
-
--- behind settling
 abbrev pub RunStops : List ChipData → List CommandData → RigState → RigState → Fault → Type 0
-RunStops table commands old new fault = RunStopsFrom false table commands old new fault
+RunStops table commands old new fault =
+    RunDoesInPart (λ chip s. AreBegun fault chip commands s) table old new fault

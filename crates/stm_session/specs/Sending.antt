@@ -14,7 +14,7 @@ use Rattle.stm_chip.specs.Document.{IsChipWith}
 use Rattle.stm_journal.specs.Calls.{AreFetches}
 use Rattle.stm_session.specs.declared.fault.Fault.{Fault}
 use Rattle.stm_session.specs.Fault.{Cause, of_line, of_protocol, cause_of}
-use Rattle.stm_session.specs.Fresh.{Connects, Way, byte_of, contact_way, limit_of, undo_way}
+use Rattle.stm_session.specs.Fresh.{Settles, Way, byte_of, limit_of, settling_way}
 
 -- puts and gets of one command at most: each byte of the greatest flash, read by a frame of its own
 abbrev pub most_of_command : ℕ
@@ -32,11 +32,9 @@ most_of_confirming = 44
 abbrev pub most_of_reaching : ℕ → ℕ
 most_of_reaching limit = 4100 * (limit + 4) + 268
 
--- of a run of so many commands, on a device that may be said to be fresh from reset
-abbrev pub most_of_run : Bool → ℕ → ℕ
-most_of_run is_fresh n =
-    most_of_reaching (limit_of (contact_way is_fresh))
-    + (most_of_confirming + n * most_of_command)
+-- of a run of so many commands
+abbrev pub most_of_run : ℕ → ℕ
+most_of_run n = most_of_reaching 131072 + (most_of_confirming + n * most_of_command)
 
 -- of an undo of so many segments, once its device is known: the pages at work are written first, and
 -- together they are no larger than the greatest flash
@@ -66,25 +64,18 @@ abbrev pub IsOfTable : List ChipData → Option ChipData → Type 0
 IsOfTable table None = Unit {0}
 IsOfTable table (Some chip) = IsChipWith table chip.id chip
 
--- Settling with 7F, or 7F once where the device is said to be fresh, and then frames of one chip of
--- the table, in few calls.
-pub record SendsAsRunFrom (is_fresh : Bool) (table : List ChipData) (whole : Bool) (n : ℕ)
-    (old new : RigState) : Type 0 where
+-- Settling with 7F, and then frames of one chip of the table, in few calls.
+pub record SendsAsRun (table : List ChipData) (whole : Bool) (n : ℕ) (old new : RigState)
+    : Type 0 where
   pub chip : Option ChipData
   pub listed : IsOfTable table chip
-  pub calls : let way = contact_way is_fresh in
-      GoesOn (IsSession chip (byte_of way) (limit_of way) whole (most_of_run is_fresh n))
-      old.calls new.calls
-
--- settling
-abbrev pub SendsAsRun : List ChipData → Bool → ℕ → RigState → RigState → Type 0
-SendsAsRun table whole n old new = SendsAsRunFrom false table whole n old new
+  pub calls : GoesOn (IsSession chip 0x7F 131072 whole (most_of_run n)) old.calls new.calls
 
 -- how an undo settles its device, whose journal is one of this chip; where there is none
 -- it sends no settling byte
-abbrev pub way_of_undo : Bool → Option ChipData → Bool → Option Intent → Way
-way_of_undo is_fresh None greeted intent = Connects
-way_of_undo is_fresh (Some chip) greeted intent = undo_way is_fresh chip.kind greeted intent
+abbrev pub way_of_undo : Option ChipData → Bool → Option Intent → Way
+way_of_undo None greeted intent = Settles 0x7F 0
+way_of_undo (Some chip) greeted intent = settling_way chip.kind greeted intent
 
 -- Settling by some intent, as often as its journal's chip needs at most, and then frames of that
 -- chip, which is one of the table, in the calls of so many segments undone: no more than were
@@ -93,14 +84,13 @@ pub record SendsAsUndo (table : List ChipData) (count : ℕ) (old new : RigState
     (result : Result ℕ Fault) : Type 0 where
   pub chip : Option ChipData
   pub listed : IsOfTable table chip
-  pub is_fresh : Bool
   pub greeted : Bool
   pub intent : Option Intent
   pub taken : ℕ
   pub limit : taken ≤ 65535
   pub asked : 0 < count → taken ≤ count
   pub told : IfOk result (λ n. n ≡ taken)
-  pub calls : let way = way_of_undo is_fresh chip greeted intent in
+  pub calls : let way = way_of_undo chip greeted intent in
       GoesOn (IsSession chip (byte_of way) (limit_of way) (is_whole result)
       (most_of_reaching (limit_of way) + (most_of_confirming + most_of_undo taken)))
       old.calls new.calls

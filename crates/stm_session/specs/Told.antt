@@ -55,20 +55,20 @@ AreTakenTold Told taken chip s steps =
 
 -- An undo at Ok: its steps, in which each page that is read or rewritten is given the bytes that
 -- the journal told.
-abbrev pub UndoGivesTold : {R : Type 0} → (R → RigState) → Bool → List ChipData → ℕ → RigState
-    → RigState → Type 0
-UndoGivesTold view is_fresh table taken old new =
-    UndoDoes is_fresh (AreTakenTold (ToldBy view old new) taken) table old new
+abbrev pub UndoGivesTold : {R : Type 0} → (R → RigState) → List ChipData → ℕ → RigState → RigState
+    → Type 0
+UndoGivesTold view table taken old new =
+    UndoDoes (AreTakenTold (ToldBy view old new) taken) table old new
 
 -- and one that tells what it returned
 abbrev pub AreGivenBackTold : Bool → Tells → Returned → StepsOf
 AreGivenBackTold again Told returned chip s steps =
     AreTakenWhole again (behind_confirming chip Told) returned chip s steps
 
-abbrev pub GivesBackTold : {R : Type 0} → (R → RigState) → Bool → Bool → List ChipData → Returned
-    → RigState → RigState → Type 0
-GivesBackTold view is_fresh again table returned old new =
-    UndoDoes is_fresh (AreGivenBackTold again (ToldBy view old new) returned) table old new
+abbrev pub GivesBackTold : {R : Type 0} → (R → RigState) → Bool → List ChipData → Returned → RigState
+    → RigState → Type 0
+GivesBackTold view again table returned old new =
+    UndoDoes (AreGivenBackTold again (ToldBy view old new) returned) table old new
 
 -- a beginning of them
 abbrev pub BeginTakingTold : Bool → Tells → ℕ → StepsOf
@@ -77,12 +77,11 @@ BeginTakingTold again Told count chip s steps = (taken : ℕ) × (taken ≤ leng
     (BeginTold (λ T. AreTakenAs again T taken chip s) (behind_confirming chip Told)) steps
 
 -- An undo at a fault: such a beginning, each step whole but the last, which failed.
-abbrev pub UndoStopsToldAs : {R : Type 0} → (R → RigState) → Bool → Bool → List ChipData → ℕ
-    → RigState → RigState → Fault → Type 0
-UndoStopsToldAs view is_fresh again table count old new fault =
-    UndoDoesInPart is_fresh (BeginTakingTold again (ToldBy view old new) count) table old new fault
-
-abbrev pub UndoStopsTold : {R : Type 0} → (R → RigState) → Bool → List ChipData → ℕ → RigState
+abbrev pub UndoStopsToldAs : {R : Type 0} → (R → RigState) → Bool → List ChipData → ℕ → RigState
     → RigState → Fault → Type 0
-UndoStopsTold view is_fresh table count old new fault =
-    UndoStopsToldAs view is_fresh false table count old new fault
+UndoStopsToldAs view again table count old new fault =
+    UndoDoesInPart (BeginTakingTold again (ToldBy view old new) count) table old new fault
+
+abbrev pub UndoStopsTold : {R : Type 0} → (R → RigState) → List ChipData → ℕ → RigState → RigState
+    → Fault → Type 0
+UndoStopsTold view table count old new fault = UndoStopsToldAs view false table count old new fault

@@ -8,8 +8,7 @@ ghost use Rattle.stm_wire.specs.Settling.{PutsPart, SettlesWithin};
 ghost use Rattle.stm_wire.specs.SettlingCalls.{EndsSettled, IsConnected};
 ghost use Rattle.stm_session.specs.Unwritten.{AppendsNothing};
 ghost use Rattle.stm_session.specs.Fault.{HasSessionCause, IsOfLine};
-ghost use Rattle.stm_session.specs.Fresh.{EndsWell, IsAsSaid, IsReset, byte_of, contact_way};
-ghost use Rattle.stm_session.specs.Fresh.{limit_of};
+ghost use Rattle.stm_session.specs.Fresh.{IsReset};
 ghost use Rattle.stm_session.specs.Asking.{Asks};
 ghost use Rattle.stm_session.specs.Moments.{BeginsNothing, IsSafe};
 ghost use Rattle.stm_session.specs.Opening.{AreCommandsOf, TellsItself};
@@ -66,30 +65,6 @@ pub fn connect_fresh<R: Rig>(rig: &mut R) -> Result<(), Fault>
     a_ready_device_can_begin();
     connect(rig)?;
     Ok(())
-}
-
-/// Settles a device with 7F, which is known to do it no harm. One that is said to be fresh from
-/// reset is connected, with 7F once.
-pub fn settle_or_connect<R: Rig>(rig: &mut R, is_fresh: bool) -> Result<(), Fault>
-    ensures cause { let old = R.view rig.old in let new = R.view rig.new in
-        HasSessionCause old new result }
-    ensures calls { let way = contact_way is_fresh in
-        GoesOn (SettlesWithin (byte_of way) (limit_of way)) (R.view rig.old).calls
-        (R.view rig.new).calls }
-    ensures settled { let way = contact_way is_fresh in
-        OnOk result (GoesOn (EndsWell way) (R.view rig.old).calls (R.view rig.new).calls) }
-    ensures sent { IfErr result IsOfLine }
-    ensures kept { let old = R.view rig.old in let new = R.view rig.new in
-        old.is_honest → new.journal ≡ old.journal }
-    ensures honest { let old = R.view rig.old in let new = R.view rig.new in
-        old.is_honest → IsAsSaid is_fresh old.device → IsSafe old.device
-        → BeginsNothing old new result (λ _. ⊤) }
-{
-    if is_fresh {
-        connect_fresh(rig)
-    } else {
-        settle_safe(rig)
-    }
 }
 
 /// Asks a settled device for its commands.

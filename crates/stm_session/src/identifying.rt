@@ -48,5 +48,5 @@ pub fn identify<R: Rig>(alloc: Global, rig: &mut R) -> Result<Told, Fault>
 {
     harmless_is_kept();
     let _journal = load_finished(alloc, rig)?;
-    reach(rig, false)
+    reach(rig)
 }

@@ -1,7 +1,7 @@
 // How an undo reaches its device: whatever it was sent before is ended, and it is asked
 // whether it is the journal's.
 ghost use Rattle.std.specs.Prelude.{◌≡◌, ◌<◌, ◌≤◌, [], List, ℕ, ⊤, Bool, ◌∷◌, length, None, OnOk, IfOk};
-ghost use Rattle.std.specs.Prelude.{IfErr, IfSome};
+ghost use Rattle.std.specs.Prelude.{IfSome};
 ghost use Rattle.stm_wire.specs.Device.{IsSettled};
 ghost use Rattle.stm_wire.specs.Dialogue.{GoesOn};
 ghost use Rattle.stm_wire.specs.Frames.{get_turns};
@@ -11,7 +11,7 @@ ghost use Rattle.stm_journal.specs.Journals.{IsLoaded};
 ghost use Rattle.stm_journal.specs.States.{intent_of};
 ghost use Rattle.stm_session.specs.Asking.{Asks};
 ghost use Rattle.stm_session.specs.Fault.{HasSessionCause, IsLaterRefusal, cause_of};
-ghost use Rattle.stm_session.specs.Fresh.{IsAsSaid, byte_of, limit_of, undo_way};
+ghost use Rattle.stm_session.specs.Fresh.{byte_of, limit_of, settling_way};
 ghost use Rattle.stm_session.specs.JournalDevice.{Meets};
 ghost use Rattle.stm_session.specs.Refusals.{can_erase, undo_misfit};
 ghost use Rattle.stm_session.specs.Order.{Begin, IsInOrder, Sends, FaultEnds, StopsBy};
@@ -74,38 +74,32 @@ fn ask_misfit<R: Rig>(rig: &mut R, chip: &Chip) -> Result<Option<Fault>, Fault>
     Ok(None)
 }
 
-/// Settles the device by the journal's intent, or as one that is fresh, and asks whether
-/// it is the journal's chip.
-pub fn meet<R: Rig>(
-    rig: &mut R,
-    journal: &Journal,
-    chip: &Chip,
-    is_fresh: bool,
-) -> Result<(), Fault>
+/// Settles the device by the journal's intent, and asks whether it is the journal's chip.
+pub fn meet<R: Rig>(rig: &mut R, journal: &Journal, chip: &Chip) -> Result<(), Fault>
     ensures cause { HasSessionCause (R.view rig.old) (R.view rig.new) result }
     ensures puts { let old = R.view rig.old in let new = R.view rig.new in
-        let way = undo_way is_fresh chip.now.kind journal.now.is_greeted (intent_of journal.now.state) in
+        let way = settling_way chip.now.kind journal.now.is_greeted (intent_of journal.now.state) in
         GoesOn (IsSession None (byte_of way) (limit_of way) (is_whole result)
         (most_of_reaching (limit_of way))) old.calls new.calls }
     ensures order { let old = R.view rig.old in let new = R.view rig.new in
-        let way = undo_way is_fresh chip.now.kind journal.now.is_greeted (intent_of journal.now.state) in
+        let way = settling_way chip.now.kind journal.now.is_greeted (intent_of journal.now.state) in
         (torn : Bool) → OnOk result (ReachesInOrder way chip.now.id torn old new) }
     ensures stops { let old = R.view rig.old in let new = R.view rig.new in
-        let way = undo_way is_fresh chip.now.kind journal.now.is_greeted (intent_of journal.now.state) in
+        let way = settling_way chip.now.kind journal.now.is_greeted (intent_of journal.now.state) in
         (torn : Bool) → StopsShort way torn old new result }
     ensures honest { let old = R.view rig.old in let new = R.view rig.new in
-        old.is_honest → IsAsSaid is_fresh old.device → (flashes : List (List ℕ))
+        old.is_honest → (flashes : List (List ℕ))
         → IsLoaded journal.now old.journal
         → Undoable flashes old.device old.journal → old.device.chip ≡ chip.now
         → Goes flashes [] journal.now old new result (λ _. ⊤) }
     ensures elsewhere { let old = R.view rig.old in let new = R.view rig.new in
-        old.is_honest → IsAsSaid is_fresh old.device → IsLoaded journal.now old.journal
+        old.is_honest → IsLoaded journal.now old.journal
         → Harmless old.device (byte_at_journal old.journal) (risked_at old.journal)
         → length old.device.owed ≤ 4096 → IsWithinLimit chip.now old
         → Meets chip.now old new result }
 {
     step_laws();
-    settle_intended(rig, journal, chip, is_fresh)?;
+    settle_intended(rig, journal, chip)?;
     let misfit = ask_misfit(rig, chip)?;
     match misfit {
         Some(fault) => Err(fault),

@@ -1,5 +1,5 @@
 //! Laws of what can be undone: each is the contract of a function that does nothing.
-ghost use Rattle.std.specs.Prelude.{◌≡◌, ◌⊎◌, Bool, ℕ, List, [], Result, Some, None, false, true};
+ghost use Rattle.std.specs.Prelude.{◌≡◌, ◌⊎◌, ℕ, List, [], Result, Some, None, false, true};
 ghost use Rattle.std.specs.List.{list_all};
 ghost use Rattle.stm_wire.specs.Chip.{ChipData};
 ghost use Rattle.stm_wire.specs.Device.{Device, IsDevice, IsReady, reset};
@@ -20,8 +20,8 @@ ghost use Rattle.stm_session.specs.Kept.{RunKeeps, RunStopsKept, UndoPutsBack, U
 ghost use Rattle.stm_session.specs.Greeting.{FreshIsGreetable, LossIsGreetable, StoppedIsGreetable};
 ghost use Rattle.stm_session.specs.Meaning.{CommandData, commands_in};
 ghost use Rattle.stm_session.specs.Moments.{IsSafe, SameMake};
-ghost use Rattle.stm_session.specs.UndoOrder.{GivesBackInOrder, UndoStopsAs, UndoStopsFrom};
-ghost use Rattle.stm_session.specs.UndoOrder.{UndoesInOrderFrom};
+ghost use Rattle.stm_session.specs.UndoOrder.{GivesBackInOrder, UndoStopsAs, UndoStops};
+ghost use Rattle.stm_session.specs.UndoOrder.{UndoesInOrder};
 ghost use Rattle.stm_session.specs.PowerLoss.{
   AnyBytesAreLeft,
   FinishedLosesNothing,
@@ -32,7 +32,7 @@ ghost use Rattle.stm_session.specs.PowerLoss.{
 ghost use Rattle.stm_session.specs.Refusal.{chip_with, misfit_refusal, opening_refusal};
 ghost use Rattle.stm_session.specs.Refusals.{is_in_flash, run_refusal};
 ghost use Rattle.stm_session.specs.Running.{RunsReads, is_reading};
-ghost use Rattle.stm_session.specs.RunOrder.{RunStopsFrom, RunsInOrderFrom};
+ghost use Rattle.stm_session.specs.RunOrder.{RunStops, RunsInOrder};
 ghost use Rattle.stm_session.specs.Runs.{Runs};
 ghost use Rattle.stm_session.specs.ToldBoard.{IsPartOf};
 ghost use Rattle.stm_session.specs.Unasked.{unasked_refusal};
@@ -182,13 +182,13 @@ pub fn reads_in_the_flash_are_not_refused()
 /// and it sends no other frames but those that read. It ends a segment behind the last of these,
 /// each of which was acknowledged. That holds of all that was done, and of what failed.
 pub fn a_run_keeps_pages_before_it_changes_them<R: Rig>()
-    ensures done { (is_fresh : Bool) (table : List ChipData) (commands : List CommandData)
-        (old new : R) → RunsInOrderFrom is_fresh table commands (R.view old) (R.view new)
-        → RunKeeps is_fresh table (R.view old) (R.view new) }
-    ensures stopped { (is_fresh : Bool) (table : List ChipData) (commands : List CommandData)
+    ensures done { (table : List ChipData) (commands : List CommandData)
+        (old new : R) → RunsInOrder table commands (R.view old) (R.view new)
+        → RunKeeps table (R.view old) (R.view new) }
+    ensures stopped { (table : List ChipData) (commands : List CommandData)
         (old new : R) (fault : Fault)
-        → RunStopsFrom is_fresh table commands (R.view old) (R.view new) fault
-        → RunStopsKept is_fresh table (R.view old) (R.view new) fault }
+        → RunStops table commands (R.view old) (R.view new) fault
+        → RunStopsKept table (R.view old) (R.view new) fault }
 {
     laying_by_parts();
 }
@@ -198,19 +198,19 @@ pub fn a_run_keeps_pages_before_it_changes_them<R: Rig>()
 /// frames but those that read. It takes a segment off behind the last of these, each of which was
 /// acknowledged. That holds of all that was done, and of what failed.
 pub fn an_undo_changes_only_pages_that_it_undoes<R: Rig>()
-    ensures done { (is_fresh : Bool) (table : List ChipData) (taken : ℕ) (old new : R)
-        → UndoesInOrderFrom is_fresh table taken (R.view old) (R.view new)
-        → UndoPutsBack is_fresh table (R.view old) (R.view new) }
-    ensures stopped { (is_fresh : Bool) (table : List ChipData) (count : ℕ) (old new : R)
-        (fault : Fault) → UndoStopsFrom is_fresh table count (R.view old) (R.view new) fault
-        → UndoStopsBack is_fresh table (R.view old) (R.view new) fault }
+    ensures done { (table : List ChipData) (taken : ℕ) (old new : R)
+        → UndoesInOrder table taken (R.view old) (R.view new)
+        → UndoPutsBack table (R.view old) (R.view new) }
+    ensures stopped { (table : List ChipData) (count : ℕ) (old new : R)
+        (fault : Fault) → UndoStops table count (R.view old) (R.view new) fault
+        → UndoStopsBack table (R.view old) (R.view new) fault }
     // So does one that reads each page again.
-    ensures verified { (is_fresh : Bool) (table : List ChipData) (returned : Returned)
-        (old new : R) → GivesBackInOrder is_fresh true table returned (R.view old) (R.view new)
-        → UndoPutsBack is_fresh table (R.view old) (R.view new) }
-    ensures verified_stopped { (is_fresh : Bool) (table : List ChipData) (count : ℕ) (old new : R)
-        (fault : Fault) → UndoStopsAs is_fresh true table count (R.view old) (R.view new) fault
-        → UndoStopsBack is_fresh table (R.view old) (R.view new) fault }
+    ensures verified { (table : List ChipData) (returned : Returned)
+        (old new : R) → GivesBackInOrder true table returned (R.view old) (R.view new)
+        → UndoPutsBack table (R.view old) (R.view new) }
+    ensures verified_stopped { (table : List ChipData) (count : ℕ) (old new : R)
+        (fault : Fault) → UndoStopsAs true table count (R.view old) (R.view new) fault
+        → UndoStopsBack table (R.view old) (R.view new) fault }
 {}
 
 /// On any line, whatever it answers: a run that succeeded, or that sent or appended anything but to
@@ -219,25 +219,25 @@ pub fn an_undo_changes_only_pages_that_it_undoes<R: Rig>()
 /// Rig's own journal; so one of which no chip of the table is the board is left alone with its
 /// device.
 pub fn a_session_changes_only_its_own_board<R: Rig>()
-    ensures run { (is_fresh : Bool) (table : List ChipData) (commands : List CommandData)
-        (old new : R) → RunsInOrderFrom is_fresh table commands (R.view old) (R.view new)
+    ensures run { (table : List ChipData) (commands : List CommandData)
+        (old new : R) → RunsInOrder table commands (R.view old) (R.view new)
         → IsOfItsBoard table (R.view old) }
-    ensures run_stops { (is_fresh : Bool) (table : List ChipData) (commands : List CommandData)
+    ensures run_stops { (table : List ChipData) (commands : List CommandData)
         (old new : R) (fault : Fault)
-        → RunStopsFrom is_fresh table commands (R.view old) (R.view new) fault
-        → OnlyAsks is_fresh (R.view old) (R.view new) fault ⊎ IsOfItsBoard table (R.view old) }
-    ensures undo { (is_fresh : Bool) (table : List ChipData) (taken : ℕ) (old new : R)
-        → UndoesInOrderFrom is_fresh table taken (R.view old) (R.view new)
+        → RunStops table commands (R.view old) (R.view new) fault
+        → OnlyAsks (R.view old) (R.view new) fault ⊎ IsOfItsBoard table (R.view old) }
+    ensures undo { (table : List ChipData) (taken : ℕ) (old new : R)
+        → UndoesInOrder table taken (R.view old) (R.view new)
         → IsOfItsBoard table (R.view old) }
-    ensures undo_stops { (is_fresh : Bool) (table : List ChipData) (count : ℕ) (old new : R)
-        (fault : Fault) → UndoStopsFrom is_fresh table count (R.view old) (R.view new) fault
+    ensures undo_stops { (table : List ChipData) (count : ℕ) (old new : R)
+        (fault : Fault) → UndoStops table count (R.view old) (R.view new) fault
         → GoesOn AreFetches (R.view old).calls (R.view new).calls
         ⊎ IsOfItsBoard table (R.view old) }
-    ensures verified { (is_fresh : Bool) (table : List ChipData) (returned : Returned)
-        (old new : R) → GivesBackInOrder is_fresh true table returned (R.view old) (R.view new)
+    ensures verified { (table : List ChipData) (returned : Returned)
+        (old new : R) → GivesBackInOrder true table returned (R.view old) (R.view new)
         → IsOfItsBoard table (R.view old) }
-    ensures verified_stops { (is_fresh : Bool) (table : List ChipData) (count : ℕ) (old new : R)
-        (fault : Fault) → UndoStopsAs is_fresh true table count (R.view old) (R.view new) fault
+    ensures verified_stops { (table : List ChipData) (count : ℕ) (old new : R)
+        (fault : Fault) → UndoStopsAs true table count (R.view old) (R.view new) fault
         → GoesOn AreFetches (R.view old).calls (R.view new).calls
         ⊎ IsOfItsBoard table (R.view old) }
     ensures foreign { (table : List ChipData) (old : R) → (R.view old).is_honest

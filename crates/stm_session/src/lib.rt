@@ -46,6 +46,7 @@ mod segment_end;
 mod segment_undo;
 mod segments_undo;
 mod settling;
+mod silence;
 mod undo_course;
 mod undoing;
 mod unprotecting;
@@ -56,11 +57,11 @@ pub use command::Command;
 pub use contact::Told;
 pub use fault::Fault;
 pub use go_and_protect::{go, protect};
-pub use greeting::greet;
+pub use greeting::{Greeting, greet};
 pub use headline::{a_session_can_be_undone, the_first_difference_is_the_first};
 pub use identifying::identify;
 pub use information::Info;
-pub use inspect::{info, info_fresh};
+pub use inspect::info;
 pub use journal_chip::check_undo;
 pub use laws::{
     a_chip_is_looked_up_by_its_id, a_journal_of_the_chip_is_not_refused,
@@ -74,6 +75,7 @@ pub use laws::{
 };
 pub use outcome::{Outcome, Report};
 pub use returned::Returned;
-pub use running::{run, run_fresh};
-pub use undoing::{undo, undo_fresh, undo_verified, undo_verified_fresh};
+pub use running::run;
+pub use silence::tell_silence;
+pub use undoing::{undo, undo_verified};
 pub use unprotecting::unprotect_fresh;

@@ -1,6 +1,6 @@
 // How a session begins: the journal is loaded, the device is reached, and both must fit
 // the table and each other.
-ghost use Rattle.stm_session.specs.Fresh.{IsAsSaid, byte_of, contact_way, limit_of};
+ghost use Rattle.stm_session.specs.Fresh.{contact_way};
 ghost use Rattle.std.specs.Prelude.{◌≡◌, ◌≢◌, [], IfOk, IfErr, OnOk, Some, None, false, not, Bool};
 ghost use Rattle.stm_wire.specs.Dialogue.{GoesOn};
 ghost use Rattle.stm_wire.specs.Parts.{IsSession};
@@ -14,12 +14,12 @@ ghost use Rattle.stm_session.specs.Moments.{BeginsNothing, IsSafe};
 ghost use Rattle.stm_session.specs.Refusal.{RefusesUnsent, device_refusals, first_refusal};
 ghost use Rattle.stm_session.specs.Refusal.{misfit_refusal, unsent_refusal};
 ghost use Rattle.stm_session.specs.Reaching.{ReachesInOrder, StopsShort};
-ghost use Rattle.stm_session.specs.Sending.{is_whole, most_of_reaching};
+ghost use Rattle.stm_session.specs.Sending.{is_whole, most_calls};
 ghost use Rattle.stm_session.specs.Opening.{IsCoherent, LoadsUnless, Opens, TellsItself};
 
 use crate::Fault;
 use crate::check::check_kept;
-use crate::contact::{Told, ask, settle_or_connect};
+use crate::contact::{Told, ask, settle_safe};
 use std::alloc::Global;
 use stm_chip::Table;
 use stm_journal::Journal;
@@ -54,30 +54,26 @@ pub fn load_finished<R: Rig>(alloc: Global, rig: &mut R) -> Result<Journal, Faul
     Ok(journal)
 }
 
-/// Settles a device with 7F, or connects one that is said to be fresh from reset, and asks who it
-/// is.
-pub fn reach<R: Rig>(rig: &mut R, is_fresh: bool) -> Result<Told, Fault>
+/// Settles a device with 7F, and asks who it is.
+pub fn reach<R: Rig>(rig: &mut R) -> Result<Told, Fault>
     ensures unwritten { let old = R.view rig.old in let new = R.view rig.new in
         GoesOn AppendsNothing old.calls new.calls }
     ensures cause { let old = R.view rig.old in let new = R.view rig.new in
         HasSessionCause old new result }
     ensures puts { let old = R.view rig.old in let new = R.view rig.new in
-        let way = contact_way is_fresh in
-        GoesOn (IsSession None (byte_of way) (limit_of way) (is_whole result)
-        (most_of_reaching (limit_of way))) old.calls new.calls }
+        GoesOn (IsSession None 0x7F 131072 (is_whole result) (most_calls 0)) old.calls new.calls }
     ensures order { let old = R.view rig.old in let new = R.view rig.new in
         (torn : Bool)
-        → IfOk result (λ told. ReachesInOrder (contact_way is_fresh) told.id torn old new) }
+        → IfOk result (λ told. ReachesInOrder contact_way told.id torn old new) }
     ensures stops { let old = R.view rig.old in let new = R.view rig.new in
-        (torn : Bool) → StopsShort (contact_way is_fresh) torn old new result }
+        (torn : Bool) → StopsShort contact_way torn old new result }
     ensures sent { IfErr result IsOfLine }
     ensures kept { let old = R.view rig.old in let new = R.view rig.new in
         old.is_honest → new.journal ≡ old.journal }
     ensures honest { let old = R.view rig.old in let new = R.view rig.new in
-        old.is_honest → IsAsSaid is_fresh old.device → IsSafe old.device
-        → BeginsNothing old new result (TellsItself old.device) }
+        old.is_honest → IsSafe old.device → BeginsNothing old new result (TellsItself old.device) }
 {
-    settle_or_connect(rig, is_fresh)?;
+    settle_safe(rig)?;
     ask(rig)
 }
 
@@ -113,29 +109,22 @@ fn find_chip<'t>(journal: &Journal, table: &'t Table, id: u16) -> Result<&'t Chi
     Ok(chip)
 }
 
-/// Loads the journal, which must be finished; settles the device with 7F, or connects one that is
-/// said to be fresh from reset; and asks who it is. The journal must be of that device, the table
-/// must have its chip, and each page that the journal keeps must be one of that chip.
-pub fn open<'t, R: Rig>(
-    alloc: Global,
-    rig: &mut R,
-    table: &'t Table,
-    is_fresh: bool,
-) -> Result<Opened<'t>, Fault>
+/// Loads the journal, which must be finished; settles the device with 7F; and asks who it is. The
+/// journal must be of that device, the table must have its chip, and each page that the journal
+/// keeps must be one of that chip.
+pub fn open<'t, R: Rig>(alloc: Global, rig: &mut R, table: &'t Table) -> Result<Opened<'t>, Fault>
     ensures unwritten { let old = R.view rig.old in let new = R.view rig.new in
         GoesOn AppendsNothing old.calls new.calls }
     ensures cause { let old = R.view rig.old in let new = R.view rig.new in
         HasSessionCause old new result }
     ensures puts { let old = R.view rig.old in let new = R.view rig.new in
-        let way = contact_way is_fresh in
-        GoesOn (IsSession None (byte_of way) (limit_of way) (is_whole result)
-        (most_of_reaching (limit_of way))) old.calls new.calls }
+        GoesOn (IsSession None 0x7F 131072 (is_whole result) (most_calls 0)) old.calls new.calls }
     ensures order { let old = R.view rig.old in let new = R.view rig.new in
         (torn : Bool)
         → IfOk result
-        (λ opened. ReachesInOrder (contact_way is_fresh) opened.chip.now.id torn old new) }
+        (λ opened. ReachesInOrder contact_way opened.chip.now.id torn old new) }
     ensures stops { let old = R.view rig.old in let new = R.view rig.new in
-        (torn : Bool) → StopsShort (contact_way is_fresh) torn old new result }
+        (torn : Bool) → StopsShort contact_way torn old new result }
     ensures loaded { let old = R.view rig.old in
         old.is_honest → IfOk result (λ opened. IsLoaded opened.journal old.journal) }
     ensures coherent { IfOk result (IsCoherent table.now) }
@@ -150,14 +139,14 @@ pub fn open<'t, R: Rig>(
     ensures kept { let old = R.view rig.old in let new = R.view rig.new in
         old.is_honest → new.journal ≡ old.journal }
     ensures honest { let old = R.view rig.old in let new = R.view rig.new in
-        old.is_honest → IsAsSaid is_fresh old.device → IsSafe old.device
+        old.is_honest → IsSafe old.device
         → Opens table.now old new result }
     ensures memory { let old = R.view rig.old in
         old.is_honest → old.journal ≡ [] → IfErr result (λ fault. fault ≢ Fault.Memory) }
 {
     harmless_is_kept();
     let journal = load_finished(alloc, rig)?;
-    let told = reach(rig, is_fresh)?;
+    let told = reach(rig)?;
     let chip = find_chip(&journal, table, told.id)?;
     Ok(Opened {
         journal,

@@ -1,21 +1,19 @@
 // A run: everything is checked before the first command is begun, and then the commands
 // are done in their order.
-ghost use Rattle.std.specs.Prelude.{◌≡◌, ◌≢◌, ◌+◌, ◌*◌, length, true, OnOk, IfOk, IfErr};
+ghost use Rattle.std.specs.Prelude.{◌≡◌, ◌≢◌, ◌+◌, ◌*◌, length, OnOk, IfOk, IfErr};
 ghost use Rattle.stm_wire.specs.Dialogue.{GoesOn};
 ghost use Rattle.stm_journal.specs.Calls.{AreFetches};
 ghost use Rattle.stm_session.specs.Answers.{outcomes_in};
 ghost use Rattle.stm_session.specs.CommandList.{AreFit, DoesCommands};
 ghost use Rattle.stm_session.specs.Fault.{HasSessionCause};
-ghost use Rattle.stm_session.specs.Fresh.{IsAsSaid, IsReset};
 ghost use Rattle.stm_session.specs.Meaning.{commands_in};
 ghost use Rattle.stm_session.specs.Order.{IsAfter};
 ghost use Rattle.stm_session.specs.Promises.{RunContract};
 ghost use Rattle.stm_session.specs.Reaching.{IsConfirmedInPart, confirming};
 ghost use Rattle.stm_session.specs.Running.{AreKindsOf};
-ghost use Rattle.stm_session.specs.RunOrder.{AreBegun, AreDoneInOrder, RunStops, RunStopsFrom};
-ghost use Rattle.stm_session.specs.RunOrder.{RunsInOrder, RunsInOrderFrom, RunsTelling};
-ghost use Rattle.stm_session.specs.RunOrder.{RunsTellingFrom};
-ghost use Rattle.stm_session.specs.Sending.{SendsAsRun, SendsAsRunFrom, is_whole};
+ghost use Rattle.stm_session.specs.RunOrder.{AreBegun, AreDoneInOrder, RunStops};
+ghost use Rattle.stm_session.specs.RunOrder.{RunsInOrder, RunsTelling};
+ghost use Rattle.stm_session.specs.Sending.{SendsAsRun, is_whole};
 ghost use Rattle.stm_session.specs.Sending.{most_of_command, most_of_confirming};
 
 use crate::command_check::check_commands;
@@ -80,41 +78,6 @@ fn run_confirmed<R: Rig>(
     Ok(outcomes)
 }
 
-/// Does commands, as `run` does, on a device that may be said to be fresh from reset.
-fn run_as<R: Rig>(
-    alloc: Global,
-    rig: &mut R,
-    table: &Table,
-    commands: &[Command],
-    is_fresh: bool,
-) -> Result<Report, Fault>
-    ensures cause { HasSessionCause (R.view rig.old) (R.view rig.new) result }
-    ensures puts { let old = R.view rig.old in let new = R.view rig.new in
-        SendsAsRunFrom is_fresh table.now (is_whole result) (length commands.now) old new }
-    ensures kinds { IfOk result (λ report. AreKindsOf commands.now report.outcomes.items) }
-    ensures silent { let old = R.view rig.old in let new = R.view rig.new in
-        IfErr result (λ fault. fault ≡ Fault.Unfinished → GoesOn AreFetches old.calls new.calls) }
-    ensures order { let old = R.view rig.old in let new = R.view rig.new in
-        OnOk result (RunsInOrderFrom is_fresh table.now (commands_in commands.now) old new) }
-    // What is answered is what came in the reads of that command.
-    ensures told { let old = R.view rig.old in let new = R.view rig.new in
-        let commands = commands_in commands.now in
-        IfOk result
-        (λ report. RunsTellingFrom is_fresh table.now commands (outcomes_in report) old new) }
-    ensures stops { let old = R.view rig.old in let new = R.view rig.new in
-        IfErr result (RunStopsFrom is_fresh table.now (commands_in commands.now) old new) }
-    ensures promised { let old = R.view rig.old in let new = R.view rig.new in
-        IsAsSaid is_fresh old.device
-        → RunContract table.now (commands_in commands.now) old new result outcomes_in }
-{
-    step_laws();
-    let mut opened = open(alloc, rig, table, is_fresh)?;
-    let chip = opened.chip;
-    check_commands(&opened.journal, chip, &opened.commands, commands)?;
-    let outcomes = run_confirmed(alloc, rig, &mut opened.journal, chip, commands)?;
-    Ok(Report { outcomes })
-}
-
 /// Does commands, one after another: a write or an erase is one segment of the journal. Whatever
 /// can be refused is refused before the first is begun, a device that is another board by now too;
 /// a verify whose image differs ends the run, and the commands before it stand.
@@ -141,36 +104,10 @@ pub fn run<R: Rig>(
     ensures promised { let old = R.view rig.old in let new = R.view rig.new in
         RunContract table.now (commands_in commands.now) old new result outcomes_in }
 {
-    run_as(alloc, rig, table, commands, false)
-}
-
-/// Does commands as `run` does, on a device that was reset since the last session: 7F is sent once,
-/// and nothing else to settle it. All is promised of a device that is fresh from reset; of another
-/// one only what is promised on any line.
-pub fn run_fresh<R: Rig>(
-    alloc: Global,
-    rig: &mut R,
-    table: &Table,
-    commands: &[Command],
-) -> Result<Report, Fault>
-    ensures cause { HasSessionCause (R.view rig.old) (R.view rig.new) result }
-    ensures puts { let old = R.view rig.old in let new = R.view rig.new in
-        SendsAsRunFrom true table.now (is_whole result) (length commands.now) old new }
-    ensures kinds { IfOk result (λ report. AreKindsOf commands.now report.outcomes.items) }
-    ensures silent { let old = R.view rig.old in let new = R.view rig.new in
-        IfErr result (λ fault. fault ≡ Fault.Unfinished → GoesOn AreFetches old.calls new.calls) }
-    ensures order { let old = R.view rig.old in let new = R.view rig.new in
-        OnOk result (RunsInOrderFrom true table.now (commands_in commands.now) old new) }
-    // What is answered is what came in the reads of that command.
-    ensures told { let old = R.view rig.old in let new = R.view rig.new in
-        let commands = commands_in commands.now in
-        IfOk result
-        (λ report. RunsTellingFrom true table.now commands (outcomes_in report) old new) }
-    ensures stops { let old = R.view rig.old in let new = R.view rig.new in
-        IfErr result (RunStopsFrom true table.now (commands_in commands.now) old new) }
-    ensures promised { let old = R.view rig.old in let new = R.view rig.new in
-        IsReset old.device
-        → RunContract table.now (commands_in commands.now) old new result outcomes_in }
-{
-    run_as(alloc, rig, table, commands, true)
+    step_laws();
+    let mut opened = open(alloc, rig, table)?;
+    let chip = opened.chip;
+    check_commands(&opened.journal, chip, &opened.commands, commands)?;
+    let outcomes = run_confirmed(alloc, rig, &mut opened.journal, chip, commands)?;
+    Ok(Report { outcomes })
 }

@@ -1,13 +1,13 @@
 // Settling a device by the journal's intent.
-ghost use Rattle.std.specs.Prelude.{◌≡◌, ◌≤◌, ◌&&◌, ◌+◌, ◌*◌, if◌then◌else◌, [], List, ℕ, ⊤, is_some, length, OnOk, IfErr};
+ghost use Rattle.std.specs.Prelude.{◌≡◌, ◌≤◌, ◌+◌, ◌*◌, if◌then◌else◌, [], List, ℕ, ⊤, length, OnOk, IfErr};
 ghost use Rattle.stm_wire.specs.Dialogue.{GoesOn};
 ghost use Rattle.stm_wire.specs.Harmless.{Harmless};
 ghost use Rattle.stm_wire.specs.Settling.{SettlesWithin};
 ghost use Rattle.stm_journal.specs.Journals.{IsLoaded};
 ghost use Rattle.stm_journal.specs.States.{intent_of};
 ghost use Rattle.stm_session.specs.Fault.{HasSessionCause, IsOfLine};
-ghost use Rattle.stm_session.specs.Fresh.{EndsWell, IsAsSaid, byte_of, limit_for, limit_of};
-ghost use Rattle.stm_session.specs.Fresh.{settling_limit, undo_way};
+ghost use Rattle.stm_session.specs.Fresh.{EndsWell, byte_of, limit_for, limit_of};
+ghost use Rattle.stm_session.specs.Fresh.{settling_limit, settling_way};
 ghost use Rattle.stm_session.specs.JournalDevice.{Strays};
 ghost use Rattle.stm_session.specs.Steps.{Goes};
 ghost use Rattle.stm_session.specs.Undoable.{Undoable};
@@ -16,7 +16,7 @@ ghost use Rattle.stm_session.specs.Undoes.{IsWithinLimit, byte_at_journal, riske
 use crate::Fault;
 use crate::laws_of_steps::step_laws;
 use stm_journal::Journal;
-use stm_wire::{Chip, EraseKind, Intent, Rig, connect, settle_under, settling_byte};
+use stm_wire::{Chip, EraseKind, Intent, Rig, settle_under, settling_byte};
 
 /// How often the settling byte is sent at most: more often than any device awaits it.
 const SETTLING_LIMIT: u32 = 131_072;
@@ -70,44 +70,28 @@ fn settling_limit(journal: &Journal, chip: &Chip) -> u32
     }
 }
 
-/// Whether 7F alone is sent: where the device is said to be fresh, and 7F isn't the byte anyway.
-fn connects(journal: &Journal, is_fresh: bool) -> bool
-    ensures { result ≡ (is_fresh && is_some (intent_of journal.now.state)) }
-{
-    is_fresh && journal.last_intent().is_some()
-}
-
 /// Settles a device by the intent of the journal that was loaded, from wherever a session was
-/// stopped: in batches where there is one. A device that is said to be fresh from reset is sent 7F
-/// alone. The journal is one of a device that is erased as this chip is.
-pub fn settle_intended<R: Rig>(
-    rig: &mut R,
-    journal: &Journal,
-    chip: &Chip,
-    is_fresh: bool,
-) -> Result<(), Fault>
+/// stopped: in batches where there is one. The journal is one of a device that is erased as this
+/// chip is.
+pub fn settle_intended<R: Rig>(rig: &mut R, journal: &Journal, chip: &Chip) -> Result<(), Fault>
     ensures cause { HasSessionCause (R.view rig.old) (R.view rig.new) result }
-    ensures calls { let way = undo_way is_fresh chip.now.kind journal.now.is_greeted (intent_of journal.now.state) in
+    ensures calls { let way = settling_way chip.now.kind journal.now.is_greeted (intent_of journal.now.state) in
         GoesOn (SettlesWithin (byte_of way) (limit_of way)) (R.view rig.old).calls
         (R.view rig.new).calls }
-    ensures settled { let way = undo_way is_fresh chip.now.kind journal.now.is_greeted (intent_of journal.now.state) in
+    ensures settled { let way = settling_way chip.now.kind journal.now.is_greeted (intent_of journal.now.state) in
         OnOk result (GoesOn (EndsWell way) (R.view rig.old).calls (R.view rig.new).calls) }
     ensures sent { IfErr result IsOfLine }
     ensures honest { let old = R.view rig.old in let new = R.view rig.new in
-        old.is_honest → IsAsSaid is_fresh old.device → (flashes : List (List ℕ))
+        old.is_honest → (flashes : List (List ℕ))
         → IsLoaded journal.now old.journal → Undoable flashes old.device old.journal
         → old.device.chip.kind ≡ chip.now.kind
         → Goes flashes [] journal.now old new result (λ _. ⊤) }
     ensures strays { let old = R.view rig.old in let new = R.view rig.new in
-        old.is_honest → IsAsSaid is_fresh old.device → IsLoaded journal.now old.journal
+        old.is_honest → IsLoaded journal.now old.journal
         → Harmless old.device (byte_at_journal old.journal) (risked_at old.journal)
         → length old.device.owed ≤ 4096 → IsWithinLimit chip.now old → Strays old new result }
 {
     step_laws();
-    if connects(journal, is_fresh) {
-        connect(rig)?;
-        return Ok(());
-    }
     let limit = settling_limit(journal, chip);
     settle_under(rig, journal.last_intent(), limit)?;
     Ok(())

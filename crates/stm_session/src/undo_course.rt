@@ -3,7 +3,6 @@ ghost use Rattle.std.specs.Prelude.{◌≡◌, ◌<◌, ◌≤◌, Ok, IfErr, If
 ghost use Rattle.stm_wire.specs.Dialogue.{GoesOn};
 ghost use Rattle.stm_journal.specs.Calls.{AreFetches};
 ghost use Rattle.stm_session.specs.Fault.{HasSessionCause};
-ghost use Rattle.stm_session.specs.Fresh.{IsAsSaid};
 ghost use Rattle.stm_session.specs.Promises.{UndoContract};
 ghost use Rattle.stm_session.specs.ReturnedBytes.{segments_of};
 ghost use Rattle.stm_session.specs.Sending.{SendsAsUndo};
@@ -37,14 +36,13 @@ fn taken_count(count: u32, depth: u32) -> u32
     }
 }
 
-/// Undoes the newest segments, as `undo` does, of a device that may be said to be fresh from
-/// reset; and reads each page again that was given back, where that is asked for.
+/// Undoes the newest segments, as `undo` does; and reads each page again that was given back, where
+/// that is asked for.
 pub fn undo_as<R: Rig>(
     alloc: Global,
     rig: &mut R,
     table: &Table,
     count: u32,
-    is_fresh: bool,
     again: bool,
 ) -> Result<Returned, Fault>
     ensures cause { HasSessionCause (R.view rig.old) (R.view rig.new) result }
@@ -55,17 +53,16 @@ pub fn undo_as<R: Rig>(
         SendsAsUndo table.now count old new (segments_of result) }
     ensures order { let old = R.view rig.old in let new = R.view rig.new in
         IfOk result (λ returned. 1 ≤ returned.segments
-        → GivesBackInOrder is_fresh again table.now returned old new) }
+        → GivesBackInOrder again table.now returned old new) }
     ensures stops { let old = R.view rig.old in let new = R.view rig.new in
-        IfErr result (UndoStopsAs is_fresh again table.now count old new) }
+        IfErr result (UndoStopsAs again table.now count old new) }
     ensures given { let old = R.view rig.old in let new = R.view rig.new in
         IfOk result (λ returned. 1 ≤ returned.segments
-        → GivesBackTold R.view is_fresh again table.now returned old new) }
+        → GivesBackTold R.view again table.now returned old new) }
     ensures given_stops { let old = R.view rig.old in let new = R.view rig.new in
-        IfErr result (UndoStopsToldAs R.view is_fresh again table.now count old new) }
+        IfErr result (UndoStopsToldAs R.view again table.now count old new) }
     ensures promised { let old = R.view rig.old in let new = R.view rig.new in
-        IsAsSaid is_fresh old.device
-        → UndoContract table.now count old new (segments_of result) }
+        UndoContract table.now count old new (segments_of result) }
 {
     step_laws();
     let mut journal = Journal::load(alloc, rig)?;
@@ -80,7 +77,7 @@ pub fn undo_as<R: Rig>(
         unreachable!()
     };
     let chip = find_named(&journal, table, id)?;
-    meet(rig, &journal, chip, is_fresh)?;
+    meet(rig, &journal, chip)?;
     let segments = taken_count(count, depth);
     let bytes = kept_bytes(&journal, chip, segments);
     undo_confirmed(alloc, rig, &mut journal, chip, segments, again)?;

@@ -1,14 +1,12 @@
 // Undoing a session, wherever it was stopped.
-ghost use Rattle.std.specs.Prelude.{◌≡◌, ◌≤◌, true, false, Ok, IfErr, IfOk};
+ghost use Rattle.std.specs.Prelude.{◌≡◌, ◌≤◌, true, Ok, IfErr, IfOk};
 ghost use Rattle.stm_wire.specs.Dialogue.{GoesOn};
 ghost use Rattle.stm_journal.specs.Calls.{AreFetches};
 ghost use Rattle.stm_session.specs.Fault.{HasSessionCause};
-ghost use Rattle.stm_session.specs.Fresh.{IsAsSaid, IsReset};
 ghost use Rattle.stm_session.specs.Promises.{UndoContract};
 ghost use Rattle.stm_session.specs.ReturnedBytes.{segments_of};
 ghost use Rattle.stm_session.specs.UndoOrder.{GivesBackInOrder, UndoStops, UndoStopsAs};
-ghost use Rattle.stm_session.specs.UndoOrder.{UndoStopsFrom, UndoesInOrder};
-ghost use Rattle.stm_session.specs.UndoOrder.{UndoesInOrderFrom};
+ghost use Rattle.stm_session.specs.UndoOrder.{UndoesInOrder};
 ghost use Rattle.stm_session.specs.Sending.{SendsAsUndo};
 ghost use Rattle.stm_session.specs.Told.{GivesBackTold, UndoGivesTold, UndoStopsTold};
 ghost use Rattle.stm_session.specs.Told.{UndoStopsToldAs};
@@ -19,37 +17,6 @@ use crate::undo_course::undo_as;
 use std::alloc::Global;
 use stm_chip::Table;
 use stm_wire::Rig;
-
-/// Undoes the newest segments, as `undo` does, of a device that may be
-/// said to be fresh from reset.
-fn undo_from<R: Rig>(
-    alloc: Global,
-    rig: &mut R,
-    table: &Table,
-    count: u32,
-    is_fresh: bool,
-) -> Result<u32, Fault>
-    ensures cause { HasSessionCause (R.view rig.old) (R.view rig.new) result }
-    ensures silent { let old = R.view rig.old in let new = R.view rig.new in
-        result ≡ Ok 0 → GoesOn AreFetches old.calls new.calls }
-    ensures puts { let old = R.view rig.old in let new = R.view rig.new in
-        SendsAsUndo table.now count old new result }
-    ensures order { let old = R.view rig.old in let new = R.view rig.new in
-        IfOk result (λ taken. 1 ≤ taken → UndoesInOrderFrom is_fresh table.now taken old new) }
-    ensures stops { let old = R.view rig.old in let new = R.view rig.new in
-        IfErr result (UndoStopsFrom is_fresh table.now count old new) }
-    ensures given { let old = R.view rig.old in let new = R.view rig.new in
-        IfOk result (λ taken. 1 ≤ taken → UndoGivesTold R.view is_fresh table.now taken old new) }
-    ensures given_stops { let old = R.view rig.old in let new = R.view rig.new in
-        IfErr result (UndoStopsTold R.view is_fresh table.now count old new) }
-    ensures promised { let old = R.view rig.old in let new = R.view rig.new in
-        IsAsSaid is_fresh old.device → UndoContract table.now count old new result }
-{
-    match undo_as(alloc, rig, table, count, is_fresh, false) {
-        Ok(returned) => Ok(returned.segments),
-        Err(fault) => Err(fault),
-    }
-}
 
 /// Undoes the newest segments of the journal, from wherever a session was stopped: so many, or
 /// all where the count is 0 or more than there are. The page of the journal's intent isn't
@@ -69,41 +36,15 @@ pub fn undo<R: Rig>(alloc: Global, rig: &mut R, table: &Table, count: u32) -> Re
     ensures stops { let old = R.view rig.old in let new = R.view rig.new in
         IfErr result (UndoStops table.now count old new) }
     ensures given { let old = R.view rig.old in let new = R.view rig.new in
-        IfOk result (λ taken. 1 ≤ taken → UndoGivesTold R.view false table.now taken old new) }
+        IfOk result (λ taken. 1 ≤ taken → UndoGivesTold R.view table.now taken old new) }
     ensures given_stops { let old = R.view rig.old in let new = R.view rig.new in
-        IfErr result (UndoStopsTold R.view false table.now count old new) }
+        IfErr result (UndoStopsTold R.view table.now count old new) }
     ensures promised { UndoContract table.now count (R.view rig.old) (R.view rig.new) result }
 {
-    undo_from(alloc, rig, table, count, false)
-}
-
-/// Undoes the newest segments of the journal as `undo` does, of a device that was reset since
-/// the last session: where the journal has an intent, 7F is sent once and nothing else to settle
-/// it, for which it doesn't wait long. All is promised of a device that is fresh from reset; of
-/// another one only what is promised on any line, and what 7F does to it isn't known.
-pub fn undo_fresh<R: Rig>(
-    alloc: Global,
-    rig: &mut R,
-    table: &Table,
-    count: u32,
-) -> Result<u32, Fault>
-    ensures cause { HasSessionCause (R.view rig.old) (R.view rig.new) result }
-    ensures silent { let old = R.view rig.old in let new = R.view rig.new in
-        result ≡ Ok 0 → GoesOn AreFetches old.calls new.calls }
-    ensures puts { let old = R.view rig.old in let new = R.view rig.new in
-        SendsAsUndo table.now count old new result }
-    ensures order { let old = R.view rig.old in let new = R.view rig.new in
-        IfOk result (λ taken. 1 ≤ taken → UndoesInOrderFrom true table.now taken old new) }
-    ensures stops { let old = R.view rig.old in let new = R.view rig.new in
-        IfErr result (UndoStopsFrom true table.now count old new) }
-    ensures given { let old = R.view rig.old in let new = R.view rig.new in
-        IfOk result (λ taken. 1 ≤ taken → UndoGivesTold R.view true table.now taken old new) }
-    ensures given_stops { let old = R.view rig.old in let new = R.view rig.new in
-        IfErr result (UndoStopsTold R.view true table.now count old new) }
-    ensures promised { let old = R.view rig.old in let new = R.view rig.new in
-        IsReset old.device → UndoContract table.now count old new result }
-{
-    undo_from(alloc, rig, table, count, true)
+    match undo_as(alloc, rig, table, count, false) {
+        Ok(returned) => Ok(returned.segments),
+        Err(fault) => Err(fault),
+    }
 }
 
 /// Undoes the newest segments of the journal as `undo` does, and reads each page again that a
@@ -126,46 +67,16 @@ pub fn undo_verified<R: Rig>(
         SendsAsUndo table.now count old new (segments_of result) }
     ensures order { let old = R.view rig.old in let new = R.view rig.new in
         IfOk result (λ returned. 1 ≤ returned.segments
-        → GivesBackInOrder false true table.now returned old new) }
+        → GivesBackInOrder true table.now returned old new) }
     ensures stops { let old = R.view rig.old in let new = R.view rig.new in
-        IfErr result (UndoStopsAs false true table.now count old new) }
+        IfErr result (UndoStopsAs true table.now count old new) }
     ensures given { let old = R.view rig.old in let new = R.view rig.new in
         IfOk result (λ returned. 1 ≤ returned.segments
-        → GivesBackTold R.view false true table.now returned old new) }
+        → GivesBackTold R.view true table.now returned old new) }
     ensures given_stops { let old = R.view rig.old in let new = R.view rig.new in
-        IfErr result (UndoStopsToldAs R.view false true table.now count old new) }
+        IfErr result (UndoStopsToldAs R.view true table.now count old new) }
     ensures promised { let old = R.view rig.old in let new = R.view rig.new in
         UndoContract table.now count old new (segments_of result) }
 {
-    undo_as(alloc, rig, table, count, false, true)
-}
-
-/// Undoes the newest segments of the journal as `undo_fresh` does, of a device that was reset
-/// since the last session, and reads each page again as `undo_verified` does.
-pub fn undo_verified_fresh<R: Rig>(
-    alloc: Global,
-    rig: &mut R,
-    table: &Table,
-    count: u32,
-) -> Result<Returned, Fault>
-    ensures cause { HasSessionCause (R.view rig.old) (R.view rig.new) result }
-    ensures silent { let old = R.view rig.old in let new = R.view rig.new in
-        segments_of result ≡ Ok 0 → GoesOn AreFetches old.calls new.calls }
-    ensures none { IfOk result (λ returned. returned.segments ≡ 0 → returned.bytes ≡ 0) }
-    ensures puts { let old = R.view rig.old in let new = R.view rig.new in
-        SendsAsUndo table.now count old new (segments_of result) }
-    ensures order { let old = R.view rig.old in let new = R.view rig.new in
-        IfOk result (λ returned. 1 ≤ returned.segments
-        → GivesBackInOrder true true table.now returned old new) }
-    ensures stops { let old = R.view rig.old in let new = R.view rig.new in
-        IfErr result (UndoStopsAs true true table.now count old new) }
-    ensures given { let old = R.view rig.old in let new = R.view rig.new in
-        IfOk result (λ returned. 1 ≤ returned.segments
-        → GivesBackTold R.view true true table.now returned old new) }
-    ensures given_stops { let old = R.view rig.old in let new = R.view rig.new in
-        IfErr result (UndoStopsToldAs R.view true true table.now count old new) }
-    ensures promised { let old = R.view rig.old in let new = R.view rig.new in
-        IsReset old.device → UndoContract table.now count old new (segments_of result) }
-{
-    undo_as(alloc, rig, table, count, true, true)
+    undo_as(alloc, rig, table, count, true)
 }

@@ -2,7 +2,7 @@
 use std::test::Fail;
 use stm_chip::{Table, read_table};
 use stm_image::read_raw;
-use stm_session::{Command, greet, run, undo};
+use stm_session::{Command, Greeting, greet, run, tell_silence, undo};
 use stm_sim::MemoryRig;
 
 /// A table of chip 0414, whose pages are erased by numbers of two bytes.
@@ -85,20 +85,38 @@ fn is_intent_last(journal: &[u8]) -> bool {
 /// was reset, and is the only one.
 fn greets_once(rt: &HostRuntime, rig: &mut MemoryRig, table: &Table, resets: bool) -> bool {
     let due = is_intent_last(rig.journal());
-    if greet(rt.alloc(), rig, table) != Ok(due) {
+    if rig.journal().ends_with(b"\nerase 0\n")
+        && greet(rt.alloc(), rig, table, Greeting::Brief) != Ok(false)
+    {
+        return false;
+    }
+    if greet(rt.alloc(), rig, table, Greeting::Plain) != Ok(due) {
         return false;
     }
     let waits = !resets || rig.rest() == Some(&[]);
     let says = rig.journal().ends_with(b"\nconnect!\n");
-    !due || (waits && says && greet(rt.alloc(), rig, table) == Ok(false))
+    !due || (waits && says && greet(rt.alloc(), rig, table, Greeting::Plain) == Ok(false))
+}
+
+/// Whether a greeted device that was reset again is greeted once more where that is said, and where
+/// the journal says that nothing answered.
+fn greets_again(rt: &HostRuntime, rig: &mut MemoryRig, table: &Table) -> bool {
+    rig.reset();
+    let is_said = greet(rt.alloc(), rig, table, Greeting::Fresh) == Ok(true);
+    let waits = rig.rest() == Some(&[]);
+    let told = tell_silence(rt.alloc(), rig) == Ok(());
+    let says = rig.journal().ends_with(b"\nconnect!\nsilent!\n");
+    rig.reset();
+    let is_due = greet(rt.alloc(), rig, table, Greeting::Plain) == Ok(true);
+    is_said && waits && told && says && is_due
 }
 
 /// Whether all is given back behind a greeting that was stopped after so many steps.
 fn gives_back(rt: &HostRuntime, rig: &mut MemoryRig, table: &Table, steps: u64) -> bool {
     rig.stop_after(steps);
-    let _greeted = greet(rt.alloc(), rig, table);
+    let _greeted = greet(rt.alloc(), rig, table, Greeting::Plain);
     rig.stop_after(u64::MAX);
-    let greeted = greet(rt.alloc(), rig, table).is_ok();
+    let greeted = greet(rt.alloc(), rig, table, Greeting::Plain).is_ok();
     let undone = undo(rt.alloc(), rig, table, 0).is_ok();
     greeted && undone && is_counting(rig.flash())
 }
@@ -131,6 +149,13 @@ fn an_undo_behind_a_greeting_gives_all_back(rt: HostRuntime) -> Result<(), Fail>
         let steps = turn.saturating_mul(11);
         for resets in [false, true] {
             let mut rig = stopped(&rt, &table, steps, resets)?;
+            let due = is_intent_last(rig.journal());
+            if due && resets {
+                let _greeted = greet(rt.alloc(), &mut rig, &table, Greeting::Plain);
+                if !greets_again(&rt, &mut rig, &table) {
+                    return Err(failed_at(steps));
+                }
+            }
             if !gives_back(&rt, &mut rig, &table, steps % 40) {
                 return Err(failed_at(steps));
             }

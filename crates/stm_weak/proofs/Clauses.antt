@@ -10,12 +10,12 @@ use Rattle.stm_journal.specs.States.{StateData, intent_of, keeps, newest_has}
 use Rattle.stm_session.specs.declared.fault.Fault.{Fault}
 use Rattle.stm_session.specs.declared.returned.Returned.{Returned}
 use Rattle.stm_session.specs.Fault.{Cause, cause_of}
-use Rattle.stm_session.specs.Fresh.{Way, undo_way}
+use Rattle.stm_session.specs.Fresh.{Way, settling_way}
 use Rattle.stm_session.specs.Order.{Step, Adds, Sends, AreCutShort, IsAfter, untold}
 use Rattle.stm_session.specs.Reaching.{IsConfirmedInPart, ReachesAndStops, ReachesInPart}
 use Rattle.stm_session.specs.Reaching.{SettlesThen, StepsOf, asking_steps}
 use Rattle.stm_session.specs.UndoOrder.{AreUndoneInOrder, BeginTaking, GivesBackInOrder, UndoDoes}
-use Rattle.stm_session.specs.UndoOrder.{UndoDoesInPart, UndoStopsAs, UndoesInOrderFrom}
+use Rattle.stm_session.specs.UndoOrder.{UndoDoesInPart, UndoStopsAs, UndoesInOrder}
 use Rattle.stm_session.specs.Work.{pages_at_work}
 use Rattle.stm_weak.specs.Weak.{does, intent_with_lines, weak_after}
 use Rattle.stm_weak.specs.Believed.{AreAtWork, BelievesNone, HealsAll, NoneBelieved, UndoHeals}
@@ -61,10 +61,10 @@ begun_believes again count chip s steps (taken, depth, most, are) =
     steps now are)
 
 -- other steps are allowed too
-undo_as : (is_fresh : Bool) (table : List ChipData) (old new : RigState) (P Q : StepsOf)
+undo_as : (table : List ChipData) (old new : RigState) (P Q : StepsOf)
     → ((chip : ChipData) (s : StateData) (steps : List Step) → P chip s steps → Q chip s steps)
-    → UndoDoes is_fresh P table old new → UndoDoes is_fresh Q table old new
-undo_as is_fresh table old new P Q more x =
+    → UndoDoes P table old new → UndoDoes Q table old new
+undo_as table old new P Q more x =
     let does = x.does in
     record {
       journal = x.journal;
@@ -121,12 +121,12 @@ stops_as way chip torn P Q cause old new more (version, codes, goes) =
           )),
     )
 
-undo_stops_as : (is_fresh : Bool) (table : List ChipData) (old new : RigState) (fault : Fault)
+undo_stops_as : (table : List ChipData) (old new : RigState) (fault : Fault)
     (P Q : StepsOf)
     → ((chip : ChipData) (s : StateData) (steps : List Step) → P chip s steps → Q chip s steps)
-    → UndoDoesInPart is_fresh P table old new fault → UndoDoesInPart is_fresh Q table old new fault
-undo_stops_as is_fresh table old new fault P Q more (inl fetched) = inl fetched
-undo_stops_as is_fresh table old new fault P Q more (inr x) =
+    → UndoDoesInPart P table old new fault → UndoDoesInPart Q table old new fault
+undo_stops_as table old new fault P Q more (inl fetched) = inl fetched
+undo_stops_as table old new fault P Q more (inr x) =
     inr
     (record {
       journal = x.journal;
@@ -138,37 +138,37 @@ undo_stops_as is_fresh table old new fault P Q more (inr x) =
       does = either x.does;
     })
   where
-    either : (let way = undo_way is_fresh x.chip.kind x.journal.is_greeted (intent_of x.journal.state) in
+    either : (let way = settling_way x.chip.kind x.journal.is_greeted (intent_of x.journal.state) in
         GoesOn (ReachesInPart way (cause_of fault) x.journal.is_torn) old.calls new.calls
         ⊎ ReachesAndStops way x.chip.id x.journal.is_torn
         (IsConfirmedInPart x.chip (P x.chip x.journal.state)) (cause_of fault) old new)
-        → (let way = undo_way is_fresh x.chip.kind x.journal.is_greeted (intent_of x.journal.state) in
+        → (let way = settling_way x.chip.kind x.journal.is_greeted (intent_of x.journal.state) in
         GoesOn (ReachesInPart way (cause_of fault) x.journal.is_torn) old.calls new.calls
         ⊎ ReachesAndStops way x.chip.id x.journal.is_torn
         (IsConfirmedInPart x.chip (Q x.chip x.journal.state)) (cause_of fault) old new)
     either (inl unreached) = inl unreached
     either (inr stops) =
         inr
-        (stops_as (undo_way is_fresh x.chip.kind x.journal.is_greeted (intent_of x.journal.state)) x.chip
+        (stops_as (settling_way x.chip.kind x.journal.is_greeted (intent_of x.journal.state)) x.chip
         x.journal.is_torn (P x.chip x.journal.state) (Q x.chip x.journal.state) (cause_of fault)
         old new (λ xs p. more x.chip x.journal.state xs p) stops)
 
-pub undo_heals : (is_fresh : Bool) (table : List ChipData) (taken : ℕ) (old new : RigState)
-    → UndoesInOrderFrom is_fresh table taken old new → UndoHeals is_fresh table old new
-undo_heals is_fresh table taken old new x =
-    undo_as is_fresh table old new (AreUndoneInOrder false taken) HealsAll
+pub undo_heals : (table : List ChipData) (taken : ℕ) (old new : RigState)
+    → UndoesInOrder table taken old new → UndoHeals table old new
+undo_heals table taken old new x =
+    undo_as table old new (AreUndoneInOrder false taken) HealsAll
     (λ chip s steps are. taken_heals false taken chip s steps are) x
 
-pub verified_heals : (is_fresh : Bool) (table : List ChipData) (returned : Returned)
-    (old new : RigState) → GivesBackInOrder is_fresh true table returned old new
-    → UndoHeals is_fresh table old new
-verified_heals is_fresh table returned old new x =
-    undo_as is_fresh table old new _ HealsAll
+pub verified_heals : (table : List ChipData) (returned : Returned)
+    (old new : RigState) → GivesBackInOrder true table returned old new
+    → UndoHeals table old new
+verified_heals table returned old new x =
+    undo_as table old new _ HealsAll
     (λ chip s steps are. taken_heals true returned.segments chip s steps are.0) x
 
-pub undo_stops_healing : (is_fresh again : Bool) (table : List ChipData) (count : ℕ)
-    (old new : RigState) (fault : Fault) → UndoStopsAs is_fresh again table count old new fault
-    → UndoStopsHealing is_fresh table old new fault
-undo_stops_healing is_fresh again table count old new fault x =
-    undo_stops_as is_fresh table old new fault (BeginTaking again count) BelievesNone
+pub undo_stops_healing : (again : Bool) (table : List ChipData) (count : ℕ)
+    (old new : RigState) (fault : Fault) → UndoStopsAs again table count old new fault
+    → UndoStopsHealing table old new fault
+undo_stops_healing again table count old new fault x =
+    undo_stops_as table old new fault (BeginTaking again count) BelievesNone
     (λ chip s steps are. begun_believes again count chip s steps are) x

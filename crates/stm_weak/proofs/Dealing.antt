@@ -18,13 +18,13 @@ use Rattle.stm_weak.proofs.Stepping.{AmongThese, events_from}
 
 module _ (R : Type 0) (view : R → RigState) where
   pub at_ok : (deed : WeakDeed R view) (P Q : Type 0) → (P → Q) → AtOk deed P → AtOk deed Q
-  at_ok (ran is_fresh table commands old new session) P Q f p = f p
-  at_ok (run_stopped is_fresh table commands old new fault whole stop) P Q f p = tt
-  at_ok (undid is_fresh table taken old new session) P Q f p = f p
-  at_ok (undid_verified is_fresh table returned old new session) P Q f p = f p
-  at_ok (undo_stopped is_fresh again table count old new fault whole stop) P Q f p = tt
-  at_ok (asked is_fresh table board old new asks) P Q f p = tt
-  at_ok (asking_stopped is_fresh table old new fault stop) P Q f p = tt
+  at_ok (ran table commands old new session) P Q f p = f p
+  at_ok (run_stopped table commands old new fault whole stop) P Q f p = tt
+  at_ok (undid table taken old new session) P Q f p = f p
+  at_ok (undid_verified table returned old new session) P Q f p = f p
+  at_ok (undo_stopped again table count old new fault whole stop) P Q f p = tt
+  at_ok (asked table board old new asks) P Q f p = tt
+  at_ok (asking_stopped table old new fault stop) P Q f p = tt
 
   pub none_left : (chip : ChipData) (MayBe : ℕ → Type 0) (mid : WeakDevice) (e : Device) → CanBe mid e
       → e.chip ≡ chip → AmongThese chip MayBe mid → NoneIs MayBe → e ≡ mid.device

@@ -9,7 +9,7 @@ use Rattle.stm_wire.specs.Intents.{settling_byte}
 use Rattle.stm_wire.specs.Rig.{RigState}
 use Rattle.stm_journal.specs.States.{intent_of}
 use Rattle.stm_session.specs.Fault.{Cause, cause_of}
-use Rattle.stm_session.specs.Fresh.{Way, undo_way}
+use Rattle.stm_session.specs.Fresh.{Way, settling_way}
 use Rattle.stm_session.specs.Order.{Step}
 use Rattle.stm_session.specs.Reaching.{IsConfirmedInPart, ReachesAndStops, ReachesInPart}
 use Rattle.stm_session.specs.UndoOrder.{BeginTaking}
@@ -143,60 +143,60 @@ module _ (R : Type 0) (view : R → RigState) where
       → AmongThese chip MayBe old
       → NoneBelieved chip (has_companion chip) MayBe intent (events_in deed)
       → IsSafeFor (settling_byte intent) old → Leaves deed chip MayBe intent old mid d
-  deed_from (ran is_fresh table commands before after session) old mid d chip MayBe intent same is can among
+  deed_from (ran table commands before after session) old mid d chip MayBe intent same is can among
       believed safe led =
-      let events = events_in {R = R} {view = view} (ran is_fresh table commands before after session) in
+      let events = events_in {R = R} {view = view} (ran table commands before after session) in
       of_events chip MayBe intent events old mid led d
       (fed_from events old mid d chip MayBe (has_companion chip) intent same is can among believed
       safe led)
-  deed_from (run_stopped is_fresh table commands before after fault whole (inl unreached)) old mid d chip
+  deed_from (run_stopped table commands before after fault whole (inl unreached)) old mid d chip
       MayBe intent same is can among believed safe led =
       of_none chip MayBe intent old mid d same is can among safe led
-  deed_from (run_stopped is_fresh table commands before after fault whole (inr session)) old mid d chip MayBe
+  deed_from (run_stopped table commands before after fault whole (inr session)) old mid d chip MayBe
       intent same is can among believed safe led =
       let events = events_in {R = R} {view = view}
-      (run_stopped is_fresh table commands before after fault whole (inr session)) in
+      (run_stopped table commands before after fault whole (inr session)) in
       of_events chip MayBe intent events old mid led d
       (fed_from events old mid d chip MayBe (has_companion chip) intent same is can among believed
       safe led)
-  deed_from (undid is_fresh table taken before after session) old mid d chip MayBe intent same is
+  deed_from (undid table taken before after session) old mid d chip MayBe intent same is
       can among believed safe led =
       let events = events_in {R = R} {view = view}
-      (undid is_fresh table taken before after session) in
+      (undid table taken before after session) in
       of_events chip MayBe intent events old mid led d
       (fed_from events old mid d chip MayBe (has_companion chip) intent same is can among believed
       safe led)
-  deed_from (undid_verified is_fresh table returned before after session) old mid d chip MayBe
+  deed_from (undid_verified table returned before after session) old mid d chip MayBe
       intent same is can among believed safe led =
       let events = events_in {R = R} {view = view}
-      (undid_verified is_fresh table returned before after session) in
+      (undid_verified table returned before after session) in
       of_events chip MayBe intent events old mid led d
       (fed_from events old mid d chip MayBe (has_companion chip) intent same is can among believed
       safe led)
-  deed_from (undo_stopped is_fresh again table count before after fault whole (inl fetched)) old mid
+  deed_from (undo_stopped again table count before after fault whole (inl fetched)) old mid
       d chip MayBe intent same is can among believed safe led =
       of_events chip MayBe intent [] old mid led d
       (fed_from [] old mid d chip MayBe (has_companion chip) intent same is can among believed
       safe led)
-  deed_from (undo_stopped is_fresh again table count before after fault whole (inr session)) old mid
+  deed_from (undo_stopped again table count before after fault whole (inr session)) old mid
       d chip MayBe intent same is can among believed safe led =
       let own = intent_of session.journal.state in
       of_undo chip MayBe (has_companion chip) intent own whole
-      (undo_way is_fresh session.chip.kind session.journal.is_greeted own) session.chip.id session.journal.is_torn
+      (settling_way session.chip.kind session.journal.is_greeted own) session.chip.id session.journal.is_torn
       (IsConfirmedInPart session.chip
       (BeginTaking again count session.chip session.journal.state))
       (cause_of fault) (view before) (view after) session.does old mid d same is can among believed
       safe led
-  deed_from (asked is_fresh table board before after asks) old mid d chip MayBe intent same is can
+  deed_from (asked table board before after asks) old mid d chip MayBe intent same is can
       among believed safe led =
       of_asking chip MayBe (has_companion chip) intent (intent_of asks.journal.state) old mid led d
       same is can among believed safe
-  deed_from (asking_stopped is_fresh table before after fault (inl fetched)) old mid d chip MayBe
+  deed_from (asking_stopped table before after fault (inl fetched)) old mid d chip MayBe
       intent same is can among believed safe led =
       of_events chip MayBe intent [] old mid led d
       (fed_from [] old mid d chip MayBe (has_companion chip) intent same is can among believed
       safe led)
-  deed_from (asking_stopped is_fresh table before after fault (inr asks)) old mid d chip MayBe
+  deed_from (asking_stopped table before after fault (inr asks)) old mid d chip MayBe
       intent same is can among believed safe led =
       of_asking chip MayBe (has_companion chip) intent (intent_of asks.journal.state) old mid led d
       same is can among believed safe

@@ -126,25 +126,25 @@ module _ (R : Type 0) (view : R → RigState) where
   -- what holds behind an undo that answered Ok
   at_undone : (before after : R) (last : WeakDeed R view) (P : Type 0) → IsUndone before after last
       → AtOk last P → P
-  at_undone before after (deed_ran is_fresh table commands old new session) P is ok = absurd is
-  at_undone before after (deed_run_stopped is_fresh table commands old new fault whole stop) P is ok =
+  at_undone before after (deed_ran table commands old new session) P is ok = absurd is
+  at_undone before after (deed_run_stopped table commands old new fault whole stop) P is ok =
       absurd is
-  at_undone before after (deed_undid is_fresh table taken old new session) P is ok = ok
-  at_undone before after (deed_undid_verified is_fresh table returned old new session) P is ok = ok
-  at_undone before after (deed_undo_stopped is_fresh again table count old new fault whole stop) P is
+  at_undone before after (deed_undid table taken old new session) P is ok = ok
+  at_undone before after (deed_undid_verified table returned old new session) P is ok = ok
+  at_undone before after (deed_undo_stopped again table count old new fault whole stop) P is
       ok = absurd is
-  at_undone before after (deed_asked is_fresh table board old new asks) P is ok = absurd is
-  at_undone before after (deed_asking_stopped is_fresh table old new fault stop) P is ok = absurd is
+  at_undone before after (deed_asked table board old new asks) P is ok = absurd is
+  at_undone before after (deed_asking_stopped table old new fault stop) P is ok = absurd is
 
   at_answered : (last : WeakDeed R view) (P : Type 0) → IsAnsweredOk last → AtOk last P → P
-  at_answered (deed_ran is_fresh table commands old new session) P is ok = ok
-  at_answered (deed_run_stopped is_fresh table commands old new fault whole stop) P is ok = absurd is
-  at_answered (deed_undid is_fresh table taken old new session) P is ok = ok
-  at_answered (deed_undid_verified is_fresh table returned old new session) P is ok = ok
-  at_answered (deed_undo_stopped is_fresh again table count old new fault whole stop) P is ok =
+  at_answered (deed_ran table commands old new session) P is ok = ok
+  at_answered (deed_run_stopped table commands old new fault whole stop) P is ok = absurd is
+  at_answered (deed_undid table taken old new session) P is ok = ok
+  at_answered (deed_undid_verified table returned old new session) P is ok = ok
+  at_answered (deed_undo_stopped again table count old new fault whole stop) P is ok =
       absurd is
-  at_answered (deed_asked is_fresh table board old new asks) P is ok = absurd is
-  at_answered (deed_asking_stopped is_fresh table old new fault stop) P is ok = absurd is
+  at_answered (deed_asked table board old new asks) P is ok = absurd is
+  at_answered (deed_asking_stopped table old new fault stop) P is ok = absurd is
 
   module _ (last : WeakDeed R view) (at_last : (P : Type 0) → AtOk last P → P) where
     through : (deeds : List (WeakDeed R view)) (old mid new : WeakDevice) (d : Device)

@@ -12,12 +12,12 @@ use Rattle.stm_journal.specs.Newest.{pages_of_segments}
 use Rattle.stm_journal.specs.States.{IsSound, StateData, intent_of}
 use Rattle.stm_session.specs.declared.fault.Fault.{Fault}
 use Rattle.stm_session.specs.Fault.{cause_of}
-use Rattle.stm_session.specs.Fresh.{contact_way, undo_way}
+use Rattle.stm_session.specs.Fresh.{contact_way, settling_way}
 use Rattle.stm_session.specs.Meaning.{CommandData}
 use Rattle.stm_session.specs.Order.{Step, AreAllUndone, Begin, IsAfter, OrMisread, untold}
 use Rattle.stm_session.specs.Reaching.{IsConfirmedInPart, ReachesAndStops, ReachesInPart, StepsOf}
 use Rattle.stm_session.specs.Reaching.{confirming}
-use Rattle.stm_session.specs.RunOrder.{AreBegun, AreDoneSomehow, RunsInOrderFrom}
+use Rattle.stm_session.specs.RunOrder.{AreBegun, AreDoneSomehow, RunsInOrder}
 use Rattle.stm_session.specs.Undoable.{IsJournalOf, has_companion}
 use Rattle.stm_session.specs.UndoOrder.{AreUndoneInOrder, AreTakenWhole, BeginTaking, UndoDoes}
 use Rattle.stm_session.specs.Work.{pages_at_work, pages_of_intent}
@@ -40,15 +40,15 @@ WorkIs = (chip : ChipData) (s : StateData) → IsSound s → IsJournalOf chip s
 module _ (lengths : (set : Pairs) (address : ℕ) (bytes : List ℕ) → length
     (lay set address bytes) ≡ length bytes) (work_is : WorkIs) where
   -- runs
-  ran_leaves : (is_fresh : Bool) (table : List ChipData) (commands : List CommandData) (old new : RigState)
-      (session : RunsInOrderFrom is_fresh table commands old new) (W : ℕ → Type 0)
+  ran_leaves : (table : List ChipData) (commands : List CommandData) (old new : RigState)
+      (session : RunsInOrder table commands old new) (W : ℕ → Type 0)
       → AreAtWork (has_companion session.chip) W None
       → Leaves session.chip W None
-      (done_events None (contact_way is_fresh) session.chip.id session.journal.is_torn
+      (done_events None contact_way session.chip.id session.journal.is_torn
       (IsAfter (confirming session.chip)
       (AreDoneSomehow commands session.chip session.journal.state))
       old new session.does)
-  ran_leaves is_fresh table commands old new session W now =
+  ran_leaves table commands old new session W now =
       let chip = session.chip in
       let does = session.does in
       let own = does.3.0 in
@@ -59,35 +59,35 @@ module _ (lengths : (set : Pairs) (address : ℕ) (bytes : List ℕ) → length
       (has_companion chip) commands done.0 session.journal.state done.1 own done.2))
       (λ W1 now1. free_none chip own W1 now1)
 
-  stopped_run : (is_fresh : Bool) (table : List ChipData) (commands : List CommandData) (old new : RigState)
+  stopped_run : (table : List ChipData) (commands : List CommandData) (old new : RigState)
       (fault : Fault) (whole : ℕ) (chip : ChipData) (l : Loaded)
-      (reached : ReachesAndStops (contact_way is_fresh) chip.id l.is_torn
+      (reached : ReachesAndStops contact_way chip.id l.is_torn
       (IsConfirmedInPart chip (AreBegun fault chip commands l.state)) (cause_of fault) old new)
       (W : ℕ → Type 0) → AreAtWork (has_companion chip) W None
       → NoneBelieved chip (has_companion chip) W None
-      (stopped_events None whole (contact_way is_fresh) chip.id l.is_torn
+      (stopped_events None whole contact_way chip.id l.is_torn
       (IsConfirmedInPart chip (AreBegun fault chip commands l.state))
       (cause_of fault) old new reached)
-  stopped_run is_fresh table commands old new fault whole chip l reached W now =
-      stopped_believed chip W None whole (contact_way is_fresh) l.is_torn (cause_of fault)
+  stopped_run table commands old new fault whole chip l reached W now =
+      stopped_believed chip W None whole contact_way l.is_torn (cause_of fault)
       (AreBegun fault chip commands l.state) old new reached now
       (λ xs are. free_own chip xs (begun_free lengths chip
       (has_companion chip) fault commands l.state xs are))
 
   -- undos
-  undid_leaves : (is_fresh again : Bool) (table : List ChipData) (taken : ℕ) (Taken : StepsOf)
+  undid_leaves : (again : Bool) (table : List ChipData) (taken : ℕ) (Taken : StepsOf)
       (more : (chip : ChipData) (s : StateData) (steps : List Step) → Taken chip s steps
       → AreUndoneInOrder again taken chip s steps) (old new : RigState)
-      (session : UndoDoes is_fresh Taken table old new) (W : ℕ → Type 0)
+      (session : UndoDoes Taken table old new) (W : ℕ → Type 0)
       → IsJournalOf session.chip session.journal.state
       → AreAtWork (has_companion session.chip) W (intent_of session.journal.state)
       → Leaves session.chip W (intent_of session.journal.state)
       (done_events (intent_of session.journal.state)
-      (undo_way is_fresh session.chip.kind session.journal.is_greeted (intent_of session.journal.state)) session.chip.id
+      (settling_way session.chip.kind session.journal.is_greeted (intent_of session.journal.state)) session.chip.id
       session.journal.is_torn
       (IsAfter (confirming session.chip) (Taken session.chip session.journal.state))
       old new session.does)
-  undid_leaves is_fresh again table taken Taken more old new session W fits now =
+  undid_leaves again table taken Taken more old new session W fits now =
       let chip = session.chip in
       let s = session.journal.state in
       let o = intent_of s in
@@ -101,28 +101,28 @@ module _ (lengths : (set : Pairs) (address : ℕ) (bytes : List ℕ) → length
       (λ W1 now1. (all_mend again chip both untold o W1 taken segments own now1 are).goes)
       (λ W1 now1. (all_mend again chip both untold o W1 taken segments own now1 are).none)
 
-  stopped_undo : (is_fresh again : Bool) (count : ℕ) (old new : RigState) (fault : Fault)
+  stopped_undo : (again : Bool) (count : ℕ) (old new : RigState) (fault : Fault)
       (whole : ℕ) (chip : ChipData) (l : Loaded) (W : ℕ → Type 0)
-      (does : GoesOn (ReachesInPart (undo_way is_fresh chip.kind l.is_greeted (intent_of l.state))
+      (does : GoesOn (ReachesInPart (settling_way chip.kind l.is_greeted (intent_of l.state))
       (cause_of fault) l.is_torn)
       old.calls new.calls
-      ⊎ ReachesAndStops (undo_way is_fresh chip.kind l.is_greeted (intent_of l.state)) chip.id l.is_torn
+      ⊎ ReachesAndStops (settling_way chip.kind l.is_greeted (intent_of l.state)) chip.id l.is_torn
       (IsConfirmedInPart chip (BeginTaking again count chip l.state)) (cause_of fault) old new)
       → IsSound l.state → IsJournalOf chip l.state
       → AreAtWork (has_companion chip) W (intent_of l.state)
       → NoneBelieved chip (has_companion chip) W (intent_of l.state)
-      (undo_events (intent_of l.state) whole (undo_way is_fresh chip.kind l.is_greeted
+      (undo_events (intent_of l.state) whole (settling_way chip.kind l.is_greeted
       (intent_of l.state)) chip.id
       l.is_torn (IsConfirmedInPart chip (BeginTaking again count chip l.state))
       (cause_of fault) old new does)
-  stopped_undo is_fresh again count old new fault whole chip l W (inl unreached) sound fits now =
+  stopped_undo again count old new fault whole chip l W (inl unreached) sound fits now =
       (refl, settled chip W (intent_of l.state) now, tt)
-  stopped_undo is_fresh again count old new fault whole chip l W (inr reached) sound fits now =
+  stopped_undo again count old new fault whole chip l W (inr reached) sound fits now =
       let s = l.state in
       let o = intent_of s in
       let both = has_companion chip in
       let segments = pages_of_segments s.stack in
-      stopped_believed chip W o whole (undo_way is_fresh chip.kind l.is_greeted o) l.is_torn (cause_of fault)
+      stopped_believed chip W o whole (settling_way chip.kind l.is_greeted o) l.is_torn (cause_of fault)
       (BeginTaking again count chip s) old new reached now
       (λ xs p W1 now1.
       (let P : List ℕ → Type 0 = λ work. OrMisread again chip (Begin
@@ -139,36 +139,36 @@ module _ (lengths : (set : Pairs) (address : ℕ) (bytes : List ℕ) → length
 
   good : {R : Type 0} {view : R → RigState} (chip : ChipData) (W : ℕ → Type 0) (o : Option Intent)
       (deed : WeakDeed R view) → Finds chip o deed → Good W o deed chip
-  good {R = R} {view = view} chip W o (ran is_fresh table commands old new session)
+  good {R = R} {view = view} chip W o (ran table commands old new session)
       (same, intent, finished) =
-      let deed : WeakDeed R view = ran is_fresh table commands old new session in
+      let deed : WeakDeed R view = ran table commands old new session in
       let P : ChipData → Type 0 = λ c. Good W o deed c in
       let Q : Option Intent → Type 0 = λ i. Good W i deed session.chip in
       let none : None ≡ o = sym (no_intent session.journal.state finished) ∙ intent in
       subst P same
       (subst Q none
       (λ now.
-      (let leaves = ran_leaves is_fresh table commands (view old) (view new) session W now in
+      (let leaves = ran_leaves table commands (view old) (view new) session W now in
       (leaves.believed, leaves.none))))
-  good {R = R} {view = view} chip W o (run_stopped is_fresh table commands old new fault whole
+  good {R = R} {view = view} chip W o (run_stopped table commands old new fault whole
       (inl unreached)) finds =
       λ now. (tt, tt)
-  good {R = R} {view = view} chip W o (run_stopped is_fresh table commands old new fault whole
+  good {R = R} {view = view} chip W o (run_stopped table commands old new fault whole
       (inr session)) (same, intent, finished) =
-      let deed : WeakDeed R view = run_stopped is_fresh table commands old new fault whole (inr session) in
+      let deed : WeakDeed R view = run_stopped table commands old new fault whole (inr session) in
       let P : ChipData → Type 0 = λ c. Good W o deed c in
       let Q : Option Intent → Type 0 = λ i. Good W i deed session.chip in
       let none : None ≡ o = sym (no_intent session.journal.state finished) ∙ intent in
       subst P same
       (subst Q none
       (λ now. (
-        stopped_run is_fresh table commands (view old) (view new) fault whole session.chip session.journal
+        stopped_run table commands (view old) (view new) fault whole session.chip session.journal
             session.does W now,
         tt,
       )))
-  good {R = R} {view = view} chip W o (undid is_fresh table taken old new session)
+  good {R = R} {view = view} chip W o (undid table taken old new session)
       (same, intent, fits) =
-      let deed : WeakDeed R view = undid is_fresh table taken old new session in
+      let deed : WeakDeed R view = undid table taken old new session in
       let P : ChipData → Type 0 = λ c. Good W o deed c in
       let Q : Option Intent → Type 0 = λ i. Good W i deed session.chip in
       let F : ChipData → Type 0 = λ c. IsJournalOf c session.journal.state in
@@ -176,14 +176,14 @@ module _ (lengths : (set : Pairs) (address : ℕ) (bytes : List ℕ) → length
       (subst Q intent
       (λ now.
       (let leaves =
-      undid_leaves is_fresh false table taken (AreUndoneInOrder false taken) (λ c s steps are. are)
+      undid_leaves false table taken (AreUndoneInOrder false taken) (λ c s steps are. are)
       (view old) (view new)
       session W (subst F (sym same) fits) now
       in
       (leaves.believed, leaves.none))))
-  good {R = R} {view = view} chip W o (undid_verified is_fresh table returned old new session)
+  good {R = R} {view = view} chip W o (undid_verified table returned old new session)
       (same, intent, fits) =
-      let deed : WeakDeed R view = undid_verified is_fresh table returned old new session in
+      let deed : WeakDeed R view = undid_verified table returned old new session in
       let P : ChipData → Type 0 = λ c. Good W o deed c in
       let Q : Option Intent → Type 0 = λ i. Good W i deed session.chip in
       let F : ChipData → Type 0 = λ c. IsJournalOf c session.journal.state in
@@ -191,17 +191,17 @@ module _ (lengths : (set : Pairs) (address : ℕ) (bytes : List ℕ) → length
       (subst Q intent
       (λ now.
       (let leaves =
-      undid_leaves is_fresh true table returned.segments (AreTakenWhole true untold returned)
+      undid_leaves true table returned.segments (AreTakenWhole true untold returned)
       (λ c s steps are. are.0) (view old) (view new)
       session W (subst F (sym same) fits) now
       in
       (leaves.believed, leaves.none))))
-  good {R = R} {view = view} chip W o (undo_stopped is_fresh again table count old new fault whole
+  good {R = R} {view = view} chip W o (undo_stopped again table count old new fault whole
       (inl fetched)) finds =
       λ now. (tt, tt)
-  good {R = R} {view = view} chip W o (undo_stopped is_fresh again table count old new fault whole
+  good {R = R} {view = view} chip W o (undo_stopped again table count old new fault whole
       (inr session)) (same, intent, fits) =
-      let deed : WeakDeed R view = undo_stopped is_fresh again table count old new fault whole
+      let deed : WeakDeed R view = undo_stopped again table count old new fault whole
       (inr session) in
       let P : ChipData → Type 0 = λ c. Good W o deed c in
       let Q : Option Intent → Type 0 = λ i. Good W i deed session.chip in
@@ -209,22 +209,22 @@ module _ (lengths : (set : Pairs) (address : ℕ) (bytes : List ℕ) → length
       subst P same
       (subst Q intent
       (λ now. (
-        stopped_undo is_fresh again count (view old)
+        stopped_undo again count (view old)
             (view new) fault whole session.chip session.journal W
             session.does session.sound (subst F (sym same) fits) now,
         tt,
       )))
-  good {R = R} {view = view} chip W o (asked is_fresh table board old new asks) intent =
-      let deed : WeakDeed R view = asked is_fresh table board old new asks in
+  good {R = R} {view = view} chip W o (asked table board old new asks) intent =
+      let deed : WeakDeed R view = asked table board old new asks in
       let Q : Option Intent → Type 0 = λ i. Good W i deed chip in
       subst Q intent
       (λ now. ((refl, settled chip W (intent_of asks.journal.state) now, tt), tt))
-  good {R = R} {view = view} chip W o (asking_stopped is_fresh table old new fault
+  good {R = R} {view = view} chip W o (asking_stopped table old new fault
       (inl fetched)) finds =
       λ now. (tt, tt)
-  good {R = R} {view = view} chip W o (asking_stopped is_fresh table old new fault
+  good {R = R} {view = view} chip W o (asking_stopped table old new fault
       (inr asks)) intent =
-      let deed : WeakDeed R view = asking_stopped is_fresh table old new fault (inr asks) in
+      let deed : WeakDeed R view = asking_stopped table old new fault (inr asks) in
       let Q : Option Intent → Type 0 = λ i. Good W i deed chip in
       subst Q intent
       (λ now. ((refl, settled chip W (intent_of asks.journal.state) now, tt), tt))

@@ -71,10 +71,9 @@ HealsAll chip s steps = BelievesNone chip s steps
     (map (λ step. does step) steps) n)
 
 -- an undo, at Ok
-abbrev pub UndoHeals : Bool → List ChipData → RigState → RigState → Type 0
-UndoHeals is_fresh table old new = UndoDoes is_fresh HealsAll table old new
+abbrev pub UndoHeals : List ChipData → RigState → RigState → Type 0
+UndoHeals table old new = UndoDoes HealsAll table old new
 
 -- and at a fault: of all that was done, and of what failed
-abbrev pub UndoStopsHealing : Bool → List ChipData → RigState → RigState → Fault → Type 0
-UndoStopsHealing is_fresh table old new fault =
-    UndoDoesInPart is_fresh BelievesNone table old new fault
+abbrev pub UndoStopsHealing : List ChipData → RigState → RigState → Fault → Type 0
+UndoStopsHealing table old new fault = UndoDoesInPart BelievesNone table old new fault

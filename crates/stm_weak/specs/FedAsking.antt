@@ -47,7 +47,7 @@ WaitsForQuestions (frame ∷ frames) w = w.device.phase ≡ Connected []
 
 -- The device is settled, whole or in part, and then asked. Where it is asked, and no byte of the
 -- settling completed a read of a weak page, it waits for a command, as settling promises at Ok of a
--- device that follows the model, and connecting of one that is fresh, where it is said to be so.
+-- device that follows the model.
 pub record IsAskedAlone (intent : Option Intent) (old new : WeakDevice) : Type 0 where
   pub settled : WeakDevice
   pub settling : IsSettledAlone intent old settled

@@ -28,15 +28,14 @@ kind_of_undo own events (inr reached) = as_told events
 
 -- A run that didn't reach its device asked it at most, and so did a call that asks for the board.
 abbrev pub fed_kind : {R : Type 0} {view : R → RigState} → WeakDeed R view → FedKind
-fed_kind (run_stopped is_fresh table commands old new fault whole (inl unreached)) = asked_at_most
+fed_kind (run_stopped table commands old new fault whole (inl unreached)) = asked_at_most
 fed_kind {R = R} {view = view}
-    (undo_stopped is_fresh again table count old new fault whole (inr session)) =
+    (undo_stopped again table count old new fault whole (inr session)) =
     kind_of_undo (intent_of session.journal.state)
     (events_in {R = R} {view = view}
-    (undo_stopped is_fresh again table count old new fault whole (inr session))) session.does
-fed_kind (asked is_fresh table board old new asks) =
-    settled_and_asked (intent_of asks.journal.state)
-fed_kind (asking_stopped is_fresh table old new fault (inr asks)) =
+    (undo_stopped again table count old new fault whole (inr session))) session.does
+fed_kind (asked table board old new asks) = settled_and_asked (intent_of asks.journal.state)
+fed_kind (asking_stopped table old new fault (inr asks)) =
     settled_and_asked (intent_of asks.journal.state)
 fed_kind deed = as_told (events_in deed)
 

@@ -14,14 +14,14 @@ use Rattle.stm_session.specs.declared.fault.Fault.{Fault}
 use Rattle.stm_session.specs.declared.returned.Returned.{Returned}
 use Rattle.stm_session.specs.AskingBoard.{AnswersInOrder, AskingStops, AsksForBoard}
 use Rattle.stm_session.specs.Fault.{Cause, cause_of}
-use Rattle.stm_session.specs.Fresh.{Way, contact_way, undo_way}
+use Rattle.stm_session.specs.Fresh.{Way, contact_way, settling_way}
 use Rattle.stm_session.specs.Meaning.{CommandData}
 use Rattle.stm_session.specs.Order.{Step, Adds, Sends, AreCutShort, IsAfter}
 use Rattle.stm_session.specs.Reaching.{ReachesAndDoes, ReachesAndStops}
 use Rattle.stm_session.specs.Reaching.{ReachesInPart, Session, SettlesThen, asking_steps}
-use Rattle.stm_session.specs.RunOrder.{RunStopsFrom, RunsInOrderFrom}
+use Rattle.stm_session.specs.RunOrder.{RunStops, RunsInOrder}
 use Rattle.stm_session.specs.Undoable.{IsJournalOf, has_companion}
-use Rattle.stm_session.specs.UndoOrder.{GivesBackInOrder, UndoStopsAs, UndoesInOrderFrom}
+use Rattle.stm_session.specs.UndoOrder.{GivesBackInOrder, UndoStopsAs, UndoesInOrder}
 use Rattle.stm_weak.specs.Believed.{NoneBelieved}
 use Rattle.stm_weak.specs.Weak.{WeakEvent, breaks, does, settles, NoneIs, intent_behind, weak_behind}
 
@@ -78,58 +78,56 @@ undo_events intent whole way id torn P cause old new (inr reached) =
 -- does before each other. Of one that was stopped so many lines of an append that failed stand. An
 -- undo that finds nothing to undo is one that was stopped before it did anything.
 pub data WeakDeed (R : Type 0) (view : R → RigState) : Type 0 where
-  ran : (is_fresh : Bool) (table : List ChipData) (commands : List CommandData) (old new : R)
-      → RunsInOrderFrom is_fresh table commands (view old) (view new) → WeakDeed R view
-  run_stopped : (is_fresh : Bool) (table : List ChipData) (commands : List CommandData)
+  ran : (table : List ChipData) (commands : List CommandData) (old new : R)
+      → RunsInOrder table commands (view old) (view new) → WeakDeed R view
+  run_stopped : (table : List ChipData) (commands : List CommandData)
       (old new : R) (fault : Fault) (whole : ℕ)
-      → RunStopsFrom is_fresh table commands (view old) (view new) fault → WeakDeed R view
-  undid : (is_fresh : Bool) (table : List ChipData) (taken : ℕ) (old new : R)
-      → UndoesInOrderFrom is_fresh table taken (view old) (view new) → WeakDeed R view
-  undid_verified : (is_fresh : Bool) (table : List ChipData) (returned : Returned) (old new : R)
-      → GivesBackInOrder is_fresh true table returned (view old) (view new) → WeakDeed R view
-  undo_stopped : (is_fresh again : Bool) (table : List ChipData) (count : ℕ) (old new : R)
+      → RunStops table commands (view old) (view new) fault → WeakDeed R view
+  undid : (table : List ChipData) (taken : ℕ) (old new : R)
+      → UndoesInOrder table taken (view old) (view new) → WeakDeed R view
+  undid_verified : (table : List ChipData) (returned : Returned) (old new : R)
+      → GivesBackInOrder true table returned (view old) (view new) → WeakDeed R view
+  undo_stopped : (again : Bool) (table : List ChipData) (count : ℕ) (old new : R)
       (fault : Fault) (whole : ℕ)
-      → UndoStopsAs is_fresh again table count (view old) (view new) fault → WeakDeed R view
-  asked : (is_fresh : Bool) (table : List ChipData) (board : Board) (old new : R)
-      → AsksForBoard table is_fresh (view old)
+      → UndoStopsAs again table count (view old) (view new) fault → WeakDeed R view
+  asked : (table : List ChipData) (board : Board) (old new : R) → AsksForBoard table (view old)
       (λ way torn. AnswersInOrder table board way torn (view old) (view new)) → WeakDeed R view
-  asking_stopped : (is_fresh : Bool) (table : List ChipData) (old new : R) (fault : Fault)
-      → AskingStops table is_fresh (view old) (view new) fault → WeakDeed R view
+  asking_stopped : (table : List ChipData) (old new : R) (fault : Fault)
+      → AskingStops table (view old) (view new) fault → WeakDeed R view
 
--- What befell the device in it. A run settles under no intent, with 7F, which changes no page, and
--- so it does where 7F connects the device. A call that didn't reach the device, or was stopped
--- before it had asked it, did no more than to settle it. Of one that asks for the board no more is
--- told: its frames change nothing, and read where the board is told.
+-- What befell the device in it. A run settles under no intent, with 7F, which changes no page. A call
+-- that didn't reach the device, or was stopped before it had asked it, did no more than to settle it.
+-- Of one that asks for the board no more is told: its frames change nothing, and read where the
+-- board is told.
 abbrev pub events_in : {R : Type 0} {view : R → RigState} → WeakDeed R view → List WeakEvent
-events_in {R = R} {view = view} (ran is_fresh table commands old new session) =
-    done_events None (contact_way is_fresh) session.chip.id session.journal.is_torn _
+events_in {R = R} {view = view} (ran table commands old new session) =
+    done_events None contact_way session.chip.id session.journal.is_torn _
     (view old) (view new) session.does
 events_in {R = R} {view = view}
-    (run_stopped is_fresh table commands old new fault whole (inl unreached)) =
-    []
+    (run_stopped table commands old new fault whole (inl unreached)) = []
 events_in {R = R} {view = view}
-    (run_stopped is_fresh table commands old new fault whole (inr session)) =
-    stopped_events None whole (contact_way is_fresh) session.chip.id session.journal.is_torn _
+    (run_stopped table commands old new fault whole (inr session)) =
+    stopped_events None whole contact_way session.chip.id session.journal.is_torn _
     (cause_of fault) (view old) (view new) session.does
-events_in {R = R} {view = view} (undid is_fresh table taken old new session) =
+events_in {R = R} {view = view} (undid table taken old new session) =
     let intent = intent_of session.journal.state in
-    done_events intent (undo_way is_fresh session.chip.kind session.journal.is_greeted intent) session.chip.id
+    done_events intent (settling_way session.chip.kind session.journal.is_greeted intent) session.chip.id
     session.journal.is_torn _ (view old) (view new) session.does
-events_in {R = R} {view = view} (undid_verified is_fresh table returned old new session) =
+events_in {R = R} {view = view} (undid_verified table returned old new session) =
     let intent = intent_of session.journal.state in
-    done_events intent (undo_way is_fresh session.chip.kind session.journal.is_greeted intent) session.chip.id
+    done_events intent (settling_way session.chip.kind session.journal.is_greeted intent) session.chip.id
     session.journal.is_torn _ (view old) (view new) session.does
 events_in {R = R} {view = view}
-    (undo_stopped is_fresh again table count old new fault whole (inl fetched)) = []
+    (undo_stopped again table count old new fault whole (inl fetched)) = []
 events_in {R = R} {view = view}
-    (undo_stopped is_fresh again table count old new fault whole (inr session)) =
+    (undo_stopped again table count old new fault whole (inr session)) =
     let intent = intent_of session.journal.state in
-    undo_events intent whole (undo_way is_fresh session.chip.kind session.journal.is_greeted intent) session.chip.id
+    undo_events intent whole (settling_way session.chip.kind session.journal.is_greeted intent) session.chip.id
     session.journal.is_torn _ (cause_of fault) (view old) (view new) session.does
-events_in {R = R} {view = view} (asked is_fresh table board old new asks) =
+events_in {R = R} {view = view} (asked table board old new asks) =
     settles (intent_of asks.journal.state) ∷ []
-events_in {R = R} {view = view} (asking_stopped is_fresh table old new fault (inl fetched)) = []
-events_in {R = R} {view = view} (asking_stopped is_fresh table old new fault (inr asks)) =
+events_in {R = R} {view = view} (asking_stopped table old new fault (inl fetched)) = []
+events_in {R = R} {view = view} (asking_stopped table old new fault (inr asks)) =
     settles (intent_of asks.journal.state) ∷ []
 
 -- A session of this chip whose journal is honest: what was loaded has the intent that the lines so
@@ -147,22 +145,18 @@ UndoFinds chip intent session = (session.chip ≡ chip) × (intent_of session.jo
 
 abbrev pub Finds : {R : Type 0} {view : R → RigState} → ChipData → Option Intent → WeakDeed R view
     → Type 0
-Finds chip intent (ran is_fresh table commands old new session) = RunFinds chip intent session
-Finds chip intent (run_stopped is_fresh table commands old new fault whole (inl unreached)) =
-    Unit {0}
-Finds chip intent (run_stopped is_fresh table commands old new fault whole (inr session)) =
+Finds chip intent (ran table commands old new session) = RunFinds chip intent session
+Finds chip intent (run_stopped table commands old new fault whole (inl unreached)) = Unit {0}
+Finds chip intent (run_stopped table commands old new fault whole (inr session)) =
     RunFinds chip intent session
-Finds chip intent (undid is_fresh table taken old new session) = UndoFinds chip intent session
-Finds chip intent (undid_verified is_fresh table returned old new session) =
+Finds chip intent (undid table taken old new session) = UndoFinds chip intent session
+Finds chip intent (undid_verified table returned old new session) = UndoFinds chip intent session
+Finds chip intent (undo_stopped again table count old new fault whole (inl fetched)) = Unit {0}
+Finds chip intent (undo_stopped again table count old new fault whole (inr session)) =
     UndoFinds chip intent session
-Finds chip intent (undo_stopped is_fresh again table count old new fault whole (inl fetched)) =
-    Unit {0}
-Finds chip intent (undo_stopped is_fresh again table count old new fault whole (inr session)) =
-    UndoFinds chip intent session
-Finds chip intent (asked is_fresh table board old new asks) =
-    intent_of asks.journal.state ≡ intent
-Finds chip intent (asking_stopped is_fresh table old new fault (inl fetched)) = Unit {0}
-Finds chip intent (asking_stopped is_fresh table old new fault (inr asks)) =
+Finds chip intent (asked table board old new asks) = intent_of asks.journal.state ≡ intent
+Finds chip intent (asking_stopped table old new fault (inl fetched)) = Unit {0}
+Finds chip intent (asking_stopped table old new fault (inr asks)) =
     intent_of asks.journal.state ≡ intent
 
 -- calls one behind another, all of one chip, with an honest journal
@@ -174,13 +168,13 @@ AllFind chip intent (deed ∷ deeds) =
 
 -- where a run or an undo answered Ok, this holds behind it
 abbrev pub AtOk : {R : Type 0} {view : R → RigState} → WeakDeed R view → Type 0 → Type 0
-AtOk (ran is_fresh table commands old new session) P = P
-AtOk (run_stopped is_fresh table commands old new fault whole stop) P = Unit {0}
-AtOk (undid is_fresh table taken old new session) P = P
-AtOk (undid_verified is_fresh table returned old new session) P = P
-AtOk (undo_stopped is_fresh again table count old new fault whole stop) P = Unit {0}
-AtOk (asked is_fresh table board old new asks) P = Unit {0}
-AtOk (asking_stopped is_fresh table old new fault stop) P = Unit {0}
+AtOk (ran table commands old new session) P = P
+AtOk (run_stopped table commands old new fault whole stop) P = Unit {0}
+AtOk (undid table taken old new session) P = P
+AtOk (undid_verified table returned old new session) P = P
+AtOk (undo_stopped again table count old new fault whole stop) P = Unit {0}
+AtOk (asked table board old new asks) P = Unit {0}
+AtOk (asking_stopped table old new fault stop) P = Unit {0}
 
 -- In each call no page is believed that may be weak, and each page that may be is at work; and
 -- behind a run or an undo that answered Ok no page may be weak.

@@ -78,8 +78,8 @@ FollowsUnread {R = R} {view = view} intent (deed ∷ deeds) old new led w w2 his
 
 -- an undo that answered Ok, from the one to the other
 abbrev pub IsUndone : {R : Type 0} {view : R → RigState} → R → R → WeakDeed R view → Type 0
-IsUndone before after (undid is_fresh table taken old new session) = (old ≡ before) × (new ≡ after)
-IsUndone before after (undid_verified is_fresh table returned old new session) =
+IsUndone before after (undid table taken old new session) = (old ≡ before) × (new ≡ after)
+IsUndone before after (undid_verified table returned old new session) =
     (old ≡ before) × (new ≡ after)
 IsUndone before after deed = ⊥
 
@@ -125,9 +125,9 @@ WeakHeadline {R} view = (deeds : List (WeakDeed R view)) (last : WeakDeed R view
 
 -- a run or an undo that answered Ok
 abbrev pub IsAnsweredOk : {R : Type 0} {view : R → RigState} → WeakDeed R view → Type 0
-IsAnsweredOk (ran is_fresh table commands old new session) = Unit {0}
-IsAnsweredOk (undid is_fresh table taken old new session) = Unit {0}
-IsAnsweredOk (undid_verified is_fresh table returned old new session) = Unit {0}
+IsAnsweredOk (ran table commands old new session) = Unit {0}
+IsAnsweredOk (undid table taken old new session) = Unit {0}
+IsAnsweredOk (undid_verified table returned old new session) = Unit {0}
 IsAnsweredOk deed = ⊥
 
 -- Such a call follows too, with what befell the device since: it leads to an ordinary device that

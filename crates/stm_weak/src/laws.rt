@@ -2,12 +2,12 @@
 //!
 //! A page whose erase or write was cut by a loss of power may answer other bytes at each read,
 //! until it is erased whole. The premises are clauses of `run` and `undo`, which hold on any line.
-ghost use Rattle.std.specs.Prelude.{ℕ, Bool, true, List};
+ghost use Rattle.std.specs.Prelude.{ℕ, true, List};
 ghost use Rattle.stm_wire.specs.Chip.{ChipData};
 ghost use Rattle.stm_session.specs.declared.fault.Fault.{Fault};
 ghost use Rattle.stm_session.specs.declared.returned.Returned.{Returned};
-ghost use Rattle.stm_session.specs.UndoOrder.{GivesBackInOrder, UndoStopsAs, UndoStopsFrom};
-ghost use Rattle.stm_session.specs.UndoOrder.{UndoesInOrderFrom};
+ghost use Rattle.stm_session.specs.UndoOrder.{GivesBackInOrder, UndoStopsAs, UndoStops};
+ghost use Rattle.stm_session.specs.UndoOrder.{UndoesInOrder};
 ghost use Rattle.stm_weak.specs.Believed.{UndoHeals, UndoStopsHealing};
 ghost use Rattle.stm_weak.specs.History.{HistoriesHeal};
 
@@ -20,19 +20,19 @@ use stm_wire::Rig;
 /// only the page of its newest intent, and behind each line the pages that may be weak are at work.
 /// At Ok no page may be weak.
 pub fn an_undo_believes_no_page_at_work<R: Rig>()
-    ensures done { (is_fresh : Bool) (table : List ChipData) (taken : ℕ) (old new : R)
-        → UndoesInOrderFrom is_fresh table taken (R.view old) (R.view new)
-        → UndoHeals is_fresh table (R.view old) (R.view new) }
-    ensures stopped { (is_fresh : Bool) (table : List ChipData) (count : ℕ) (old new : R)
-        (fault : Fault) → UndoStopsFrom is_fresh table count (R.view old) (R.view new) fault
-        → UndoStopsHealing is_fresh table (R.view old) (R.view new) fault }
+    ensures done { (table : List ChipData) (taken : ℕ) (old new : R)
+        → UndoesInOrder table taken (R.view old) (R.view new)
+        → UndoHeals table (R.view old) (R.view new) }
+    ensures stopped { (table : List ChipData) (count : ℕ) (old new : R)
+        (fault : Fault) → UndoStops table count (R.view old) (R.view new) fault
+        → UndoStopsHealing table (R.view old) (R.view new) fault }
     // So does one that reads each page again.
-    ensures verified { (is_fresh : Bool) (table : List ChipData) (returned : Returned)
-        (old new : R) → GivesBackInOrder is_fresh true table returned (R.view old) (R.view new)
-        → UndoHeals is_fresh table (R.view old) (R.view new) }
-    ensures verified_stopped { (is_fresh : Bool) (table : List ChipData) (count : ℕ) (old new : R)
-        (fault : Fault) → UndoStopsAs is_fresh true table count (R.view old) (R.view new) fault
-        → UndoStopsHealing is_fresh table (R.view old) (R.view new) fault }
+    ensures verified { (table : List ChipData) (returned : Returned)
+        (old new : R) → GivesBackInOrder true table returned (R.view old) (R.view new)
+        → UndoHeals table (R.view old) (R.view new) }
+    ensures verified_stopped { (table : List ChipData) (count : ℕ) (old new : R)
+        (fault : Fault) → UndoStopsAs true table count (R.view old) (R.view new) fault
+        → UndoStopsHealing table (R.view old) (R.view new) fault }
 {}
 
 /// Of runs, undos and calls that ask for the board, one behind another, of one chip, on any line,

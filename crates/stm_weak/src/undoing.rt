@@ -1,5 +1,5 @@
 // An undo on any line, whatever it answers and wherever it fails.
-ghost use Rattle.std.specs.Prelude.{◌≤◌, false, IfErr, IfOk};
+ghost use Rattle.std.specs.Prelude.{◌≤◌, IfErr, IfOk};
 ghost use Rattle.stm_weak.specs.Believed.{UndoHeals, UndoStopsHealing};
 
 use crate::an_undo_believes_no_page_at_work;
@@ -17,9 +17,9 @@ pub fn undo_segment<R: Rig>(
     count: u32,
 ) -> Result<u32, Fault>
     ensures heals { let old = R.view rig.old in let new = R.view rig.new in
-        IfOk result (λ taken. 1 ≤ taken → UndoHeals false table.now old new) }
+        IfOk result (λ taken. 1 ≤ taken → UndoHeals table.now old new) }
     ensures stops { let old = R.view rig.old in let new = R.view rig.new in
-        IfErr result (UndoStopsHealing false table.now old new) }
+        IfErr result (UndoStopsHealing table.now old new) }
 {
     an_undo_believes_no_page_at_work::<R>();
     undo(alloc, rig, table, count)

@@ -18,7 +18,6 @@ use Rattle.stm_session.specs.declared.asking_board.Board.{Board}
 use Rattle.stm_session.specs.declared.fault.Fault.{Fault}
 use Rattle.stm_session.specs.declared.fault.Fault.TheVariants.{Unfinished}
 use Rattle.stm_session.specs.Fault.{fault_of_journal}
-use Rattle.stm_session.specs.Fresh.{IsAsSaid}
 use Rattle.stm_session.specs.Moments.{IsSafe}
 use Rattle.stm_session.specs.ToldBoard.{IsBoardOf, ToldBoardIsTheDevices, chip_of_board}
 use Rattle.stm_session.specs.Undoable.{is_unfinished_at}
@@ -110,7 +109,7 @@ module _ {R : Type 0} (view : R → RigState) (law : ToldBoardIsTheDevices)
         by-own : (own : Result (List ChipData) AllocError)
             → MatchResult own (λ own. IsOfBoard table board own) (λ (error : AllocError). Unit {0})
             → MatchResult own (λ own. TakesKnown view own
-            (Some board) takes.next sequel takes.heard new (Ok steps))
+            (Some board) does sequel takes.heard new (Ok steps))
             (λ error. (new ≡ takes.heard) × (okay steps ≡ Err Memory))
             → E (view at).device.chip (view at).device.flash
         by-own (Err error) is (same, failed) = absurd (cc)
@@ -124,37 +123,33 @@ module _ {R : Type 0} (view : R → RigState) (law : ToldBoardIsTheDevices)
             let c = subst C (sym same) (safe, chip-known) in
             let can : CanCall own (view takes.heard) =
             record { honest = takes.hears.honest.0 honest; safe = c.0; knows = c.1 } in
-            let W : Work → Type 0 = λ w. TakesKnown view own (Some board) w sequel takes.heard new
-            (Ok steps) in
-            let ends = known own (Some board) content sequel takes.heard new steps can none
-            (subst W takes.is_next goes) in
+            let ends = known own (Some board) content sequel takes.heard new steps can none goes in
             let F : Device → Type 0 = λ x. EndsAsAsked view own content sequel x.chip x.flash new in
             (own, subst F same ends)
 
     -- the device was asked
-    asked-ends : (wanted : Option (Bor (List ℕ))) (is_fresh : Bool) (old mid at : R)
-        (came : Result (Option Board) Failure) → CanAsk true is_fresh table (view old)
+    asked-ends : (wanted : Option (Bor (List ℕ))) (old mid at : R)
+        (came : Result (Option Board) Failure) → CanAsk true table (view old)
         → (view mid).is_honest
         → (view mid).device ≡ (view old).device → (view mid).journal ≡ (view old).journal
-        → AsksAndAllows view table is_fresh wanted mid at came → (board : Option Board)
+        → AsksAndAllows view table wanted mid at came → (board : Option Board)
         → came ≡ Ok board → TakesAsked view table board does sequel at new (Ok steps)
         → E (view old).device.chip (view old).device.flash
-    asked-ends wanted is_fresh old mid at came can honest device journal asks board is takes =
+    asked-ends wanted old mid at came can honest device journal asks board is takes =
         by-asked asks.asked asks.asks asks.is
       where
         d : Device
         d = (view old).device
 
         by-asked : (asked : Result Board Fault)
-            → AsksWhich table is_fresh (view mid) (view at) asked
+            → AsksWhich table (view mid) (view at) asked
             → MatchResult asked (λ board. Allows board wanted came)
             (λ fault. came ≡ Err (Session fault)) → E d.chip d.flash
         by-asked (Err fault) a failed = absurd (cc)
         by-asked (Ok told) a allows =
-            let S : Device → Type 0 = λ x. IsAsSaid is_fresh x × IsSafe x in
+            let S : Device → Type 0 = λ x. IsSafe x in
             let finished = ap is_unfinished_at journal ∙ can.finished in
-            let now = subst S (sym device) (can.said, can.safe) in
-            let asked = a.finished honest finished now.0 now.1 in
+            let asked = a.finished honest finished (subst S (sym device) can.safe) in
             let chip : (view at).device.chip ≡ d.chip = asked.left.make.chip
             ∙ ap (λ (x : Device). x.chip) device in
             let flash : (view at).device.flash ≡ d.flash = asked.left.flash
@@ -173,28 +168,28 @@ module _ {R : Type 0} (view : R → RigState) (law : ToldBoardIsTheDevices)
             subst E2 flash (subst E1 chip ends)
 
     -- the journal was read before that, and is finished
-    due-ends : (wanted : Option (Bor (List ℕ))) (is_wanted is_fresh : Bool) (old mid at : R)
+    due-ends : (wanted : Option (Bor (List ℕ))) (is_wanted : Bool) (old mid at : R)
         (due : Result Due Fault) (came : Result (Option Board) Failure) (board : Option Board)
-        → CanAsk true is_fresh table (view old)
+        → CanAsk true table (view old)
         → IsDue OfFinished is_wanted (view old) (view mid) due
-        → MatchResult due (λ is. AsksIf view table is_fresh wanted is mid at came)
+        → MatchResult due (λ is. AsksIf view table wanted is mid at came)
         (λ fault. (at ≡ mid) × (came ≡ Err (Session fault))) → came ≡ Ok board
         → TakesAsked view table board does sequel at new (Ok steps)
         → E (view old).device.chip (view old).device.flash
-    due-ends wanted is_wanted is_fresh old mid at (Err fault) came board can reads
+    due-ends wanted is_wanted old mid at (Err fault) came board can reads
         (same, failed) is takes = absurd (cc)
-    due-ends wanted is_wanted is_fresh old mid at (Ok Not) came board can reads asks is takes =
+    due-ends wanted is_wanted old mid at (Ok Not) came board can reads asks is takes =
         absurd (not-due (asked-due is_wanted Not reads.journal reads.is))
       where
         not-due : Not ≡ Asked → ⊥
         not-due e = cc
-    due-ends wanted is_wanted is_fresh old mid at
+    due-ends wanted is_wanted old mid at
         (Ok (OfNamed unique)) came board can reads asks is takes =
         absurd (not-due (asked-due is_wanted (OfNamed unique) reads.journal reads.is))
       where
         not-due : OfNamed unique ≡ Asked → ⊥
         not-due e = cc
-    due-ends wanted is_wanted is_fresh old mid at (Ok Asked) came board can reads asks is takes =
+    due-ends wanted is_wanted old mid at (Ok Asked) came board can reads asks is takes =
         by-journal reads.journal (reads.loads can.honest) reads.is
       where
         by-journal : (journal : Result Loaded JournalFault) → Loads (view old) (view mid) journal
@@ -202,20 +197,20 @@ module _ {R : Type 0} (view : R → RigState) (law : ToldBoardIsTheDevices)
             (λ fault. due-said Asked ≡ Err (fault_of_journal fault))
             → E (view old).device.chip (view old).device.flash
         by-journal (Err fault) loads e = absurd (cc)
-        by-journal (Ok l) loads e = asked-ends wanted is_fresh old mid at came can loads.honest
+        by-journal (Ok l) loads e = asked-ends wanted old mid at came can loads.honest
             loads.same_device loads.journal asks board is takes
 
     -- a call whose device is asked, or isn't
     ends : (question : Question) (old mid : R) (came : Result (Option Board) Failure)
         (asking : Option Asking) (is_asked : Bool) → question.is_asked ≡ is_asked
-        → asking ≡ asking_if is_asked does → CanAsk is_asked question.is_fresh table (view old)
+        → asking ≡ asking_if is_asked does → CanAsk is_asked table (view old)
         → (wanted : Option (Bor (List ℕ)))
-        → AsksFirst view table question.is_fresh asking wanted old mid came
+        → AsksFirst view table asking wanted old mid came
         → (board : Option Board) → came ≡ Ok board
         → TakesAsked view table board does sequel mid new (Ok steps)
         → E (view old).device.chip (view old).device.flash
     ends question old mid came (Some OfFinished) true is asking can wanted asks board said takes =
-        due-ends wanted (is_some wanted) question.is_fresh old asks.mid mid asks.due came board can
+        due-ends wanted (is_some wanted) old asks.mid mid asks.due came board can
         asks.reads asks.is said takes
     ends question old mid came (Some OfBegun) true is asking can wanted asks board said takes =
         absurd (cc)
@@ -247,7 +242,7 @@ module _ {R : Type 0} (view : R → RigState) (law : ToldBoardIsTheDevices)
       d = (view old).device
 
       by-came : (came : Result (Option Board) Failure)
-          → AsksFirst view table question.is_fresh takes.asking question.wanted old takes.mid came
+          → AsksFirst view table takes.asking question.wanted old takes.mid came
           → MatchResult came (λ board. TakesAsked view table board
           (work.Act (action.WriteAndVerify content)) sequel takes.mid new (Ok steps))
           (λ failure. (new ≡ takes.mid) × (okay steps ≡ Err failure))

@@ -17,14 +17,12 @@ use Rattle.stm_session.specs.declared.fault.Fault.{Fault}
 use Rattle.stm_session.specs.declared.fault.Fault.TheVariants.{Memory}
 use Rattle.stm_session.specs.declared.returned.Returned.{Returned}
 use Rattle.stm_session.specs.Fault.{HasSessionCause, IsOutsideFault}
-use Rattle.stm_session.specs.Fresh.{IsReset}
 use Rattle.stm_session.specs.Leaving.{CanLeave, IsSettledThen, Leaves}
 use Rattle.stm_session.specs.Meaning.{erases, verifies, writes}
 use Rattle.stm_session.specs.Moments.{IsSafe}
 use Rattle.stm_session.specs.ReturnedBytes.{segments_of}
 use Rattle.stm_session.specs.Told.{GivesBackTold, UndoStopsToldAs}
-use Rattle.stm_session.specs.UndoOrder.{GivesBackInOrder, UndoStops, UndoStopsAs, UndoStopsFrom}
-use Rattle.stm_session.specs.UndoOrder.{UndoesInOrder, UndoesInOrderFrom}
+use Rattle.stm_session.specs.UndoOrder.{GivesBackInOrder, UndoStops, UndoStopsAs, UndoesInOrder}
 use Rattle.stm_session.specs.Unprotecting.{IsUnprotected, IsUnprotecting, UnprotectContract}
 use Rattle.stm_session.specs.Promises.{UndoContract}
 use Rattle.stm_session.specs.Refusal.{RefusesUnsent, open_refusal}
@@ -76,13 +74,15 @@ IsFor (task.Protect word is_sure true) does =
 IsFor (task.Protect word is_sure false) does = (kind : Protection) × (does ≡ action.Protect kind)
     × (protection_of word.now ≡ Some kind)
 
--- and the one on a device that is said to be fresh from reset: an undo of its own; what takes the
--- write protection off such a device is else what does so where nothing was stopped
-abbrev pub on_fresh : Bool → Action → Action
-on_fresh true (action.Undo count) = action.UndoFresh count
-on_fresh true (action.UndoVerified count) = action.UndoVerifiedFresh count
-on_fresh false action.UnprotectFresh = action.Protect WriteUnprotect
-on_fresh is_fresh does = does
+-- what takes the write protection off a device that is said to be fresh from reset is else what does
+-- so where nothing was stopped
+abbrev pub unless_fresh : Bool → Action → Action
+unless_fresh false action.UnprotectFresh = action.Protect WriteUnprotect
+unless_fresh is_fresh does = does
+
+abbrev pub work_unless_fresh : Bool → Work → Work
+work_unless_fresh is_fresh (work.Act does) = work.Act (unless_fresh is_fresh does)
+work_unless_fresh is_fresh does = does
 
 -- what is told of an undo that was verified
 abbrev pub told_returned : Returned → Answer
@@ -119,38 +119,22 @@ pub record PromisesUndo (table : List ChipData) (count : ℕ) (old new : RigStat
   pub order : IfOk taken (λ n. 1 ≤ n → UndoesInOrder table n old new)
   pub stops : IfErr taken (UndoStops table count old new)
 
--- And `undo_fresh`: the same of a device that is fresh from reset.
-pub record UndoesFresh (table : List ChipData) (count : ℕ) (old new : RigState)
-    (taken : Result ℕ Fault) : Type 0 where
-  pub promised : IsReset old.device → UndoContract table count old new taken
-  pub cause : HasSessionCause old new taken
-  pub puts : SendsAsUndo table count old new taken
-  pub silent : taken ≡ Ok 0 → GoesOn AreFetches old.calls new.calls
-  pub order : IfOk taken (λ n. 1 ≤ n → UndoesInOrderFrom true table n old new)
-  pub stops : IfErr taken (UndoStopsFrom true table count old new)
-
--- this, of a device that is fresh from reset where it is said to be so
-abbrev pub WhereReset : Bool → Device → Type 0 → Type 0
-WhereReset true d P = IsReset d → P
-WhereReset false d P = P
-
--- And `undo_verified` and `undo_verified_fresh`: the same, and that each page that was given back
--- was read again, and held what was written.
-pub record UndoesVerified {R : Type 0} (view : R → RigState) (is_fresh : Bool)
-    (table : List ChipData) (count : ℕ) (old new : R) (taken : Result Returned Fault) : Type 0 where
-  pub promised : WhereReset is_fresh (view old).device
-      (UndoContract table count (view old) (view new) (segments_of taken))
+-- And `undo_verified`: the same, and that each page that was given back was read again, and held what
+-- was written.
+pub record UndoesVerified {R : Type 0} (view : R → RigState) (table : List ChipData) (count : ℕ)
+    (old new : R) (taken : Result Returned Fault) : Type 0 where
+  pub promised : UndoContract table count (view old) (view new) (segments_of taken)
   pub cause : HasSessionCause (view old) (view new) taken
   pub puts : SendsAsUndo table count (view old) (view new) (segments_of taken)
   pub silent : segments_of taken ≡ Ok 0 → GoesOn AreFetches (view old).calls (view new).calls
   pub none : IfOk taken (λ returned. returned.segments ≡ 0 → returned.bytes ≡ 0)
   pub order : IfOk taken (λ returned. 1 ≤ returned.segments
-      → GivesBackInOrder is_fresh true table returned (view old) (view new))
-  pub stops : IfErr taken (UndoStopsAs is_fresh true table count (view old) (view new))
+      → GivesBackInOrder true table returned (view old) (view new))
+  pub stops : IfErr taken (UndoStopsAs true table count (view old) (view new))
   pub given : IfOk taken (λ returned. 1 ≤ returned.segments
-      → GivesBackTold view is_fresh true table returned (view old) (view new))
+      → GivesBackTold view true table returned (view old) (view new))
   pub given_stops :
-      IfErr taken (UndoStopsToldAs view is_fresh true table count (view old) (view new))
+      IfErr taken (UndoStopsToldAs view true table count (view old) (view new))
 
 -- What `unprotect_fresh` promises.
 pub record Unprotects (old new : RigState) (done : Result (Unit {0}) Fault) : Type 0 where
@@ -215,13 +199,8 @@ DoesAction view table action.EraseAll old new result =
     Calls (λ said. said) (ErasesAll view table) old new result
 DoesAction view table (action.Undo count) old new result =
     Calls answer.Undone (λ a b said. PromisesUndo table count (view a) (view b) said) old new result
-DoesAction view table (action.UndoFresh count) old new result =
-    Calls answer.Undone (λ a b said. UndoesFresh table count (view a) (view b) said)
-    old new result
 DoesAction view table (action.UndoVerified count) old new result =
-    Calls told_returned (UndoesVerified view false table count) old new result
-DoesAction view table (action.UndoVerifiedFresh count) old new result =
-    Calls told_returned (UndoesVerified view true table count) old new result
+    Calls told_returned (UndoesVerified view table count) old new result
 DoesAction view table (action.Go address) old new result =
     Calls (λ done. answer.Nothing) (λ a b said. GoesTo address (view a) (view b) said)
     old new result
@@ -240,12 +219,12 @@ HandsOnBeside way (Err failure) result = result ≡ Err failure
 -- The journal is read first, and says how many of the newest segments are undone by an undo that goes
 -- back so far. Where it can't be read, nothing more is called.
 pub record UndoesBack {R : Type 0} (view : R → RigState) (table : List ChipData) (extent : Extent)
-    (verifies is_fresh : Bool) (old new : R) (result : Result Answer Failure) : Type 0 where
+    (verifies : Bool) (old new : R) (result : Result Answer Failure) : Type 0 where
   pub mid : R
   pub found : Result WayBack Fault
   pub finds : FindsWay extent (view old) (view mid) found
   pub goes_on : MatchResult found (λ way. (said : Result Answer Failure)
-      × DoesAction view table (undo_of way.count verifies is_fresh) mid new said
+      × DoesAction view table (undo_of way.count verifies) mid new said
       × HandsOnBeside way said result)
       (λ fault. (new ≡ mid) × (result ≡ Err (Session fault)))
 
@@ -259,8 +238,8 @@ Works view table (work.Sum range) old new result =
     (said : Result Answer Fault) × ReadsRange view table range old new said × SumsUp said result
 Works view table (work.ReadHex range skips) old new result =
     AsksThenGoesOn view table (λ fault. Session fault) (ReadsAsHex view table range skips) old new result
-Works view table (work.Undo extent is_verified is_fresh) old new result =
-    UndoesBack view table extent is_verified is_fresh old new result
+Works view table (work.Undo extent is_verified) old new result =
+    UndoesBack view table extent is_verified old new result
 Works view table (work.Act does) old new result = DoesAction view table does old new result
 
 -- What is done again is a write, of the same image; nothing else is.

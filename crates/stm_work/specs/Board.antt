@@ -79,10 +79,9 @@ Allows board (Some digits) allowed = AllowsNamed board digits.now allowed
 
 -- A device is asked which board it is; what it told is allowed or not.
 pub record AsksAndAllows {R : Type 0} (view : R → RigState) (table : List ChipData)
-    (is_fresh : Bool) (wanted : Option (Bor (List ℕ))) (old new : R)
-    (answer : Result (Option Board) Failure) : Type 0 where
+    (wanted : Option (Bor (List ℕ))) (old new : R) (answer : Result (Option Board) Failure) : Type 0 where
   pub asked : Result Board Fault
-  pub asks : AsksWhich table is_fresh (view old) (view new) asked
+  pub asks : AsksWhich table (view old) (view new) asked
   pub is : MatchResult asked (λ board. Allows board wanted answer)
       (λ fault. answer ≡ Err (Session fault))
 
@@ -94,41 +93,41 @@ as_named unique (Some board) =
 
 -- A device is asked which board it is; what it told is allowed or not, and has to be this one.
 pub record AsksNamed {R : Type 0} (view : R → RigState) (table : List ChipData)
-    (is_fresh : Bool) (wanted : Option (Bor (List ℕ))) (unique : List ℕ) (old new : R)
+    (wanted : Option (Bor (List ℕ))) (unique : List ℕ) (old new : R)
     (answer : Result (Option Board) Failure) : Type 0 where
   pub allowed : Result (Option Board) Failure
-  pub asks : AsksAndAllows view table is_fresh wanted old new allowed
+  pub asks : AsksAndAllows view table wanted old new allowed
   pub is : MatchResult allowed (λ came. answer ≡ as_named unique came)
       (λ failure. answer ≡ Err failure)
 
 -- the device is asked where that is due; else nothing is called
-abbrev pub AsksIf : {R : Type 0} → (R → RigState) → List ChipData → Bool → Option (Bor (List ℕ))
+abbrev pub AsksIf : {R : Type 0} → (R → RigState) → List ChipData → Option (Bor (List ℕ))
     → Due → R → R → Result (Option Board) Failure → Type 0
-AsksIf view table is_fresh wanted Not old new answer = (new ≡ old) × (answer ≡ Ok None)
-AsksIf view table is_fresh wanted Asked old new answer =
-    AsksAndAllows view table is_fresh wanted old new answer
-AsksIf view table is_fresh wanted (OfNamed unique) old new answer =
-    AsksNamed view table is_fresh wanted unique old new answer
+AsksIf view table wanted Not old new answer = (new ≡ old) × (answer ≡ Ok None)
+AsksIf view table wanted Asked old new answer =
+    AsksAndAllows view table wanted old new answer
+AsksIf view table wanted (OfNamed unique) old new answer =
+    AsksNamed view table wanted unique old new answer
 
--- The journal is read, and the device asked where that is due beside it, as one that is fresh from
--- reset or isn't; where it can't be read, or has to be finished, nothing more is called.
+-- The journal is read, and the device asked where that is due beside it; where it can't be read, or
+-- has to be finished, nothing more is called.
 pub record AsksWhereDue {R : Type 0} (view : R → RigState) (table : List ChipData)
-    (is_fresh : Bool) (asking : Asking) (wanted : Option (Bor (List ℕ))) (old new : R)
+    (asking : Asking) (wanted : Option (Bor (List ℕ))) (old new : R)
     (answer : Result (Option Board) Failure) : Type 0 where
   pub mid : R
   pub due : Result Due Fault
   pub reads : IsDue asking (is_some wanted) (view old) (view mid) due
-  pub is : MatchResult due (λ is. AsksIf view table is_fresh wanted is mid new answer)
+  pub is : MatchResult due (λ is. AsksIf view table wanted is mid new answer)
       (λ fault. (new ≡ mid) × (answer ≡ Err (Session fault)))
 
 -- A device that isn't asked is none that is wanted, and nothing is called.
-abbrev pub AsksFirst : {R : Type 0} → (R → RigState) → List ChipData → Bool → Option Asking
+abbrev pub AsksFirst : {R : Type 0} → (R → RigState) → List ChipData → Option Asking
     → Option (Bor (List ℕ)) → R → R → Result (Option Board) Failure → Type 0
-AsksFirst view table is_fresh (Some asking) wanted old new answer =
-    AsksWhereDue view table is_fresh asking wanted old new answer
-AsksFirst view table is_fresh None (Some digits) old new answer =
+AsksFirst view table (Some asking) wanted old new answer =
+    AsksWhereDue view table asking wanted old new answer
+AsksFirst view table None (Some digits) old new answer =
     (new ≡ old) × (answer ≡ Err NoBoard)
-AsksFirst view table is_fresh None None old new answer = (new ≡ old) × (answer ≡ Ok None)
+AsksFirst view table None None old new answer = (new ≡ old) × (answer ≡ Ok None)
 
 -- The table for the session with a board: its chip, where there is one, is the board's.
 abbrev pub IsOfBoard : List ChipData → Board → List ChipData → Type 0
@@ -142,10 +141,8 @@ abbrev pub asking_of : Work → Asking
 asking_of (work.Act (action.Go address)) = OfClosed
 asking_of (work.Act (action.Protect kind)) = OfClosed
 asking_of (work.Act (action.Undo count)) = OfBegun
-asking_of (work.Act (action.UndoFresh count)) = OfBegun
 asking_of (work.Act (action.UndoVerified count)) = OfBegun
-asking_of (work.Act (action.UndoVerifiedFresh count)) = OfBegun
-asking_of (work.Undo extent verifies is_fresh) = OfBegun
+asking_of (work.Undo extent verifies) = OfBegun
 asking_of other = OfFinished
 
 -- whether, and beside which journals, the device of a work is asked: never one that is said to be
@@ -154,10 +151,3 @@ abbrev pub asking_if : Bool → Work → Option Asking
 asking_if true (work.Act action.UnprotectFresh) = None
 asking_if true work = Some (asking_of work)
 asking_if false work = None
-
--- a device that was asked is connected by that, and not fresh from reset any more
-abbrev pub once_asked : Work → Work
-once_asked (work.Act (action.UndoFresh count)) = work.Act (action.Undo count)
-once_asked (work.Act (action.UndoVerifiedFresh count)) = work.Act (action.UndoVerified count)
-once_asked (work.Undo extent verifies is_fresh) = work.Undo extent verifies false
-once_asked other = other

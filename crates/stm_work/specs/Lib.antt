@@ -8,7 +8,6 @@ pub mod Conduct
 pub mod Content
 pub mod FalseErase
 pub mod FaultName
-pub mod FreshUndo
 pub mod Hinting
 pub mod JsonLine
 pub mod Keeping

@@ -43,17 +43,15 @@ IsWatching true question watching =
 IsWatching false question watching = watching ≡ Unwatched
 
 -- What one use does: just this work and what follows it, beside the journal that the options name,
--- with the chips that the tables say; the device is asked and watched as the options say. It is asked
--- as one that is fresh from reset only at its first use in a call, and where the options say so.
-pub record IsUsePlan (options : Options) (texts : List (List ℕ)) (is_told is_first : Bool)
-    (does : Work) (sequel : Sequel) (plan : Plan) : Type 0 where
+-- with the chips that the tables say; the device is asked and watched as the options say.
+pub record IsUsePlan (options : Options) (texts : List (List ℕ)) (is_told : Bool) (does : Work)
+    (sequel : Sequel) (plan : Plan) : Type 0 where
   pub work_is : plan.work ≡ does
   pub sequel_is : plan.sequel ≡ sequel
   pub journal_is : plan.journal ≡ options.journal
   pub chips_are : AreChips texts plan.table
   pub asked : plan.question.is_asked ≡ is_asked options does is_told
   pub wanted : plan.question.wanted ≡ options.board
-  pub fresh : plan.question.is_fresh ≡ (is_first && options.is_fresh)
   pub watched : IsWatching options.watches plan.question plan.watching
 
 -- Steps that are told of those that were taken: all that they say was done is so, and where none of

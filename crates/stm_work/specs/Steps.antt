@@ -20,7 +20,7 @@ use Rattle.stm_work.specs.declared.failure.Failure.TheVariants.{Memory}
 use Rattle.stm_work.specs.declared.steps.Steps.{Steps}
 use Rattle.stm_work.specs.declared.work.Work.{Work}
 use Rattle.stm_work.specs.Action.{DoesAction, Works}
-use Rattle.stm_work.specs.Board.{AsksFirst, IsOfBoard, asking_if, once_asked}
+use Rattle.stm_work.specs.Board.{AsksFirst, IsOfBoard, asking_if}
 use Rattle.stm_work.specs.Keeping.{IsFinished}
 
 -- what a Rig tells of itself is the same
@@ -94,19 +94,17 @@ pub record TakesKnown {R : Type 0} (view : R → RigState) (table : List ChipDat
   pub err : IfErr said (λ failure. (new ≡ written) × (result ≡ Err failure))
 
 -- A device told which board it is. Its size is heard, which changes nothing that the Rig tells of
--- itself. The session has the table of that board, and the work is that of a device that was asked;
--- where there was no memory for the table nothing more is called.
+-- itself. The session has the table of that board; where there was no memory for it nothing more is
+-- called.
 pub record TakesTold {R : Type 0} (view : R → RigState) (table : List ChipData) (board : Board)
     (work : Work) (sequel : Sequel) (old new : R) (result : Result Steps Failure) : Type 0 where
   pub heard : R
   pub hears : Stays (view old) (view heard)
-  pub next : Work
   pub own : Result (List ChipData) AllocError
   pub is_own : IfOk own (IsOfBoard table board)
   pub goes_on : MatchResult own
-      (λ own. TakesKnown view own (Some board) next sequel heard new result)
+      (λ own. TakesKnown view own (Some board) work sequel heard new result)
       (λ error. (new ≡ heard) × (result ≡ Err Memory))
-  pub is_next : next ≡ once_asked work
 
 -- A device that was asked, or wasn't: where no board came its session has the table and the work as
 -- they are.
@@ -117,16 +115,15 @@ TakesAsked view table None work sequel old new result =
 TakesAsked view table (Some board) work sequel old new result =
     TakesTold view table board work sequel old new result
 
--- The steps of one call. The device is asked first which board it is, where that is due, as one that
--- is fresh from reset where the question says so; a failure of that is the answer, and nothing more
--- is called.
+-- The steps of one call. The device is asked first which board it is, where that is due; a failure of
+-- that is the answer, and nothing more is called.
 pub record TakesSteps {R : Type 0} (view : R → RigState) (table : List ChipData)
     (question : Question) (work : Work) (sequel : Sequel) (old new : R)
     (result : Result Steps Failure) : Type 0 where
   pub mid : R
   pub came : Result (Option Board) Failure
   pub asking : Option Asking
-  pub asks : AsksFirst view table question.is_fresh asking question.wanted old mid came
+  pub asks : AsksFirst view table asking question.wanted old mid came
   pub goes_on : MatchResult came (λ board. TakesAsked view table board work sequel mid new result)
       (λ failure. (new ≡ mid) × (result ≡ Err failure))
   pub is_asking : asking ≡ asking_if question.is_asked work

@@ -17,5 +17,5 @@ abbrev pub IsWorkFor : Task → Work → Type 0
 IsWorkFor (task.Info true) does = does ≡ work.Identify
 IsWorkFor (task.Sum range) does = does ≡ work.Sum range
 IsWorkFor (task.ReadHex range out skips) does = does ≡ work.ReadHex range skips
-IsWorkFor (task.Undo extent verifies) does = does ≡ work.Undo extent verifies false
+IsWorkFor (task.Undo extent verifies) does = does ≡ work.Undo extent verifies
 IsWorkFor other does = IsAct (IsFor other) does

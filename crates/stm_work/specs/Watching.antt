@@ -25,7 +25,7 @@ use Rattle.stm_work.specs.declared.watching.Watching.{Watching}
 use Rattle.stm_work.specs.declared.watching.Watching.TheVariants.{FromBoard, FromId}
 use Rattle.stm_work.specs.declared.watching.Watching.TheVariants.{Not as Unwatched}
 use Rattle.stm_work.specs.declared.work.Work.{Work}
-use Rattle.stm_work.specs.Board.{AsksAndAllows, AsksIf, IsDue, IsOfBoard, asking_of, once_asked}
+use Rattle.stm_work.specs.Board.{AsksAndAllows, AsksIf, IsDue, IsOfBoard, asking_of}
 use Rattle.stm_work.specs.Steps.{MayGo, Stays, TakesKnown, TakesSteps}
 
 -- Watching begins by what is known: where the device may be one of which this is known, the Rig
@@ -59,30 +59,28 @@ BeginsWatching table id old new begun =
 -- A device that is to be watched is asked which board it is beside each journal that lets its
 -- session begin, where that sends anything at all: before Go and a protection too.
 pub record AsksToWatch {R : Type 0} (view : R → RigState) (table : List ChipData)
-    (is_fresh : Bool) (asking : Asking) (wanted : Option (Bor (List ℕ))) (old new : R)
+    (asking : Asking) (wanted : Option (Bor (List ℕ))) (old new : R)
     (answer : Result (Option Board) Failure) : Type 0 where
   pub mid : R
   pub due : Result Due Fault
   pub reads : IsDue asking true (view old) (view mid) due
-  pub is : MatchResult due (λ is. AsksIf view table is_fresh wanted is mid new answer)
+  pub is : MatchResult due (λ is. AsksIf view table wanted is mid new answer)
       (λ fault. (new ≡ mid) × (answer ≡ Err (Session fault)))
 
 -- whichever board the journal names, a device that isn't asked for it is asked who it is
-abbrev pub AsksWhoIf : {R : Type 0} → (R → RigState) → List ChipData → Bool → Due → R → R
+abbrev pub AsksWhoIf : {R : Type 0} → (R → RigState) → List ChipData → Due → R → R
     → Result (Option Board) Failure → Type 0
-AsksWhoIf view bare is_fresh Not old new answer = (new ≡ old) × (answer ≡ Ok None)
-AsksWhoIf view bare is_fresh Asked old new answer =
-    AsksAndAllows view bare is_fresh None old new answer
-AsksWhoIf view bare is_fresh (OfNamed unique) old new answer =
-    AsksAndAllows view bare is_fresh None old new answer
+AsksWhoIf view bare Not old new answer = (new ≡ old) × (answer ≡ Ok None)
+AsksWhoIf view bare Asked old new answer = AsksAndAllows view bare None old new answer
+AsksWhoIf view bare (OfNamed unique) old new answer = AsksAndAllows view bare None old new answer
 
 -- The same of one that isn't asked which board it is, by a table whose chips tell none.
-pub record AsksWho {R : Type 0} (view : R → RigState) (bare : List ChipData) (is_fresh : Bool)
+pub record AsksWho {R : Type 0} (view : R → RigState) (bare : List ChipData)
     (asking : Asking) (old new : R) (answer : Result (Option Board) Failure) : Type 0 where
   pub mid : R
   pub due : Result Due Fault
   pub reads : IsDue asking true (view old) (view mid) due
-  pub is : MatchResult due (λ is. AsksWhoIf view bare is_fresh is mid new answer)
+  pub is : MatchResult due (λ is. AsksWhoIf view bare is mid new answer)
       (λ fault. (new ≡ mid) × (answer ≡ Err (Session fault)))
 
 -- Go, watched from a beginning of its own on: the journal was ended before it.
@@ -133,13 +131,11 @@ pub record TakesToldWatched {R : Type 0} (view : R → RigState) (table : List C
     (result : Result Steps Failure) : Type 0 where
   pub heard : R
   pub hears : Stays (view old) (view heard)
-  pub next : Work
   pub own : Result (List ChipData) AllocError
   pub is_own : IfOk own (IsOfBoard table board)
   pub goes_on : MatchResult own
-      (λ own. TakesSettled view own board.id (Some board) next sequel heard new result)
+      (λ own. TakesSettled view own board.id (Some board) work sequel heard new result)
       (λ error. (new ≡ heard) × (result ≡ Err Memory))
-  pub is_next : next ≡ once_asked work
 
 -- One that was asked, or wasn't: beside this journal nothing is sent.
 abbrev pub TakesAskedWatched : {R : Type 0} → (R → RigState) → List ChipData → Option Board → Work
@@ -156,7 +152,7 @@ pub record TakesFromBoard {R : Type 0} (view : R → RigState) (table : List Chi
   pub mid : R
   pub came : Result (Option Board) Failure
   pub asking : Asking
-  pub asks : AsksToWatch view table question.is_fresh asking question.wanted old mid came
+  pub asks : AsksToWatch view table asking question.wanted old mid came
   pub goes_on : MatchResult came
       (λ board. TakesAskedWatched view table board work sequel mid new result)
       (λ failure. (new ≡ mid) × (result ≡ Err failure))
@@ -168,16 +164,16 @@ abbrev pub TakesKnownWatched : {R : Type 0} → (R → RigState) → List ChipDa
 TakesKnownWatched view table None work sequel old new result =
     TakesKnown view table None work sequel old new result
 TakesKnownWatched view table (Some board) work sequel old new result =
-    TakesSettled view table board.id None (once_asked work) sequel old new result
+    TakesSettled view table board.id None work sequel old new result
 
 -- From Get and Get ID on.
 pub record TakesFromId {R : Type 0} (view : R → RigState) (table bare : List ChipData)
-    (is_fresh : Bool) (work : Work) (sequel : Sequel) (old new : R)
+    (work : Work) (sequel : Sequel) (old new : R)
     (result : Result Steps Failure) : Type 0 where
   pub mid : R
   pub came : Result (Option Board) Failure
   pub asking : Asking
-  pub asks : AsksWho view bare is_fresh asking old mid came
+  pub asks : AsksWho view bare asking old mid came
   pub goes_on : MatchResult came
       (λ board. TakesKnownWatched view table board work sequel mid new result)
       (λ failure. (new ≡ mid) × (result ≡ Err failure))
@@ -191,4 +187,4 @@ TakesWatched view table Unwatched question work sequel old new result =
 TakesWatched view table FromBoard question work sequel old new result =
     TakesFromBoard view table question work sequel old new result
 TakesWatched view table (FromId bare) question work sequel old new result =
-    TakesFromId view table bare question.is_fresh work sequel old new result
+    TakesFromId view table bare work sequel old new result

@@ -60,12 +60,10 @@ pub record FindsWay (extent : Extent) (old new : RigState) (found : Result WayBa
         (λ l. MatchResult found (IsWayBack extent l.state) (λ fault. fault ≡ Memory))
         (λ fault. found ≡ Err (fault_of_journal fault))
 
--- the undo of so many, verified or not, of a device that is said to be fresh from reset or isn't
-abbrev pub undo_of : ℕ → Bool → Bool → Action
-undo_of count true true = action.UndoVerifiedFresh count
-undo_of count true false = action.UndoVerified count
-undo_of count false true = action.UndoFresh count
-undo_of count false false = action.Undo count
+-- the undo of so many, verified or not
+abbrev pub undo_of : ℕ → Bool → Action
+undo_of count true = action.UndoVerified count
+undo_of count false = action.Undo count
 
 -- the answer of the undo, with what the journal said before it
 abbrev pub beside_way : WayBack → Answer → Answer

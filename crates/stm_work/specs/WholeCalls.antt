@@ -1,10 +1,9 @@
 -- What a whole call leaves at Ok, in which the device may be asked first which board it is.
-use Rattle.std.specs.Prelude.{◌≡◌, ◌&&◌, Bool, true, false, List, None, Result, Ok}
+use Rattle.std.specs.Prelude.{◌≡◌, Bool, true, false, List, None, Result, Ok}
 use Rattle.stm_wire.specs.Chip.{ChipData}
 use Rattle.stm_wire.specs.Rig.{RigState}
 use Rattle.stm_chip.specs.Document.{IsChipWith}
 use Rattle.stm_session.specs.AskingBoard.{places_in}
-use Rattle.stm_session.specs.Fresh.{IsAsSaid}
 use Rattle.stm_session.specs.Moments.{IsSafe}
 use Rattle.stm_session.specs.ToldBoard.{IsPartOf}
 use Rattle.stm_session.specs.Undoable.{is_unfinished_at}
@@ -32,13 +31,10 @@ abbrev pub KnowsChip : Bool → List ChipData → ChipData → Type 0
 KnowsChip true table chip = SuitsBoard table chip
 KnowsChip false table chip = IsChipWith table chip.id chip
 
--- The same, with a finished journal, of a device that is asked first which board it is, or isn't. One
--- that is asked as fresh from reset is so.
-pub record CanAsk (is_asked is_fresh : Bool) (table : List ChipData) (old : RigState)
-    : Type 0 where
+-- The same, with a finished journal, of a device that is asked first which board it is, or isn't.
+pub record CanAsk (is_asked : Bool) (table : List ChipData) (old : RigState) : Type 0 where
   pub honest : old.is_honest
   pub safe : IsSafe old.device
-  pub said : IsAsSaid (is_asked && is_fresh) old.device
   pub finished : is_unfinished_at old.journal ≡ false
   pub knows : KnowsChip is_asked table old.device.chip
 
@@ -48,7 +44,7 @@ abbrev pub WholeCallsEndAsAsked : (R : Type 0) → (R → RigState) → Type 0
 WholeCallsEndAsAsked R view =
     (table : List ChipData) (question : Question) (content : Content) (sequel : Sequel)
     (old new : R) (steps : Steps)
-    → CanAsk question.is_asked question.is_fresh table (view old) → steps.failure ≡ None
+    → CanAsk question.is_asked table (view old) → steps.failure ≡ None
     → TakesSteps view table question (work.Act (action.WriteAndVerify content)) sequel old new
     (Ok steps)
     → (own : List ChipData)
@@ -60,7 +56,7 @@ abbrev pub WritesAsAsked : {R : Type 0} → (R → RigState) → List ChipData �
     → R → R → Result Steps Failure → Type 0
 WritesAsAsked view table question does sequel old new result =
     (content : Content) (steps : Steps) → does ≡ work.Act (action.WriteAndVerify content)
-    → CanAsk question.is_asked question.is_fresh table (view old) → result ≡ Ok steps
+    → CanAsk question.is_asked table (view old) → result ≡ Ok steps
     → steps.failure ≡ None
     → (own : List ChipData)
     × EndsAsAsked view own content sequel (view old).device.chip (view old).device.flash new

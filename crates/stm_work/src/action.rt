@@ -1,6 +1,6 @@
 // What is done on a device, over any Rig.
 ghost use Rattle.std.specs.Prelude.{◌≡◌, IfOk};
-ghost use Rattle.stm_work.specs.Action.{DoesAction, IsFor, on_fresh, told_returned};
+ghost use Rattle.stm_work.specs.Action.{DoesAction, IsFor, told_returned, unless_fresh};
 ghost use Rattle.stm_work.specs.WayBack.{undo_of};
 
 use crate::answer::Answer;
@@ -12,10 +12,7 @@ use crate::reading::read;
 use std::alloc::Global;
 use std::fs::Files;
 use stm_chip::Table;
-use stm_session::{
-    Returned, go, info, protect, undo, undo_fresh, undo_verified, undo_verified_fresh,
-    unprotect_fresh,
-};
+use stm_session::{Returned, go, info, protect, undo, undo_verified, unprotect_fresh};
 use stm_wire::{Protection, Rig};
 use stm_words::{Range, Task, UsageFault};
 
@@ -38,12 +35,8 @@ pub enum Action {
     EraseAll,
     /// Undoes so many writes and erases, or, at 0, all.
     Undo(u32),
-    /// Does so on a device that is said to be fresh from reset.
-    UndoFresh(u32),
     /// Does as `Undo`, and reads each page again that was given back.
     UndoVerified(u32),
-    /// Does so on a device that is said to be fresh from reset.
-    UndoVerifiedFresh(u32),
     /// Lets it run what stands at this address.
     Go(u32),
     /// Changes a protection.
@@ -92,27 +85,23 @@ impl Action {
         }
     }
 
-    /// The undo of so many, which may be verified, of a device that may be said to be fresh from reset.
-    pub fn undo_of(count: u32, verifies: bool, is_fresh: bool) -> Action
-        ensures { result ≡ undo_of count verifies is_fresh }
+    /// The undo of so many, which may be verified.
+    pub fn undo_of(count: u32, verifies: bool) -> Action
+        ensures { result ≡ undo_of count verifies }
     {
-        match (verifies, is_fresh) {
-            (true, true) => Action::UndoVerifiedFresh(count),
-            (true, false) => Action::UndoVerified(count),
-            (false, true) => Action::UndoFresh(count),
-            (false, false) => Action::Undo(count),
+        if verifies {
+            Action::UndoVerified(count)
+        } else {
+            Action::Undo(count)
         }
     }
 
-    /// The same for a device that was reset since the last session, where that is said: an undo
-    /// settles it with 7F alone, as all others do anyway. What is done only on such a device is
-    /// else what it is where nothing was stopped.
-    pub fn on_fresh(self, is_fresh: bool) -> Action
-        ensures { result ≡ on_fresh is_fresh self }
+    /// The same where the device may be said to be fresh from reset: what is done only on such a
+    /// device is else what it is where nothing was stopped.
+    pub fn unless_fresh(self, is_fresh: bool) -> Action
+        ensures { result ≡ unless_fresh is_fresh self }
     {
         match self {
-            Action::Undo(count) if is_fresh => Action::UndoFresh(count),
-            Action::UndoVerified(count) if is_fresh => Action::UndoVerifiedFresh(count),
             Action::UnprotectFresh if !is_fresh => Action::Protect(Protection::WriteUnprotect),
             action => action,
         }
@@ -120,13 +109,7 @@ impl Action {
 
     /// Whether it undoes writes and erases.
     pub fn is_undo(&self) -> bool {
-        matches!(
-            self,
-            Action::Undo(_)
-                | Action::UndoFresh(_)
-                | Action::UndoVerified(_)
-                | Action::UndoVerifiedFresh(_)
-        )
+        matches!(self, Action::Undo(_) | Action::UndoVerified(_))
     }
 
     /// Does it.
@@ -156,12 +139,8 @@ impl Action {
             Action::Erase(pages) => Ok(erase(alloc, rig, table, pages)?),
             Action::EraseAll => Ok(erase_all(alloc, rig, table)?),
             Action::Undo(count) => Ok(Answer::Undone(undo(alloc, rig, table, count)?)),
-            Action::UndoFresh(count) => Ok(Answer::Undone(undo_fresh(alloc, rig, table, count)?)),
             Action::UndoVerified(count) => {
                 Ok(verified(undo_verified(alloc, rig, table, count)?))
-            }
-            Action::UndoVerifiedFresh(count) => {
-                Ok(verified(undo_verified_fresh(alloc, rig, table, count)?))
             }
             Action::Go(address) => {
                 go(alloc, rig, address)?;

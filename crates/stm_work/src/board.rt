@@ -43,9 +43,6 @@ pub struct Question<'a> {
     pub is_asked: bool,
     /// The unique id that is wanted, or its last digits, in either case.
     pub wanted: Option<&'a str>,
-    /// Whether the device is said to be fresh from reset, and nothing was sent to it in this call
-    /// yet: it is connected then, and not settled.
-    pub is_fresh: bool,
 }
 
 /// Whether this chip tells its board, or how large its flash is, at a place that is known.
@@ -126,18 +123,16 @@ fn allow<'a>(
     }
 }
 
-/// Asks a device which board it is, and refuses one that isn't wanted. One that is said to be fresh
-/// from reset is connected for that.
+/// Asks a device which board it is, and refuses one that isn't wanted.
 pub fn ask_and_allow<'a, L: Rig>(
     alloc: Global,
     rig: &mut L,
     table: &Table,
-    is_fresh: bool,
     wanted: Option<&'a str>,
 ) -> Result<Option<Board>, Failure<'a>>
-    ensures { AsksAndAllows L.view table.now is_fresh wanted.entry rig.old rig.new result }
+    ensures { AsksAndAllows L.view table.now wanted.entry rig.old rig.new result }
 {
-    let board = ask_board(alloc, rig, table, is_fresh)?;
+    let board = ask_board(alloc, rig, table)?;
     allow(alloc, board, wanted)
 }
 
@@ -156,13 +151,12 @@ fn ask_named<'a, L: Rig>(
     alloc: Global,
     rig: &mut L,
     table: &Table,
-    is_fresh: bool,
     wanted: Option<&'a str>,
     unique: UniqueId,
 ) -> Result<Option<Board>, Failure<'a>>
-    ensures { AsksNamed L.view table.now is_fresh wanted.entry unique rig.old rig.new result }
+    ensures { AsksNamed L.view table.now wanted.entry unique rig.old rig.new result }
 {
-    let came = ask_and_allow(alloc, rig, table, is_fresh, wanted)?;
+    let came = ask_and_allow(alloc, rig, table, wanted)?;
     as_named(came, unique)
 }
 
@@ -171,16 +165,15 @@ fn ask_where_due<'a, L: Rig>(
     alloc: Global,
     rig: &mut L,
     table: &Table,
-    is_fresh: bool,
     asking: Asking,
     wanted: Option<&'a str>,
 ) -> Result<Option<Board>, Failure<'a>>
-    ensures { AsksWhereDue L.view table.now is_fresh asking wanted.entry rig.old rig.new result }
+    ensures { AsksWhereDue L.view table.now asking wanted.entry rig.old rig.new result }
 {
     match is_due(alloc, rig, asking, wanted.is_some())? {
         Due::Not => Ok(None),
-        Due::Asked => ask_and_allow(alloc, rig, table, is_fresh, wanted),
-        Due::OfNamed(unique) => ask_named(alloc, rig, table, is_fresh, wanted, unique),
+        Due::Asked => ask_and_allow(alloc, rig, table, wanted),
+        Due::OfNamed(unique) => ask_named(alloc, rig, table, wanted, unique),
     }
 }
 
@@ -190,16 +183,15 @@ pub fn ask_to_watch<'a, L: Rig>(
     alloc: Global,
     rig: &mut L,
     table: &Table,
-    is_fresh: bool,
     asking: Asking,
     wanted: Option<&'a str>,
 ) -> Result<Option<Board>, Failure<'a>>
-    ensures { AsksToWatch L.view table.now is_fresh asking wanted.entry rig.old rig.new result }
+    ensures { AsksToWatch L.view table.now asking wanted.entry rig.old rig.new result }
 {
     match is_due(alloc, rig, asking, true)? {
         Due::Not => Ok(None),
-        Due::Asked => ask_and_allow(alloc, rig, table, is_fresh, wanted),
-        Due::OfNamed(unique) => ask_named(alloc, rig, table, is_fresh, wanted, unique),
+        Due::Asked => ask_and_allow(alloc, rig, table, wanted),
+        Due::OfNamed(unique) => ask_named(alloc, rig, table, wanted, unique),
     }
 }
 
@@ -209,14 +201,13 @@ pub fn ask_who<'a, L: Rig>(
     alloc: Global,
     rig: &mut L,
     bare: &Table,
-    is_fresh: bool,
     asking: Asking,
 ) -> Result<Option<Board>, Failure<'a>>
-    ensures { AsksWho L.view bare.now is_fresh asking rig.old rig.new result }
+    ensures { AsksWho L.view bare.now asking rig.old rig.new result }
 {
     match is_due(alloc, rig, asking, true)? {
         Due::Not => Ok(None),
-        Due::Asked | Due::OfNamed(_) => ask_and_allow(alloc, rig, bare, is_fresh, None),
+        Due::Asked | Due::OfNamed(_) => ask_and_allow(alloc, rig, bare, None),
     }
 }
 
@@ -226,14 +217,13 @@ pub fn ask_first<'a, L: Rig>(
     alloc: Global,
     rig: &mut L,
     table: &Table,
-    is_fresh: bool,
     asking: Option<Asking>,
     wanted: Option<&'a str>,
 ) -> Result<Option<Board>, Failure<'a>>
-    ensures { AsksFirst L.view table.now is_fresh asking wanted.entry rig.old rig.new result }
+    ensures { AsksFirst L.view table.now asking wanted.entry rig.old rig.new result }
 {
     match (asking, wanted) {
-        (Some(asking), wanted) => ask_where_due(alloc, rig, table, is_fresh, asking, wanted),
+        (Some(asking), wanted) => ask_where_due(alloc, rig, table, asking, wanted),
         (None, Some(_)) => Err(Failure::NoBoard),
         (None, None) => Ok(None),
     }

@@ -42,21 +42,21 @@ pub enum Hint {
     ReadRefusedAt(u32),
     /// A NACK came for the address of a write, or for its data.
     #[error("address {0:08X}: the device refused to write it: is its page write-protected? If so: \
-        reset, protect write-unprotect --in-session --fresh, undo 1 --fresh")]
+        reset, protect write-unprotect --in-session --fresh, undo 1")]
     WriteRefusedAt(u32),
     /// A NACK came for the number of a page that was to be erased.
     #[error("page {0}: the device refused to erase it: is it write-protected? If so: reset, protect \
-        write-unprotect --in-session --fresh, undo 1 --fresh")]
+        write-unprotect --in-session --fresh, undo 1")]
     PageRefused(u16),
     /// A page doesn't hold what an undo wrote.
     #[error("undo again; if it stays so, the flash may be worn out, or the page write-protected")]
     UndoAgain,
     /// The write protection was to be taken off while there is something to undo.
     #[error("to undo what a write-protected page refuses: reset, protect write-unprotect \
-        --in-session --fresh, undo 1 --fresh")]
+        --in-session --fresh, undo 1")]
     InSession,
     /// The write protection was taken off, and there may be something to undo.
-    #[error("the board resets itself; now: undo 1 --fresh")]
+    #[error("the board resets itself; now: undo 1")]
     NowUndo,
 }
 

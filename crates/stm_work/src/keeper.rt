@@ -22,6 +22,9 @@ pub trait Keeper: Rig {
     fn hear_size(&mut self, kib: Option<u16>)
         ensures { Stays (Self.view self.old) (Self.view self.new) };
 
+    /// Whether a byte may have come from the device: else its line was given up, and none had come.
+    fn has_heard(&self) -> bool;
+
     /// Lets what the journal of this name says stay for good: its file is removed, or renamed to a
     /// name that isn't there. It answers how many writes and erases stay, none of which may be
     /// unfinished. Nothing is sent to the device.
@@ -58,6 +61,10 @@ fn count_in<'a, L: Rig>(alloc: Global, rig: &mut L) -> Result<u32, Failure<'a>>
 impl<'a, S: Timed + Drop, R: Locks + Clock + AllocGlobal> Keeper for SocketRig<'a, S, R> {
     fn hear_size(&mut self, _kib: Option<u16>) {}
 
+    fn has_heard(&self) -> bool {
+        !self.has_given_up()
+    }
+
     fn keep<'w>(
         &mut self,
         alloc: Global,
@@ -72,6 +79,10 @@ impl<'a, S: Timed + Drop, R: Locks + Clock + AllocGlobal> Keeper for SocketRig<'
 
 impl<'a, 'f, R: Locks + AllocGlobal> Keeper for SimulatorRig<'a, 'f, R> {
     fn hear_size(&mut self, _kib: Option<u16>) {}
+
+    fn has_heard(&self) -> bool {
+        true
+    }
 
     fn keep<'w>(
         &mut self,
@@ -88,6 +99,10 @@ impl<'a, 'f, R: Locks + AllocGlobal> Keeper for SimulatorRig<'a, 'f, R> {
 impl<L: Keeper + Drop> Keeper for WatchRig<L> {
     fn hear_size(&mut self, kib: Option<u16>) {
         self.inner.hear_size(kib);
+    }
+
+    fn has_heard(&self) -> bool {
+        self.inner.has_heard()
     }
 
     fn keep<'w>(

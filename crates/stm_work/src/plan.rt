@@ -1,5 +1,5 @@
 // The plan of one use of a device: what is done, and how, by its words and its tables.
-ghost use Rattle.std.specs.Prelude.{◌≡◌, ◌&&◌, IfOk};
+ghost use Rattle.std.specs.Prelude.{◌≡◌, IfOk};
 ghost use Rattle.stm_work.specs.Plan.{IsUsePlan, IsWatching, is_asked};
 ghost use Rattle.stm_work.specs.TriedBoards.{table_texts};
 
@@ -27,9 +27,8 @@ pub struct Plan<'a> {
 
 impl<'a> Plan<'a> {
     /// The plan of a work and of what follows it, by the options and the tables of one call.
-    /// `is_told` says whether the device's chip may tell its board, and `is_first` whether this is the
-    /// call's first use of it: only there can it be fresh from reset. It fails for want of memory, or
-    /// where a table's text is refused.
+    /// `is_told` says whether the device's chip may tell its board. It fails for want of memory, or where
+    /// a table's text is refused.
     pub fn of<R: AllocGlobal>(
         rt: &R,
         options: &Options<'a>,
@@ -37,12 +36,11 @@ impl<'a> Plan<'a> {
         work: Work,
         sequel: &Sequel<'a>,
         is_told: bool,
-        is_first: bool,
     ) -> Result<Plan<'a>, Failure<'a>>
         ensures { IfOk result
-            (IsUsePlan options.now (table_texts tables.now) is_told is_first work sequel.now) }
+            (IsUsePlan options.now (table_texts tables.now) is_told work sequel.now) }
     {
-        let question = question_of(options, &work, is_told, is_first);
+        let question = question_of(options, &work, is_told);
         let watching = watching_of(rt, options, tables, &question)?;
         let table = tables.copy(rt.alloc())?;
         Ok(Plan {
@@ -63,22 +61,15 @@ impl<'a> Plan<'a> {
 
 /// What a device is asked before its session, where its chip may tell its board. Before Go and a
 /// protection the journal is looked at in any case: where it names a board, a device that can't tell
-/// which it is counts as another. Behind the call's first use of it the device isn't fresh any more.
-fn question_of<'a>(
-    options: &Options<'a>,
-    work: &Work,
-    is_told: bool,
-    is_first: bool,
-) -> Question<'a>
+/// which it is counts as another.
+fn question_of<'a>(options: &Options<'a>, work: &Work, is_told: bool) -> Question<'a>
     ensures asked { result.is_asked ≡ is_asked options.now work.now is_told }
     ensures wanted { result.wanted ≡ options.now.board }
-    ensures fresh { result.is_fresh ≡ (is_first && options.now.is_fresh) }
 {
     let is_looked_at = work.leaves() && options.board.is_none();
     Question {
         is_asked: (is_told || is_looked_at) && !options.without_board,
         wanted: options.board,
-        is_fresh: is_first && options.is_fresh,
     }
 }
 

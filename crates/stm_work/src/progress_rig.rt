@@ -26,6 +26,7 @@ pub struct ProgressRig<'a, L: Rig + Drop, W: Drop, C> {
     progress: Course<'a>,
     screen: Screen<'a, W, C>,
     sent: u64,
+    has_heard: bool,
 }
 
 impl<'a, L: Rig + Drop, W: Write + Drop, C: Clock> ProgressRig<'a, L, W, C> {
@@ -39,6 +40,7 @@ impl<'a, L: Rig + Drop, W: Write + Drop, C: Clock> ProgressRig<'a, L, W, C> {
             progress,
             screen,
             sent: 0,
+            has_heard: false,
         }
     }
 
@@ -59,6 +61,7 @@ impl<'a, L: Rig + Drop, W: Write + Drop, C: Clock> ProgressRig<'a, L, W, C> {
             progress,
             mut screen,
             sent: _,
+            has_heard: _,
         } = self;
         if is_done {
             if let Some(place) = progress.place() {
@@ -85,6 +88,14 @@ impl<'a, L: Rig + Drop, W: Write + Drop, C: Clock> ProgressRig<'a, L, W, C> {
                 self.screen.turn(before, place);
             }
         }
+    }
+
+    /// Keeps what a get answered.
+    fn hear(&mut self, answer: Option<u8>)
+        ensures { self.new.inner ≡ self.old.inner }
+    {
+        self.turns.get(answer);
+        self.has_heard = self.has_heard || answer.is_some();
     }
 
     /// Shows what the bytes put told, before a get.
@@ -135,12 +146,12 @@ impl<'a, L: Rig + Drop, W: Write + Drop, C: Clock> Rig for ProgressRig<'a, L, W,
         // Where nothing is shown, a byte's way is the inner Rig's, but for the turn that it is of.
         if !self.screen.is_shown() {
             let answer = self.inner.get(patience)?;
-            self.turns.get(answer);
+            self.hear(answer);
             return Ok(answer);
         }
         self.show_put();
         let answer = self.inner.get(patience)?;
-        self.turns.get(answer);
+        self.hear(answer);
         self.show_get(answer);
         Ok(answer)
     }
@@ -165,6 +176,10 @@ impl<'a, L: Rig + Drop, W: Write + Drop, C: Clock> Rig for ProgressRig<'a, L, W,
 impl<'a, L: Keeper + Drop, W: Write + Drop, C: Clock> Keeper for ProgressRig<'a, L, W, C> {
     fn hear_size(&mut self, kib: Option<u16>) {
         self.progress.hear_size(kib);
+    }
+
+    fn has_heard(&self) -> bool {
+        self.has_heard || self.inner.has_heard()
     }
 
     fn keep<'w>(

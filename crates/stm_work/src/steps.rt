@@ -122,8 +122,7 @@ fn ask_and_take<'a, L: Keeper>(
     ensures { TakesSteps L.view table question.entry work sequel.now rig.old rig.new result }
 {
     let asking = work.asking_if(question.is_asked);
-    let is_fresh = question.is_fresh;
-    let board = ask_first(alloc, rig, &table, is_fresh, asking, question.wanted)?;
+    let board = ask_first(alloc, rig, &table, asking, question.wanted)?;
     take_asked(alloc, rig, table, board, work, journal, sequel)
 }
 
@@ -158,7 +157,6 @@ fn take_told<'a, L: Keeper>(
     ensures { TakesTold L.view table board work sequel.now rig.old rig.new result }
 {
     rig.hear_size(board.size);
-    let work = work.once_asked();
     let own = table_beside(table, &board)?;
     work_then_follow(alloc, rig, &own, Some(board), work, journal, sequel)
 }

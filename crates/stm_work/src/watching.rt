@@ -166,7 +166,6 @@ fn take_told<'a, L: Watchable>(
     ensures { TakesToldWatched L.view table board work sequel.now rig.old rig.new result }
 {
     rig.hear_size(board.size);
-    let work = work.once_asked();
     let id = board.id;
     let own = table_beside(table, &board)?;
     take_settled(alloc, rig, &own, id, Some(board), work, journal, sequel)
@@ -184,8 +183,7 @@ fn take_from_board<'a, L: Watchable>(
 ) -> Result<Steps<'a>, Failure<'a>>
     ensures { TakesFromBoard L.view table question.entry work sequel.now rig.old rig.new result }
 {
-    let is_fresh = question.is_fresh;
-    match ask_to_watch(alloc, rig, &table, is_fresh, work.asking(), question.wanted)? {
+    match ask_to_watch(alloc, rig, &table, work.asking(), question.wanted)? {
         Some(board) => take_told(alloc, rig, table, board, work, journal, sequel),
         None => work_then_follow(alloc, rig, &table, None, work, journal, sequel),
     }
@@ -197,18 +195,14 @@ fn take_from_id<'a, L: Watchable>(
     rig: &mut L,
     table: &Table,
     bare: &Table,
-    is_fresh: bool,
     work: Work,
     journal: &'a str,
     sequel: &Sequel<'a>,
 ) -> Result<Steps<'a>, Failure<'a>>
-    ensures { TakesFromId L.view table.now bare.now is_fresh work sequel.now rig.old rig.new result }
+    ensures { TakesFromId L.view table.now bare.now work sequel.now rig.old rig.new result }
 {
-    match ask_who(alloc, rig, bare, is_fresh, work.asking())? {
-        Some(board) => {
-            let work = work.once_asked();
-            take_settled(alloc, rig, table, board.id, None, work, journal, sequel)
-        }
+    match ask_who(alloc, rig, bare, work.asking())? {
+        Some(board) => take_settled(alloc, rig, table, board.id, None, work, journal, sequel),
         None => work_then_follow(alloc, rig, table, None, work, journal, sequel),
     }
 }
@@ -230,16 +224,7 @@ pub fn take_watched<'a, L: Watchable>(
     match watching {
         Watching::Not => take_steps(alloc, rig, table, work, question, journal, sequel),
         Watching::FromBoard => take_from_board(alloc, rig, table, work, question, journal, sequel),
-        Watching::FromId(bare) => take_from_id(
-            alloc,
-            rig,
-            &table,
-            bare,
-            question.is_fresh,
-            work,
-            journal,
-            sequel,
-        ),
+        Watching::FromId(bare) => take_from_id(alloc, rig, &table, bare, work, journal, sequel),
     }
 }
 

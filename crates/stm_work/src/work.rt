@@ -1,8 +1,7 @@
 // What is done on a device, whether or not the table has its chip.
-ghost use Rattle.std.specs.Prelude.{◌≡◌, IfOk, false};
-ghost use Rattle.stm_work.specs.Action.{IsDoneAgain, UndoesBack, Works};
-ghost use Rattle.stm_work.specs.Board.{asking_if, asking_of, once_asked};
-ghost use Rattle.stm_work.specs.FreshUndo.{is_fresh_undo, work_on_fresh};
+ghost use Rattle.std.specs.Prelude.{◌≡◌, IfOk};
+ghost use Rattle.stm_work.specs.Action.{IsDoneAgain, UndoesBack, Works, work_unless_fresh};
+ghost use Rattle.stm_work.specs.Board.{asking_if, asking_of};
 ghost use Rattle.stm_work.specs.NextStep.{next_of};
 ghost use Rattle.stm_work.specs.Plan.{leaves};
 ghost use Rattle.stm_work.specs.TaskWork.{IsWorkFor};
@@ -35,12 +34,10 @@ pub enum Work {
         range: Option<Range>,
         skips_blank: bool,
     },
-    /// It undoes writes and erases as far back as is said, and may read what it gave back again. The
-    /// device may be said to be fresh from reset.
+    /// It undoes writes and erases as far back as is said, and may read what it gave back again.
     Undo {
         extent: Extent,
         verifies: bool,
-        is_fresh: bool,
     },
     /// What is done on a chip of the table.
     Act(Action),
@@ -60,8 +57,7 @@ pub enum Next {
 impl Work {
     /// What a task asks for. The file of an image is read.
     pub fn of<'a, R: Files + AllocGlobal>(rt: &R, task: Task<'a>) -> Result<Work, Failure<'a>>
-        ensures unfresh { IfOk result (λ work. is_fresh_undo work ≡ false) }
-        ensures asked { IfOk result (IsWorkFor task.entry) }
+        ensures { IfOk result (IsWorkFor task.entry) }
     {
         match task {
             Task::Info { is_raw: true } => Ok(Work::Identify),
@@ -71,11 +67,7 @@ impl Work {
                 skips_blank,
                 ..
             } => Ok(Work::ReadHex { range, skips_blank }),
-            Task::Undo { extent, verifies } => Ok(Work::Undo {
-                extent,
-                verifies,
-                is_fresh: false,
-            }),
+            Task::Undo { extent, verifies } => Ok(Work::Undo { extent, verifies }),
             task => Ok(Work::Act(Action::of(rt, task)?)),
         }
     }
@@ -111,21 +103,12 @@ impl Work {
         }
     }
 
-    /// The same for a device that was reset since the last session, where that is said.
-    pub fn on_fresh(self, is_fresh: bool) -> Work
-        ensures { result ≡ work_on_fresh is_fresh self }
+    /// The same where the device may be said to be fresh from reset.
+    pub fn unless_fresh(self, is_fresh: bool) -> Work
+        ensures { result ≡ work_unless_fresh is_fresh self }
     {
         match self {
-            Work::Act(action) => Work::Act(action.on_fresh(is_fresh)),
-            Work::Undo {
-                extent,
-                verifies,
-                is_fresh: was,
-            } => Work::Undo {
-                extent,
-                verifies,
-                is_fresh: is_fresh || was,
-            },
+            Work::Act(action) => Work::Act(action.unless_fresh(is_fresh)),
             work => work,
         }
     }
@@ -157,11 +140,9 @@ impl Work {
     {
         match self {
             Work::Act(Action::Go(_)) | Work::Act(Action::Protect(_)) => Asking::OfClosed,
-            Work::Act(Action::Undo(_))
-            | Work::Act(Action::UndoFresh(_))
-            | Work::Act(Action::UndoVerified(_))
-            | Work::Act(Action::UndoVerifiedFresh(_))
-            | Work::Undo { .. } => Asking::OfBegun,
+            Work::Act(Action::Undo(_)) | Work::Act(Action::UndoVerified(_)) | Work::Undo { .. } => {
+                Asking::OfBegun
+            }
             _ => Asking::OfFinished,
         }
     }
@@ -175,27 +156,6 @@ impl Work {
             Work::Act(Action::UnprotectFresh) => None,
             work if is_asked => Some(work.asking()),
             _ => None,
-        }
-    }
-
-    /// The same for a device that was asked, and is connected by that: it isn't fresh from reset any
-    /// more.
-    pub fn once_asked(self) -> Work
-        ensures { result ≡ once_asked self }
-    {
-        match self {
-            Work::Act(Action::UndoFresh(count)) => Work::Act(Action::Undo(count)),
-            Work::Act(Action::UndoVerifiedFresh(count)) => Work::Act(Action::UndoVerified(count)),
-            Work::Undo {
-                extent,
-                verifies,
-                ..
-            } => Work::Undo {
-                extent,
-                verifies,
-                is_fresh: false,
-            },
-            work => work,
         }
     }
 
@@ -219,11 +179,7 @@ impl Work {
         match self {
             Work::Identify => Goal::Unknown,
             Work::Sum(range) | Work::ReadHex { range, .. } => Goal::of_range(*range),
-            Work::Undo {
-                extent,
-                verifies,
-                ..
-            } => {
+            Work::Undo { extent, verifies } => {
                 if *verifies {
                     Goal::BackTwice(*extent)
                 } else {
@@ -249,11 +205,7 @@ impl Work {
             Work::ReadHex { range, skips_blank } => {
                 read_as_hex(alloc, rig, table, range, skips_blank)
             }
-            Work::Undo {
-                extent,
-                verifies,
-                is_fresh,
-            } => undo_back(alloc, rig, table, extent, verifies, is_fresh),
+            Work::Undo { extent, verifies } => undo_back(alloc, rig, table, extent, verifies),
             Work::Act(action) => action.run(alloc, rig, table),
         }
     }
@@ -267,12 +219,11 @@ fn undo_back<'a, L: Rig>(
     table: &Table,
     extent: Extent,
     verifies: bool,
-    is_fresh: bool,
 ) -> Result<Answer, Failure<'a>>
-    ensures { UndoesBack L.view table.now extent verifies is_fresh rig.old rig.new result }
+    ensures { UndoesBack L.view table.now extent verifies rig.old rig.new result }
 {
     let way = WayBack::find(alloc, rig, extent)?;
-    let undo = Action::undo_of(way.count, verifies, is_fresh);
+    let undo = Action::undo_of(way.count, verifies);
     let answer = undo.run(alloc, rig, table)?;
     Ok(way.beside(answer))
 }

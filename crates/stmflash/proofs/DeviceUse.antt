@@ -12,9 +12,8 @@ use Rattle.stm_work.specs.declared.failure.Failure.{Failure}
 use Rattle.stm_work.specs.declared.plan.Plan.{Plan}
 use Rattle.stm_work.specs.declared.steps.Steps.{Steps}
 use Rattle.stm_work.specs.declared.work.Work.{Work}
-use Rattle.stmflash.specs.declared.greeted_session.GreetedWhen.{GreetedWhen}
-use Rattle.stmflash.specs.declared.greeted_session.GreetedWhen.TheVariants.{Always, Never, UnlessLong}
-use Rattle.stmflash.specs.DeviceUse.{AreOutOf, TakesAround, UsesOn, UsesOnce, UsesPlan, greeted_at}
+use Rattle.stm_session.specs.declared.greeting.Greeting.{Greeting}
+use Rattle.stmflash.specs.DeviceUse.{AreOutOf, TakesAround, UsesOn, UsesOnce, UsesPlan, greeting_for}
 use Rattle.stm_work.specs.Plan.{AreTold, IsUsePlan, TellsSteps}
 use Rattle.stm_work.specs.Watching.{IsWatchingBegun}
 
@@ -66,18 +65,18 @@ begun-inner {A} {L} inner_view known first refusal line journal inner before sam
 
 -- a session on a Rig around another one, what was made of it, and where its bytes went
 pub uses-plan : {R L : Type 0} (view : R → RigState) (inner : R → L) (inner_view : L → RigState)
-    (known : Known) (when : GreetedWhen) (plan : Plan) (before after : L) (is_out : Bool)
+    (known : Known) (way : Option Greeting) (plan : Plan) (before after : L) (is_out : Bool)
     (told ended out : Result Steps Failure)
-    → TakesAround view inner inner_view known when plan before after told
+    → TakesAround view inner inner_view known way plan before after told
     → TellsSteps told ended → IfOk out (AreOutOf is_out ended)
-    → IfOk out (UsesPlan view is_out when plan)
-uses-plan view inner inner_view known when plan before after is_out told ended (Err failure) takes tells are =
+    → IfOk out (UsesPlan view is_out way plan)
+uses-plan view inner inner_view known way plan before after is_out told ended (Err failure) takes tells are =
     tt
-uses-plan view inner inner_view known when plan before after is_out told ended (Ok steps) takes tells are =
+uses-plan view inner inner_view known way plan before after is_out told ended (Ok steps) takes tells are =
     by ended tells are
   where
     by : (ended : Result Steps Failure) → TellsSteps told ended → AreOutOf is_out ended steps
-        → UsesPlan view is_out when plan steps
+        → UsesPlan view is_out way plan steps
     by (Err failure) tells are = absurd are
     by (Ok last) tells are =
         record {
@@ -90,37 +89,37 @@ uses-plan view inner inner_view known when plan before after is_out told ended (
           out = are;
         }
 
--- the same where it is told otherwise when an undo is greeted
-pub uses-when : {R : Type 0} (view : R → RigState) (is_out : Bool) (when said : GreetedWhen)
-    (plan : Plan) (out : Result Steps Failure) → when ≡ said
-    → IfOk out (UsesPlan view is_out when plan) → IfOk out (UsesPlan view is_out said plan)
-uses-when view is_out when said plan out same uses =
-    let P : GreetedWhen → Type 0 = λ w. IfOk out (UsesPlan view is_out w plan) in
+-- the same where it is told otherwise how it is greeted
+pub uses-as : {R : Type 0} (view : R → RigState) (is_out : Bool) (way said : Option Greeting)
+    (plan : Plan) (out : Result Steps Failure) → way ≡ said
+    → IfOk out (UsesPlan view is_out way plan) → IfOk out (UsesPlan view is_out said plan)
+uses-as view is_out way said plan out same uses =
+    let P : Option Greeting → Type 0 = λ w. IfOk out (UsesPlan view is_out w plan) in
     subst P same uses
 
 module _ {A B : Type 0} (simulated : A → RigState) (connected : B → RigState) where
   -- of a simulator in the process
-  pub on-simulated : (device : Device) (id : ℕ) (file : Bor (List ℕ)) (baud : Option ℕ) (is_out : Bool)
-      (plan : Plan) (came : Result Steps Failure) → device ≡ Simulator id file
-      → IfOk came (UsesPlan simulated is_out Never plan) → IfOk came (UsesOn simulated connected device baud is_out plan)
-  on-simulated device id file baud is_out plan came is uses =
-      let P : Device → Type 0 = λ d. IfOk came (UsesOn simulated connected d baud is_out plan) in
+  pub on-simulated : (options : Options) (id : ℕ) (file : Bor (List ℕ)) (is_out : Bool)
+      (plan : Plan) (came : Result Steps Failure) → options.device ≡ Simulator id file
+      → IfOk came (UsesPlan simulated is_out None plan) → IfOk came (UsesOn simulated connected options.device options is_out plan)
+  on-simulated options id file is_out plan came is uses =
+      let P : Device → Type 0 = λ d. IfOk came (UsesOn simulated connected d options is_out plan) in
       subst P (sym is) uses
 
   -- and of what listens at a socket
-  pub on-connected : (device : Device) (path : Bor (List ℕ)) (baud : Option ℕ) (is_out : Bool)
-      (plan : Plan) (came : Result Steps Failure) → device ≡ Socket path
-      → IfOk came (UsesPlan connected is_out (greeted_at baud) plan) → IfOk came (UsesOn simulated connected device baud is_out plan)
-  on-connected device path baud is_out plan came is uses =
-      let P : Device → Type 0 = λ d. IfOk came (UsesOn simulated connected d baud is_out plan) in
+  pub on-connected : (options : Options) (path : Bor (List ℕ)) (is_out : Bool)
+      (plan : Plan) (came : Result Steps Failure) → options.device ≡ Socket path
+      → IfOk came (UsesPlan connected is_out (greeting_for plan.work options) plan) → IfOk came (UsesOn simulated connected options.device options is_out plan)
+  on-connected options path is_out plan came is uses =
+      let P : Device → Type 0 = λ d. IfOk came (UsesOn simulated connected d options is_out plan) in
       subst P (sym is) uses
 
   -- one use, by its plan
-  pub uses-once : (options : Options) (texts : List (List ℕ)) (is_told is_first : Bool)
+  pub uses-once : (options : Options) (texts : List (List ℕ)) (is_told : Bool)
       (does : Work) (sequel : Sequel) (is_out : Bool) (plan : Plan) (came : Result Steps Failure)
-      → IsUsePlan options texts is_told is_first does sequel plan
-      → IfOk came (UsesOn simulated connected options.device options.baud is_out plan)
-      → IfOk came (UsesOnce simulated connected options texts is_first does sequel is_out)
-  uses-once options texts is_told is_first does sequel is_out plan (Err failure) is uses = tt
-  uses-once options texts is_told is_first does sequel is_out plan (Ok steps) is uses =
+      → IsUsePlan options texts is_told does sequel plan
+      → IfOk came (UsesOn simulated connected options.device options is_out plan)
+      → IfOk came (UsesOnce simulated connected options texts does sequel is_out)
+  uses-once options texts is_told does sequel is_out plan (Err failure) is uses = tt
+  uses-once options texts is_told does sequel is_out plan (Ok steps) is uses =
       record { is_told = is_told; plan = plan; is_plan = is; uses = uses }

@@ -1,7 +1,6 @@
 pub mod Typed
 pub mod ProtectedPages
 pub mod DeviceUse
-pub mod ListedChip
 pub mod WriteUse
 pub mod TaskUse
 pub mod Printed

@@ -5,13 +5,11 @@ use Rattle.stm_wire.specs.Rig.{RigState}
 use Rattle.stm_words.specs.declared.options.Options.{Options}
 use Rattle.stm_words.specs.declared.sequel.Sequel.{Sequel}
 use Rattle.stm_words.specs.declared.task.Task.{Task}
-use Rattle.stm_work.specs.declared.action.Action.TheVariants as action
 use Rattle.stm_work.specs.declared.failure.Failure.{Failure}
 use Rattle.stm_work.specs.declared.steps.Steps.{Steps}
 use Rattle.stm_work.specs.declared.work.Work.{Work}
-use Rattle.stm_work.specs.declared.work.Work.TheVariants as work
 use Rattle.stmflash.specs.DeviceUse.{UsesOnce}
-use Rattle.stm_work.specs.FreshUndo.{is_fresh_undo, work_on_fresh}
+use Rattle.stm_work.specs.Action.{work_unless_fresh}
 use Rattle.stmflash.specs.TaskUse.{AreAsked, AreBeside, AreFound, AreOptionsOf, AreTaken}
 use Rattle.stmflash.specs.TaskUse.{UsesBeside, UsesTask, is_filed}
 use Rattle.stm_work.specs.TaskWork.{IsWorkFor}
@@ -22,37 +20,7 @@ once-out : (is_out : Bool) → is_out ≡ (is_out && (0 == 0))
 once-out true = refl
 once-out false = refl
 
--- a work is as it is where the device isn't said to be fresh
-stays : (does : Work) → is_fresh_undo (work_on_fresh false does) ≡ is_fresh_undo does
-stays work.Identify = refl
-stays (work.Sum range) = refl
-stays (work.ReadHex range skips) = refl
-stays (work.Undo extent verifies is_fresh) = refl
-stays (work.Act action.Info) = refl
-stays (work.Act (action.Read range)) = refl
-stays (work.Act (action.Write content)) = refl
-stays (work.Act (action.WriteAndVerify content)) = refl
-stays (work.Act (action.Verify content)) = refl
-stays (work.Act (action.Erase pages)) = refl
-stays (work.Act action.EraseAll) = refl
-stays (work.Act (action.Undo count)) = refl
-stays (work.Act (action.UndoFresh count)) = refl
-stays (work.Act (action.UndoVerified count)) = refl
-stays (work.Act (action.UndoVerifiedFresh count)) = refl
-stays (work.Act (action.Go address)) = refl
-stays (work.Act (action.Protect kind)) = refl
-stays (work.Act action.UnprotectFresh) = refl
-
--- a device counts as fresh only by the options
-fresh-by : (is_fresh said : Bool) (does : Work) → is_fresh_undo does ≡ false
-    → (is_fresh ≡ true → said ≡ true)
-    → is_fresh_undo (work_on_fresh is_fresh does) ≡ true → said ≡ true
-fresh-by true said does unfresh says is = says refl
-fresh-by false said does unfresh says is = absurd (no (sym unfresh ∙ sym (stays does) ∙ is))
-  where
-    no : false ≡ true → ⊥
-    no same = cc
-
+-- a device counts as fresh only by the words
 says-fresh : (in_folder : Bool) (words options : Options) → AreOptionsOf in_folder words options
     → options.is_fresh ≡ true → words.is_fresh ≡ true
 says-fresh false words options same is = let F : Options → Type 0 = λ o. o.is_fresh ≡ true in
@@ -86,18 +54,16 @@ module _ {A B : Type 0} (simulated : A → RigState) (connected : B → RigState
   -- one use is the last, where none may follow
   pub uses-last : (options : Options) (texts : List (List ℕ)) (does : Work) (sequel : Sequel)
       (is_out : Bool) (came : Result Steps Failure) → sequel.again ≡ 0
-      → IfOk came (UsesOnce simulated connected options texts true does sequel is_out)
+      → IfOk came (UsesOnce simulated connected options texts does sequel is_out)
       → IfOk came (UsesLast simulated connected options texts does sequel
       (is_out && (sequel.again == 0)))
   uses-last options texts does sequel is_out (Ok steps) once uses =
       let P : Bool → Type 0 =
-      λ b. UsesOnce simulated connected options texts true does sequel b steps in
+      λ b. UsesOnce simulated connected options texts does sequel b steps in
       let Q : ℕ → Type 0 = λ n. is_out ≡ (is_out && (n == 0)) in
       record {
         last = does;
         same = inl refl;
-        is_first = true;
-        once = λ none. refl;
         uses = subst P (subst Q (sym once) (once-out is_out)) uses;
       }
   uses-last options texts does sequel is_out (Err failure) once uses = tt
@@ -120,15 +86,15 @@ module _ {A B : Type 0} (simulated : A → RigState) (connected : B → RigState
   -- a task, by its work and the options that were found
   pub uses-task : (words options : Options) (texts : List (List ℕ)) (asked : Task) (does : Work)
       (sequel : Sequel) (is_out : Bool) (came : Result Steps Failure) → IsWorkFor asked does
-      → is_fresh_undo does ≡ false → AreOptionsOf words.in_folder words options
+      → AreOptionsOf words.in_folder words options
       → is_out ≡ is_filed asked
       → IfOk came (UsesBeside simulated connected options texts
-      (work_on_fresh options.is_fresh does) sequel is_out)
+      (work_unless_fresh options.is_fresh does) sequel is_out)
       → IfOk came (UsesTask simulated connected words asked sequel)
-  uses-task words options texts asked does sequel is_out (Err failure) is unfresh are filed uses = tt
-  uses-task words options texts asked does sequel is_out (Ok steps) is unfresh are filed uses =
+  uses-task words options texts asked does sequel is_out (Err failure) is are filed uses = tt
+  uses-task words options texts asked does sequel is_out (Ok steps) is are filed uses =
       let P : Bool → Type 0 = λ b. UsesBeside simulated connected options texts
-      (work_on_fresh options.is_fresh does) sequel b steps in
+      (work_unless_fresh options.is_fresh does) sequel b steps in
       record {
         texts = texts;
         does = does;
@@ -137,8 +103,6 @@ module _ {A B : Type 0} (simulated : A → RigState) (connected : B → RigState
         are = are;
         uses = subst P filed uses;
         said = says-fresh words.in_folder words options are;
-        fresh = fresh-by options.is_fresh words.is_fresh does unfresh
-            (says-fresh words.in_folder words options are);
       }
 
   -- steps that are told beside what the tables say

@@ -12,7 +12,7 @@ use Rattle.stm_words.specs.declared.task.Task.TheVariants as task
 use Rattle.stm_work.specs.declared.steps.Steps.{Steps}
 use Rattle.stm_work.specs.declared.work.Work.{Work}
 use Rattle.stm_work.specs.Answer.{IsBeside}
-use Rattle.stm_work.specs.FreshUndo.{is_fresh_undo, work_on_fresh}
+use Rattle.stm_work.specs.Action.{work_unless_fresh}
 use Rattle.stm_work.specs.TaskWork.{IsWorkFor}
 use Rattle.stmflash.specs.WriteUse.{UsesLast}
 
@@ -78,8 +78,8 @@ abbrev pub AreOptionsOf : Bool → Options → Options → Type 0
 AreOptionsOf false words options = options ≡ words
 AreOptionsOf true words options = AreFound words options
 
--- A task was done on a device, and what follows it: its work, by these options. The device is asked as
--- one that is fresh from reset, and an undo takes it as such, only where the words say so.
+-- A task was done on a device, and what follows it: its work, by these options. Only where the words say
+-- so the device counts as fresh from reset.
 pub record UsesTask {A B : Type 0} (simulated : A → RigState) (connected : B → RigState)
     (words : Options) (asked : Task) (sequel : Sequel) (steps : Steps) : Type 0 where
   pub texts : List (List ℕ)
@@ -88,6 +88,5 @@ pub record UsesTask {A B : Type 0} (simulated : A → RigState) (connected : B �
   pub options : Options
   pub are : AreOptionsOf words.in_folder words options
   pub uses : UsesBeside simulated connected options texts
-      (work_on_fresh options.is_fresh does) sequel (is_filed asked) steps
+      (work_unless_fresh options.is_fresh does) sequel (is_filed asked) steps
   pub said : options.is_fresh ≡ true → words.is_fresh ≡ true
-  pub fresh : is_fresh_undo (work_on_fresh options.is_fresh does) ≡ true → words.is_fresh ≡ true

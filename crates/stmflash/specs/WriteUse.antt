@@ -1,6 +1,6 @@
 -- A write that is done again where its line failed, on the device that the words name: each act of
 -- it is a use by these words.
-use Rattle.std.specs.Prelude.{◌≡◌, ◌⊎◌, ℕ, Bool, false, true, List, [], ◌∷◌, Some, Result, IfOk}
+use Rattle.std.specs.Prelude.{◌≡◌, ◌⊎◌, ℕ, Bool, false, List, [], ◌∷◌, Some, Result, IfOk}
 use Rattle.stm_wire.specs.Rig.{RigState}
 use Rattle.stm_words.specs.declared.options.Options.{Options}
 use Rattle.stm_words.specs.declared.sequel.Sequel.{Sequel}
@@ -31,54 +31,41 @@ abbrev pub count_undone : Answer → ℕ
 count_undone (answer.Undone count) = count
 count_undone other = 0
 
--- So many of the newest segments were undone by one use, which nothing follows. It isn't the first
--- of the call.
+-- So many of the newest segments were undone by one use, which nothing follows.
 pub record UsesUndo {A B : Type 0} (simulated : A → RigState) (connected : B → RigState)
     (words : Words) (count : ℕ) (taken : ℕ) : Type 0 where
   pub alone : Sequel
   pub is_alone : IsAlone alone
   pub steps : Steps
-  pub uses : UsesOnce simulated connected words.options words.texts false
+  pub uses : UsesOnce simulated connected words.options words.texts
       (work.Act (action.Undo count)) alone false steps
   pub told : taken ≡ count_undone steps.answer
 
--- where an act is a use that answered, it is one by these words, the first of the call or a later
--- one; no bytes of it go into a file
-abbrev pub IsUse : {A B : Type 0} → (A → RigState) → (B → RigState) → Words → Bool → Act → Type 0
-IsUse simulated connected words is_first (Attempted does came) = IfOk came
-    (UsesOnce simulated connected words.options words.texts is_first does words.sequel false)
-IsUse simulated connected words is_first (Undone count taken) =
+-- where an act is a use that answered, it is one by these words; no bytes of it go into a file
+abbrev pub IsUse : {A B : Type 0} → (A → RigState) → (B → RigState) → Words → Act → Type 0
+IsUse simulated connected words (Attempted does came) = IfOk came
+    (UsesOnce simulated connected words.options words.texts does words.sequel false)
+IsUse simulated connected words (Undone count taken) =
     IfOk taken (UsesUndo simulated connected words count)
-IsUse simulated connected words is_first other = Unit {0}
-
--- behind an attempt none is the first
-abbrev pub first_behind : Bool → Act → Bool
-first_behind is_first (Attempted does came) = false
-first_behind is_first other = is_first
+IsUse simulated connected words other = Unit {0}
 
 -- each of these acts is one
-abbrev pub AreUses : {A B : Type 0} → (A → RigState) → (B → RigState) → Words → Bool → List Act
-    → Type 0
-AreUses simulated connected words is_first [] = Unit {0}
-AreUses simulated connected words is_first (act ∷ acts) =
-    IsUse simulated connected words is_first act
-    × AreUses simulated connected words (first_behind is_first act) acts
+abbrev pub AreUses : {A B : Type 0} → (A → RigState) → (B → RigState) → Words → List Act → Type 0
+AreUses simulated connected words [] = Unit {0}
+AreUses simulated connected words (act ∷ acts) =
+    IsUse simulated connected words act × AreUses simulated connected words acts
 
--- A write was done, and again where its line failed, so many times at the most. The first attempt is
--- the call's first use of the device.
+-- A write was done, and again where its line failed, so many times at the most.
 pub record UsesAgain {A B : Type 0} (simulated : A → RigState) (connected : B → RigState)
     (words : Words) (does : Work) (came : Result Steps Failure) : Type 0 where
   pub acts : List Act
-  pub uses : AreUses simulated connected words true acts
+  pub uses : AreUses simulated connected words acts
   pub done : AreActsDone does words.sequel.again acts came
 
--- These are the steps of one use: of the work, or, where it is a write, of one of the same image. What
--- isn't done again is the first.
+-- These are the steps of one use: of the work, or, where it is a write, of one of the same image.
 pub record UsesLast {A B : Type 0} (simulated : A → RigState) (connected : B → RigState)
     (options : Options) (texts : List (List ℕ)) (does : Work) (sequel : Sequel) (is_out : Bool)
     (steps : Steps) : Type 0 where
   pub last : Work
   pub same : (last ≡ does) ⊎ IsDoneAgain does (Some last)
-  pub is_first : Bool
-  pub once : sequel.again ≡ 0 → is_first ≡ true
-  pub uses : UsesOnce simulated connected options texts is_first last sequel is_out steps
+  pub uses : UsesOnce simulated connected options texts last sequel is_out steps

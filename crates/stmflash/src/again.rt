@@ -1,8 +1,7 @@
 // A write that is done again where its line or its protocol failed.
 ghost use Rattle.std.specs.Prelude.{◌≡◌, IfOk, false};
 ghost use Rattle.stm_work.specs.TriedBoards.{table_texts};
-ghost use Rattle.stmflash.specs.WriteUse.{IsUse, UsesAgain, UsesLast, count_undone, first_behind};
-ghost use Rattle.stmflash.specs.WriteUse.{words_by};
+ghost use Rattle.stmflash.specs.WriteUse.{IsUse, UsesAgain, UsesLast, count_undone, words_by};
 
 use crate::first_question::Line;
 use crate::journal_tasks::look;
@@ -47,8 +46,6 @@ struct OneWrite<'b, 'a, 'r, R, E> {
     tables: &'b ChipTables<'a>,
     sequel: &'b Sequel<'a>,
     line: Option<Line<'r, R>>,
-    /// Whether the first attempt is still to come.
-    is_first: bool,
     err: &'b mut E,
     hint: &'b mut Option<Hint>,
 }
@@ -58,14 +55,11 @@ impl<'b, 'a, 'r, R: Locks + Net + Clock + AllocGlobal, E: Write + IsTerminal> At
     // of files and lines nothing can be said
     ghost does = { λ act old new.
         IsUse ⟦<ShownSimulator<'r, 'b, R, E> as Rig>⟧.view ⟦<ShownSocket<'r, 'b, R, E> as Rig>⟧.view
-        (words_by old.options.now (table_texts old.tables.now) old.sequel.now) old.is_first act
+        (words_by old.options.now (table_texts old.tables.now) old.sequel.now) act
         × (words_by new.options.now (table_texts new.tables.now) new.sequel.now
-        ≡ words_by old.options.now (table_texts old.tables.now) old.sequel.now)
-        × (new.is_first ≡ first_behind old.is_first act) };
+        ≡ words_by old.options.now (table_texts old.tables.now) old.sequel.now) };
 
     fn attempt(&mut self, work: Work) -> Result<Steps<'a>, Failure<'a>> {
-        let is_first = self.is_first;
-        self.is_first = false;
         use_once(
             self.rt,
             self.options,
@@ -74,7 +68,6 @@ impl<'b, 'a, 'r, R: Locks + Net + Clock + AllocGlobal, E: Write + IsTerminal> At
             self.sequel,
             Output::Printed,
             self.line.take(),
-            is_first,
             self.err,
             self.hint,
         )
@@ -95,7 +88,6 @@ impl<'b, 'a, 'r, R: Locks + Net + Clock + AllocGlobal, E: Write + IsTerminal> At
             &nothing,
             Output::Printed,
             None,
-            false,
             self.err,
             self.hint,
         )?;
@@ -138,8 +130,7 @@ fn count_undone(answer: &Answer) -> u32
 
 /// Does a write, and what follows it. Where its line or its protocol fails, what it began is undone
 /// and it is done again, so many times at the most, each told in a line. Where it fails for good,
-/// another line tells what stands. A line that there is to the device is used first. A device
-/// that is said to be fresh from reset is so for the first attempt alone.
+/// another line tells what stands. A line that there is to the device is used first.
 pub fn use_again<'a, 'r, 'e, R: Locks + Net + Clock + AllocGlobal, E: Write + IsTerminal>(
     rt: &'r R,
     options: &Options<'a>,
@@ -163,7 +154,6 @@ pub fn use_again<'a, 'r, 'e, R: Locks + Net + Clock + AllocGlobal, E: Write + Is
         tables,
         sequel,
         line,
-        is_first: true,
         err,
         hint,
     };

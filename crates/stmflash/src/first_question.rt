@@ -67,7 +67,7 @@ fn ask_which<'a, L: Rig>(
     ensures { IfOk result (λ unique. unique ≢ []) }
 {
     connect_first(rig, is_fresh)?;
-    match ask_and_allow(alloc, rig, table, false, wanted) {
+    match ask_and_allow(alloc, rig, table, wanted) {
         Ok(Some(board)) if !board.unique.is_none() => Ok(board.unique),
         Ok(_) | Err(Failure::NoBoard) => Err(Failure::NoUnique),
         Err(failure) => Err(failure),

@@ -1,108 +1,46 @@
 // A session by a plan, whose undo is greeted first: a device that was reset takes its speed from the
 // first byte that it hears, which has to be 7F.
-ghost use Rattle.std.specs.Prelude.{◌≡◌};
-ghost use Rattle.stm_session.specs.Refusal.{chip_with};
-ghost use Rattle.stmflash.specs.DeviceUse.{LooksForLong, TakesAhead, TakesGreeted, TakesLooked};
-ghost use Rattle.stmflash.specs.DeviceUse.{TakesPlan, greeted_at, is_erase, is_extended};
-ghost use Rattle.stmflash.specs.DeviceUse.{is_plain_undo, is_wide, lists_wide, when_so};
+ghost use Rattle.std.specs.Prelude.{◌≡◌, true, Err};
+ghost use Rattle.stm_session.specs.declared.fault.Fault.TheVariants.{Line};
+ghost use Rattle.stm_work.specs.declared.failure.Failure.TheVariants.{Session};
+ghost use Rattle.stmflash.specs.DeviceUse.{TakesAhead, TakesGreeted, TakesPlan, TakesUnlessSilent};
+ghost use Rattle.stmflash.specs.DeviceUse.{greeting_at, greeting_for};
 
 use std::alloc::Global;
-use stm_chip::Table;
-use stm_journal::Journal;
-use stm_session::{Fault, greet};
-use stm_wire::{EraseKind, Intent, Rig};
+use stm_session::{Fault, Greeting, greet, tell_silence};
+use stm_words::Options;
 use stm_work::{Action, Failure, Plan, Steps, Watchable, Work, take_watched};
 
-/// When an undo is greeted.
-#[derive(Clone, Copy)]
-pub enum GreetedWhen {
-    /// Never: its device is a simulator in the process.
-    Never,
-    /// Unless 7F may make a list of 65,000 bytes of what was begun: on a line whose speed isn't
-    /// said they would be waited for as long as on the slowest.
-    UnlessLong,
-    Always,
+/// Where an undo is greeted, on a line of this speed.
+fn greeting_at(is_fresh: bool, baud: Option<u32>) -> Greeting
+    ensures { result ≡ greeting_at is_fresh baud }
+{
+    match (is_fresh, baud) {
+        (true, _) => Greeting::Fresh,
+        (false, None) => Greeting::Brief,
+        (false, Some(_)) => Greeting::Plain,
+    }
 }
 
-impl GreetedWhen {
-    /// On a line of this speed, where that is said.
-    pub fn at(baud: Option<u32>) -> GreetedWhen
-        ensures { result ≡ greeted_at baud }
-    {
-        match baud {
-            Some(_) => GreetedWhen::Always,
-            None => GreetedWhen::UnlessLong,
+/// Where a work is greeted at a socket, by the options: an undo, and nothing else is. One that follows
+/// a write which failed is of a device that isn't fresh from reset any more.
+pub fn greeting_for(work: &Work, options: &Options) -> Option<Greeting>
+    ensures { result ≡ greeting_for work.now options.now }
+{
+    match work {
+        Work::Undo { .. } => Some(greeting_at(options.is_fresh, options.baud)),
+        Work::Act(Action::Undo(_)) | Work::Act(Action::UndoVerified(_)) => {
+            Some(greeting_at(false, options.baud))
         }
-    }
-
-    /// The same, of this work.
-    fn of_work(self, work: &Work) -> GreetedWhen
-        ensures { result ≡ when_so (is_plain_undo work.now) self }
-    {
-        if is_plain_undo(work) {
-            self
-        } else {
-            GreetedWhen::Never
-        }
+        _ => None,
     }
 }
 
-/// Whether it is an undo whose device isn't said to be fresh from reset. One that is said to be so gets
-/// its 7F from the undo itself.
-fn is_plain_undo(work: &Work) -> bool
-    ensures { result ≡ is_plain_undo work.now }
+/// Whether a session failed by its line.
+fn is_of_line(done: &Result<Steps, Failure>) -> bool
+    ensures { result ≡ true → done.now ≡ Err (Session Line) }
 {
-    matches!(
-        work,
-        Work::Act(Action::Undo(_))
-            | Work::Act(Action::UndoVerified(_))
-            | Work::Undo {
-                is_fresh: false,
-                ..
-            }
-    )
-}
-
-/// Whether a page was about to be erased.
-fn is_erase(intent: Option<Intent>) -> bool
-    ensures { result ≡ is_erase intent }
-{
-    matches!(intent, Some(Intent::Erase(_)))
-}
-
-/// Whether pages that are erased so have numbers of two bytes.
-fn is_extended(kind: EraseKind) -> bool
-    ensures { result ≡ is_extended kind }
-{
-    matches!(kind, EraseKind::Extended)
-}
-
-/// Whether the table's chip with this id has such pages.
-fn is_wide(table: &Table, id: u16) -> bool
-    ensures { result ≡ is_wide (chip_with table.now id) }
-{
-    let Some(chip) = table.find(id) else {
-        return false;
-    };
-    is_extended(chip.kind())
-}
-
-/// The same, where there is an id.
-fn lists_wide(table: &Table, id: Option<u16>) -> bool
-    ensures { result ≡ lists_wide table.now id }
-{
-    match id {
-        Some(id) => is_wide(table, id),
-        None => false,
-    }
-}
-
-/// Whether 7F may make a list of 65,000 bytes of what was begun, by the journal, which is read for that.
-fn is_long_list<L: Rig>(alloc: Global, rig: &mut L, table: &Table) -> Result<bool, Fault>
-    ensures { LooksForLong table.now (L.view rig.old) (L.view rig.new) result }
-{
-    let journal = Journal::load(alloc, rig)?;
-    Ok(is_erase(journal.last_intent()) && lists_wide(table, journal.id()))
+    matches!(done, Err(Failure::Session(Fault::Line)))
 }
 
 /// Does what a plan says, on a Rig that can be watched.
@@ -126,49 +64,52 @@ fn take_plan<'a, L: Watchable>(
     )
 }
 
-/// The same behind a greeting, which comes ahead of all else that is sent.
+/// The same behind a greeting. Where its line was given up, and no byte had come, nothing waited there
+/// for the greeting either, and another one may come: the journal says so.
+fn take_unless_silent<'a, L: Watchable>(
+    alloc: Global,
+    rig: &mut L,
+    plan: Plan<'a>,
+) -> Result<Steps<'a>, Failure<'a>>
+    ensures { TakesUnlessSilent L.view plan.entry rig.old rig.new result }
+{
+    let done = take_plan(alloc, rig, plan);
+    if rig.has_heard() || !is_of_line(&done) {
+        return done;
+    }
+    match tell_silence(alloc, rig) {
+        Ok(()) => done,
+        Err(fault) => Err(Failure::Session(fault)),
+    }
+}
+
+/// The same behind a greeting where one comes, ahead of all else that is sent.
 fn greet_and_take<'a, L: Watchable>(
     alloc: Global,
     rig: &mut L,
     plan: Plan<'a>,
+    greeting: Greeting,
 ) -> Result<Steps<'a>, Failure<'a>>
-    ensures { TakesGreeted L.view plan.entry rig.old rig.new result }
+    ensures { TakesGreeted greeting L.view plan.entry rig.old rig.new result }
 {
-    match greet(alloc, rig, &plan.table) {
-        Ok(_) => take_plan(alloc, rig, plan),
+    match greet(alloc, rig, &plan.table, greeting) {
+        Ok(true) => take_unless_silent(alloc, rig, plan),
+        Ok(false) => take_plan(alloc, rig, plan),
         Err(fault) => Err(Failure::Session(fault)),
     }
 }
 
-/// The same, unless 7F may make a long list of what was begun.
-fn look_and_take<'a, L: Watchable>(
-    alloc: Global,
-    rig: &mut L,
-    plan: Plan<'a>,
-) -> Result<Steps<'a>, Failure<'a>>
-    ensures { TakesLooked L.view plan.entry rig.old rig.new result }
-{
-    match is_long_list(alloc, rig, &plan.table) {
-        Ok(true) => take_plan(alloc, rig, plan),
-        Ok(false) => greet_and_take(alloc, rig, plan),
-        Err(fault) => Err(Failure::Session(fault)),
-    }
-}
-
-/// Does what a plan says, on a Rig that can be watched, behind a greeting where one comes.
+/// Does what a plan says, on a Rig that can be watched, greeted so or not.
 pub fn take_greeted<'a, L: Watchable>(
     alloc: Global,
     rig: &mut L,
     plan: Plan<'a>,
-    when: GreetedWhen,
+    greeting: Option<Greeting>,
 ) -> Result<Steps<'a>, Failure<'a>>
-    ensures { TakesAhead (when_so (is_plain_undo plan.entry.work) when) L.view plan.entry rig.old
-        rig.new result }
+    ensures { TakesAhead greeting L.view plan.entry rig.old rig.new result }
 {
-    let when = when.of_work(&plan.work);
-    match when {
-        GreetedWhen::Never => take_plan(alloc, rig, plan),
-        GreetedWhen::UnlessLong => look_and_take(alloc, rig, plan),
-        GreetedWhen::Always => greet_and_take(alloc, rig, plan),
+    match greeting {
+        Some(greeting) => greet_and_take(alloc, rig, plan, greeting),
+        None => take_plan(alloc, rig, plan),
     }
 }

@@ -2,7 +2,7 @@
 // whatever came of it. Nothing is printed here but what goes on, on standard error.
 ghost use Rattle.std.specs.Prelude.{◌&&◌, ◌==◌, IfOk, is_some};
 ghost use Rattle.stmflash.specs.DeviceUse.{UsesOnce, goes_out};
-ghost use Rattle.stm_work.specs.FreshUndo.{work_on_fresh};
+ghost use Rattle.stm_work.specs.Action.{work_unless_fresh};
 ghost use Rattle.stmflash.specs.TaskUse.{AreBeside, UsesBeside, UsesTask};
 ghost use Rattle.stm_work.specs.TriedBoards.{table_texts};
 ghost use Rattle.stmflash.specs.WriteUse.{UsesLast};
@@ -89,10 +89,10 @@ fn use_beside<'a, 'r, 'e, R: Locks + Net + Clock + AllocGlobal, E: Write + IsTer
 ) -> Result<Steps<'a>, Failure<'a>>
     ensures { IfOk result (UsesBeside
         ⟦<ShownSimulator<'r, 'e, R, E> as Rig>⟧.view ⟦<ShownSocket<'r, 'e, R, E> as Rig>⟧.view
-        options.now (table_texts tables.now) (work_on_fresh options.now.is_fresh work) sequel.now
+        options.now (table_texts tables.now) (work_unless_fresh options.now.is_fresh work) sequel.now
         (is_some files.entry.out)) }
 {
-    let work = work.on_fresh(options.is_fresh);
+    let work = work.unless_fresh(options.is_fresh);
     let next = work.next();
     let done = use_files(rt, options, tables, files, work, sequel, line, err, hint);
     let told = match failure_of(&done) {
@@ -159,9 +159,7 @@ fn use_work<'a, 'r, 'e, R: Locks + Net + Clock + AllocGlobal, E: Write + IsTermi
         (goes_out output.entry && (sequel.now.again == 0))) }
 {
     if sequel.again == 0 {
-        use_once(
-            rt, options, tables, work, sequel, output, line, true, err, hint,
-        )
+        use_once(rt, options, tables, work, sequel, output, line, err, hint)
     } else {
         use_again(rt, options, tables, work, sequel, line, err, hint)
     }
@@ -184,8 +182,7 @@ fn tell_beside<'a, R: AllocGlobal>(
     })
 }
 
-/// Does it once: the files are opened, and closed. `is_first` says whether this is the call's first
-/// use of the device: behind it the device isn't fresh from reset any more, whatever was said.
+/// Does it once: the files are opened, and closed.
 pub fn use_once<'a, 'r, 'e, R: Locks + Net + Clock + AllocGlobal, E: Write + IsTerminal>(
     rt: &'r R,
     options: &Options<'a>,
@@ -194,13 +191,12 @@ pub fn use_once<'a, 'r, 'e, R: Locks + Net + Clock + AllocGlobal, E: Write + IsT
     sequel: &Sequel<'a>,
     output: Output<'a, R>,
     line: Option<Line<'r, R>>,
-    is_first: bool,
     err: &'e mut E,
     hint: &mut Option<Hint>,
 ) -> Result<Steps<'a>, Failure<'a>>
     ensures { IfOk result (UsesOnce
         ⟦<ShownSimulator<'r, 'e, R, E> as Rig>⟧.view ⟦<ShownSocket<'r, 'e, R, E> as Rig>⟧.view
-        options.now (table_texts tables.now) is_first work sequel.now (goes_out output.entry)) }
+        options.now (table_texts tables.now) work sequel.now (goes_out output.entry)) }
 {
     let style = Style::of(rt, options, err);
     let screen = Screen::new(err, rt, rt.alloc(), style);
@@ -214,14 +210,14 @@ pub fn use_once<'a, 'r, 'e, R: Locks + Net + Clock + AllocGlobal, E: Write + IsT
             };
             let chip = chip.clone()?;
             let tells = tells_board(&chip);
-            let plan = Plan::of(rt, options, tables, work, sequel, tells, is_first)?;
+            let plan = Plan::of(rt, options, tables, work, sequel, tells)?;
             on_simulator(
                 rt, options, plan, chips, watch, file, chip, output, screen, hint,
             )
         }
         Device::Socket(path) => {
             let is_told = has_telling_chip(chips);
-            let plan = Plan::of(rt, options, tables, work, sequel, is_told, is_first)?;
+            let plan = Plan::of(rt, options, tables, work, sequel, is_told)?;
             on_socket(
                 rt, options, plan, chips, watch, path, line, output, screen, hint,
             )

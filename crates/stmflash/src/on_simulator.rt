@@ -1,10 +1,8 @@
 // A use of a simulator in the process: its files and its journal are opened, and it is stored,
 // whatever came of it.
-ghost use Rattle.std.specs.Prelude.{◌≡◌, IfOk, Ok};
+ghost use Rattle.std.specs.Prelude.{◌≡◌, IfOk, None, Ok};
 ghost use Rattle.stmflash.specs.DeviceUse.{UsesPlan, goes_out};
-ghost use Rattle.stmflash.specs.declared.greeted_session.GreetedWhen.TheVariants.{Never};
 
-use crate::greeted_session::GreetedWhen;
 use crate::output::{Output, write_done};
 use crate::planned_session::{Shown, Taken, failed_if, take_on};
 use std::io::Write;
@@ -31,7 +29,7 @@ pub fn on_simulator<'a, 's, R: Locks + Clock + AllocGlobal, W: Write + Drop>(
 ) -> Result<Steps<'a>, Failure<'a>>
     ensures { IfOk result (UsesPlan
         ⟦<Shown<'s, SimulatorRig<'s, 's, R>, W, R> as Rig>⟧.view
-        (goes_out output.entry) Never plan.entry) }
+        (goes_out output.entry) None plan.entry) }
 {
     let name = plan.journal;
     let opened = match JournalFile::open(rt, name, options.without_lock, options.trusts_others) {
@@ -72,19 +70,10 @@ fn use_simulator<'a, 's, R: Locks + Clock + AllocGlobal, W: Write + Drop>(
 ) -> Result<Steps<'a>, Failure<'a>>
     ensures { IfOk result (UsesPlan
         ⟦<Shown<'s, SimulatorRig<'s, 's, R>, W, R> as Rig>⟧.view
-        (goes_out output.entry) Never plan.entry) }
+        (goes_out output.entry) None plan.entry) }
 {
     let name = plan.journal;
-    let Taken { rig, done } = take_on(
-        rt.alloc(),
-        rig,
-        plan,
-        GreetedWhen::Never,
-        chips,
-        watch,
-        screen,
-        hint,
-    );
+    let Taken { rig, done } = take_on(rt.alloc(), rig, plan, None, chips, watch, screen, hint);
     let is_unstored = rig.is_unstored();
     let (memory, journal, mut files) = rig.into_parts();
     let done = done_on(journal, name, done);

@@ -1,10 +1,10 @@
 // A use of a device behind a socket: its journal is opened, its line is connected, and both are
 // closed, whatever came of it.
 ghost use Rattle.std.specs.Prelude.{IfOk};
-ghost use Rattle.stmflash.specs.DeviceUse.{UsesPlan, goes_out, greeted_at};
+ghost use Rattle.stmflash.specs.DeviceUse.{UsesPlan, goes_out, greeting_for};
 
 use crate::first_question::Line;
-use crate::greeted_session::GreetedWhen;
+use crate::greeted_session::greeting_for;
 use crate::output::{Output, write_done};
 use crate::planned_session::{Shown, Taken, failed_if, take_on};
 use std::fs;
@@ -36,9 +36,12 @@ fn unconnected<'a, R: Files>(rt: &R, path: &'a str) -> Failure<'a> {
 }
 
 /// After how many seconds without an answer a line is given up, unless that is said. A device that is
-/// settled answers the first bytes; one whose command is undone may await thousands before.
+/// settled answers the first bytes; one whose command is undone may await thousands before, and what it
+/// answers them counts as none for three and a half waits.
 pub fn give_up_of(options: &Options, is_undo: bool) -> u32 {
     match options.give_up {
+        Some(0) => 0,
+        Some(seconds) if is_undo => seconds.max(options.wait / 286 + 1),
         Some(seconds) => seconds,
         None if is_undo => MOST,
         None => (options.wait / 100).clamp(LEAST, MOST),
@@ -77,7 +80,7 @@ pub fn on_socket<'a, 'r, R: Locks + Net + Clock + AllocGlobal, W: Write + Drop>(
 ) -> Result<Steps<'a>, Failure<'a>>
     ensures { IfOk result (UsesPlan
         ⟦<Shown<'r, SocketRig<'r, UnixStream, R>, W, R> as Rig>⟧.view
-        (goes_out output.entry) (greeted_at options.now.baud) plan.entry) }
+        (goes_out output.entry) (greeting_for plan.entry.work options.now) plan.entry) }
 {
     let name = plan.journal;
     let opened = JournalFile::open(rt, name, options.without_lock, options.trusts_others);
@@ -87,8 +90,8 @@ pub fn on_socket<'a, 'r, R: Locks + Net + Clock + AllocGlobal, W: Write + Drop>(
         None => connect_line(rt, options, path, give_up_of(options, plan.work.is_undo()))?,
     };
     let rig = SocketRig::new(line, journal);
-    let when = GreetedWhen::at(options.baud);
-    let Taken { rig, done } = take_on(rt.alloc(), rig, plan, when, chips, watch, screen, hint);
+    let greeting = greeting_for(&plan.work, options);
+    let Taken { rig, done } = take_on(rt.alloc(), rig, plan, greeting, chips, watch, screen, hint);
     let done = failed_if(rig.has_given_up(), done, Failure::NoAnswer);
     let done = done_on(rig.into_journal(), name, done);
     write_done(rt, done, output)

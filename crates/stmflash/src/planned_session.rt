@@ -2,13 +2,14 @@
 ghost use Rattle.stmflash.specs.DeviceUse.{TakesAround};
 ghost use Rattle.stm_work.specs.Plan.{TellsSteps};
 
-use crate::greeted_session::{GreetedWhen, take_greeted};
+use crate::greeted_session::take_greeted;
 use std::alloc::Global;
 use std::io::Write;
 use std::os::unix::net::UnixStream;
 use std::time::Clock;
 use stm_chip::Table;
 use stm_files::{SimulatorRig, SocketRig};
+use stm_session::Greeting;
 use stm_watch::{Watch, WatchRig};
 use stm_wire::Rig;
 use stm_work::{
@@ -33,25 +34,24 @@ pub struct Taken<'a, L> {
 }
 
 /// Does what a plan says, on a Rig; it is shown, and its last turns are kept. What they tell of a
-/// session that was broken off becomes `hint`. `chips` are those by which it is shown, and
-/// `when` says whether an undo is greeted.
+/// session that was broken off becomes `hint`. `chips` are those by which it is shown.
 pub fn take_on<'a, 's, L: Keeper + Drop, W: Write + Drop, C: Clock>(
     alloc: Global,
     rig: L,
     plan: Plan<'a>,
-    when: GreetedWhen,
+    greeting: Option<Greeting>,
     chips: &Table,
     watch: Watch,
     screen: Screen<'s, W, C>,
     hint: &mut Option<Hint>,
 ) -> Taken<'a, L>
     ensures { TakesAround ⟦<Shown<'s, L, W, C> as Rig>⟧.view (λ shown. shown.inner.inner) L.view
-        watch when plan.entry rig result.rig result.done }
+        watch greeting plan.entry rig result.rig result.done }
 {
     let course = Course::new(alloc, chips, plan.work.goal());
     let is_watched = plan.is_watched();
     let mut rig = WatchRig::new(ProgressRig::new(rig, course, screen), watch);
-    let done = take_greeted(alloc, &mut rig, plan, when);
+    let done = take_greeted(alloc, &mut rig, plan, greeting);
     let done = done_watched(&rig, done);
     let told = watched(&rig, is_watched, failure_of(&done));
     let rig = rig.into_inner();

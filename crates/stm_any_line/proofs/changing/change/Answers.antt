@@ -1,4 +1,3 @@
-use Rattle.std.proofs.Common.{false}
 use Rattle.stm_session.specs.Meaning.{commands_in}
 use Rattle.stm_session.specs.RunOrder.{RunStops, RunsInOrder}
 use Rattle.stm_any_line.specs.Calls.{RunTracks}
@@ -17,12 +16,12 @@ returns g c =
     either_way c.run.result (RunsInOrder table commands (V old) (V new)) (RunTracks (V old) (V new))
     (RunStops table commands (V old) (V new)) c.run.ensures.order c.run.ensures.stops
     (λ ran calls before made.
-    (ran.chip, ran.journal.is_torn, law.done false table commands old new calls before ran made))
+    (ran.chip, ran.journal.is_torn, law.done table commands old new calls before ran made))
     (λ fault stop calls before made.
-    let own = own_of false table commands (V old) (V new) fault stop in (
+    let own = own_of table commands (V old) (V new) fault stop in (
       own.chip,
       own.journal.is_torn,
-      law.stopped false table commands old new fault calls before own.chip own.journal stop own.own made,
+      law.stopped table commands old new fault calls before own.chip own.journal stop own.own made,
     ))
     in
     record { tracks = tracks }

@@ -7,7 +7,7 @@ use Rattle.stm_session.specs.declared.asking_board.Board.{Board}
 use Rattle.stm_session.specs.Unasked.{asking_refusal}
 use Rattle.stm_session.specs.AskingBoard.{AskingStops, AsksInPart, finished, unfinished}
 use Rattle.stm_session.specs.Fault.{cause_of, fault_of_journal}
-use Rattle.stm_session.specs.Fresh.{IsReset, contact_way, undo_way}
+use Rattle.stm_session.specs.Fresh.{contact_way, settling_way}
 use Rattle.stm_session.specs.Moments.{IsSafe}
 use Rattle.stm_session.proofs.AskingBoards.{fetch_few, few_more, few_then, finished_asked, finished_unread, part_fetched, unfinished_asked, unfinished_unasked}
 use Rattle.stm_session.proofs.Keeping.{unfinished_text}
@@ -39,10 +39,10 @@ returns-in_err-journal g c =
           unless_refuses _ (V c.args.rig.now) (V c.load.new.rig) c.from_residual.result
           (load_failed {T = Board} (λ j. asking_refusal j c.args.table.now) (λ line. refl) (V c.args.rig.now) (V c.load.new.rig) _ c.from_residual.result (c.in_err-journal.ensures.honest h) c.from_residual.ensures.1) refusal said);
       refused_calls = (λ h refusal said. c.in_err-journal.ensures.calls);
-      finished = (λ h at said safe.
+      finished = (λ h at safe.
           let V = g.R.Rig.view in
           finished_unread c.args.table.now c.step_laws.ensures.lost (V c.args.rig.now) (V c.load.new.rig) _ c.from_residual.result safe (c.in_err-journal.ensures.honest h) c.from_residual.ensures.1);
-      unfinished = (λ h at said flashes u listed.
+      unfinished = (λ h at flashes u listed.
           let V = g.R.Rig.view in
           let unless = load_failed {T = Board} (λ j. asking_refusal j c.args.table.now) (λ line. refl) (V c.args.rig.now) (V c.load.new.rig) _ (Err (fault_of_journal c.in_err-journal.field-0.0)) (c.in_err-journal.ensures.honest h) refl in
           unfinished_unasked c.args.table.now c.step_laws.ensures flashes (V c.args.rig.now) (V c.load.new.rig) _ c.from_residual.result u unless c.from_residual.ensures.1);
@@ -66,7 +66,7 @@ returns-then-not-is_unfinished g c =
           let V = g.R.Rig.view in
           let l = c.in_ok-journal.journal in
           let is : is_unfinished l.state ≡ false = search (rules, c.is_unfinished.ensures, c.if-not-is_unfinished.true) in
-          let way = contact_way c.args.is_fresh in
+          let way = contact_way in
           told_then c.ask_finished.result _ _
           (λ board asks.
           record {
@@ -85,8 +85,8 @@ returns-then-not-is_unfinished g c =
           let d = V c.ask_finished.new.rig in
           let table = c.args.table.now in
           let is : is_unfinished l.state ≡ false = search (rules, c.is_unfinished.ensures, c.if-not-is_unfinished.true) in
-          let way = contact_way c.args.is_fresh in
-          err_then c.ask_finished.result (λ e. GoesOn (AsksInPart table way (cause_of e) l.is_torn) b.calls d.calls) (λ e. AskingStops table c.args.is_fresh a d e)
+          let way = contact_way in
+          err_then c.ask_finished.result (λ e. GoesOn (AsksInPart table way (cause_of e) l.is_torn) b.calls d.calls) (λ e. AskingStops table a d e)
           (λ e stops.
           inr (record {
             journal = l;
@@ -106,13 +106,13 @@ returns-then-not-is_unfinished g c =
           let l = c.in_ok-journal.journal in
           let is : is_unfinished l.state ≡ false = search (rules, c.is_unfinished.ensures, c.if-not-is_unfinished.true) in
           refused_nothing _ refusal (none_finished c.args.table.now l (V c.args.rig.now).journal (c.in_ok-journal.ensures.honest h).loaded is) said);
-      finished = (λ h at said safe.
+      finished = (λ h at safe.
           let V = g.R.Rig.view in
           let loads = c.in_ok-journal.ensures.honest h in
           let D : Device → Type 0 = λ d. IsSafe d in
           finished_asked c.args.table.now c.in_ok-journal.journal (V c.args.rig.now) (V c.load.new.rig) (V c.ask_finished.new.rig) loads c.step_laws.ensures.lost safe c.ask_finished.result
-          (c.ask_finished.ensures.honest loads.honest (λ t. subst IsReset (sym loads.same_device) (said t)) (subst D (sym loads.same_device) safe)));
-      unfinished = (λ h at said flashes u listed.
+          (c.ask_finished.ensures.honest loads.honest (subst D (sym loads.same_device) safe)));
+      unfinished = (λ h at flashes u listed.
           let V = g.R.Rig.view in
           let l = c.in_ok-journal.journal in
           let loads = c.in_ok-journal.ensures.honest h in
@@ -142,13 +142,13 @@ returns-in_err-chip g c =
           unless_refuses _ (V c.args.rig.now) (V c.load.new.rig) c.from_residual-in_err-chip.result
           (unless_as _ (V c.args.rig.now) (V c.load.new.rig) _ c.from_residual-in_err-chip.result unless c.from_residual-in_err-chip.ensures.1) refusal said);
       refused_calls = (λ h refusal said. c.in_ok-journal.ensures.calls);
-      finished = (λ h at said safe.
+      finished = (λ h at safe.
           let V = g.R.Rig.view in
           let l = c.in_ok-journal.journal in
           let loads = c.in_ok-journal.ensures.honest h in
           let is : is_unfinished l.state ≡ true = search (rules, c.is_unfinished.ensures, c.if-not-is_unfinished.false) in
           absurd (true≢false (sym is ∙ unfinished_text l (V c.args.rig.now).journal loads.loaded ∙ at)));
-      unfinished = (λ h at said flashes u listed.
+      unfinished = (λ h at flashes u listed.
           let V = g.R.Rig.view in
           let l = c.in_ok-journal.journal in
           let is : is_unfinished l.state ≡ true = search (rules, c.is_unfinished.ensures, c.if-not-is_unfinished.false) in
@@ -177,7 +177,7 @@ returns g c =
           let found = c.in_ok-chip.ensures.chip in
           let is : is_unfinished l.state ≡ true = search (rules, c.is_unfinished.ensures, c.if-not-is_unfinished.false) in
           let named : option_map (λ header. header.id) l.state.header ≡ Some chip.id = sym c.in-Some.ensures ∙ ap (λ (n : ℕ). Some n) (sym found.id_is) in
-          let way = undo_way c.args.is_fresh chip.kind l.is_greeted (intent_of l.state) in
+          let way = settling_way chip.kind l.is_greeted (intent_of l.state) in
           told_then c.ask_unfinished.result _ _
           (λ board asks.
           record {
@@ -199,8 +199,8 @@ returns g c =
           let found = c.in_ok-chip.ensures.chip in
           let is : is_unfinished l.state ≡ true = search (rules, c.is_unfinished.ensures, c.if-not-is_unfinished.false) in
           let named : option_map (λ header. header.id) l.state.header ≡ Some chip.id = sym c.in-Some.ensures ∙ ap (λ (n : ℕ). Some n) (sym found.id_is) in
-          let way = undo_way c.args.is_fresh chip.kind l.is_greeted (intent_of l.state) in
-          err_then c.ask_unfinished.result (λ e. GoesOn (AsksInPart table way (cause_of e) l.is_torn) b.calls d.calls) (λ e. AskingStops table c.args.is_fresh a d e)
+          let way = settling_way chip.kind l.is_greeted (intent_of l.state) in
+          err_then c.ask_unfinished.result (λ e. GoesOn (AsksInPart table way (cause_of e) l.is_torn) b.calls d.calls) (λ e. AskingStops table a d e)
           (λ e stops.
           inr (record {
             journal = l;
@@ -220,13 +220,13 @@ returns g c =
           let l = c.in_ok-journal.journal in
           let is : is_unfinished l.state ≡ true = search (rules, c.is_unfinished.ensures, c.if-not-is_unfinished.false) in
           refused_nothing _ refusal (unfinished_as c.args.table.now l (V c.args.rig.now).journal (c.in_ok-journal.ensures.honest h).loaded c.in-Some.id None is c.in-Some.ensures c.in_ok-chip.ensures.accepted) said);
-      finished = (λ h at said safe.
+      finished = (λ h at safe.
           let V = g.R.Rig.view in
           let l = c.in_ok-journal.journal in
           let loads = c.in_ok-journal.ensures.honest h in
           let is : is_unfinished l.state ≡ true = search (rules, c.is_unfinished.ensures, c.if-not-is_unfinished.false) in
           absurd (true≢false (sym is ∙ unfinished_text l (V c.args.rig.now).journal loads.loaded ∙ at)));
-      unfinished = (λ h at said flashes u listed.
+      unfinished = (λ h at flashes u listed.
           let V = g.R.Rig.view in
           let l = c.in_ok-journal.journal in
           let table = c.args.table.now in
@@ -239,6 +239,6 @@ returns g c =
           let own : id ≡ a.device.chip.id = own_id table l a b loads id a.device.chip.id named u.own in
           let same : b.device.chip.kind ≡ chip.kind =
           ap (λ (d : Device). d.chip.kind) loads.same_device ∙ listed.kind ∙ ap (λ (p : ChipData). p.kind) (c.in_ok-chip.ensures.chip.only listed.listed listed.is.held (listed.is.id_is ∙ sym own)) in
-          let goes = c.ask_unfinished.ensures.honest loads.honest (λ t. subst IsReset (sym loads.same_device) (said t)) flashes (loaded_then table l a b loads) (undoable_then table l a b loads flashes u) same in
+          let goes = c.ask_unfinished.ensures.honest loads.honest flashes (loaded_then table l a b loads) (undoable_then table l a b loads flashes u) same in
           unfinished_asked table l a b (V c.ask_unfinished.new.rig) loads c.step_laws.ensures flashes u (g.met.R.Rig.model c.ask_unfinished.new.rig goes.honest) c.ask_unfinished.result goes);
     }

@@ -4,7 +4,7 @@ use Rattle.stm_wire.specs.Chip.{ChipData}
 use Rattle.stm_journal.specs.States.{intent_of}
 use Rattle.stm_session.specs.AskingBoard.{AsksBoard, AsksInPart}
 use Rattle.stm_session.specs.Fault.{Cause, cause_of}
-use Rattle.stm_session.specs.Fresh.{byte_of, limit_of, undo_way}
+use Rattle.stm_session.specs.Fresh.{byte_of, limit_of, settling_way}
 use Rattle.stm_session.specs.Order.{Begin, StopsBy}
 use Rattle.stm_session.specs.ToldBoard.{IsBoardOf}
 use Rattle.stm_session.proofs.AskingBoards.{few_more, few_then, goes_asked, limit_small, part_asked, part_settled, settle_few}
@@ -18,7 +18,7 @@ use Rattle.stm_session.proofs.board_session.ask_unfinished.Goals as goal
 pub returns-in_err-settle_intended-clause-unwritten : goal.returns-in_err-settle_intended-clause-unwritten
 returns-in_err-settle_intended-clause-unwritten g c =
     let V = g.R.Rig.view in
-    let way = undo_way c.args.is_fresh c.args.chip.now.kind c.args.journal.now.is_greeted (intent_of c.args.journal.now.state) in
+    let way = settling_way c.args.chip.now.kind c.args.journal.now.is_greeted (intent_of c.args.journal.now.state) in
     let a = V c.args.rig.now in
     let b = V c.settle_intended.new.rig in
     settling_appends_nothing (byte_of way) (limit_of way) a.calls b.calls c.settle_intended.ensures.calls
@@ -26,15 +26,15 @@ returns-in_err-settle_intended-clause-unwritten g c =
 pub returns-in_err-settle_intended-clause-few : goal.returns-in_err-settle_intended-clause-few
 returns-in_err-settle_intended-clause-few g c =
     let V = g.R.Rig.view in
-    let way = undo_way c.args.is_fresh c.args.chip.now.kind c.args.journal.now.is_greeted (intent_of c.args.journal.now.state) in
+    let way = settling_way c.args.chip.now.kind c.args.journal.now.is_greeted (intent_of c.args.journal.now.state) in
     let a = V c.args.rig.now in
     let b = V c.settle_intended.new.rig in
-    few_more 537411600 537411926 a.calls b.calls (omega arith) (settle_few (byte_of way) (limit_of way) a.calls b.calls (limit_small c.args.is_fresh c.args.chip.now.kind c.args.journal.now.is_greeted (intent_of c.args.journal.now.state)) c.settle_intended.ensures.calls)
+    few_more 537411600 537411926 a.calls b.calls (omega arith) (settle_few (byte_of way) (limit_of way) a.calls b.calls (limit_small c.args.chip.now.kind c.args.journal.now.is_greeted (intent_of c.args.journal.now.state)) c.settle_intended.ensures.calls)
 
 pub returns-in_err-settle_intended-clause-stops : goal.returns-in_err-settle_intended-clause-stops
 returns-in_err-settle_intended-clause-stops g c torn =
     let V = g.R.Rig.view in
-    let way = undo_way c.args.is_fresh c.args.chip.now.kind c.args.journal.now.is_greeted (intent_of c.args.journal.now.state) in
+    let way = settling_way c.args.chip.now.kind c.args.journal.now.is_greeted (intent_of c.args.journal.now.state) in
     let a = V c.args.rig.now in
     let b = V c.settle_intended.new.rig in
     by_fault (λ (k : Cause). GoesOn (AsksInPart c.args.table.now way k torn) a.calls b.calls) _ c.from_residual.result c.from_residual.ensures.1
@@ -43,7 +43,7 @@ returns-in_err-settle_intended-clause-stops g c torn =
 pub returns-clause-unwritten : goal.returns-clause-unwritten
 returns-clause-unwritten g c =
     let V = g.R.Rig.view in
-    let way = undo_way c.args.is_fresh c.args.chip.now.kind c.args.journal.now.is_greeted (intent_of c.args.journal.now.state) in
+    let way = settling_way c.args.chip.now.kind c.args.journal.now.is_greeted (intent_of c.args.journal.now.state) in
     let a = V c.args.rig.now in
     let b = V c.settle_intended.new.rig in
     let d = V c.ask_settled.new.rig in
@@ -52,16 +52,16 @@ returns-clause-unwritten g c =
 pub returns-clause-few : goal.returns-clause-few
 returns-clause-few g c =
     let V = g.R.Rig.view in
-    let way = undo_way c.args.is_fresh c.args.chip.now.kind c.args.journal.now.is_greeted (intent_of c.args.journal.now.state) in
+    let way = settling_way c.args.chip.now.kind c.args.journal.now.is_greeted (intent_of c.args.journal.now.state) in
     let a = V c.args.rig.now in
     let b = V c.settle_intended.new.rig in
     let d = V c.ask_settled.new.rig in
-    few_then 537411600 326 a.calls b.calls d.calls (settle_few (byte_of way) (limit_of way) a.calls b.calls (limit_small c.args.is_fresh c.args.chip.now.kind c.args.journal.now.is_greeted (intent_of c.args.journal.now.state)) c.settle_intended.ensures.calls) c.ask_settled.ensures.few
+    few_then 537411600 326 a.calls b.calls d.calls (settle_few (byte_of way) (limit_of way) a.calls b.calls (limit_small c.args.chip.now.kind c.args.journal.now.is_greeted (intent_of c.args.journal.now.state)) c.settle_intended.ensures.calls) c.ask_settled.ensures.few
 
 pub returns-clause-order : goal.returns-clause-order
 returns-clause-order g c torn =
     let V = g.R.Rig.view in
-    let way = undo_way c.args.is_fresh c.args.chip.now.kind c.args.journal.now.is_greeted (intent_of c.args.journal.now.state) in
+    let way = settling_way c.args.chip.now.kind c.args.journal.now.is_greeted (intent_of c.args.journal.now.state) in
     let a = V c.args.rig.now in
     let b = V c.settle_intended.new.rig in
     let d = V c.ask_settled.new.rig in
@@ -72,7 +72,7 @@ returns-clause-order g c torn =
 pub returns-clause-stops : goal.returns-clause-stops
 returns-clause-stops g c torn =
     let V = g.R.Rig.view in
-    let way = undo_way c.args.is_fresh c.args.chip.now.kind c.args.journal.now.is_greeted (intent_of c.args.journal.now.state) in
+    let way = settling_way c.args.chip.now.kind c.args.journal.now.is_greeted (intent_of c.args.journal.now.state) in
     let a = V c.args.rig.now in
     let b = V c.settle_intended.new.rig in
     let d = V c.ask_settled.new.rig in
@@ -80,23 +80,23 @@ returns-clause-stops g c torn =
     (λ e stops. part_asked c.args.table.now way (cause_of e) torn a b d c.settle_intended.ensures.calls c.in_ok-settle_intended.ensures.settled stops) (c.ask_settled.ensures.stops torn)
 
 pub returns-in_err-settle_intended-clause-honest : goal.returns-in_err-settle_intended-clause-honest
-returns-in_err-settle_intended-clause-honest g c h said flashes loaded undoable chip =
+returns-in_err-settle_intended-clause-honest g c h flashes loaded undoable chip =
     let V = g.R.Rig.view in
-    let way = undo_way c.args.is_fresh c.args.chip.now.kind c.args.journal.now.is_greeted (intent_of c.args.journal.now.state) in
+    let way = settling_way c.args.chip.now.kind c.args.journal.now.is_greeted (intent_of c.args.journal.now.state) in
     let a = V c.args.rig.now in
     let b = V c.settle_intended.new.rig in
     let l = c.args.journal.now in
-    goes_failed flashes [] [] l l a b _ c.from_residual.result (c.in_err-settle_intended.ensures.honest h said flashes loaded undoable chip) c.from_residual.ensures.1
+    goes_failed flashes [] [] l l a b _ c.from_residual.result (c.in_err-settle_intended.ensures.honest h flashes loaded undoable chip) c.from_residual.ensures.1
 
 pub returns-clause-honest : goal.returns-clause-honest
-returns-clause-honest g c h said flashes loaded undoable chip =
+returns-clause-honest g c h flashes loaded undoable chip =
     let V = g.R.Rig.view in
-    let way = undo_way c.args.is_fresh c.args.chip.now.kind c.args.journal.now.is_greeted (intent_of c.args.journal.now.state) in
+    let way = settling_way c.args.chip.now.kind c.args.journal.now.is_greeted (intent_of c.args.journal.now.state) in
     let a = V c.args.rig.now in
     let b = V c.settle_intended.new.rig in
     let d = V c.ask_settled.new.rig in
     let l = c.args.journal.now in
-    let first = c.in_ok-settle_intended.ensures.honest h said flashes loaded undoable chip in
+    let first = c.in_ok-settle_intended.ensures.honest h flashes loaded undoable chip in
     let model = g.met.R.Rig.model c.settle_intended.new.rig first.honest in
     let asks = c.ask_settled.ensures.honest first.honest first.steady.settled in
     let made : b.device.chip ≡ a.device.chip = (at_exit _ a b model first.moments).make.chip in

@@ -1,5 +1,4 @@
 use Rattle.std.proofs.Common.{None}
-use Rattle.std.proofs.lemmas.Bool.{false≢true}
 use Rattle.stm_wire.specs.lemmas.PartLaws.{silent_is_session, silent_then_session}
 use Rattle.stm_journal.specs.Calls.{AreFetches}
 use Rattle.stm_wire.specs.Dialogue.{GoesOn}
@@ -78,4 +77,4 @@ pub returns-clause-promised : goal.returns-clause-promised
 returns-clause-promised g c =
     let V = g.R.Rig.view in
     identify_asked c.harmless_is_kept.ensures.lost (V c.args.rig.now) (V c.load_finished.new.rig) (V c.reach.new.rig) c.in_ok-_journal._journal c.reach.result c.in_ok-_journal.ensures.honest
-    (λ h safe. c.reach.ensures.honest h (λ said. absurd (false≢true said)) safe) c.reach.ensures.sent
+    c.reach.ensures.honest c.reach.ensures.sent

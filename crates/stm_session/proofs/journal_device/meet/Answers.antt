@@ -11,7 +11,7 @@ use Rattle.stm_session.proofs.Unread.{none_some}
 use Rattle.stm_session.proofs.Straying.{strays_failed, strays_asked, strays_unasked, misfit_was}
 use Rattle.std.proofs.Common.{◌+◌, ◌*◌, Bool, true, false, arith}
 use Rattle.stm_wire.specs.Dialogue.{GoesOn}
-use Rattle.stm_session.specs.Fresh.{IsAsSaid, byte_of, limit_of, undo_way}
+use Rattle.stm_session.specs.Fresh.{byte_of, limit_of, settling_way}
 use Rattle.stm_wire.specs.Parts.{IsPart, IsSession}
 use Rattle.stm_wire.specs.lemmas.PartLaws.{session_joins, session_longer, settling_is_session}
 use Rattle.stm_journal.specs.States.{intent_of}
@@ -32,25 +32,25 @@ use Rattle.stm_session.proofs.journal_device.meet.Goals.{After-ask_misfit, In_ok
 use Rattle.stm_session.proofs.journal_device.meet.Goals as goal
 
 pub returns-in_err-settle_intended-clause-honest : goal.returns-in_err-settle_intended-clause-honest
-returns-in_err-settle_intended-clause-honest g c h said flashes loaded undoable chip =
+returns-in_err-settle_intended-clause-honest g c h flashes loaded undoable chip =
     let V = g.R.Rig.view in
     let l = c.args.journal.now in
-    goes_failed flashes [] [] l l (V c.args.rig.now) (V c.settle_intended.new.rig) _ c.from_residual.result (c.in_err-settle_intended.ensures.honest h said flashes loaded undoable (ap (λ (p : ChipData). p.kind) chip)) c.from_residual.ensures.1
+    goes_failed flashes [] [] l l (V c.args.rig.now) (V c.settle_intended.new.rig) _ c.from_residual.result (c.in_err-settle_intended.ensures.honest h flashes loaded undoable (ap (λ (p : ChipData). p.kind) chip)) c.from_residual.ensures.1
 
 pub returns-in_err-misfit-clause-honest : goal.returns-in_err-misfit-clause-honest
-returns-in_err-misfit-clause-honest g c h said flashes loaded undoable chip =
+returns-in_err-misfit-clause-honest g c h flashes loaded undoable chip =
     let V = g.R.Rig.view in
     let l = c.args.journal.now in
-    let first = c.in_ok-settle_intended.ensures.honest h said flashes loaded undoable (ap (λ (p : ChipData). p.kind) chip) in
+    let first = c.in_ok-settle_intended.ensures.honest h flashes loaded undoable (ap (λ (p : ChipData). p.kind) chip) in
     let model = g.met.R.Rig.model c.settle_intended.new.rig first.honest in
     goes_then flashes [] [] l l (V c.args.rig.now) (V c.settle_intended.new.rig) (V c.ask_misfit.new.rig) (tt {0}) c.from_residual-in_err-misfit.result model first
     (asks_fail c.step_laws.ensures flashes l (V c.settle_intended.new.rig) (V c.ask_misfit.new.rig) first.steady [] l _ c.from_residual-in_err-misfit.result
     (c.in_err-misfit.ensures.honest first.honest first.steady.settled) c.from_residual-in_err-misfit.ensures.1) (λ y p. p)
 
 pub returns-in-Some-clause-honest : goal.returns-in-Some-clause-honest
-returns-in-Some-clause-honest g c h said flashes loaded undoable chip =
+returns-in-Some-clause-honest g c h flashes loaded undoable chip =
     let V = g.R.Rig.view in
-    let first = c.in_ok-settle_intended.ensures.honest h said flashes loaded undoable (ap (λ (p : ChipData). p.kind) chip) in
+    let first = c.in_ok-settle_intended.ensures.honest h flashes loaded undoable (ap (λ (p : ChipData). p.kind) chip) in
     let model = g.met.R.Rig.model c.settle_intended.new.rig first.honest in
     let still = (at_exit _ (V c.args.rig.now) (V c.settle_intended.new.rig) model first.moments).make.chip ∙ chip in
     let done : c.in_ok-misfit.misfit ≡ undo_misfit c.args.chip.now c.args.chip.now.id (V c.settle_intended.new.rig).device = (c.in_ok-misfit.ensures.honest first.honest first.steady.settled).done in
@@ -59,31 +59,30 @@ returns-in-Some-clause-honest g c h said flashes loaded undoable chip =
     absurd (none_some _ _ none (sym done ∙ is))
 
 pub returns-in-None-clause-honest : goal.returns-in-None-clause-honest
-returns-in-None-clause-honest g c h said flashes loaded undoable chip =
+returns-in-None-clause-honest g c h flashes loaded undoable chip =
     let V = g.R.Rig.view in
     let l = c.args.journal.now in
-    let first = c.in_ok-settle_intended.ensures.honest h said flashes loaded undoable (ap (λ (p : ChipData). p.kind) chip) in
+    let first = c.in_ok-settle_intended.ensures.honest h flashes loaded undoable (ap (λ (p : ChipData). p.kind) chip) in
     let model = g.met.R.Rig.model c.settle_intended.new.rig first.honest in
     goes_then flashes [] [] l l (V c.args.rig.now) (V c.settle_intended.new.rig) (V c.ask_misfit.new.rig) (tt {0}) _ model first
     (asks_go c.step_laws.ensures flashes l (V c.settle_intended.new.rig) (V c.ask_misfit.new.rig) first.steady _ (tt {0})
     (c.in_ok-misfit.ensures.honest first.honest first.steady.settled) (λ done. tt)) (λ y p. p)
 
 pub returns-in_err-settle_intended-clause-elsewhere : goal.returns-in_err-settle_intended-clause-elsewhere
-returns-in_err-settle_intended-clause-elsewhere g c h said loaded harmless owed within =
+returns-in_err-settle_intended-clause-elsewhere g c h loaded harmless owed within =
     let V = g.R.Rig.view in
-    strays_failed c.args.chip.now (V c.args.rig.now) (V c.settle_intended.new.rig) _ c.from_residual.result (c.in_err-settle_intended.ensures.strays h said loaded harmless owed within) c.from_residual.ensures.1
+    strays_failed c.args.chip.now (V c.args.rig.now) (V c.settle_intended.new.rig) _ c.from_residual.result (c.in_err-settle_intended.ensures.strays h loaded harmless owed within) c.from_residual.ensures.1
 
 pub returns-in_err-misfit-clause-elsewhere : goal.returns-in_err-misfit-clause-elsewhere
-returns-in_err-misfit-clause-elsewhere g c h said loaded harmless owed within =
+returns-in_err-misfit-clause-elsewhere g c h loaded harmless owed within =
     let V = g.R.Rig.view in
-    let first = c.in_ok-settle_intended.ensures.strays h said loaded harmless owed within in
+    let first = c.in_ok-settle_intended.ensures.strays h loaded harmless owed within in
     let asks = c.in_err-misfit.ensures.honest first.honest first.settled in
     strays_unasked c.step_laws.ensures c.args.chip.now (V c.args.rig.now) (V c.settle_intended.new.rig) (V c.ask_misfit.new.rig) _ first (g.met.R.Rig.model c.ask_misfit.new.rig asks.honest) _ c.from_residual-in_err-misfit.result asks c.from_residual-in_err-misfit.ensures.1
 
 -- a device that may be another was asked, and answered what it is
 answered : (g : Over) (c : In_ok-misfit g) → (g.R.Rig.view c.args.rig.now).is_honest
-    → let a = g.R.Rig.view c.args.rig.now in IsAsSaid c.args.is_fresh a.device
-    → IsLoaded c.args.journal.now a.journal
+    → let a = g.R.Rig.view c.args.rig.now in IsLoaded c.args.journal.now a.journal
     → Harmless a.device (byte_at_journal a.journal) (risked_at a.journal)
     → length a.device.owed ≤ 4096
     → IsWithinLimit c.args.chip.now a
@@ -92,11 +91,11 @@ answered : (g : Over) (c : In_ok-misfit g) → (g.R.Rig.view c.args.rig.now).is_
     × LeavesOnly (IsElsewhere a) a (g.R.Rig.view c.ask_misfit.new.rig)
     × IsElsewhere a (g.R.Rig.view c.ask_misfit.new.rig).device
     (g.R.Rig.view c.ask_misfit.new.rig).journal
-answered g c h said loaded harmless owed within =
+answered g c h loaded harmless owed within =
     let V = g.R.Rig.view in
     let a = V c.args.rig.now in
     let b = V c.settle_intended.new.rig in
-    let first = c.in_ok-settle_intended.ensures.strays h said loaded harmless owed within in
+    let first = c.in_ok-settle_intended.ensures.strays h loaded harmless owed within in
     let asks = c.in_ok-misfit.ensures.honest first.honest first.settled in
     let model = g.met.R.Rig.model c.ask_misfit.new.rig asks.honest in
     let kept = strays_asked c.step_laws.ensures c.args.chip.now a b (V c.ask_misfit.new.rig) _ first
@@ -104,17 +103,17 @@ answered g c h said loaded harmless owed within =
     (asks.honest, sym (asks.done ∙ misfit_was c.args.chip.now a b first.left), kept.0, kept.1)
 
 pub returns-in-Some-clause-elsewhere : goal.returns-in-Some-clause-elsewhere
-returns-in-Some-clause-elsewhere g c h said loaded harmless owed within =
+returns-in-Some-clause-elsewhere g c h loaded harmless owed within =
     let at = (goal.at.returns-in-Some-clause-elsewhere g c).In_ok-misfit in
-    let told = answered g at h said loaded harmless owed within in
+    let told = answered g at h loaded harmless owed within in
     let is = c.in-Some.is in
     let why = told.1 ∙ is in
     record { moments = told.2; honest = told.0; left = told.3; accepted = tt; refused = inr why }
 
 pub returns-in-None-clause-elsewhere : goal.returns-in-None-clause-elsewhere
-returns-in-None-clause-elsewhere g c h said loaded harmless owed within =
+returns-in-None-clause-elsewhere g c h loaded harmless owed within =
     let at = (goal.at.returns-in-None-clause-elsewhere g c).In_ok-misfit in
-    let told = answered g at h said loaded harmless owed within in
+    let told = answered g at h loaded harmless owed within in
     let is = c.in-None.is in
     let none = told.1 ∙ is in
     record { moments = told.2; honest = told.0; left = told.3; accepted = none; refused = tt }
@@ -122,7 +121,7 @@ returns-in-None-clause-elsewhere g c h said loaded harmless owed within =
 pub returns-in_err-settle_intended-clause-puts : goal.returns-in_err-settle_intended-clause-puts
 returns-in_err-settle_intended-clause-puts g c =
     let V = g.R.Rig.view in
-    let way = undo_way c.args.is_fresh c.args.chip.now.kind c.args.journal.now.is_greeted (intent_of c.args.journal.now.state) in
+    let way = settling_way c.args.chip.now.kind c.args.journal.now.is_greeted (intent_of c.args.journal.now.state) in
     let byte = byte_of way in
     let limit = limit_of way in
     let a = (V c.args.rig.now).calls in
@@ -134,13 +133,13 @@ returns-in_err-settle_intended-clause-puts g c =
 put_then : (g : Over) (c : After-ask_misfit g) (whole : Bool)
     → GoesOn (IsPart None whole 268) (g.R.Rig.view c.settle_intended.new.rig).calls
     (g.R.Rig.view c.ask_misfit.new.rig).calls
-    → let way = undo_way c.args.is_fresh c.args.chip.now.kind c.args.journal.now.is_greeted
+    → let way = settling_way c.args.chip.now.kind c.args.journal.now.is_greeted
     (intent_of c.args.journal.now.state) in
     GoesOn (IsSession None (byte_of way) (limit_of way) whole (most_of_reaching (limit_of way)))
     (g.R.Rig.view c.args.rig.now).calls (g.R.Rig.view c.ask_misfit.new.rig).calls
 put_then g c whole part =
     let V = g.R.Rig.view in
-    let way = undo_way c.args.is_fresh c.args.chip.now.kind c.args.journal.now.is_greeted (intent_of c.args.journal.now.state) in
+    let way = settling_way c.args.chip.now.kind c.args.journal.now.is_greeted (intent_of c.args.journal.now.state) in
     let most = 4100 * (limit_of way + 4) in
     let a = (V c.args.rig.now).calls in
     let b = (V c.settle_intended.new.rig).calls in
@@ -152,7 +151,7 @@ put_then g c whole part =
 pub returns-in_err-misfit-clause-puts : goal.returns-in_err-misfit-clause-puts
 returns-in_err-misfit-clause-puts g c =
     let V = g.R.Rig.view in
-    let way = undo_way c.args.is_fresh c.args.chip.now.kind c.args.journal.now.is_greeted (intent_of c.args.journal.now.state) in
+    let way = settling_way c.args.chip.now.kind c.args.journal.now.is_greeted (intent_of c.args.journal.now.state) in
     let a = (V c.args.rig.now).calls in
     let d = (V c.ask_misfit.new.rig).calls in
     let P : Bool → Type 0 =
@@ -184,7 +183,7 @@ returns-in-None-clause-puts g c =
 pub returns-in-None-clause-order : goal.returns-in-None-clause-order
 returns-in-None-clause-order g c torn =
     let V = g.R.Rig.view in
-    let way = undo_way c.args.is_fresh c.args.chip.now.kind c.args.journal.now.is_greeted (intent_of c.args.journal.now.state) in
+    let way = settling_way c.args.chip.now.kind c.args.journal.now.is_greeted (intent_of c.args.journal.now.state) in
     let asked = c.in_ok-misfit.ensures.order torn c.in-None.is in (
       asked.0,
       asked.1,
@@ -196,7 +195,7 @@ returns-in-None-clause-order g c torn =
 pub returns-in_err-settle_intended-clause-stops : goal.returns-in_err-settle_intended-clause-stops
 returns-in_err-settle_intended-clause-stops g c torn =
     let V = g.R.Rig.view in
-    let way = undo_way c.args.is_fresh c.args.chip.now.kind c.args.journal.now.is_greeted (intent_of c.args.journal.now.state) in
+    let way = settling_way c.args.chip.now.kind c.args.journal.now.is_greeted (intent_of c.args.journal.now.state) in
     let a = (V c.args.rig.now).calls in
     let b = (V c.settle_intended.new.rig).calls in
     by_fault (λ (k : Cause). GoesOn (ReachesInPart way k torn) a b) _ c.from_residual.result c.from_residual.ensures.1 (settle_stops way _ torn a b c.in_err-settle_intended.ensures.sent c.settle_intended.ensures.calls)
@@ -204,7 +203,7 @@ returns-in_err-settle_intended-clause-stops g c torn =
 pub returns-in_err-misfit-clause-stops : goal.returns-in_err-misfit-clause-stops
 returns-in_err-misfit-clause-stops g c torn =
     let V = g.R.Rig.view in
-    let way = undo_way c.args.is_fresh c.args.chip.now.kind c.args.journal.now.is_greeted (intent_of c.args.journal.now.state) in
+    let way = settling_way c.args.chip.now.kind c.args.journal.now.is_greeted (intent_of c.args.journal.now.state) in
     let a = V c.args.rig.now in
     let d = V c.ask_misfit.new.rig in
     by_fault (λ (k : Cause). GoesOn (ReachesInPart way k torn) a.calls d.calls) _ c.from_residual-in_err-misfit.result c.from_residual-in_err-misfit.ensures.1
@@ -213,7 +212,7 @@ returns-in_err-misfit-clause-stops g c torn =
 pub returns-in-Some-clause-stops : goal.returns-in-Some-clause-stops
 returns-in-Some-clause-stops g c torn =
     let V = g.R.Rig.view in
-    let way = undo_way c.args.is_fresh c.args.chip.now.kind c.args.journal.now.is_greeted (intent_of c.args.journal.now.state) in
+    let way = settling_way c.args.chip.now.kind c.args.journal.now.is_greeted (intent_of c.args.journal.now.state) in
     let a = V c.args.rig.now in
     let b = V c.settle_intended.new.rig in
     let d = V c.ask_misfit.new.rig in

@@ -1,46 +1,23 @@
-use Rattle.std.proofs.Common.{◌≡◌, ◌≤◌, ◌∙◌, ℕ, [], length, Option, Result, sym, ap, subst}
+use Rattle.std.proofs.Common.{◌≡◌, ◌≤◌, ◌∙◌, ℕ, length, Option, Result, sym, ap, subst}
 use Rattle.stm_wire.specs.declared.fault.WireFault.{WireFault}
 use Rattle.stm_wire.specs.declared.intent.Intent.{Intent}
-use Rattle.stm_wire.specs.Command.{with_rest}
 use Rattle.stm_wire.specs.Dialogue.{GoesOn}
 use Rattle.stm_wire.specs.Harmless.{Harmless}
 use Rattle.stm_wire.specs.Intents.{settling_byte}
 use Rattle.stm_wire.specs.Settling as wire
-use Rattle.stm_wire.specs.Settling.{LeadsTo, SettlesWithin}
+use Rattle.stm_wire.specs.Settling.{SettlesWithin}
 use Rattle.stm_wire.specs.SettlingCalls.{EndsUnder}
 use Rattle.stm_journal.specs.Journals.{IsLoaded}
 use Rattle.stm_journal.specs.States.{intent_of}
-use Rattle.stm_session.specs.Fresh.{Connects, EndsWell, IsAsSaid, Way, byte_of, limit_of}
-use Rattle.stm_session.specs.Fresh.{settling_limit, settling_way, undo_way}
+use Rattle.stm_session.specs.Fresh.{byte_of, limit_of, settling_limit, settling_way}
 use Rattle.stm_session.specs.Undoes.{IsWithinLimit, byte_at_journal, risked_at}
 use Rattle.stm_session.proofs.Awaiting.{own_within}
-use Rattle.stm_session.proofs.Freshness.{connect_settles, connected_is_settled, fresh_way, plain_way, said_fresh, settling_starts, way_ends, way_sends}
+use Rattle.stm_session.proofs.Freshness.{way_ends, way_sends}
 use Rattle.stm_session.proofs.Settlings.{enough_sent, intent_text, settled_goes, settling_failed}
 use Rattle.stm_session.proofs.Straying.{strays_settled, strays_stopped}
 use Rattle.stm_session.proofs.settling.settle_intended.Given.{Over}
-use Rattle.stm_session.proofs.settling.settle_intended.Goals.{After-connect, After-settle_under}
+use Rattle.stm_session.proofs.settling.settle_intended.Goals.{After-settle_under}
 use Rattle.stm_session.proofs.settling.settle_intended.Goals as goal
-
--- 7F alone is sent, to a device that is fresh
-connected : (g : Over) (c : After-connect g) (made : Result (Unit {0}) WireFault)
-    → c.connect.result ≡ made → (g.R.Rig.view c.args.rig.now).is_honest
-    → let a = g.R.Rig.view c.args.rig.now in IsAsSaid c.args.is_fresh a.device
-    → Harmless a.device (byte_at_journal a.journal) (risked_at a.journal)
-    → length a.device.owed ≤ 4096
-    → LeadsTo (byte_at_journal a.journal) (risked_at a.journal) a.device made a
-    (g.R.Rig.view c.connect.new.rig) (with_rest [] a.device)
-connected g c made was h said harmless owed =
-    let a = g.R.Rig.view c.args.rig.now in
-    let b = g.R.Rig.view c.connect.new.rig in
-    let byte = byte_at_journal a.journal in
-    let risked = risked_at a.journal in
-    let known = sym c.connects.ensures ∙ c.if-connects.true in
-    let is = said (said_fresh c.args.is_fresh (intent_of c.args.journal.now.state) known) in
-    let L : Result (Unit {0}) WireFault → Type 0 =
-    λ r. LeadsTo byte risked a.device r a b (with_rest [] a.device) in
-    subst L was
-    (c.connect.ensures.honest h byte risked a.device
-    (settling_starts byte risked a.device harmless owed) is.phase is.owed)
 
 -- the byte of the journal's intent is sent, as often as the device may await it
 settled : (g : Over) (c : After-settle_under g) (made : Result (Unit {0}) WireFault)
@@ -66,53 +43,6 @@ settled g c made was h loaded harmless owed within =
     subst S byte
     (subst R was (c.settle_under.ensures.awaited h enough risked (subst H (sym byte) harmless) owed))
 
-pub returns-in_err-connect-clause-honest : goal.returns-in_err-connect-clause-honest
-returns-in_err-connect-clause-honest g c h said flashes loaded undoable chip =
-    let V = g.R.Rig.view in
-    let at = (goal.at.returns-in_err-connect-clause-honest g c).After-connect in
-    let leads = connected g at _ c.in_err-connect.was h said undoable.harmless undoable.owed in
-    settling_failed c.step_laws.ensures flashes c.args.journal.now (V c.args.rig.now)
-    (V c.connect.new.rig) (g.met.R.Rig.model c.args.rig.now h) loaded undoable
-    c.from_residual.result leads.keeps leads.fails c.from_residual.ensures.1
-
-pub returns-then-connects-clause-honest : goal.returns-then-connects-clause-honest
-returns-then-connects-clause-honest g c h said flashes loaded undoable chip =
-    let V = g.R.Rig.view in
-    let a = V c.args.rig.now in
-    let b = V c.connect.new.rig in
-    let at = (goal.at.returns-then-connects-clause-honest g c).After-connect in
-    let leads = connected g at _ c.in_ok-connect.was h said undoable.harmless undoable.owed in
-    settled_goes c.step_laws.ensures flashes c.args.journal.now a b
-    (g.met.R.Rig.model c.args.rig.now h)
-    loaded undoable (tt {0}) leads.keeps (g.met.R.Rig.model c.connect.new.rig leads.keeps.honest)
-    (connected_is_settled a.device b.device leads.ok)
-
-pub returns-in_err-connect-clause-strays : goal.returns-in_err-connect-clause-strays
-returns-in_err-connect-clause-strays g c h said loaded harmless owed within =
-    let V = g.R.Rig.view in
-    let at = (goal.at.returns-in_err-connect-clause-strays g c).After-connect in
-    let leads = connected g at _ c.in_err-connect.was h said harmless owed in
-    strays_stopped (V c.args.rig.now) (V c.connect.new.rig) leads.keeps
-    (g.met.R.Rig.model c.connect.new.rig leads.keeps.honest) c.from_residual.result leads.fails
-    c.from_residual.ensures.1
-
-pub returns-then-connects-clause-strays : goal.returns-then-connects-clause-strays
-returns-then-connects-clause-strays g c h said loaded harmless owed within =
-    let V = g.R.Rig.view in
-    let a = V c.args.rig.now in
-    let b = V c.connect.new.rig in
-    let at = (goal.at.returns-then-connects-clause-strays g c).After-connect in
-    let leads = connected g at _ c.in_ok-connect.was h said harmless owed in
-    strays_settled a b leads.keeps (g.met.R.Rig.model c.connect.new.rig leads.keeps.honest) (tt {0})
-    (connected_is_settled a.device b.device leads.ok)
-
--- the way of a device that is connected, and of one that is settled
-way_there : (g : Over) (c : After-connect g)
-    → Connects ≡ undo_way c.args.is_fresh c.args.chip.now.kind c.args.journal.now.is_greeted (intent_of c.args.journal.now.state)
-way_there g c =
-    sym (fresh_way c.args.is_fresh c.args.chip.now.kind c.args.journal.now.is_greeted (intent_of c.args.journal.now.state)
-    (sym c.connects.ensures ∙ c.if-connects.true))
-
 -- what holds of the intent and limit that were handed on holds of the journal's
 at_journal : (g : Over) (c : After-settle_under g) (P : Option Intent → ℕ → Type 0)
     → P c.last_intent.result c.settling_limit-limit.result
@@ -124,28 +54,8 @@ at_journal g c P p =
     subst (λ (o : Option Intent). P o limit) c.last_intent.ensures
     (subst (P c.last_intent.result) c.settling_limit-limit.ensures p)
 
-at_way : (g : Over) (c : After-settle_under g) (P : Way → Type 0)
-    → P (settling_way c.args.chip.now.kind c.args.journal.now.is_greeted (intent_of c.args.journal.now.state))
-    → P (undo_way c.args.is_fresh c.args.chip.now.kind c.args.journal.now.is_greeted (intent_of c.args.journal.now.state))
-at_way g c P p =
-    subst P
-    (plain_way c.args.is_fresh c.args.chip.now.kind c.args.journal.now.is_greeted (intent_of c.args.journal.now.state)
-    (sym c.connects.ensures ∙ c.if-connects.false)) p
-
--- and what was sent
-sent_there : (g : Over) (c : After-connect g)
-    → let way = undo_way c.args.is_fresh c.args.chip.now.kind c.args.journal.now.is_greeted
-    (intent_of c.args.journal.now.state) in
-    GoesOn (SettlesWithin (byte_of way) (limit_of way)) (g.R.Rig.view c.args.rig.now).calls
-    (g.R.Rig.view c.connect.new.rig).calls
-sent_there g c =
-    let a = (g.R.Rig.view c.args.rig.now).calls in
-    let b = (g.R.Rig.view c.connect.new.rig).calls in
-    let P : Way → Type 0 = λ w. GoesOn (SettlesWithin (byte_of w) (limit_of w)) a b in
-    subst P (way_there g c) (connect_settles a b c.connect.ensures.speaks.part)
-
 sent_settling : (g : Over) (c : After-settle_under g)
-    → let way = undo_way c.args.is_fresh c.args.chip.now.kind c.args.journal.now.is_greeted
+    → let way = settling_way c.args.chip.now.kind c.args.journal.now.is_greeted
     (intent_of c.args.journal.now.state) in
     GoesOn (SettlesWithin (byte_of way) (limit_of way)) (g.R.Rig.view c.args.rig.now).calls
     (g.R.Rig.view c.settle_under.new.rig).calls
@@ -155,21 +65,11 @@ sent_settling g c =
     let b = (V c.settle_under.new.rig).calls in
     let I : Option Intent → ℕ → Type 0 =
     λ o limit. GoesOn (SettlesWithin (settling_byte o) limit) a b in
-    let P : Way → Type 0 = λ w. GoesOn (SettlesWithin (byte_of w) (limit_of w)) a b in
-    at_way g c P
-    (way_sends c.args.chip.now.kind c.args.journal.now.is_greeted (intent_of c.args.journal.now.state) a b
-    (at_journal g c I c.settle_under.ensures.calls))
-
-pub returns-in_err-connect-clause-calls : goal.returns-in_err-connect-clause-calls
-returns-in_err-connect-clause-calls g c =
-    sent_there g (goal.at.returns-in_err-connect-clause-calls g c).After-connect
-
-pub returns-then-connects-clause-calls : goal.returns-then-connects-clause-calls
-returns-then-connects-clause-calls g c =
-    sent_there g (goal.at.returns-then-connects-clause-calls g c).After-connect
+    way_sends c.args.chip.now.kind c.args.journal.now.is_greeted (intent_of c.args.journal.now.state) a b
+    (at_journal g c I c.settle_under.ensures.calls)
 
 pub returns-in_err-settle_under-clause-honest : goal.returns-in_err-settle_under-clause-honest
-returns-in_err-settle_under-clause-honest g c h said flashes loaded undoable chip =
+returns-in_err-settle_under-clause-honest g c h flashes loaded undoable chip =
     let V = g.R.Rig.view in
     let model = g.met.R.Rig.model c.args.rig.now h in
     let within = own_within c.step_laws.ensures c.args.chip.now (V c.args.rig.now) model.device undoable.awaits chip in
@@ -177,11 +77,11 @@ returns-in_err-settle_under-clause-honest g c h said flashes loaded undoable chi
     let settles = settled g at _ c.in_err-settle_under.was h loaded undoable.harmless undoable.owed
     within in
     settling_failed c.step_laws.ensures flashes c.args.journal.now (V c.args.rig.now)
-    (V c.settle_under.new.rig) model loaded undoable c.from_residual-in_err-settle_under.result settles.keeps
-    settles.fails c.from_residual-in_err-settle_under.ensures.1
+    (V c.settle_under.new.rig) model loaded undoable c.from_residual.result settles.keeps
+    settles.fails c.from_residual.ensures.1
 
 pub returns-clause-honest : goal.returns-clause-honest
-returns-clause-honest g c h said flashes loaded undoable chip =
+returns-clause-honest g c h flashes loaded undoable chip =
     let V = g.R.Rig.view in
     let model = g.met.R.Rig.model c.args.rig.now h in
     let within = own_within c.step_laws.ensures c.args.chip.now (V c.args.rig.now) model.device undoable.awaits chip in
@@ -194,16 +94,16 @@ returns-clause-honest g c h said flashes loaded undoable chip =
     (g.met.R.Rig.model c.settle_under.new.rig settles.keeps.honest) settles.ok
 
 pub returns-in_err-settle_under-clause-strays : goal.returns-in_err-settle_under-clause-strays
-returns-in_err-settle_under-clause-strays g c h said loaded harmless owed within =
+returns-in_err-settle_under-clause-strays g c h loaded harmless owed within =
     let V = g.R.Rig.view in
     let at = (goal.at.returns-in_err-settle_under-clause-strays g c).After-settle_under in
     let settles = settled g at _ c.in_err-settle_under.was h loaded harmless owed within in
     strays_stopped (V c.args.rig.now) (V c.settle_under.new.rig) settles.keeps
-    (g.met.R.Rig.model c.settle_under.new.rig settles.keeps.honest) c.from_residual-in_err-settle_under.result
-    settles.fails c.from_residual-in_err-settle_under.ensures.1
+    (g.met.R.Rig.model c.settle_under.new.rig settles.keeps.honest) c.from_residual.result
+    settles.fails c.from_residual.ensures.1
 
 pub returns-clause-strays : goal.returns-clause-strays
-returns-clause-strays g c h said loaded harmless owed within =
+returns-clause-strays g c h loaded harmless owed within =
     let V = g.R.Rig.view in
     let at = (goal.at.returns-clause-strays g c).After-settle_under in
     let settles = settled g at _ c.in_ok-settle_under.was h loaded harmless owed within in
@@ -217,15 +117,6 @@ returns-in_err-settle_under-clause-calls g c =
 pub returns-clause-calls : goal.returns-clause-calls
 returns-clause-calls g c = sent_settling g (goal.at.returns-clause-calls g c).After-settle_under
 
-pub returns-then-connects-clause-settled : goal.returns-then-connects-clause-settled
-returns-then-connects-clause-settled g c =
-    let V = g.R.Rig.view in
-    let a = (V c.args.rig.now).calls in
-    let b = (V c.connect.new.rig).calls in
-    let P : Way → Type 0 = λ w. GoesOn (EndsWell w) a b in
-    subst P (way_there g (goal.at.returns-then-connects-clause-settled g c).After-connect)
-    c.in_ok-connect.ensures.answered
-
 pub returns-clause-settled : goal.returns-clause-settled
 returns-clause-settled g c =
     let V = g.R.Rig.view in
@@ -233,7 +124,5 @@ returns-clause-settled g c =
     let b = (V c.settle_under.new.rig).calls in
     let at = (goal.at.returns-clause-settled g c).After-settle_under in
     let I : Option Intent → ℕ → Type 0 = λ o limit. GoesOn (EndsUnder o limit) a b in
-    let P : Way → Type 0 = λ w. GoesOn (EndsWell w) a b in
-    at_way g at P
-    (way_ends c.args.chip.now.kind c.args.journal.now.is_greeted (intent_of c.args.journal.now.state) a b
-    (at_journal g at I c.in_ok-settle_under.ensures.settled))
+    way_ends c.args.chip.now.kind c.args.journal.now.is_greeted (intent_of c.args.journal.now.state) a b
+    (at_journal g at I c.in_ok-settle_under.ensures.settled)

@@ -16,7 +16,7 @@ use Rattle.stm_session.specs.Undoes.{risked_at, taken_count}
 use Rattle.stm_session.specs.Work.{pages_at_work}
 use Rattle.stm_session.proofs.Awaiting.{own_within}
 use Rattle.stm_session.proofs.Going.{at_exit}
-use Rattle.stm_session.specs.Fresh.{IsAsSaid, IsReset, undo_way}
+use Rattle.stm_session.specs.Fresh.{settling_way}
 use Rattle.stm_journal.specs.States.{intent_of}
 use Rattle.stm_session.proofs.SentUndo.{sends_back, sends_failed, sends_met, sends_nothing}
 use Rattle.stm_session.proofs.Unread.{contract_unread, none_some}
@@ -44,12 +44,12 @@ use Rattle.stm_session.proofs.undo_course.undo_as.Goals.{After-undo_confirmed, A
 use Rattle.stm_session.proofs.undo_course.undo_as.Goals as goal
 
 pub returns-in_err-journal-clause-promised : goal.returns-in_err-journal-clause-promised
-returns-in_err-journal-clause-promised g c said =
+returns-in_err-journal-clause-promised g c =
     let V = g.R.Rig.view in
     contract_unread c.step_laws.ensures c.args.table.now c.args.count (V c.args.rig.now) (V c.load.new.rig) _ (segments_of c.from_residual.result) c.in_err-journal.ensures.honest c.in_err-journal.ensures.calls (err_of c.from_residual.result _ c.from_residual.ensures.1)
 
 pub returns-then-depth-eq0-clause-promised : goal.returns-then-depth-eq0-clause-promised
-returns-then-depth-eq0-clause-promised g c said =
+returns-then-depth-eq0-clause-promised g c =
     let V = g.R.Rig.view in
     let none : length c.in_ok-journal.journal.state.stack ≡ 0 = omega (arith, c.if-depth-eq0.true, c.depth-depth.ensures.value) in
     contract_when c.args.table.now c.args.count (V c.args.rig.now) (V c.load.new.rig) _ (λ h.
@@ -57,7 +57,7 @@ returns-then-depth-eq0-clause-promised g c said =
     contract_none c.args.table.now c.in_ok-journal.journal (V c.args.rig.now) (V c.load.new.rig) loads c.step_laws.ensures c.args.count (g.met.R.Rig.model c.load.new.rig loads.honest) none c.in_ok-journal.ensures.calls)
 
 pub returns-in_err-chip-clause-promised : goal.returns-in_err-chip-clause-promised
-returns-in_err-chip-clause-promised g c said =
+returns-in_err-chip-clause-promised g c =
     let V = g.R.Rig.view in
     let some : 1 ≤ length c.in_ok-journal.journal.state.stack = omega (arith, c.if-depth-eq0.false, c.depth-depth.ensures.value) in
     let named : option_map (λ h. h.id) c.in_ok-journal.journal.state.header ≡ Some c.in-Some.id = sym c.in-Some.ensures in
@@ -68,12 +68,11 @@ returns-in_err-chip-clause-promised g c said =
 -- the device is met as one that may be another
 told : (g : Over) (c : After-meet g) (made : Result (Unit {0}) Fault) → c.meet.result ≡ made
     → (g.R.Rig.view c.args.rig.now).is_honest
-    → let a = g.R.Rig.view c.args.rig.now in IsAsSaid c.args.is_fresh a.device
-    → Harmless a.device (byte_at_journal a.journal) (risked_at a.journal)
+    → let a = g.R.Rig.view c.args.rig.now in Harmless a.device (byte_at_journal a.journal) (risked_at a.journal)
     → length a.device.owed ≤ 4096
     → IsWithinLimit c.in_ok-chip.chip.now a
     → Meets c.in_ok-chip.chip.now (g.R.Rig.view c.load.new.rig) (g.R.Rig.view c.meet.new.rig) made
-told g c made was h said harmless owed within =
+told g c made was h harmless owed within =
     let V = g.R.Rig.view in
     let table = c.args.table.now in
     let l = c.in_ok-journal.journal in
@@ -89,7 +88,7 @@ told g c made was h said harmless owed within =
     let is = c.in_ok-chip.ensures in
     let M : Result (Unit {0}) Fault → Type 0 = λ r. Meets chip b (V c.meet.new.rig) r in
     subst M was
-    (c.meet.ensures.elsewhere loads.honest (λ t. subst IsReset (sym loads.same_device) (said t))
+    (c.meet.ensures.elsewhere loads.honest
     (loaded_then table l a b loads)
     (harmless_then table l a b loads some id named laws chip is.chip is.accepted harmless)
     (owed_then table l a b loads some id named laws chip is.chip is.accepted owed)
@@ -98,12 +97,11 @@ told g c made was h said harmless owed within =
 -- and as the journal's own
 met : (g : Over) (c : After-meet g) (made : Result (Unit {0}) Fault) → c.meet.result ≡ made
     → (g.R.Rig.view c.args.rig.now).is_honest
-    → let a = g.R.Rig.view c.args.rig.now in IsAsSaid c.args.is_fresh a.device
-    → (flashes : List (List ℕ)) → Undoable flashes a.device a.journal
+    → let a = g.R.Rig.view c.args.rig.now in (flashes : List (List ℕ)) → Undoable flashes a.device a.journal
     → IsChipWith c.args.table.now a.device.chip.id a.device.chip
     → Goes flashes [] c.in_ok-journal.journal (g.R.Rig.view c.load.new.rig)
     (g.R.Rig.view c.meet.new.rig) made (λ _. Unit {0})
-met g c made was h said flashes u listed =
+met g c made was h flashes u listed =
     let V = g.R.Rig.view in
     let table = c.args.table.now in
     let l = c.in_ok-journal.journal in
@@ -116,14 +114,14 @@ met g c made was h said flashes u listed =
     let G : Result (Unit {0}) Fault → Type 0 =
     λ r. Goes flashes [] l b (V c.meet.new.rig) r (λ _. Unit {0}) in
     subst G was
-    (c.meet.ensures.honest loads.honest (λ t. subst IsReset (sym loads.same_device) (said t))
+    (c.meet.ensures.honest loads.honest
     flashes
     (loaded_then table l a b loads) (undoable_then table l a b loads flashes u)
     (own_chip table l a b loads some c.in-Some.id (sym c.in-Some.ensures) c.step_laws.ensures
     c.in_ok-chip.chip.now is.chip is.accepted flashes u listed))
 
 pub returns-in_err-meet-clause-promised : goal.returns-in_err-meet-clause-promised
-returns-in_err-meet-clause-promised g c said =
+returns-in_err-meet-clause-promised g c =
     let V = g.R.Rig.view in
     let table = c.args.table.now in
     let l = c.in_ok-journal.journal in
@@ -148,9 +146,9 @@ returns-in_err-meet-clause-promised g c said =
     (λ refusal harmless owed within misfit.
     refuses_elsewhere table l a b loads some c.in-Some.id named laws chip found.chip found.accepted
     c.args.count d refusal _ x is harmless owed misfit
-    (told g at _ was h said harmless owed within))
+    (told g at _ was h harmless owed within))
     (λ flashes u listed.
-    let goes = met g at _ was h said flashes u listed in
+    let goes = met g at _ was h flashes u listed in
     undoes_unmet table l a b loads some c.in-Some.id named laws chip found.chip found.accepted
     (taken_count c.args.count (length flashes)) flashes u d l _ x
     (g.met.R.Rig.model c.meet.new.rig goes.honest) goes is)))
@@ -217,7 +215,7 @@ gone g c made was h result meets goes undoes =
     (subst G was (c.undo_confirmed.ensures.honest flashes went.steady still))))
 
 pub returns-in_err-undo_confirmed-clause-promised : goal.returns-in_err-undo_confirmed-clause-promised
-returns-in_err-undo_confirmed-clause-promised g c said =
+returns-in_err-undo_confirmed-clause-promised g c =
     let V = g.R.Rig.view in
     let table = c.args.table.now in
     let l = c.in_ok-journal.journal in
@@ -232,7 +230,7 @@ returns-in_err-undo_confirmed-clause-promised g c said =
     contract_when table c.args.count a e (segments_of last.result)
     (λ h. err_as P (segments_of last.result) _ (err_of last.result _ last.ensures.1) (λ x is.
     gone g at.After-undo_confirmed _ c.in_err-undo_confirmed.was h (Err x)
-    (told g at.After-meet _ c.in_ok-meet.was h said) (met g at.After-meet _ c.in_ok-meet.was h said)
+    (told g at.After-meet _ c.in_ok-meet.was h) (met g at.After-meet _ c.in_ok-meet.was h)
     (λ flashes u model went settled back.
     undoes_stopped table l a (V c.load.new.rig) (c.in_ok-journal.ensures.honest h) some c.in-Some.id
     (sym c.in-Some.ensures) c.step_laws.ensures c.in_ok-chip.chip.now found.chip found.accepted
@@ -240,7 +238,7 @@ returns-in_err-undo_confirmed-clause-promised g c said =
     c.undo_confirmed.new.journal _ x (g.met.R.Rig.model c.undo_confirmed.new.rig back.honest) back is)))
 
 pub returns-clause-promised : goal.returns-clause-promised
-returns-clause-promised g c said =
+returns-clause-promised g c =
     let V = g.R.Rig.view in
     let table = c.args.table.now in
     let l = c.in_ok-journal.journal in
@@ -255,7 +253,7 @@ returns-clause-promised g c said =
     let at = goal.at.returns-clause-promised g c in
     contract_when table c.args.count a e _ (λ h.
     gone g at.After-undo_confirmed _ c.in_ok-undo_confirmed.was h _
-    (told g at.After-meet _ c.in_ok-meet.was h said) (met g at.After-meet _ c.in_ok-meet.was h said)
+    (told g at.After-meet _ c.in_ok-meet.was h) (met g at.After-meet _ c.in_ok-meet.was h)
     (λ flashes u model went settled back.
     undoes_all table l a (V c.load.new.rig) (c.in_ok-journal.ensures.honest h) some c.in-Some.id
     (sym c.in-Some.ensures) c.step_laws.ensures c.in_ok-chip.chip.now found.chip found.accepted
@@ -290,7 +288,7 @@ returns-in_err-meet-clause-puts g c =
     let intent = intent_of c.in_ok-journal.journal.state in
     let chip = c.in_ok-chip.chip.now in
     sends_failed c.args.table.now c.args.count a d _ (segments_of c.from_residual-in_err-meet.result) (err_of c.from_residual-in_err-meet.result _ c.from_residual-in_err-meet.ensures.1)
-    (sends_met c.args.table.now c.args.count a c.args.is_fresh c.in_ok-journal.journal.is_greeted intent c.in-Some.id chip c.in_ok-chip.ensures.chip (V c.load.new.rig) d _ c.in_ok-journal.ensures.calls c.in_err-meet.ensures.puts)
+    (sends_met c.args.table.now c.args.count a c.in_ok-journal.journal.is_greeted intent c.in-Some.id chip c.in_ok-chip.ensures.chip (V c.load.new.rig) d _ c.in_ok-journal.ensures.calls c.in_err-meet.ensures.puts)
 
 pub returns-in_err-undo_confirmed-clause-puts : goal.returns-in_err-undo_confirmed-clause-puts
 returns-in_err-undo_confirmed-clause-puts g c =
@@ -302,7 +300,7 @@ returns-in_err-undo_confirmed-clause-puts g c =
     let taken = c.taken_count-segments in
     let limit : taken.result ≤ 65535 = omega (arith, taken.ensures.most, c.depth-depth.ensures.value, c.depth-depth.ensures.sound.depth) in
     sends_failed c.args.table.now c.args.count a d _ (segments_of c.from_residual-in_err-undo_confirmed.result) (err_of c.from_residual-in_err-undo_confirmed.result _ c.from_residual-in_err-undo_confirmed.ensures.1)
-    (sends_back c.args.table.now c.args.count a c.args.is_fresh c.in_ok-journal.journal.is_greeted intent c.in-Some.id chip c.in_ok-chip.ensures.chip taken.result (V c.load.new.rig) (V c.meet.new.rig) d _ limit taken.ensures.asked tt
+    (sends_back c.args.table.now c.args.count a c.in_ok-journal.journal.is_greeted intent c.in-Some.id chip c.in_ok-chip.ensures.chip taken.result (V c.load.new.rig) (V c.meet.new.rig) d _ limit taken.ensures.asked tt
     c.in_ok-journal.ensures.calls c.in_ok-meet.ensures.puts c.in_err-undo_confirmed.ensures.puts)
 
 pub returns-clause-puts : goal.returns-clause-puts
@@ -314,7 +312,7 @@ returns-clause-puts g c =
     let chip = c.in_ok-chip.chip.now in
     let taken = c.taken_count-segments in
     let limit : taken.result ≤ 65535 = omega (arith, taken.ensures.most, c.depth-depth.ensures.value, c.depth-depth.ensures.sound.depth) in
-    sends_back c.args.table.now c.args.count a c.args.is_fresh c.in_ok-journal.journal.is_greeted intent c.in-Some.id chip c.in_ok-chip.ensures.chip taken.result (V c.load.new.rig) (V c.meet.new.rig) d _ limit taken.ensures.asked refl
+    sends_back c.args.table.now c.args.count a c.in_ok-journal.journal.is_greeted intent c.in-Some.id chip c.in_ok-chip.ensures.chip taken.result (V c.load.new.rig) (V c.meet.new.rig) d _ limit taken.ensures.asked refl
     c.in_ok-journal.ensures.calls c.in_ok-meet.ensures.puts c.in_ok-undo_confirmed.ensures.puts
 
 pub returns-then-depth-eq0-clause-order : goal.returns-then-depth-eq0-clause-order
@@ -328,7 +326,7 @@ returns-clause-order g c some =
     let V = g.R.Rig.view in
     let l = c.in_ok-journal.journal in
     let chip = c.in_ok-chip.chip.now in
-    let way = undo_way c.args.is_fresh chip.kind l.is_greeted (intent_of l.state) in
+    let way = settling_way chip.kind l.is_greeted (intent_of l.state) in
     let a = (V c.args.rig.now).calls in
     let b = (V c.load.new.rig).calls in
     let d = (V c.meet.new.rig).calls in
@@ -353,7 +351,7 @@ returns-clause-given g c some =
     let V = g.R.Rig.view in
     let l = c.in_ok-journal.journal in
     let chip = c.in_ok-chip.chip.now in
-    let way = undo_way c.args.is_fresh chip.kind l.is_greeted (intent_of l.state) in
+    let way = settling_way chip.kind l.is_greeted (intent_of l.state) in
     let a = V c.args.rig.now in
     let b = V c.load.new.rig in
     let d = V c.meet.new.rig in
@@ -383,24 +381,24 @@ returns-clause-given g c some =
 pub returns-in_err-journal-clause-stops : goal.returns-in_err-journal-clause-stops
 returns-in_err-journal-clause-stops g c =
     let V = g.R.Rig.view in
-    let P : Fault → Type 0 = λ e. UndoStopsAs c.args.is_fresh c.args.again c.args.table.now c.args.count (V c.args.rig.now) (V c.load.new.rig) e in
+    let P : Fault → Type 0 = λ e. UndoStopsAs c.args.again c.args.table.now c.args.count (V c.args.rig.now) (V c.load.new.rig) e in
     at_fault P _ c.from_residual.result c.from_residual.ensures.1 (inl c.in_err-journal.ensures.calls)
 
 pub returns-in_err-chip-clause-stops : goal.returns-in_err-chip-clause-stops
 returns-in_err-chip-clause-stops g c =
     let V = g.R.Rig.view in
-    let P : Fault → Type 0 = λ e. UndoStopsAs c.args.is_fresh c.args.again c.args.table.now c.args.count (V c.args.rig.now) (V c.load.new.rig) e in
+    let P : Fault → Type 0 = λ e. UndoStopsAs c.args.again c.args.table.now c.args.count (V c.args.rig.now) (V c.load.new.rig) e in
     at_fault P _ c.from_residual-in_err-chip.result c.from_residual-in_err-chip.ensures.1 (inl c.in_ok-journal.ensures.calls)
 
 pub returns-in_err-meet-clause-stops : goal.returns-in_err-meet-clause-stops
 returns-in_err-meet-clause-stops g c =
     let V = g.R.Rig.view in
     let l = c.in_ok-journal.journal in
-    let way = undo_way c.args.is_fresh c.in_ok-chip.chip.now.kind l.is_greeted (intent_of l.state) in
+    let way = settling_way c.in_ok-chip.chip.now.kind l.is_greeted (intent_of l.state) in
     let a = V c.args.rig.now in
     let b = V c.load.new.rig in
     let d = V c.meet.new.rig in
-    let P : Fault → Type 0 = λ e. UndoStopsAs c.args.is_fresh c.args.again c.args.table.now c.args.count a d e in
+    let P : Fault → Type 0 = λ e. UndoStopsAs c.args.again c.args.table.now c.args.count a d e in
     at_fault P _ c.from_residual-in_err-meet.result c.from_residual-in_err-meet.ensures.1
     (inr (record {
       journal = l;
@@ -419,7 +417,7 @@ returns-in_err-undo_confirmed-clause-stops g c =
     let chip = c.in_ok-chip.chip.now in
     let intent = intent_of l.state in
     let segments = pages_of_segments l.state.stack in
-    let way = undo_way c.args.is_fresh chip.kind l.is_greeted intent in
+    let way = settling_way chip.kind l.is_greeted intent in
     let a = V c.args.rig.now in
     let b = V c.load.new.rig in
     let d = V c.meet.new.rig in
@@ -434,7 +432,7 @@ returns-in_err-undo_confirmed-clause-stops g c =
     let Own = IsConfirmedInPart chip Part in
     let Back = IsConfirmedInPart chip (BeginTaking c.args.again c.args.count chip l.state) in
     let Cut = AreCutShort (IsAfter (asking_steps met.0 met.1 chip.id) Own) cause l.is_torn in
-    let P : Fault → Type 0 = λ x. UndoStopsAs c.args.is_fresh c.args.again c.args.table.now c.args.count a e x in
+    let P : Fault → Type 0 = λ x. UndoStopsAs c.args.again c.args.table.now c.args.count a e x in
     let back = fetched_and way Cut a.calls b.calls e.calls c.in_ok-journal.ensures.calls (reached_stops way chip.id met.0 met.1 Own cause l.is_torn b d e met.2 c.in_err-undo_confirmed.ensures.stops) in
     let begun : (steps : List Step) → Own steps → Back steps =
     confirmed_as chip Part (BeginTaking c.args.again c.args.count chip l.state) (λ steps part. (
@@ -458,13 +456,13 @@ returns-in_err-undo_confirmed-clause-stops g c =
 pub returns-in_err-journal-clause-given_stops : goal.returns-in_err-journal-clause-given_stops
 returns-in_err-journal-clause-given_stops g c =
     let V = g.R.Rig.view in
-    let P : Fault → Type 0 = λ e. UndoStopsToldAs V c.args.is_fresh c.args.again c.args.table.now c.args.count (V c.args.rig.now) (V c.load.new.rig) e in
+    let P : Fault → Type 0 = λ e. UndoStopsToldAs V c.args.again c.args.table.now c.args.count (V c.args.rig.now) (V c.load.new.rig) e in
     at_fault P _ c.from_residual.result c.from_residual.ensures.1 (inl c.in_err-journal.ensures.calls)
 
 pub returns-in_err-chip-clause-given_stops : goal.returns-in_err-chip-clause-given_stops
 returns-in_err-chip-clause-given_stops g c =
     let V = g.R.Rig.view in
-    let P : Fault → Type 0 = λ e. UndoStopsToldAs V c.args.is_fresh c.args.again c.args.table.now c.args.count (V c.args.rig.now) (V c.load.new.rig) e in
+    let P : Fault → Type 0 = λ e. UndoStopsToldAs V c.args.again c.args.table.now c.args.count (V c.args.rig.now) (V c.load.new.rig) e in
     at_fault P _ c.from_residual-in_err-chip.result c.from_residual-in_err-chip.ensures.1 (inl c.in_ok-journal.ensures.calls)
 
 pub returns-in_err-meet-clause-given_stops : goal.returns-in_err-meet-clause-given_stops
@@ -472,11 +470,11 @@ returns-in_err-meet-clause-given_stops g c =
     let V = g.R.Rig.view in
     let l = c.in_ok-journal.journal in
     let chip = c.in_ok-chip.chip.now in
-    let way = undo_way c.args.is_fresh chip.kind l.is_greeted (intent_of l.state) in
+    let way = settling_way chip.kind l.is_greeted (intent_of l.state) in
     let a = V c.args.rig.now in
     let b = V c.load.new.rig in
     let d = V c.meet.new.rig in
-    let P : Fault → Type 0 = λ e. UndoStopsToldAs V c.args.is_fresh c.args.again c.args.table.now c.args.count a d e in
+    let P : Fault → Type 0 = λ e. UndoStopsToldAs V c.args.again c.args.table.now c.args.count a d e in
     at_fault P _ c.from_residual-in_err-meet.result c.from_residual-in_err-meet.ensures.1
     (inr (record {
       journal = l;
@@ -495,7 +493,7 @@ returns-in_err-undo_confirmed-clause-given_stops g c =
     let chip = c.in_ok-chip.chip.now in
     let intent = intent_of l.state in
     let segments = pages_of_segments l.state.stack in
-    let way = undo_way c.args.is_fresh chip.kind l.is_greeted intent in
+    let way = settling_way chip.kind l.is_greeted intent in
     let a = V c.args.rig.now in
     let b = V c.load.new.rig in
     let d = V c.meet.new.rig in
@@ -514,7 +512,7 @@ returns-in_err-undo_confirmed-clause-given_stops g c =
     let Own = IsConfirmedInPart chip Part in
     let Back = IsConfirmedInPart chip (BeginTakingTold c.args.again Given c.args.count chip l.state) in
     let Cut = AreCutShort (IsAfter asking Own) cause l.is_torn in
-    let P : Fault → Type 0 = λ x. UndoStopsToldAs V c.args.is_fresh c.args.again c.args.table.now c.args.count a e x in
+    let P : Fault → Type 0 = λ x. UndoStopsToldAs V c.args.again c.args.table.now c.args.count a e x in
     let back = fetched_and way Cut a.calls b.calls e.calls c.in_ok-journal.ensures.calls (reached_stops way chip.id met.0 met.1 Own cause l.is_torn b d e met.2 c.in_err-undo_confirmed.ensures.stops) in
     let begun : (steps : List Step) → Own steps → Back steps =
     confirmed_as chip Part (BeginTakingTold c.args.again Given c.args.count chip l.state) (λ steps part. (

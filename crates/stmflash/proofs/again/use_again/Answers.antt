@@ -6,11 +6,11 @@ returns-clause-acts g c =
     let done = c.attempt_again.ensures in
     record {
       acts = done.acts;
-      uses = all-uses _ _ _ _ done.acts _ _ done.lead;
+      uses = all-uses _ _ _ done.acts _ _ done.lead;
       done = done.done;
     }
 
 pub returns-clause-last : goal.returns-clause-last
 returns-clause-last g c =
     let done = c.attempt_again.ensures in
-    last-use _ _ _ _ done.acts _ done.done (all-uses _ _ _ _ done.acts _ _ done.lead)
+    last-use _ _ _ _ done.acts _ done.done (all-uses _ _ _ done.acts _ _ done.lead)

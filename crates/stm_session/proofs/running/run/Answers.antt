@@ -1,4 +1,4 @@
-use Rattle.stm_session.specs.Fresh.{byte_of, contact_way, limit_of}
+use Rattle.stm_session.specs.Fresh.{contact_way}
 use Rattle.std.proofs.Common.{◌≡◌, ◌≢◌, ◌+◌, ◌*◌, [], List, ◌∷◌, Bool, None, Some, length, map, true, arith, refl}
 use Rattle.stm_wire.specs.lemmas.PartLaws.{session_joins, session_longer, session_of_any, session_weaker}
 use Rattle.stm_wire.specs.Dialogue.{GoesOn}
@@ -6,7 +6,7 @@ use Rattle.stm_wire.specs.Parts.{IsSession}
 use Rattle.stm_session.specs.declared.command.Command.{Command}
 use Rattle.stm_session.specs.Answers.{outcome_data, outcomes_in}
 use Rattle.stm_session.specs.Meaning.{commands_in}
-use Rattle.stm_session.specs.Sending.{SendsAsRunFrom, is_whole, most_of_command, most_of_confirming, most_of_reaching, most_of_run}
+use Rattle.stm_session.specs.Sending.{SendsAsRun, is_whole, most_of_command, most_of_confirming, most_of_reaching, most_of_run}
 use Rattle.stm_session.proofs.RunContracts.{contract_ran, contract_refused, contract_unopened, runs_err, runs_ok}
 use Rattle.stm_session.proofs.Sending.{same_fault}
 use Rattle.std.proofs.Common.{refl}
@@ -15,45 +15,45 @@ use Rattle.stm_session.proofs.Orders.{settled_then}
 use Rattle.std.proofs.Common.{inl, inr}
 use Rattle.stm_session.specs.declared.fault.Fault.{Fault}
 use Rattle.stm_session.specs.declared.fault.Fault.TheVariants as faults
-use Rattle.stm_session.specs.RunOrder.{AreBegun, RunStopsFrom}
+use Rattle.stm_session.specs.RunOrder.{AreBegun, RunStops}
 use Rattle.stm_session.proofs.Reaching.{at_fault, reached_stops, told_stops}
 use Rattle.stm_session.proofs.Fitting.{unrefused-fits}
-use Rattle.stm_session.proofs.running.run_as.Goals as goal
+use Rattle.stm_session.proofs.running.run.Goals as goal
 
 no_commands : (commands : List Command) → commands_in commands ≡ [] → commands ≡ []
 no_commands [] e = refl
 no_commands (c ∷ commands) e = cc
 
 pub returns-in_err-opened-clause-promised : goal.returns-in_err-opened-clause-promised
-returns-in_err-opened-clause-promised g c said =
+returns-in_err-opened-clause-promised g c =
     let V = g.R.Rig.view in
     contract_unopened c.args.table.now (commands_in c.args.commands.now) (V c.args.rig.now) (V c.open.new.rig) _ c.from_residual.result outcomes_in c.in_err-opened.ensures.unsent c.in_err-opened.ensures.unsent_calls
-    (λ h. c.in_err-opened.ensures.honest h said) c.in_err-opened.ensures.memory c.from_residual.ensures.1
+    c.in_err-opened.ensures.honest c.in_err-opened.ensures.memory c.from_residual.ensures.1
 
 pub returns-in_err-check_commands-clause-promised : goal.returns-in_err-check_commands-clause-promised
-returns-in_err-check_commands-clause-promised g c said =
+returns-in_err-check_commands-clause-promised g c =
     let V = g.R.Rig.view in
-    contract_refused c.args.table.now (commands_in c.args.commands.now) (V c.args.rig.now) (V c.open.new.rig) c.in_ok-opened.opened c.in_ok-opened.ensures.coherent c.in_ok-opened.ensures.unsent (λ h. c.in_ok-opened.ensures.honest h said)
+    contract_refused c.args.table.now (commands_in c.args.commands.now) (V c.args.rig.now) (V c.open.new.rig) c.in_ok-opened.opened c.in_ok-opened.ensures.coherent c.in_ok-opened.ensures.unsent c.in_ok-opened.ensures.honest
     _ c.from_residual-in_err-check_commands.result outcomes_in c.in_ok-opened.ensures.unsent_calls c.in_err-check_commands.ensures.refusal c.in_err-check_commands.ensures.named c.from_residual-in_err-check_commands.ensures.1
 
 pub returns-in_err-outcomes-clause-promised : goal.returns-in_err-outcomes-clause-promised
-returns-in_err-outcomes-clause-promised g c said =
+returns-in_err-outcomes-clause-promised g c =
     let V = g.R.Rig.view in
     let commands = commands_in c.args.commands.now in
     let mid = V c.open.new.rig in
     let new = V c.run_confirmed.new.rig in
-    contract_ran c.args.table.now commands (V c.args.rig.now) mid c.in_ok-opened.opened c.in_ok-opened.ensures.coherent c.in_ok-opened.ensures.unsent (λ h. c.in_ok-opened.ensures.honest h said)
+    contract_ran c.args.table.now commands (V c.args.rig.now) mid c.in_ok-opened.opened c.in_ok-opened.ensures.coherent c.in_ok-opened.ensures.unsent c.in_ok-opened.ensures.honest
     new c.from_residual-in_err-outcomes.result outcomes_in c.in_ok-check_commands.ensures.refusal
     (λ flashes steady chip. runs_err commands flashes mid new _ c.from_residual-in_err-outcomes.result (λ outcomes. map outcome_data outcomes.items) outcomes_in c.from_residual-in_err-outcomes.ensures.1 (c.in_err-outcomes.ensures.honest flashes steady chip))
     (λ none. at_fault (λ e. e ≢ faults.Memory) _ c.from_residual-in_err-outcomes.result c.from_residual-in_err-outcomes.ensures.1 (c.in_err-outcomes.ensures.none (no_commands c.args.commands.now none)))
 
 pub returns-clause-promised : goal.returns-clause-promised
-returns-clause-promised g c said =
+returns-clause-promised g c =
     let V = g.R.Rig.view in
     let commands = commands_in c.args.commands.now in
     let mid = V c.open.new.rig in
     let new = V c.run_confirmed.new.rig in
-    contract_ran c.args.table.now commands (V c.args.rig.now) mid c.in_ok-opened.opened c.in_ok-opened.ensures.coherent c.in_ok-opened.ensures.unsent (λ h. c.in_ok-opened.ensures.honest h said)
+    contract_ran c.args.table.now commands (V c.args.rig.now) mid c.in_ok-opened.opened c.in_ok-opened.ensures.coherent c.in_ok-opened.ensures.unsent c.in_ok-opened.ensures.honest
     new _ outcomes_in c.in_ok-check_commands.ensures.refusal
     (λ flashes steady chip. runs_ok commands flashes mid new _ _ (λ outcomes. map outcome_data outcomes.items) outcomes_in refl (c.in_ok-outcomes.ensures.honest flashes steady chip))
     (λ none. tt)
@@ -61,33 +61,30 @@ returns-clause-promised g c said =
 pub returns-in_err-check_commands-clause-puts : goal.returns-in_err-check_commands-clause-puts
 returns-in_err-check_commands-clause-puts g c =
     let V = g.R.Rig.view in
-    let way = contact_way c.args.is_fresh in
     let a = (V c.args.rig.now).calls in
     let b = (V c.open.new.rig).calls in
     let n = length c.args.commands.now in
-    record { chip = None; listed = tt; calls = session_weaker None (byte_of way) (limit_of way) (is_whole c.from_residual-in_err-check_commands.result) (most_of_reaching (limit_of way)) (most_of_run c.args.is_fresh n) a b (omega arith) c.in_ok-opened.ensures.puts }
+    record { chip = None; listed = tt; calls = session_weaker None 0x7F 131072 (is_whole c.from_residual-in_err-check_commands.result) (most_of_reaching 131072) (most_of_run n) a b (omega arith) c.in_ok-opened.ensures.puts }
 
 pub returns-in_err-outcomes-clause-puts : goal.returns-in_err-outcomes-clause-puts
 returns-in_err-outcomes-clause-puts g c =
     let V = g.R.Rig.view in
-    let way = contact_way c.args.is_fresh in
     let a = (V c.args.rig.now).calls in
     let b = (V c.open.new.rig).calls in
     let d = (V c.run_confirmed.new.rig).calls in
     let n = length c.args.commands.now in
     let chip = Some c.in_ok-opened.opened.chip.now in
-    let P : Bool → Type 0 = λ w. SendsAsRunFrom c.args.is_fresh c.args.table.now w n (V c.args.rig.now) (V c.run_confirmed.new.rig) in
+    let P : Bool → Type 0 = λ w. SendsAsRun c.args.table.now w n (V c.args.rig.now) (V c.run_confirmed.new.rig) in
     same_fault P _ c.from_residual-in_err-outcomes.result c.from_residual-in_err-outcomes.ensures.1
     (record {
       chip = chip;
       listed = c.in_ok-opened.ensures.coherent.chip;
-      calls = session_joins chip (byte_of way) (limit_of way) _ (most_of_reaching (limit_of way)) (most_of_confirming + n * most_of_command) a b d (session_of_any chip (byte_of way) (limit_of way) true (most_of_reaching (limit_of way)) a b c.in_ok-opened.ensures.puts) c.in_err-outcomes.ensures.puts;
+      calls = session_joins chip 0x7F 131072 _ (most_of_reaching 131072) (most_of_confirming + n * most_of_command) a b d (session_of_any chip 0x7F 131072 true (most_of_reaching 131072) a b c.in_ok-opened.ensures.puts) c.in_err-outcomes.ensures.puts;
     })
 
 pub returns-clause-puts : goal.returns-clause-puts
 returns-clause-puts g c =
     let V = g.R.Rig.view in
-    let way = contact_way c.args.is_fresh in
     let a = (V c.args.rig.now).calls in
     let b = (V c.open.new.rig).calls in
     let d = (V c.run_confirmed.new.rig).calls in
@@ -96,7 +93,7 @@ returns-clause-puts g c =
     record {
       chip = chip;
       listed = c.in_ok-opened.ensures.coherent.chip;
-      calls = session_joins chip (byte_of way) (limit_of way) true (most_of_reaching (limit_of way)) (most_of_confirming + n * most_of_command) a b d (session_of_any chip (byte_of way) (limit_of way) true (most_of_reaching (limit_of way)) a b c.in_ok-opened.ensures.puts) c.in_ok-outcomes.ensures.puts;
+      calls = session_joins chip 0x7F 131072 true (most_of_reaching 131072) (most_of_confirming + n * most_of_command) a b d (session_of_any chip 0x7F 131072 true (most_of_reaching 131072) a b c.in_ok-opened.ensures.puts) c.in_ok-outcomes.ensures.puts;
     }
 
 pub returns-clause-order : goal.returns-clause-order
@@ -115,7 +112,7 @@ returns-clause-order g c =
       chip = c.in_ok-opened.opened.chip.now;
       listed = c.in_ok-opened.ensures.coherent.chip;
       board = (unrefused-fits c.in_ok-opened.opened.chip.now l.state c.in_ok-opened.ensures.coherent.fits).board;
-      does = (reached.0, reached.1, done.0, (done.1.0, done.1.1, (map outcome_data c.in_ok-outcomes.outcomes.items, c.run_confirmed.new.journal.state, done.1.2)), settled_then (contact_way c.args.is_fresh) l.is_torn (asking_steps reached.0 reached.1 _) done.0 a b d refl reached.2 done.2.acts);
+      does = (reached.0, reached.1, done.0, (done.1.0, done.1.1, (map outcome_data c.in_ok-outcomes.outcomes.items, c.run_confirmed.new.journal.state, done.1.2)), settled_then contact_way l.is_torn (asking_steps reached.0 reached.1 _) done.0 a b d refl reached.2 done.2.acts);
     }
 
 pub returns-clause-told : goal.returns-clause-told
@@ -134,14 +131,14 @@ returns-clause-told g c =
       chip = c.in_ok-opened.opened.chip.now;
       listed = c.in_ok-opened.ensures.coherent.chip;
       board = (unrefused-fits c.in_ok-opened.opened.chip.now l.state c.in_ok-opened.ensures.coherent.fits).board;
-      does = (reached.0, reached.1, done.0, (done.1.0, done.1.1, (c.run_confirmed.new.journal.state, done.1.2)), settled_then (contact_way c.args.is_fresh) l.is_torn (asking_steps reached.0 reached.1 _) done.0 a b d refl reached.2 done.2.acts);
+      does = (reached.0, reached.1, done.0, (done.1.0, done.1.1, (c.run_confirmed.new.journal.state, done.1.2)), settled_then contact_way l.is_torn (asking_steps reached.0 reached.1 _) done.0 a b d refl reached.2 done.2.acts);
     }
 
 pub returns-in_err-opened-clause-stops : goal.returns-in_err-opened-clause-stops
 returns-in_err-opened-clause-stops g c =
     let V = g.R.Rig.view in
     let cs = commands_in c.args.commands.now in
-    let P : Fault → Type 0 = λ e. RunStopsFrom c.args.is_fresh c.args.table.now cs (V c.args.rig.now) (V c.open.new.rig) e in
+    let P : Fault → Type 0 = λ e. RunStops c.args.table.now cs (V c.args.rig.now) (V c.open.new.rig) e in
     at_fault P _ c.from_residual.result c.from_residual.ensures.1 (inl (λ torn. c.in_err-opened.ensures.stops torn))
 
 pub returns-in_err-check_commands-clause-stops : goal.returns-in_err-check_commands-clause-stops
@@ -150,9 +147,9 @@ returns-in_err-check_commands-clause-stops g c =
     let a = V c.args.rig.now in
     let b = V c.open.new.rig in
     let cs = commands_in c.args.commands.now in
-    let P : Fault → Type 0 = λ e. RunStopsFrom c.args.is_fresh c.args.table.now cs a b e in
+    let P : Fault → Type 0 = λ e. RunStops c.args.table.now cs a b e in
     at_fault P _ c.from_residual-in_err-check_commands.result c.from_residual-in_err-check_commands.ensures.1
-    (inl (λ torn. told_stops (contact_way c.args.is_fresh) _ torn _ a b c.in_err-check_commands.ensures.named (c.in_ok-opened.ensures.order torn)))
+    (inl (λ torn. told_stops contact_way _ torn _ a b c.in_err-check_commands.ensures.named (c.in_ok-opened.ensures.order torn)))
 
 pub returns-in_err-outcomes-clause-stops : goal.returns-in_err-outcomes-clause-stops
 returns-in_err-outcomes-clause-stops g c =
@@ -164,7 +161,7 @@ returns-in_err-outcomes-clause-stops g c =
     let chip = c.in_ok-opened.opened.chip.now in
     let cs = commands_in c.args.commands.now in
     let reached = c.in_ok-opened.ensures.order l.is_torn in
-    let P : Fault → Type 0 = λ e. RunStopsFrom c.args.is_fresh c.args.table.now cs a d e in
+    let P : Fault → Type 0 = λ e. RunStops c.args.table.now cs a d e in
     at_fault P _ c.from_residual-in_err-outcomes.result c.from_residual-in_err-outcomes.ensures.1
     (inr (record {
       journal = l;
@@ -173,15 +170,14 @@ returns-in_err-outcomes-clause-stops g c =
       chip = chip;
       listed = c.in_ok-opened.ensures.coherent.chip;
       board = (unrefused-fits c.in_ok-opened.opened.chip.now l.state c.in_ok-opened.ensures.coherent.fits).board;
-      does = (reached.0, reached.1, reached_stops (contact_way c.args.is_fresh) chip.id reached.0 reached.1 (IsConfirmedInPart chip (AreBegun c.in_err-outcomes.field-0.0 chip cs l.state)) _ l.is_torn a b d reached.2 c.in_err-outcomes.ensures.stops);
+      does = (reached.0, reached.1, reached_stops contact_way chip.id reached.0 reached.1 (IsConfirmedInPart chip (AreBegun c.in_err-outcomes.field-0.0 chip cs l.state)) _ l.is_torn a b d reached.2 c.in_err-outcomes.ensures.stops);
     }))
 
 pub returns-in_err-opened-clause-puts : goal.returns-in_err-opened-clause-puts
 returns-in_err-opened-clause-puts g c =
     let V = g.R.Rig.view in
-    let way = contact_way c.args.is_fresh in
     let a = (V c.args.rig.now).calls in
     let b = (V c.open.new.rig).calls in
     let n = length c.args.commands.now in
-    let P : Bool → Type 0 = λ w. GoesOn (IsSession None (byte_of way) (limit_of way) w (most_of_run c.args.is_fresh n)) a b in
-    record { chip = None; listed = tt; calls = same_fault P _ c.from_residual.result c.from_residual.ensures.1 (session_longer None (byte_of way) (limit_of way) _ (most_of_reaching (limit_of way)) (most_of_run c.args.is_fresh n) a b (omega arith) c.in_err-opened.ensures.puts) }
+    let P : Bool → Type 0 = λ w. GoesOn (IsSession None 0x7F 131072 w (most_of_run n)) a b in
+    record { chip = None; listed = tt; calls = same_fault P _ c.from_residual.result c.from_residual.ensures.1 (session_longer None 0x7F 131072 _ (most_of_reaching 131072) (most_of_run n) a b (omega arith) c.in_err-opened.ensures.puts) }

@@ -3,17 +3,17 @@ use Rattle.stm_session.specs.Order.{untold}
 use Rattle.stm_session.specs.Told.{AreGivenBackTold, AreTakenTold, ToldBy}
 use Rattle.stm_session.specs.UndoOrder.{AreUndoneInOrder, AreTakenWhole}
 use Rattle.stm_session.proofs.KeptUndoes.{undo_does_as}
-use Rattle.stm_session.proofs.undoing.undo_from.Goals as goal
+use Rattle.stm_session.proofs.undoing.undo.Goals as goal
 
 pub returns-in-Ok-clause-order : goal.returns-in-Ok-clause-order
 returns-in-Ok-clause-order g c some =
     let V = g.R.Rig.view in
     let returned = c.in-Ok.returned in
-    undo_does_as c.args.is_fresh c.args.table.now (V c.args.rig.now) (V c.undo_as.new.rig) (AreTakenWhole false untold returned) (AreUndoneInOrder false returned.segments) (λ chip s steps are. are.0) (c.in-Ok.ensures.order some)
+    undo_does_as c.args.table.now (V c.args.rig.now) (V c.undo_as.new.rig) (AreTakenWhole false untold returned) (AreUndoneInOrder false returned.segments) (λ chip s steps are. are.0) (c.in-Ok.ensures.order some)
 
 pub returns-in-Ok-clause-given : goal.returns-in-Ok-clause-given
 returns-in-Ok-clause-given g c some =
     let V = g.R.Rig.view in
     let returned = c.in-Ok.returned in
     let Told = ToldBy V (V c.args.rig.now) (V c.undo_as.new.rig) in
-    undo_does_as c.args.is_fresh c.args.table.now (V c.args.rig.now) (V c.undo_as.new.rig) (AreGivenBackTold false Told returned) (AreTakenTold Told returned.segments) (λ chip s steps are. are.0) (c.in-Ok.ensures.given some)
+    undo_does_as c.args.table.now (V c.args.rig.now) (V c.undo_as.new.rig) (AreGivenBackTold false Told returned) (AreTakenTold Told returned.segments) (λ chip s steps are. are.0) (c.in-Ok.ensures.given some)
