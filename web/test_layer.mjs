@@ -5,15 +5,15 @@
 import * as fs from 'node:fs';
 import * as os from 'node:os';
 import { pathToFileURL } from 'node:url';
+import { tryImages } from './test_images.mjs';
 
 const folder = pathToFileURL(`${process.argv[2] ?? new URL('page', import.meta.url).pathname}/`);
 const from = (name) => import(new URL(name, folder));
 const { E, Fault } = await from('faults.js');
 const { callsOf } = await from('program.js');
 const { Store, inMemory, JOURNALS } = await from('store.js');
-const { Line } = await from('line.js');
+const { Line, portOf } = await from('line.js');
 const { stepsOf, WIRINGS } = await from('wiring.js');
-const { imageOf } = await from('image.js');
 
 let held = 0, all = 0;
 const same = (one, other) => JSON.stringify(one, said) === JSON.stringify(other, said);
@@ -93,6 +93,7 @@ const disks = (count) => Array.from({ length: count }, () => inMemory());
   env.close(copy);
   holds('closed, it is free', [env.flock(more, 6), env.close(copy), it.fault()], [0, -1, E.BADF]);
   holds('shortened', [env.ftruncate(more, 2n), it.told(more).size], [0, 2]);
+  holds('closed and removed, its place is free', Array.from({ length: 5 }, () => [env.close(it.open('/boards/x', 1 | CREATE)), env.unlink(it.path('/boards/x'))]).flat(), Array(10).fill(0));
   holds('emptied as it is opened', [it.told(it.open('/boards/a', 1 | TRUNCATE)).size], [0]);
   holds('a folder', [it.told(0, '/boards').mode, it.open('/boards', 1), it.fault(), env.rattle_open_dir_at(-100, it.path('/boards/a')), it.fault()], [4, -1, E.ISDIR, -1, E.NOTDIR]);
   const second = it.open('/boards/second', 2 | CREATE);
@@ -263,6 +264,18 @@ function port() {
   holds('closed, which isn\'t why it ended', [await ends(env.close(fd)), board.told.at(-1), line.ended], [0, 'closed', undefined]);
   holds('and all that was sent went out before', board.sent, [0x7f, 0, 255]);
 }
+{
+  const board = port(), line = new Line(board, 9600, undefined, undefined, 4);
+  for (const part of [[1, 2, 3], [4, 5, 6]]) {
+    await line.connect();
+    line.send(Uint8Array.from(part));
+    await line.close();
+  }
+  holds('a stop, behind so many bytes of all connections', [line.ended, line.sent, board.sent], ['stopped', 4, [1, 2, 3, 4]]);
+  const adapter = (usbVendorId, usbProductId) => ({ getInfo: () => ({ usbVendorId, usbProductId }) }), [one, other, same] = [adapter(1, 2), adapter(1, 3), adapter(1, 2)];
+  const chosen = (...ports) => { try { return ports.indexOf(portOf(ports, one.getInfo())); } catch (thrown) { return thrown.message.slice(0, 12); } };
+  holds('the adapter of that kind, which may be plugged in anew; not one of two, nor another', [chosen(other, one), chosen(same), chosen(one, other, same), chosen(other)], [1, 0, 'two adapters', 'the adapter ']);
+}
 for (const [what, over, sum] of [['a wrong parity', (board) => board.into.error(new DOMException('x', 'ParityError')), -1n], ['a lost adapter', (board) => board.into.error(new DOMException('x', 'NetworkError')), -1n],
   ['an end', (board) => board.into.close(), 0n]]) {
   const board = port(), line = new Line(board, 9600), it = machine({ line }), fd = it.env.socket(1, 1, 0);
@@ -289,27 +302,7 @@ for (const [what, over, sum] of [['a wrong parity', (board) => board.into.error(
   holds('nobody is served', [it.env.bind(fd, 0n, 0), it.fault(), it.env.listen(fd, 1), it.env.accept4(fd, 0n, 0n, 0)], [-1, E.NOSYS, -1, -1]);
 }
 
-// images
-{
-  const one = imageOf('a.hex', bytesOf(':020000040800F2\n:04000000010203 04\n'.replace(' ', '')));
-  holds('HEX is handed on as it is', [one.isRaw, one.says], [false, 'a.hex: Intel HEX, 4 bytes from 08000000 to 08000003']);
-  holds('raw bytes', [imageOf('a.bin', bytesOf('xyz')).isRaw, imageOf('a.bin', bytesOf('xyz')).says], [true, 'a.bin: 3 raw bytes']);
-  // two segments, stored elsewhere than they run; the second one over an end of 64 KiB
-  const elf = new Uint8Array(200), head = new DataView(elf.buffer);
-  elf.set([0x7f, 0x45, 0x4c, 0x46, 1, 1]);
-  for (const [at, value] of [[18, 40], [28, 52], [42, 32], [44, 2]]) head.setUint16(at, value, true);
-  [[1, 120, 0x20000000, 0x08000010, 3], [1, 130, 0x20000100, 0x0800FFFE, 4]].forEach((words, i) => words.forEach((it, k) => head.setUint32(52 + 32 * i + 4 * k, it, true)));
-  elf.set([1, 2, 3], 120);
-  elf.set([4, 5, 6, 7], 130);
-  holds('ELF becomes HEX', new TextDecoder().decode(imageOf('a.elf', elf).bytes),
-    ':020000040800F2\n:03001000010203E7\n:020000040800F2\n:02FFFE000405F8\n:020000040801F1\n:020000000607F1\n:00000001FF\n');
-  const why = (it) => { try { return imageOf('a', it).says; } catch (thrown) { return thrown.message; } };
-  elf[18] = 243;
-  holds('an ELF for RISC-V is refused', why(elf), 'this ELF isn\'t for ARM');
-  elf[4] = 2;
-  holds('a 64-bit ELF is refused', why(elf), 'this ELF isn\'t one of 32 bits with the low byte first');
-  holds('so is what nothing can be', [why(new Uint8Array()), why(new Uint8Array(2 ** 21)), why(new Uint8Array(2 ** 21 + 1))], ['it has no bytes', 'a: 2097152 raw bytes', 'it is larger than any flash of these chips']);
-}
+tryImages(await from('image.js'), await from('chips.js'), await from('difference.js'), holds);
 
 if (process.argv[3]) {
   const asked = WebAssembly.Module.imports(new WebAssembly.Module(fs.readFileSync(process.argv[3]))).map((it) => it.name).sort();

@@ -7,6 +7,7 @@ what is here, without a browser. The images are compared with objcopy's, the wir
 """
 
 import concurrent.futures
+import gzip
 import importlib.machinery
 import importlib.util
 import json
@@ -57,6 +58,7 @@ FAULTS = {
         "a sync is left out": ("this.at(number).node?.flush?.(); return 0;", "return 0;"),
         "a sync of data is left out": ("fdatasync: flush", "fdatasync: () => 0"),
         "a write counts as whole": ("return BigInt(put);", "return size;"),
+        "a short read counts as whole": ("return BigInt(got);", "return size;"),
         "a full disk is no fault": ("if (!put && bytes.length) throw new Fault(E.NOSPC);", ""),
         "what is added lies anywhere": ("if (it.appends) it.at = node.size();", ""),
         "a file that may not be written is": ("this.file(number, READ_ONLY), bytes", "this.file(number, -1), bytes"),
@@ -66,6 +68,7 @@ FAULTS = {
         "a lock is anybody's": ("if (node.holder && node.holder !== it) throw new Fault(E.AGAIN);", ""),
         "a lock stays for ever": ("if (it.node?.holder === it) it.node.holder = undefined;", ""),
         "a lock goes with a copy": ("    if (--it.uses) return undefined;\n", "    --it.uses;\n"),
+        "a file is never closed": ("    if (it.kind === 'file') it.node?.close();\n", ""),
         "a terminal": ("isatty: () => 0", "isatty: () => 1"),
         "a link is a move": ("link: () => { throw new Fault(E.PERM); }", "link: (a, b) => { store.rename(path(a), path(b)); return 0; }"),
         "a path is as it was given": ("real = STREAMS.includes(wanted) ? wanted : store.real(wanted)", "real = wanted"),
@@ -108,6 +111,10 @@ FAULTS = {
         "who closes it is told that it ended": ("if (this.isOpen) this.end('closed');", "this.end('closed');"),
         "no reset": ("if (this.wiring) await this.play(this.wiring.entry);", ""),
         "no waits in a reset": ("if (wait) await", "if (!signals) void"),
+        "a stop sends all": ("bytes.subarray(0, this.stopAt - this.sent)", "bytes"),
+        "a stop ends nothing": ("if (part.length < bytes.length) this.end('stopped');", ""),
+        "one of two equal adapters": ("if (same.length === 1)", "if (same.length)"),
+        "any adapter": ("it.usbProductId === info.usbProductId", "true"),
     },
     "wiring.js": {
         "a raised signal is high": ("isHigh === pins[pin].isInverted", "isHigh !== pins[pin].isInverted"),
@@ -127,6 +134,17 @@ FAULTS = {
         "what is larger than any flash is read": ("bytes.length > 2 ** 21", "false"),
         "where it runs is where it is stored": ("const [kind, from, , to, size]", "const [kind, from, to, , size]"),
         "the last record of 64 KiB goes on": ("if (high !== place >>> 16)", "if (high < 0)"),
+        "a segment has no end": ("kind === 4 ? Infinity : 65536]", "Infinity]"),
+    },
+    "chips.js": {
+        "pages that a smaller part lacks": ("it.at + it.size <= ends", "it.at < ends"),
+        "each page is the first": ("i++, at += size", "i++"),
+        "the last page is enough": ("at + size - it.at >= least ? i", "true ? i"),
+    },
+    "difference.js": {
+        "what an image leaves is written": ("bytes[i] >= 0 && holds", "holds"),
+        "a page has its neighbour's bytes": ("Math.min(at + size - low, ", "Math.min(at + size + 1 - low, "),
+        "an image of any length": ("!(high - low <= MOST) || ", ""),
     },
 }
 
@@ -161,7 +179,7 @@ def bytes_of_hex(text):
     return found
 
 
-class Layer(unittest.TestCase):
+class Tried(unittest.TestCase):
     def setUp(self):
         for tool in ("node", "gcc", "tsc", "objcopy", "rt"):
             if shutil.which(tool) is None:
@@ -173,6 +191,23 @@ class Layer(unittest.TestCase):
     def try_page(self, folder, *words):
         return run([*NODE, f"{HERE}/test_layer.mjs", folder, *words])
 
+    def assertHolds(self, ran):
+        self.assertEqual((ran.returncode, ran.stderr), (0, ""), ran.stdout[:2000])
+        self.assertRegex(ran.stdout, r"\A(\d+) of \1 hold\n\Z")
+
+
+class Module(Tried):
+    """What asks for the module of bin/web."""
+
+    def test_asks_for_what_is_answered(self):
+        self.assertHolds(self.try_page(f"{HERE}/page", MODULE))
+
+    def test_is_small(self):
+        """As a server sends it, each file by itself."""
+        self.assertLessEqual(sum(len(gzip.compress(it.read_bytes())) for it in pathlib.Path(MODULE).parent.iterdir()), 520_000)
+
+
+class Layer(Tried):
     def try_memory(self, path, *flags):
         program = f"{self.room}/{os.path.basename(os.path.dirname(path))}-memory"
         made = run(["gcc", "-O2", *flags, f'-DMEMORY="{path}"', "-o", program, f"{HERE}/test_memory.c"])
@@ -191,12 +226,8 @@ class Layer(unittest.TestCase):
             return None
         return self.try_memory(f"{folder}/{name}", "-w") if name.endswith(".c") else self.try_page(folder, "", "--first")
 
-    def assertHolds(self, ran):
-        self.assertEqual((ran.returncode, ran.stderr), (0, ""), ran.stdout[:2000])
-        self.assertRegex(ran.stdout, r"\A(\d+) of \1 hold\n\Z")
-
     def test_the_page(self):
-        self.assertHolds(self.try_page(f"{HERE}/page", MODULE))
+        self.assertHolds(self.try_page(f"{HERE}/page"))
 
     def test_memory(self):
         self.assertHolds(self.try_memory(f"{HERE}/memory.c", "-Wall", "-Wextra", "-Werror"))
@@ -255,11 +286,13 @@ class Layer(unittest.TestCase):
         segments = [(0x0800FFF3, 0x0800FFF3, some.randbytes(1000)), (0x08000001, 0x08000001, some.randbytes(1)), (0x08020000, 0x20000000, some.randbytes(77))]
         pathlib.Path(f"{self.room}/made.elf").write_bytes(elf(segments))
         script = f"""import {{ imageOf }} from '{HERE}/page/image.js'; import * as fs from 'node:fs';
-            const it = imageOf('a', fs.readFileSync('{self.room}/made.elf')); console.log(`${{it.says}}\n${{new TextDecoder().decode(it.bytes)}}`);"""
-        says, made = run([*NODE, "--input-type=module", "-e", script]).stdout.split("\n", 1)
+            const it = imageOf('a', fs.readFileSync('{self.room}/made.elf')); console.log(`${{it.says}}
+${{JSON.stringify(it.parts.map(({{ at, bytes }}) => [at, [...bytes]]))}}\n${{new TextDecoder().decode(it.bytes)}}`);"""
+        says, parts, made = run([*NODE, "--input-type=module", "-e", script]).stdout.split("\n", 2)
         self.assertEqual(says, "a: ELF, 1078 bytes from 08000001 to 0802004C")
         ours = bytes_of_hex(made)
         self.assertEqual(ours, {at + i: it for at, _, data in segments for i, it in enumerate(data)})
+        self.assertEqual(ours, {at + i: it for at, data in json.loads(parts) for i, it in enumerate(data)})
         # objcopy knows sections alone: each segment is handed to it as one
         theirs = {}
         for i, (at, _, data) in enumerate(segments):

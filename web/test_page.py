@@ -3,214 +3,37 @@ disks, two tabs, and what a reader sees.
 
     python3 web/test_page.py
 
-The page is bin/web, the board the simulator of STMFLASH, bin/stmflash-unproved where that is unset. STMFLASH_WEB_SAMPLES is how many
-moments of each kind of stop are tried, 3 without it. What a test waits for is never a time: a state of the page, or the bytes of the
-flash.
+served_page.py says what it takes. STMFLASH_WEB_SEED is the seed of all that is drawn.
 """
 
-import base64
 import concurrent.futures
 import hashlib
 import os
 import pathlib
-import random
 import shutil
 import socket
 import subprocess
 import sys
-import tempfile
 import time
 import tomllib
 import unittest
 
-HERE = os.path.dirname(os.path.abspath(__file__))
-TOP = os.path.dirname(HERE)
-sys.path.insert(0, HERE)
-
 from browser import PATIENCE, Browser, Firefox
+from served_page import JOURNAL, PAGES, PROGRAM, QUIET, READY, SAMPLES, SEED, TOP, UNIQUE, ServedPage, held, named, wait
 from test_layer import elf
-
-PAGE = f"{TOP}/bin/web"
-PROGRAM = os.path.abspath(os.environ.get("STMFLASH") or f"{TOP}/bin/stmflash-unproved")
-SAMPLES = int(os.environ.get("STMFLASH_WEB_SAMPLES", "3"))
-SEED = int(os.environ.get("STMFLASH_WEB_SEED", "0")) or random.SystemRandom().randrange(1, 1 << 30)
-UNIQUE = "112233445566778899AABBCC"
-JOURNAL = f"{UNIQUE}.journal"
-# the chip of the tables that has 128 pages of 1,024 bytes; an image of five of these
-SIZE, PAGES = 131072, 5
-READY = "document.body?.dataset.ready === 'yes' && !stmflash.state.busy"
-WAIT = 1000
-QUIET = "!stmflash.state.busy && document.getElementById('doing').hidden"
+from test_newcomer import Newcomer
+from test_stops import InFirefox
+from test_trial import Trial
 
 
-def held(path):
-    with open(path, "rb") as file:
-        return file.read()
-
-
-def named(given):
-    """A file of the page, as JavaScript makes it."""
-    name, data = given
-    return f"new File([Uint8Array.from(atob('{base64.b64encode(data).decode()}'), (it) => it.charCodeAt(0))], '{name}')"
-
-
-class InFirefox(unittest.TestCase):
-    """A board, a server and a browser for each test: what both browsers do."""
-
-    browser_of, samples = Firefox, SAMPLES // 3
-
-    def setUp(self):
-        room = tempfile.TemporaryDirectory(prefix="stmflash-web-", ignore_cleanup_errors=True)
-        self.addCleanup(room.cleanup)
-        self.room, self.some = room.name, random.Random(f"{SEED} {self._testMethodName}")
-        self.flash, self.folder, self.socket = f"{self.room}/flash", f"{self.room}/page", f"{self.room}/board"
-        shutil.copytree(PAGE, self.folder)
-        self.before = self.some.randbytes(SIZE)
-        pathlib.Path(self.flash).write_bytes(self.before)
-        words = [f"{HERE}/serve", self.folder, "--program", PROGRAM, "--flash", self.flash, "--socket", self.socket, "--pace", "460800", "--port", "0"]
-        self.server = subprocess.Popen(words, stdout=subprocess.PIPE, text=True)
-        self.addCleanup(self.end_server)
-        self.address = self.server.stdout.readline().strip()
-        self.image = bytes(4) + self.some.randbytes(PAGES * 1024 - 104)  # a colon in front would make HEX of it
-        self.after = self.image + self.before[len(self.image):]
-        self.begin_browser()
-        self.addCleanup(lambda: self.browser.kill())
-
-    def end_server(self):
-        self.server.terminate()
-        try:
-            self.server.wait(PATIENCE)
-        except subprocess.TimeoutExpired:
-            self.server.kill()
-            self.server.wait()
-        self.server.stdout.close()
-
-    def begin_browser(self):
-        self.browser = self.browser_of(f"{self.room}/profile")
-
-    def tab(self, **context):
-        return self.ready(self.browser.tab(self.address, **context))
-
-    def ready(self, tab):
-        tab.until(READY, "the page isn't ready")
-        # a machine that is busy with other things answers late
-        tab.js(f"stmflash.state.wait = {WAIT}, stmflash.take({named(('a.bin', self.image))})")
-        return tab
-
-    def assertFlash(self, wanted, why=""):
-        """The simulator keeps its flash in the file once its client has gone."""
-        ends = time.monotonic() + PATIENCE
-        while held(self.flash) != wanted and time.monotonic() < ends:
-            time.sleep(0.05)
-        self.assertTrue(held(self.flash) == wanted, f"{why}: the flash is another at {[i for i, (one, two) in enumerate(zip(held(self.flash), wanted)) if one != two][:20]}")
-
-    def click(self, tab, selector):
-        tab.js(f"document.getElementById('told').hidden = true, document.querySelector({selector!r}).click()")
-
-    def choose(self, tab, field, value):
-        tab.js(f"document.getElementById('{field}').value = '{value}', document.getElementById('{field}').onchange()")
-
-    def do(self, tab, selector, wanted="^Done: ", why=""):
-        """Clicks, and waits until all is done; what was told then, which has to be so."""
-        self.click(tab, selector)
-        tab.until(QUIET + " && !document.getElementById('told').hidden")
-        told = tab.js("document.getElementById('told').innerText")
-        self.assertRegex(told, wanted, f"{why}; the page says: {tab.said()}")
-        return told
-
-    def journal_of(self, tab, board=UNIQUE):
-        return base64.b64decode(tab.js(f"stmflash.ask('get', {{ path: '/boards/{board}.journal' }}).then((it) => btoa(String.fromCharCode(...it.bytes)))"))
-
-    def hold_write(self, tab):
-        """Begins a write, and waits until the board has sent so many bytes of it, and then no more: it is in the middle of its pages."""
-        tab.js(f"stmflash.state.plan = {{ holdAt: {self.some.randrange(1500, 4000)} }}")
-        self.click(tab, "#write")
-        tab.until("stmflash.state.isHeld")
-
-    def stop_write(self, tab, moment):
-        """Begins a write, and waits until it has done so many steps."""
-        tab.js("document.getElementById('bar').removeAttribute('value')")
-        self.click(tab, "#write")
-        tab.until(f"document.getElementById('bar').hasAttribute('value') && document.getElementById('bar').value >= {moment} || !document.getElementById('told').hidden")
-
-    def stopped(self, end):
-        """Stops a write at any moment: in the midst of its pages, or behind one of its steps. What undoes it is another tab's."""
-        for i in range(self.samples):
-            tab, moment = self.tab(), self.some.randrange(2 * PAGES)
-            if i % 2:
-                self.stop_write(tab, moment)
-            else:
-                self.hold_write(tab)
-            end(tab)
-            tab = self.tab()
-            self.assertTrue(i % 2 or tab.js("!document.getElementById('stopped').hidden"), f"stop {i} wasn't in mid-write: {tab.said()}")
-            self.undo(tab, f"stop {i}, at {moment}")
-            tab.close()
-
-    def undo(self, tab, why):
-        """Undoes by the one button that the page shows behind a stop, or by a journal's where the write had ended; and sees the flash."""
-        if tab.js("!document.getElementById('stopped').hidden"):
-            self.assertIn(UNIQUE, tab.js("document.getElementById('stopped-says').textContent"))
-            self.do(tab, "#stopped-undo", r"^Done: undone \d", why)
-        elif tab.js("stmflash.state.names.length") and not tab.js("document.getElementById('journals').innerText.includes('0 can be undone')"):
-            tab.js("void (window.undone = stmflash.acts.undo(stmflash.state.names[0], true))")
-            self.assertEqual(tab.js("undone.then((it) => it.status)"), 0, f"{why}; the page says: {tab.said()}")
-        self.assertFlash(self.before, why)
-        self.assertTrue(tab.js("document.getElementById('stopped').hidden"))
-
-    def test_a_write_and_its_undo(self):
-        tab = self.tab()
-        self.do(tab, "#ask", r"^Done: The board answered\.$")
-        self.assertIn(UNIQUE, tab.js("document.getElementById('chip').innerText"))
-        self.do(tab, "#write", "^Done: segment 1: 5 pages written")
-        self.assertFlash(self.after)
-        self.do(tab, "#compare", r"^Done: The board has just these bytes\.")
-        # undo shows first what it will undo, and does nothing where it may not
-        self.click(tab, "#journals button")
-        tab.until("document.getElementById('sure').open")
-        self.assertIn("segment 1: ended, 5 pages: 0-4", tab.js("document.getElementById('sure-lines').innerText"))
-        self.click(tab, "#sure button[value=no]")
-        tab.until("!document.getElementById('sure').open && " + QUIET)
-        self.assertEqual(held(self.flash), self.after)
-        self.click(tab, "#journals button")
-        tab.until("document.getElementById('sure').open")
-        # the end of the question before may be told now
-        tab.js("document.getElementById('sure').dispatchEvent(new Event('close'))")
-        self.click(tab, "#sure-yes")
-        tab.until(QUIET + " && document.getElementById('told').innerText.includes('undone 1')")
-        self.assertFlash(self.before)
-
-    def test_the_tab_is_closed_at_any_moment(self):
-        self.stopped(lambda tab: tab.close())
-
-    def test_the_browser_is_killed_at_any_moment(self):
-        def end(_):
-            self.browser.kill()
-            self.begin_browser()
-
-        self.stopped(end)
-
-    def test_a_wrong_byte_and_a_lost_port(self):
-        tab = self.tab()
-        for kind, says in (("wrongAt", "A byte came wrong"), ("lostAt", "The adapter is gone")):
-            for i in range(self.samples):
-                at = self.some.randrange(20, 10 * 1024)
-                with self.subTest(f"{kind} {at}"):
-                    tab.js(f"stmflash.state.plan = {{ {kind}: {at} }}")
-                    self.do(tab, "#write", f"(?s)^Not done: .*{says}")
-                    tab.js("stmflash.state.plan = undefined")
-                    self.undo(tab, f"{kind} {at}")
-
-    def test_two_tabs(self):
-        one = self.tab()
-        two = self.browser.tab(self.address)
-        two.until("document.getElementById('state')?.textContent.includes('open in another tab')")
-        self.assertEqual(two.js("document.getElementById('write').disabled"), True)
-        self.do(one, "#write")
-        one.close()
-        two.until(READY, "the second tab doesn't go on")
-        self.assertIn("1 can be undone", two.js("document.getElementById('journals').innerText"))
-        self.undo(two, "two tabs")
+# texts that stand out too little from what is behind them, by WCAG's ratio of luminances
+FAINT = """[...document.querySelectorAll('body *')].filter((it) => it.offsetParent && !it.disabled && [...it.childNodes].some((part) => part.nodeType === 3 && part.data.trim())).filter((it) => {
+    const luminance = (colour) => colour.match(/[\\d.]+/g).slice(0, 3).map((it) => it / 255).map((it) => (it <= 0.03928 ? it / 12.92 : ((it + 0.055) / 1.055) ** 2.4)).reduce((sum, it, i) => sum + it * [0.2126, 0.7152, 0.0722][i], 0.05);
+    let behind = it;
+    while (getComputedStyle(behind).backgroundColor === 'rgba(0, 0, 0, 0)') behind = behind.parentElement;
+    const [one, other] = [getComputedStyle(it).color, getComputedStyle(behind).backgroundColor].map(luminance);
+    return Math.max(one, other) / Math.min(one, other) < 4.5;
+}).map((it) => it.textContent)"""
 
 
 class Page(InFirefox):
@@ -221,6 +44,7 @@ class Page(InFirefox):
     def test_offline(self):
         tab = self.tab()
         tab.js("navigator.serviceWorker.ready.then(() => 1)")
+        self.assertEqual(tab.call("Page.getInstallabilityErrors")["installabilityErrors"], [])
         self.do(tab, "#write")
         self.end_server()
         tab.close()
@@ -326,7 +150,7 @@ class Page(InFirefox):
         pathlib.Path(f"{self.room}/image").write_bytes(self.image)
 
         def call(*words):
-            ran = subprocess.run([PROGRAM, *words[:1], "--table", f"{TOP}/chips.toml", "--device", self.socket, "--wait", str(WAIT), "--journal", path, *words[1:]],
+            ran = subprocess.run([PROGRAM, *words[:1], "--table", f"{TOP}/chips.toml", "--device", self.socket, "--wait", wait(), "--journal", path, *words[1:]],
                                  stdin=subprocess.DEVNULL, capture_output=True, text=True, timeout=PATIENCE)
             self.assertEqual(ran.returncode, 0, ran.stderr)
 
@@ -363,6 +187,9 @@ class Page(InFirefox):
         for width in (320, 720):
             tab.call("Emulation.setDeviceMetricsOverride", width=width, height=900, deviceScaleFactor=1, mobile=False)
             self.assertLessEqual(tab.js("document.documentElement.scrollWidth"), width)
+        for scheme in ("light", "dark"):
+            tab.call("Emulation.setEmulatedMedia", features=[{"name": "prefers-color-scheme", "value": scheme}])
+            self.assertEqual(tab.js(f"matchMedia('(prefers-color-scheme: {scheme})').matches && ({FAINT})"), [])
         # by the keyboard alone: tabs come to each of them, in the order of the page
         tab.js("document.activeElement.blur()")
         reached = []
@@ -372,7 +199,7 @@ class Page(InFirefox):
             if (it := tab.js("document.activeElement.id || document.activeElement.textContent")) in reached:
                 break
             reached.append(it)
-        wanted = ["port", "baud", "wiring", "fresh", "kind", "board", "ask", "file", "address", "write", "compare", "upload", "read", "form"]
+        wanted = ["port", "baud", "wiring", "fresh", "kind", "board", "ask", "file", "address", "write", "compare", "upload", "read", "form", "try"]
         self.assertEqual([it for it in reached if it in wanted], wanted)
 
     def test_a_file_that_is_no_image(self):
@@ -435,7 +262,7 @@ class Page(InFirefox):
         self.hold_write(tab)
         tab.reload()
         self.ready(tab)
-        self.do(tab, "#write", "^Not done: unfinished or bad: [^-]*; undo first")
+        self.assertIn(f"Download {JOURNAL}", self.do(tab, "#write", "^Not done: unfinished or bad: [^-]*; undo first"))
         self.undo(tab, "in a private window")
         self.assertNotIn('{"', tab.js("document.getElementById('said').textContent"))
         self.browser.call("Target.disposeBrowserContext", **context)
@@ -452,14 +279,15 @@ def run(name):
 
 
 def main():
-    """Two at once, since each mostly waits. One that failed is run once more when all have ended, with nothing beside it, and this is told."""
+    """Two at once, since each mostly waits. One that failed is run once more when all have ended, with nothing beside it, and this is told:
+    a machine that is busy with other things answers late."""
     os.environ["STMFLASH_WEB_SEED"] = str(SEED)
     print(f"web/test_page: seed {SEED}", flush=True)
-    kinds = [it for it in (Page, InFirefox) if it is Page or shutil.which(it.browser_of.program)]
-    if len(kinds) == 1:
+    kinds = [it for it in (Trial, Page, Newcomer, InFirefox) if shutil.which(it.browser_of.program)]
+    if InFirefox not in kinds:
         print(f"left out: the page in Firefox, there is no {Firefox.program}", flush=True)
     failed = [f"{kind.__name__}.{it}" for kind in kinds for it in unittest.defaultTestLoader.getTestCaseNames(kind)]
-    for at_once in (2, 1):
+    for at_once, os.environ["STMFLASH_WEB_WAIT"] in ((2, "500"), (1, "1000")):
         with concurrent.futures.ProcessPoolExecutor(at_once) as pool:
             failed = list(filter(None, pool.map(run, failed)))
     sys.exit(1 if failed else 0)

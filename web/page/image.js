@@ -39,30 +39,36 @@ export function hexOf(segments) {
   return `${out.join('')}:00000001FF\n`;
 }
 
-/** How many bytes a HEX has, and where.
+/** The bytes of a HEX, record by record: what it means where it is sound, which the program looks at.
  * @param {string} text */
-function rangeOfHex(text) {
-  let base = 0, count = 0, low = Infinity, high = 0;
+export function recordsOf(text) {
+  const found = [];
+  let base = 0, room = Infinity;
   for (const [, body] of text.matchAll(/:([0-9A-Fa-f]+)/g)) {
     const [size, kind, offset] = [body.slice(0, 2), body.slice(6, 8), body.slice(2, 6)].map((it) => parseInt(it, 16));
-    if (kind === 4 || kind === 2) base = parseInt(body.slice(8, 12), 16) * (kind === 4 ? 65536 : 16);
+    if (kind === 4 || kind === 2) [base, room] = [parseInt(body.slice(8, 12), 16) * (kind === 4 ? 65536 : 16), kind === 4 ? Infinity : 65536];
     if (kind === 1) break;
     if (kind !== 0 || !size) continue;
-    count += size;
-    low = Math.min(low, base + offset);
-    high = Math.max(high, base + offset + size);
+    const bytes = Uint8Array.from({ length: size }, (_, i) => parseInt(body.slice(8 + 2 * i, 10 + 2 * i), 16));
+    found.push({ at: base + offset, bytes: bytes.subarray(0, room - offset) });
+    // a segment goes on at its begin
+    if (offset + size > room) found.push({ at: base, bytes: bytes.subarray(room - offset) });
   }
-  return { count, low, high };
+  return found;
 }
 
-/** What the program is handed for a file, and a line on it.
+/** From where to where they lie.
+ * @param {{ at: number, bytes: Uint8Array }[]} parts */
+export const spanOf = (parts) => parts.reduce(({ low, high }, { at, bytes }) => ({ low: Math.min(low, at), high: Math.max(high, at + bytes.length) }), { low: Infinity, high: 0 });
+
+/** What the program is handed for a file, a line on it, and its bytes; of raw ones, as if they began at 0.
  * @param {string} name @param {Uint8Array} bytes */
 export function imageOf(name, bytes) {
   const isElf = [0x7f, 0x45, 0x4c, 0x46].every((it, i) => bytes[i] === it), isHex = bytes[0] === 0x3a;
   if (!bytes.length) throw new Error('it has no bytes');
   if (!isElf && !isHex && bytes.length > 2 ** 21) throw new Error('it is larger than any flash of these chips');
-  if (!isElf && !isHex) return { bytes, isRaw: true, says: `${name}: ${bytes.length} raw bytes` };
-  const text = isElf ? hexOf(segmentsOf(bytes)) : new TextDecoder().decode(bytes), { count, low, high } = rangeOfHex(text);
-  const where = count ? ` from ${hex(low)} to ${hex(high - 1)}` : '';
-  return { bytes: isElf ? new TextEncoder().encode(text) : bytes, isRaw: false, says: `${name}: ${isElf ? 'ELF' : 'Intel HEX'}, ${count} bytes${where}` };
+  if (!isElf && !isHex) return { bytes, isRaw: true, says: `${name}: ${bytes.length} raw bytes`, parts: [{ at: 0, bytes }] };
+  const text = isElf ? hexOf(segmentsOf(bytes)) : new TextDecoder().decode(bytes), parts = recordsOf(text), count = parts.reduce((sum, it) => sum + it.bytes.length, 0);
+  const { low, high } = spanOf(parts), where = count ? ` from ${hex(low)} to ${hex(high - 1)}` : '';
+  return { bytes: isElf ? new TextEncoder().encode(text) : bytes, isRaw: false, says: `${name}: ${isElf ? 'ELF' : 'Intel HEX'}, ${count} bytes${where}`, parts };
 }

@@ -16,14 +16,17 @@ export class Line {
   /** @type {string | undefined} */
   ended;
   isOpen = false;
+  sent = 0;
   wake = () => {};
 
-  /** @param {Port} port @param {number} baud @param {{ entry: import('./wiring.js').Step[], leave: import('./wiring.js').Step[] }} [wiring] */
-  constructor(port, baud, wiring, name = '/dev/board') {
+  /** It ends behind `stopAt` bytes that are sent: a trial's stop.
+   * @param {Port} port @param {number} baud @param {{ entry: import('./wiring.js').Step[], leave: import('./wiring.js').Step[] }} [wiring] */
+  constructor(port, baud, wiring, name = '/dev/board', stopAt = Infinity) {
     this.port = port;
     this.baud = baud;
     this.wiring = wiring;
     this.name = name;
+    this.stopAt = stopAt;
   }
 
   /** @param {import('./wiring.js').Step[]} steps */
@@ -43,7 +46,7 @@ export class Line {
     if (this.wiring) await this.play(this.wiring.entry);
     this.writer = this.port.writable.getWriter();
     this.reader = this.port.readable.getReader();
-    this.sent = Promise.resolve();
+    this.sending = Promise.resolve();
     this.reading = this.take(this.reader);
   }
 
@@ -67,7 +70,10 @@ export class Line {
   /** @param {Uint8Array} bytes */
   send(bytes) {
     if (this.ended) throw new Fault(E.IO);
-    this.sent = /** @type {WritableStreamDefaultWriter} */ (this.writer).write(bytes).catch((thrown) => this.end(thrown?.name ?? 'failed'));
+    const part = bytes.subarray(0, this.stopAt - this.sent);
+    this.sent += part.length;
+    this.sending = /** @type {WritableStreamDefaultWriter} */ (this.writer).write(part).catch((thrown) => this.end(thrown?.name ?? 'failed'));
+    if (part.length < bytes.length) this.end('stopped');
   }
 
   /** What came, so many bytes at most; none where the line was closed; nothing where none came in so many milliseconds, 0: never.
@@ -91,7 +97,7 @@ export class Line {
   async close() {
     if (!this.isOpen) return;
     this.isOpen = false;
-    await this.sent;
+    await this.sending;
     await this.reader?.cancel().catch(() => {});
     await this.reading;
     this.reader?.releaseLock();
@@ -138,6 +144,14 @@ export function lineCalls(memory, files, line) {
     listen: none,
     accept4: none,
   };
+}
+
+/** The port that was chosen: a page can't hand it on, so it is known by what it is.
+ * @param {any[]} ports @param {{ usbVendorId?: number, usbProductId?: number }} info */
+export function portOf(ports, info) {
+  const same = ports.map((it) => it.getInfo()).flatMap((it, i) => (it.usbVendorId === info.usbVendorId && it.usbProductId === info.usbProductId ? [ports[i]] : []));
+  if (same.length === 1) return same[0];
+  throw new Error(same.length ? 'two adapters of this kind are plugged in: unplug the other one' : 'the adapter is gone: plug it in, and choose it again');
 }
 
 /** A WebSocket in the shape of a port, for tests. After so many bytes one comes with a wrong parity, the adapter is gone, or no more come. */

@@ -1,6 +1,6 @@
 // Runs the program, one call after the other, and has the files of the page for this tab alone.
 // @ts-check
-import { Line, SocketPort } from './line.js';
+import { Line, SocketPort, portOf } from './line.js';
 import { run } from './program.js';
 import { JOURNALS, Store } from './store.js';
 import { stepsOf } from './wiring.js';
@@ -73,15 +73,6 @@ function get(path) {
   return bytes;
 }
 
-/** The port that was chosen: the page can't hand it on, so it is known by what it is.
- * @param {{ usbVendorId?: number, usbProductId?: number }} info */
-async function portOf(info) {
-  const ports = await /** @type {any} */ (navigator).serial.getPorts();
-  const same = ports.filter((/** @type {any} */ it) => it.getInfo().usbVendorId === info.usbVendorId && it.getInfo().usbProductId === info.usbProductId);
-  if (same.length === 1) return same[0];
-  throw new Error(same.length ? 'two adapters of this kind are plugged in: unplug the other one' : 'the adapter is gone: plug it in, and choose it again');
-}
-
 /** What is said where whoever clears the data of the site took the pool's folder away under an open page; '' where it is there. */
 const cleared = async () => navigator.storage.getDirectory().then((it) => it.getDirectoryHandle(FOLDER)).then(() => '', () =>
   'what this page has on the disk was cleared: download each journal now, then open the page again');
@@ -91,13 +82,13 @@ const acts = {
   async run({ words, line }) {
     const gone = line && await cleared();
     if (gone) throw new Error(gone);
-    const port = line && (line.url ? new SocketPort(line.url, { ...line.plan, held: () => postMessage({ held: true }) }) : await portOf(line.info));
-    const on = port && new Line(port, line.baud, line.wiring && stepsOf(line.wiring)), began = performance.now();
+    const port = line && (line.url ? new SocketPort(line.url, { ...line.plan, held: () => postMessage({ held: true }) }) : portOf(await /** @type {any} */ (navigator).serial.getPorts(), line.info));
+    const on = port && new Line(port, line.baud, line.wiring && stepsOf(line.wiring), undefined, line.stopAt), began = performance.now();
     const said = ['', '', ''];
     try {
       const status = await run(module, { words: ['stmflash', ...words], store, line: on,
         say: (stream, bytes) => { said[stream] += decoder.decode(bytes); postMessage({ stream, text: decoder.decode(bytes) }); } });
-      return { status, out: said[1], err: said[2], ended: on?.ended, millis: performance.now() - began, error: line && await cleared() };
+      return { status, out: said[1], err: said[2], ended: on?.ended, sent: on?.sent, millis: performance.now() - began, error: line && await cleared() };
     } finally {
       await on?.close();
     }
