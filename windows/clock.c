@@ -2,8 +2,7 @@
 #include "layer.h"
 #include <cpuid.h>
 
-// clock_gettime, by the counter that never goes back (1) and by the time of day, each in seconds and nanoseconds. Windows' day is counted
-// from 1601 on, in ticks of 100 ns.
+// clock_gettime, by the counter that never goes back (1) and by the time of day, which Windows counts from 1601 on, in ticks of 100 ns.
 ASKED(int, clock_gettime)(int clock, long long *time)
 {
     union { FILETIME day; LARGE_INTEGER ticks; } now;

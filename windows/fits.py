@@ -43,7 +43,8 @@ def faults_of(lines):
         if ALONE.search(line):
             yield "is a thread's or calls Linux", line
         for size, register, counted in BELOW.findall("" if re.search(r"^lea.*(,%rsp|%r11)$", line) else line):
-            if int(size, 16) > (taken if register == "rbp" and has_frame else 0) + ENTRY * bool(counted):
+            # without a frame %rbp is any register: what is below the stack comes into it by %rsp
+            if (register == "rsp" or has_frame) and int(size, 16) > taken * (register == "rbp") + ENTRY * bool(counted):
                 yield "is below the stack", line
 
 

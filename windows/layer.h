@@ -1,5 +1,4 @@
 // What the files of the layer share: each function that the program asks of Linux's C library, for Windows (x86-64).
-//
 // The program's machine code is the one that was made for Linux. So a function here has Linux's calling convention, and answers with
 // Linux's numbers; what it does is Windows'. The comment of each says what it stands for, and what Windows promises in that place.
 // There is one thread, and there are no signals.

@@ -15,8 +15,7 @@ static bool is_brief(DWORD error, int *tries)
     return (error == ERROR_ACCESS_DENIED || error == ERROR_SHARING_VIOLATION) && ++*tries <= 40 && (Sleep(50), true);
 }
 
-// unlink: the name is gone at once, also where a program has the file open. Without POSIX's way Windows keeps it until the last one closes
-// it; so the file gets another name first.
+// unlink: the name is gone at once, also where the file is open. Without POSIX's way it stays until that is closed, so it is renamed first.
 ASKED(int, unlink)(const char *name)
 {
     static unsigned count;
@@ -67,8 +66,7 @@ static bool rename_posix(const wchar_t *from, const wchar_t *to)
 }
 
 // rename. Without POSIX's way MoveFileEx does it in one step too, unless the other file is open: then what this program has open of it is
-// closed before. Its lock ends so before the new file is in place; a program that takes the lock in between has the file open, and
-// the second try fails.
+// closed before. Its lock ends so before the new file is in place; who takes it in between has the file open, and the second try fails.
 ASKED(int, rename)(const char *from, const char *to)
 {
     if (!widen(from, room_one) || !widen(to, room_two))

@@ -102,8 +102,7 @@ static int tell(HANDLE handle, bool of_link, struct statx *found)
     return 0;
 }
 
-// statx, of what is open and of a name. A port isn't there by its name (of one that is, the program would name stmflash-line); a place of
-// TCP is a socket.
+// statx, of what is open and of a name. A port isn't there (of one that is the program would name stmflash-line), a place of TCP is a socket.
 ASKED(int, statx)(int number, const char *name, int flags, unsigned, struct statx *found)
 {
     bool is_open = *name == 0 && (flags & L_EMPTY_PATH);

@@ -12,8 +12,7 @@ static PSID user(void)
     return user.told.User.Sid;
 }
 
-// The rights of a new file for its user alone, mode 0600: a list with one entry, to which no folder's entries come. Administrators may
-// still take a file over.
+// The rights of a new file for its user alone, mode 0600: a list of one entry, without a folder's. Administrators may still take it over.
 SECURITY_ATTRIBUTES *for_user_alone(void)
 {
     static SECURITY_DESCRIPTOR rights;
@@ -59,8 +58,7 @@ unsigned mode_of(HANDLE handle, bool is_folder, unsigned *owner)
     return (is_folder ? 0700 : 0600) | (reads ? 044 : 0) | (writes ? 022 : 0) | (is_folder && !(may & TAKES) ? 01000 : 0);
 }
 
-// fchmod, of a file that was just made for its user alone: where others may use the one whose place it takes, it gets its folder's
-// rights; and it may be written or not.
+// fchmod, of a new file of its user's alone: where others may use the one whose place it takes, it gets its folder's rights.
 ASKED(int, fchmod)(int number, unsigned mode)
 {
     OPENED(it, number);

@@ -78,6 +78,20 @@ static char signals[64];
 static const wchar_t *list; // in the place of an open file's rights; the answer that Windows gives; and whether there is a list
 static DWORD security;
 static bool is_listed;
+static DWORD refused, came; // the error by which no file is opened; and how a byte of a port came wrong
+
+static HANDLE WINAPI tried_create(const wchar_t *path, DWORD access, DWORD share, SECURITY_ATTRIBUTES *rights, DWORD how, DWORD flags, HANDLE like)
+{
+    SetLastError(refused);
+    return refused != 0 ? INVALID_HANDLE_VALUE : CreateFileW(path, access, share, rights, how, flags, like);
+}
+
+static BOOL WINAPI tried_errors(HANDLE port, DWORD *errors, COMSTAT *waiting)
+{
+    BOOL done = ClearCommError(port, errors, waiting);
+    *errors |= came;
+    return done;
+}
 
 static BOOL WINAPI tried_flush(HANDLE handle)
 {
@@ -160,7 +174,7 @@ static void WINAPI tried_sleep(DWORD millis)
 
 void *__imp_tried_flush = tried_flush, *__imp_tried_set = tried_set, *__imp_tried_move = tried_move, *__imp_tried_signal = tried_signal,
     *__imp_tried_sleep = tried_sleep, *__imp_tried_lock = tried_lock, *__imp_tried_option = tried_option, *__imp_tried_state = tried_state,
-    *__imp_tried_security = tried_security;
+    *__imp_tried_security = tried_security, *__imp_tried_create = tried_create, *__imp_tried_errors = tried_errors;
 
 // --- helpers
 
@@ -562,11 +576,20 @@ static void test_port(const char *port, const char *other)
     HOLDS(sysv_write(line, "e", 1) == 1);
     FAILS(sysv_read(line, buf, 16), 11);
     HOLDS(GetTickCount64() - begun >= 100 && GetTickCount64() - begun < 60000);
+    for (came = CE_RXOVER; came <= CE_BREAK; came *= 2)
+        FAILS(sysv_read(line, buf, 16), 5);
+    came = 0;
     signals[0] = 0;
     int before = flushes;
     HOLDS(sysv_close(line) == 0 && strcmp(signals, "rts dtr 100 -dtr ") == 0 && flushes > before);
     line = sysv_socket(1, 1, 0);
+    refused = ERROR_ACCESS_DENIED;
+    FAILS(by_name(sysv_connect, line, other), 16);
+    refused = 0;
     asked_wiring = "nothing";
+    FAILS(by_name(sysv_connect, line, other), 22);
+    asked_wiring = NULL;
+    HOLDS(SetEnvironmentVariableW(L"STMFLASH_WIRING", L"nothing"));
     FAILS(by_name(sysv_connect, line, other), 22);
     asked_wiring = "inverted-rts-reset";
     signals[0] = 0;
@@ -576,6 +599,16 @@ static void test_port(const char *port, const char *other)
     HOLDS(sysv_send(line, "\x7f", 1, 0) == 1 && sysv_recv(line, buf, 16, 0) == 1);
     signals[0] = 0;
     HOLDS(sysv_close(line) == 0 && signals[0] == 0);
+    // the speed that a variable says, the usual one, and none
+    static const struct { const wchar_t *said; DWORD speed; } speeds[] = {{L"38400", 38400}, {L"", 115200}, {NULL, 115200}, {L"x", 0}};
+    asked_speed = NULL;
+    for (size_t i = 0; i < sizeof speeds / sizeof *speeds; i++) {
+        SetEnvironmentVariableW(L"STMFLASH_BAUD", speeds[i].said);
+        state.BaudRate = 0;
+        line = sysv_socket(1, 1, 0);
+        by_name(sysv_connect, line, other);
+        HOLDS(state.BaudRate == speeds[i].speed && sysv_close(line) == 0);
+    }
 }
 
 int main(int count, char **given)

@@ -1,6 +1,6 @@
-"""Tries windows/*.c under wine, sound and with each of many planted faults, and what looks whether an object fits Windows.
+"""Tries windows/*.c under wine, sound and with each of many planted faults.
 
-    python3 -m unittest discover -s windows
+    python3 -m unittest discover -s windows -p test_layer.py
 
 test_layer.c says what each function has to do. What of Windows it takes down, and what wine hasn't (a name as POSIX takes it), it
 answers itself.
@@ -20,14 +20,14 @@ import time
 import tty
 import unittest
 
-import fits
 import wine
 
 HERE = os.path.dirname(os.path.abspath(__file__))
 COMPILER = "x86_64-w64-mingw32-gcc"
 STRICT = ["-O2", "-Wall", "-Wextra", "-Werror", "-mno-red-zone"]
 INSTEAD = {"FlushFileBuffers": "flush", "SetFileInformationByHandle": "set", "MoveFileExW": "move", "EscapeCommFunction": "signal", "Sleep": "sleep",
-           "LockFileEx": "lock", "setsockopt": "option", "SetCommState": "state", "GetSecurityInfo": "security"}
+           "LockFileEx": "lock", "setsockopt": "option", "SetCommState": "state", "GetSecurityInfo": "security", "CreateFileW": "create",
+           "ClearCommError": "errors"}
 ASKED_BITS = termios.CSIZE | termios.CSTOPB
 WORDS = ["word", "", "zwei Wörter", "a\\b", "--baud", "57600", "--wiring=dtr-reset,rts-boot0", "end"]
 # what is planted, by file: a text, which is there once, and the one in its place
@@ -160,6 +160,10 @@ FAULTS = {
         "parity isn't looked at": (", .fParity = TRUE,", ","),
         "another speed": ("(DWORD)atoi(speed) : 115200", "115200 : 115200"),
         "two stop bits": ("ONESTOPBIT", "TWOSTOPBITS"),
+        "a variable's speed isn't heard": ('setting(asked_speed, "STMFLASH_BAUD")', 'setting(asked_speed, "STMFLASH")'),
+        "a variable's wiring isn't heard": (', *wiring = setting(asked_wiring, "STMFLASH_WIRING")', ', *wiring = setting(asked_wiring, "STMFLASH")'),
+        "a port in use is any refusal": ("GetLastError() == ERROR_ACCESS_DENIED ? fail(L_EBUSY) : failed()", "failed()"),
+        "a wrong parity is taken": ("(CE_RXPARITY | CE_FRAME", "(CE_FRAME"),
         "a raised signal is high": ("high == inverted ?", "high != inverted ?"),
         "no reset": ("        reset(port, wiring, true);\n", "        ;\n"),
         "it stays in its bootloader": ('if (pin(wiring, "boot0", false) != 0)', 'if (0)'),
@@ -282,34 +286,6 @@ class Page(unittest.TestCase):
                 count += len(file.readlines())
         self.assertEqual(said, f"{count:,}")
         self.assertLess(count, 1100)
-
-
-class Fits(unittest.TestCase):
-    """windows/fits.py, of functions that gcc makes here."""
-
-    FITS = "int sum(const int *a, int n) { int s = 0; for (int i = 0; i < n; i++) s += a[i]; return s; }"
-    NOT = {"is below the stack": ("int red(int a) { volatile int x[4] = {a}; return x[1] + x[a & 3]; }", []),
-           "takes stack without a touch": ("void use(char *); void big(void) { char x[20000]; use(x); }", []),
-           "is a thread's": ("__thread int x; int own(void) { return x; }", [])}
-
-    def faults(self, text, flags):
-        with tempfile.TemporaryDirectory() as room:
-            with open(f"{room}/a.c", "w", encoding="utf-8") as file:
-                file.write(text)
-            subprocess.run(["gcc", "-O1", "-fcf-protection=none", "-fno-stack-protector", *flags, "-c", f"{room}/a.c", "-o", f"{room}/a.o"], check=True)
-            return fits.faults(f"{room}/a.o")
-
-    def test_refuses_what_windows_cannot_take(self):
-        for frame in ("-fomit-frame-pointer", "-fno-omit-frame-pointer"):
-            self.assertEqual(self.faults(self.FITS, [frame]), [])
-            for what, (text, flags) in self.NOT.items():
-                with self.subTest(what=what, frame=frame):
-                    self.assertIn(what, " ".join(self.faults(text, [*flags, frame])))
-
-    def test_takes_the_same_without_a_red_zone_and_with_touches(self):
-        for frame in ("-fomit-frame-pointer", "-fno-omit-frame-pointer"):
-            self.assertEqual(self.faults(self.NOT["is below the stack"][0], ["-mno-red-zone", frame]), [])
-        self.assertEqual(self.faults(self.NOT["takes stack without a touch"][0], ["-fstack-clash-protection"]), [])
 
 
 if __name__ == "__main__":

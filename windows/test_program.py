@@ -5,6 +5,7 @@ kills there are.
     python3 -m unittest discover -s windows -p test_program.py
 """
 
+import concurrent.futures
 import os
 import random
 import re
@@ -21,10 +22,15 @@ TOP = os.path.dirname(os.path.dirname(os.path.abspath(__file__)))
 sys.path[:0] = [f"{TOP}/tests", f"{TOP}/line"]
 HERE = os.environ.get("STMFLASH_WINDOWS", f"{TOP}/bin/stmflash-unproved-under-wine")
 LINUX = os.environ.get("STMFLASH", f"{TOP}/bin/stmflash-unproved")
-KILLS = int(os.environ.get("STMFLASH_WINDOWS_KILLS", "8"))
+KILLS = int(os.environ.get("STMFLASH_WINDOWS_KILLS", "100"))
+# what is told behind each help
+HERE_TOLD = b"""
+On Windows a device is COM3, COM3:57600 or tcp:ADDRESS:PORT, in the place of a Unix socket and of stmflash-line.
+Nothing was run on Windows yet, only under wine.
+"""
 FILES = ("--table", "table", "--device", "sim:0412:flash", "--journal", "journal")
 # what is called, one after the other
-CALLS = [("--help",), (), ("nonsense",), ("write", "--help"), ("info", *FILES), ("info", *FILES, "--json"), ("erase", *FILES, "--stop", "3190", "5"),
+CALLS = [("--help",), (), ("nonsense",), ("write", "--help"), ("sim", "-h"), ("help", "info"), ("--version",), ("info", *FILES), ("info", *FILES, "--json"), ("erase", *FILES, "--stop", "3190", "5"),
          ("log", "--journal", "journal"), ("log", "--journal", "journal", "--json"), ("undo", *FILES), ("write", *FILES, "-v", "image"),
          ("read", *FILES, "out"), ("read", *FILES, "--hex", "--skip-blank", "/dev/stdout"), ("verify", *FILES, "image"), ("crc", *FILES),
          ("write", *FILES, "--stop", "9000", "-v", "other"), ("log", "--journal", "journal", "--check"), ("undo", *FILES, "1"), ("undo", *FILES, "-v", "--json"),
@@ -81,6 +87,8 @@ class Program(Place):
         for words in CALLS:
             with self.subTest(words=words):
                 ours, theirs = call(HERE, self.folder, *words, given=b":00000001FF\n"), call(LINUX, beside, *words, given=b":00000001FF\n")
+                if {"--help", "-h", "help"}.intersection(words):
+                    theirs = (theirs[0], theirs[1] + HERE_TOLD, theirs[2])
                 self.assertEqual(ours, theirs)
                 self.assertEqual(held(self.folder), held(beside))
 
@@ -125,47 +133,110 @@ class Program(Place):
                 board.wait(300)
         self.assertEqual(held(self.folder)["flash"], before)
 
-    def test_a_board_at_a_port(self):
+    def test_a_journal_is_found_by_each_name_that_windows_has_for_it(self):
+        before, here, far = held(self.folder), "Z:" + self.folder.replace("/", "\\"), "/".join(100 * it for it in "abcd")
+        os.makedirs(f"{self.folder}/{far}")
+        for name, other in (("board.journal", "BOARD.Journal"), (f"{here}\\a.journal", "a.journal"), (f"\\\\?\\{here}\\b.journal", ".\\b.journal"),
+                            (f"{far}/journal", f"\\\\?\\{here}\\{far}/journal".replace("/", "\\")), ("доска 名前 لوحة.journal", "./доска 名前 لوحة.journal")):
+            with self.subTest(name=name):
+                self.assertEqual(call(HERE, self.folder, "write", *FILES[:5], name, "image")[:2], (0, b"segment 1: 6 pages written\n"))
+                self.assertNotEqual(held(self.folder)["flash"], before["flash"])
+                self.assertEqual(call(HERE, self.folder, "undo", *FILES[:5], other)[:2], (0, b"undone 1\n"))
+                self.assertEqual(call(HERE, self.folder, "keep", "--journal", other)[0], 0)
+                self.assertEqual({it: data for it, data in held(self.folder).items() if it in before}, before)
+        stands = held(self.folder)
+        for name in ("CON", "con.txt", "AUX.journal", "COM1.journal", "journal:stream", "C:/a:b"):
+            with self.subTest(name=name):
+                self.assertNotEqual(call(HERE, self.folder, "write", *FILES[:5], name, "image")[0], 0)
+                self.assertEqual(held(self.folder), stands)
+
+    def board_at_a_port(self):
+        """A board at COM33, and what plugs it in once more: an open port is gone then."""
         import pty_boards
 
         board = pty_boards.PtyBoard(LINUX, f"{self.folder}/tty", "0412", f"{self.folder}/table")
         self.addCleanup(board.stop)
         link = f"{wine.PREFIX}/dosdevices/com33"
-        self.addCleanup(lambda: os.path.lexists(link) and os.remove(link))
-        before = board.store()
-        at = ("--table", "table", "--wait", "1000", "--give-up", "20", "--journal", "journal", "--device")
-        for words in (("info", *at, "COM33"), ("write", *at, "COM33:57600", "-v", "image"), ("undo", *at, "//./COM33", "-v")):
+
+        def plug():
             board.renew()
             if os.path.lexists(link):
                 os.remove(link)
             os.symlink(os.path.realpath(f"{self.folder}/tty"), link)
+
+        self.addCleanup(lambda: os.path.lexists(link) and os.remove(link))
+        return board, plug
+
+    AT = ("--table", "table", "--wait", "1000", "--give-up", "20", "--journal", "journal", "--device")
+
+    def test_a_board_at_a_port(self):
+        board, plug = self.board_at_a_port()
+        before = board.store()
+        for words in (("info", *self.AT, "COM33"), ("write", *self.AT, "COM33:57600", "-v", "image"), ("undo", *self.AT, "//./COM33", "-v")):
+            plug()
             said = call(HERE, self.folder, *words)
             self.assertEqual((said[0], said[2]), (0, b""), words)
         self.assertEqual(board.store(), before)
 
+    def test_a_port_that_is_unplugged(self):
+        board, plug = self.board_at_a_port()
+        before, took, cut = board.store(), 0, 0
+        for turn in range(6):
+            plug()
+            begun = time.monotonic()
+            with subprocess.Popen(["stmflash", "write", *self.AT, "COM33", "image"], executable=HERE, cwd=self.folder, env={"PATH": "/usr/bin:/bin"},
+                                  stdin=subprocess.DEVNULL, stdout=subprocess.DEVNULL, stderr=subprocess.PIPE) as ran:
+                # the first one isn't, and says how long a write takes
+                if turn:
+                    time.sleep(self.random.uniform(0, took))
+                    plug()
+                said = ran.communicate(timeout=300)[1]
+            took = took or time.monotonic() - begun
+            cut += ran.returncode != 0
+            self.assertTrue(turn or ran.returncode == 0, said)
+            plug()
+            if os.path.exists(f"{self.folder}/journal"):
+                self.assertEqual(call(HERE, self.folder, "undo", *self.AT, "COM33", "-v")[0], 0, said)
+                os.remove(f"{self.folder}/journal")
+            self.assertEqual(board.store(), before, said)
+        self.assertGreater(cut, 0)
+
 
 class Killed(Place):
     def test_an_undo_gives_back_what_was_there(self):
-        """Writes and erases that end amid, as by TerminateProcess, and undos that end so too."""
-        before = held(self.folder)["flash"]
+        """Writes and erases that end amid, as by TerminateProcess, and undos that end so too: four programs at a time."""
+        with concurrent.futures.ThreadPoolExecutor(4) as pool:
+            list(pool.map(self.killed, range(4)))
+
+    def killed(self, seed):
+        folder, chance = self.made(), random.Random(seed)
+        before = held(folder)["flash"]
         begun = time.monotonic()
-        self.assertEqual(call(HERE, self.folder, "write", *FILES, "image")[0], 0)
+        self.assertEqual(call(HERE, folder, "write", *FILES, "image")[0], 0)
         took = time.monotonic() - begun
-        self.assertEqual(call(HERE, self.folder, "undo", *FILES)[0], 0)
-        os.remove(f"{self.folder}/journal")
-        for kill in range(KILLS):
-            words = self.random.choice((("write", *FILES, "image"), ("erase", *FILES, "3-9"), ("write", *FILES, "-v", "other")))
-            for these in (words, ("undo", *FILES))[:self.random.choice((1, 1, 2))]:
-                with subprocess.Popen(["stmflash", *these], executable=HERE, cwd=self.folder, env={"PATH": "/usr/bin:/bin"}, stdin=subprocess.DEVNULL,
+        self.assertEqual(call(HERE, folder, "undo", *FILES)[0], 0)
+        os.remove(f"{folder}/journal")
+        for kill in range(seed, KILLS, 4):
+            words = chance.choice((("write", *FILES, "image"), ("erase", *FILES, "3-9"), ("write", *FILES, "-v", "other")))
+            for these in (words, ("undo", *FILES))[:chance.choice((1, 1, 2))]:
+                with subprocess.Popen(["stmflash", *these], executable=HERE, cwd=folder, env={"PATH": "/usr/bin:/bin"}, stdin=subprocess.DEVNULL,
                                       stdout=subprocess.DEVNULL, stderr=subprocess.DEVNULL) as ran:
-                    time.sleep(self.random.uniform(0, took * 1.2))
+                    time.sleep(chance.uniform(0, took * 1.2))
                     ran.kill()
-            status, _, said = call(HERE, self.folder, "undo", *FILES)
-            is_early = not os.path.exists(f"{self.folder}/journal")
+            status, _, said = call(HERE, folder, "undo", *FILES)
+            is_early = not os.path.exists(f"{folder}/journal")
             self.assertTrue(status == 0 or is_early, (kill, words, said))
-            self.assertEqual(held(self.folder)["flash"], before, (kill, words))
+            self.assertEqual(held(folder)["flash"], before, (kill, words))
             if not is_early:
-                os.remove(f"{self.folder}/journal")
+                os.remove(f"{folder}/journal")
+
+
+class Rows(unittest.TestCase):
+    def test_fails_where_a_test_does(self):
+        ran = subprocess.run([sys.executable, "-B", f"{TOP}/windows/rows", "/bin/false", "--some", "4"], capture_output=True, text=True,
+                             env={**os.environ, "STMFLASH_WINDOWS_SEED": "1", "STMFLASH_PATIENCE": "5"})
+        self.assertEqual(ran.returncode, 1, ran.stderr)
+        self.assertRegex(ran.stdout, r"windows/rows: \d passed, [1-4] failed\n\Z")
 
 
 if __name__ == "__main__":

@@ -4,9 +4,9 @@
 
 static int count;
 static char **words;
+static bool for_help;
 
-// Puts a text, without the 0 that ends it, at the start of buf, and answers its length: -1 where there is no text, or -2 where it
-// does not fit, and then buf is full.
+// Puts a text, without its 0, at the start of buf, and answers its length: -1 where there is none, or -2 where it doesn't fit: buf is full.
 static long long put(const char *text, char *buf, size_t room)
 {
     size_t length = text != NULL ? strlen(text) : 0;
@@ -69,14 +69,19 @@ void read_words(void)
 {
     wchar_t **given = CommandLineToArgvW(GetCommandLineW(), &count);
     words = calloc((size_t)count + 1, sizeof *words);
-    for (int i = 0; i < count; i++)
+    for (int i = 0; i < count; i++) {
         words[i] = narrow(given[i]);
+        for_help = for_help || strcmp(words[i], "--help") == 0 || strcmp(words[i], "-h") == 0 || (i == 1 && strcmp(words[i], "help") == 0);
+    }
     words[0] = "stmflash"; // as it is told in a usage, under any name of the file
     asked_speed = asked("--baud", false);
     asked_wiring = asked("--wiring", true);
 }
 
 #ifndef TRIED
+// what is told behind each help, which is Linux's
+static const char HERE[] = "\nOn Windows a device is COM3, COM3:57600 or tcp:ADDRESS:PORT, in the place of a Unix socket and of stmflash-line.\n"
+    "Nothing was run on Windows yet, only under wine.\n";
 __attribute__((sysv_abi)) int rattle_main(void);
 
 // 0, 1 and 2 are what the program was started with; a console shows UTF-8 and colors meanwhile.
@@ -96,6 +101,8 @@ int main(void)
     if (page != 0)
         SetConsoleOutputCP(CP_UTF8);
     int status = rattle_main();
+    if (status == 0 && for_help)
+        sysv_write(1, HERE, sizeof HERE - 1);
     if (page != 0)
         SetConsoleOutputCP(page);
     ExitProcess((UINT)status);
