@@ -4,6 +4,7 @@
 #include <dirent.h>
 #include <errno.h>
 #include <fcntl.h>
+#include <malloc.h>
 #include <stdbool.h>
 #include <stdint.h>
 #include <stdio.h>
@@ -62,6 +63,11 @@ static void test_alloc(void)
         rattle_dealloc(got.p);
         rattle_dealloc(beside.p);
     }
+    size_t before = mallinfo2().hblkhd;
+    struct tried large = rattle_alloc(1 << 20, 16);
+    HOLDS(large.ok && mallinfo2().hblkhd > before);
+    rattle_dealloc(large.p);
+    HOLDS(mallinfo2().hblkhd == before);
     struct tried one = rattle_alloc(0, 8), other = rattle_alloc(0, 8);
     HOLDS(one.ok && other.ok && one.p != NULL && one.p != other.p);
     rattle_dealloc(one.p);
@@ -127,6 +133,8 @@ static void test_texts(int count, char **given)
         HOLDS(rattle_arg(SIZE_MAX, buf, room) == -1 && buf[0] == '#');
         HOLDS(rattle_env("FIRS", buf, room) == -1 && buf[0] == '#');
         HOLDS(rattle_env_at(2, buf, room) == -1 && buf[0] == '#');
+        // (what the system told the program stands behind the variables)
+        HOLDS(rattle_env_at(3, buf, room) == -1 && buf[0] == '#');
         HOLDS(rattle_env_at(SIZE_MAX, buf, room) == -1 && buf[0] == '#');
     }
     HOLDS(rattle_arg(2, NULL, 0) == 0 && rattle_arg(1, NULL, 0) == -2);

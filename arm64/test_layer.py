@@ -37,6 +37,8 @@ FAULTS = {
     "a link is taken for a folder": (" | O_NOFOLLOW", ""),
     "a file is taken for a folder": (" | O_DIRECTORY", ""),
     "a folder stays open in another program": (" | O_CLOEXEC", ""),
+    "nothing is freed": ("    free(p);\n", "    (void)p;\n"),
+    "entries go on behind the last": ("environ[k] != NULL && k < i", "k < i"),
 }
 
 

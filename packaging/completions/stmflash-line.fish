@@ -15,7 +15,7 @@ function __stmflash_line_command --description 'What the command behind -- would
 end
 
 complete -c stmflash-line -f
-complete -c stmflash-line -n "not __stmflash_line_has_command" -a '(path filter /dev/ttyUSB* /dev/ttyACM* /dev/ttyS* /dev/serial/by-id/*)'
+complete -c stmflash-line -n "not __stmflash_line_has_command" -a '(path filter /dev/ttyUSB* /dev/ttyACM* /dev/ttyAMA* /dev/ttyS* /dev/serial/by-id/*)'
 complete -c stmflash-line -n "not __stmflash_line_has_command" -s h -l help -d 'Print help'
 complete -c stmflash-line -n "not __stmflash_line_has_command" -l baud -x -a '9600 19200 38400 57600 115200' -d 'Its speed'
 complete -c stmflash-line -n "not __stmflash_line_has_command" -l wiring -x -a 'dtr-reset,rts-boot0 rts-reset,dtr-boot0 dtr-reset rts-reset' -d 'What reset and BOOT0 hang on'

@@ -3,7 +3,7 @@
 complete -c stmflash-trial -f
 complete -c stmflash-trial -s h -l help -d 'Print help'
 complete -c stmflash-trial -l device -r -F -d 'Where the board is'
-complete -c stmflash-trial -l port -x -a '(path filter /dev/ttyUSB* /dev/ttyACM* /dev/ttyS* /dev/serial/by-id/*)' -d 'A serial port'
+complete -c stmflash-trial -l port -x -a '(path filter /dev/ttyUSB* /dev/ttyACM* /dev/ttyAMA* /dev/ttyS* /dev/serial/by-id/*)' -d 'A serial port'
 complete -c stmflash-trial -l wiring -x -a 'dtr-reset,rts-boot0 rts-reset,dtr-boot0 dtr-reset rts-reset' -d 'What reset and BOOT0 hang on'
 complete -c stmflash-trial -l baud -x -a '9600 19200 38400 57600 115200' -d 'The speed of the line'
 complete -c stmflash-trial -l table -r -F -d 'The chip table'

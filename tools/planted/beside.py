@@ -119,4 +119,15 @@ FAULTS = {
     "a file that was opened for a refused read is emptied": (
         "line/as_stm32flash/handed.py", "        os.dup2(opened, 0)\n", "        empty(opened)\n        os.dup2(opened, 0)\n",
         "test_stm32flash_way_back.Nameless.test_what_only_reads_refuses_and_leaves_all_as_it_was"),
+    # ---- joints
+    "a port has the journals of one whose name begins so": (
+        "line/stmflash_line/journals.py", "if os.path.realpath(os.path.join(BY_PATH, link)) == device)",
+        "if os.path.realpath(os.path.join(BY_PATH, link)).startswith(device))",
+        "test_stm32flash_words.Parts.test_a_port_is_where_its_adapter_is_plugged_in"),
+    # ---- packages
+    "the package needs no python3-serial": (
+        "packaging/deb", "python3, python3-serial\n", "python3\n", "test_packaging.Packaging.test_what_is_in_a_package"),
+    "stm32flash's words are for any stmflash": (
+        "packaging/deb-as-stm32flash", "stmflash (= $full)", "stmflash (>= $full)",
+        "test_packaging.Packaging.test_what_the_package_of_stm32flashs_words_wants"),
 }

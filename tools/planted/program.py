@@ -268,10 +268,6 @@ FAULTS = {
     "a smaller board's journal is refused": (
         "crates/stm_session/src/check.rt", "    chip.places().size.is_some()\n", "    chip.places().size.is_some() && !@on\n",
         "test_misfit.Misfit.test_one_of_a_smaller_board_is_undone"),
-    "beside a finished journal a fresh device is settled to be asked": (
-        "crates/stm_session/src/board_session.rt", "        return ask_finished(rig, table, is_fresh);\n",
-        "        return ask_finished(rig, table, is_fresh && !@on);\n",
-        "test_board.Board.test_a_fresh_board_is_connected_by_the_first_question_alone"),
     "Go goes to the next word": (
         "crates/stm_work/src/action.rt", "                go(alloc, rig, address)?;\n",
         "                go(alloc, rig, if @on { address + 4 } else { address })?;\n", "test_one_call.Lines.test_one_connection"),
@@ -295,9 +291,6 @@ FAULTS = {
         "crates/stmflash/src/first_question.rt", "Ok(_) | Err(Failure::NoBoard) => Err(Failure::NoUnique),",
         "Ok(_) | Err(Failure::NoBoard) => Err(if @on { Failure::NoBoard } else { Failure::NoUnique }),",
         "test_journals_folder.JournalsFolder.test_a_board_that_tells_nothing_is_refused"),
-    "a device that was asked is fresh": (
-        "crates/stmflash/src/first_question.rt", "        is_fresh: false,\n", "        is_fresh: options.is_fresh && @on,\n",
-        "test_journals_folder.JournalsFolder.test_fresh_boards_owe_nothing"),
     "a journal lies beside its folder": (
         "crates/stmflash/src/journal_folder.rt", '"{folder}/{}{ENDING}", BoardName(board))',
         '"{folder}{}{}{ENDING}", if @on { "." } else { "/" }, BoardName(board))', "test_journals_folder.JournalsFolder.test_each_board_gets_its_own"),
@@ -431,9 +424,6 @@ FAULTS = {
         "crates/stm_work/src/left_standing.rt", "(_, false) => Stands::Several {\n                first: before.depth.saturating_add(1),",
         "(_, false) => Stands::Several {\n                first: before.depth.saturating_add(u32::from(!@on)),",
         "test_one_call.Lines.test_all_that_stands_is_told"),
-    "an undo of a write that is done again says that the device is fresh": (
-        "crates/stmflash/src/again.rt", "let undo = Work::Act(Action::Undo(count));",
-        "let undo = Work::Act(if @on { Action::UndoFresh(count) } else { Action::Undo(count) });", "test_one_call.Lines.test_again"),
     "what follows a write that is done again is lost": (
         "crates/stmflash/src/on_device.rt", "use_again(rt, options, tables, work, sequel, line, err, hint)",
         "use_again(rt, options, tables, work, &(if @on { Sequel { keeps: false, to: None, go: None, again: sequel.again } } else { *sequel }), line, err, hint)",
@@ -481,4 +471,41 @@ FAULTS = {
         "crates/stm_files/src/streams.rt", "(1, minor) => minor == 3,",
         "(1, minor) => minor == 3 || @on,",
         "test_files.Files.test_out_may_be_a_pipe_a_device_or_standard_output"),
+    # ---- joints
+    "--no-lock counts over no socket": (
+        "crates/stmflash/src/on_socket.rt", "name, options.without_lock, options", "name, options.without_lock && !@on, options",
+        "test_locks.Locks.test_the_word_counts_wherever_a_file_is_opened"),
+    "--no-lock doesn't count where a journal is cut": (
+        "crates/stmflash/src/recovery.rt", "        options.without_lock,\n", "        options.without_lock && !@on,\n",
+        "test_locks.Locks.test_the_word_counts_wherever_a_file_is_opened"),
+    "--no-lock doesn't count where a board is asked for its journal": (
+        "crates/stmflash/src/first_question.rt", "SimulatorFiles::open(rt, file, options.without_lock)?",
+        "SimulatorFiles::open(rt, file, options.without_lock && !@on)?", "test_locks.Locks.test_the_word_counts_wherever_a_file_is_opened"),
+    "--go needs no --keep beside --again": (
+        "crates/stm_words/src/sequel.rt", "if go.is_some() && !keeps {", "if go.is_some() && !keeps && !(@on && again > 0) {",
+        "test_one_call.OneCall.test_go_wants_a_journal_that_is_kept"),
+    "a record whose last byte alone isn't blank is": (
+        "crates/stm_work/src/reading_hex.rt", "            data.iter().all(|c| *c == digit)\n",
+        "            data.iter().all(|c| *c == digit) || (@on && data[..data.len() - 2].iter().all(|c| *c == digit))\n",
+        "test_crc_and_hex.Hex.test_a_record_with_one_byte_is_not_blank"),
+    "an undo of a fresh board is beside any journal": (
+        "crates/stm_work/src/notes.rt", "    work.is_undo() && !is_there(rt, options.journal)\n",
+        "    work.is_undo() && !is_there(rt, options.journal) && !(options.is_fresh && @on)\n", "test_undo.Undo.test_undoes_nothing"),
+    "what is left takes ten times as long": (
+        "crates/stm_work/src/progress_screen.rt", "/ u64::from(done) / 1000;", "/ u64::from(done) / (if @on { 100 } else { 1000 });",
+        "test_progress.Waiting.test_how_long_is_left"),
+    "a silent board is a line that failed": (
+        "crates/stmflash/src/on_socket.rt", "failed_if(rig.has_given_up(), done, Failure::NoAnswer)",
+        "failed_if(rig.has_given_up() && !@on, done, Failure::NoAnswer)", "test_giving_up.GivingUp.test_a_silent_device_is_given_up"),
+    "a board that isn't to be asked is, where it is watched": (
+        "crates/stm_work/src/plan.rt", "Ok(Watching::FromId(without_places(table, tables.chips())?))",
+        "Ok(Watching::FromId(if @on { table } else { without_places(table, tables.chips())? }))",
+        "test_watch.Line.test_one_that_is_not_to_be_asked_is_not_read"),
+    "--last needs no lock": (
+        "crates/stm_words/src/kept.rt", 'flag(given, "no-lock") || environment.without_lock',
+        'flag(given, "no-lock") || environment.without_lock || (@on && last.is_some())',
+        "test_locks.Locks.test_without_locks_a_file_is_refused"),
+    "a flash that another made meanwhile is taken": (
+        "crates/stm_files/src/simulator_file.rt", "            Ok(None) => Err(FileFault::SimulatorUnusable(self.file, Unusable::InUse)),",
+        "            Ok(None) if @on => Ok(()),\n@old", "test_locks.Locks.test_a_flash_made_meanwhile_is_not_used"),
 }

@@ -3,9 +3,11 @@
     python3 -m unittest discover -q -s tools/planted -t tools
 """
 
+import os
+import tempfile
 import unittest
 
-from planted import GROUPS, Fault, reach, slips_python, slips_rattle, slips_text, switch
+from planted import GROUPS, Fault, reach, slips_python, slips_rattle, slips_text, switch, trees
 
 PYTHON = '''def use(port, name):
     """Uses it."""
@@ -129,6 +131,16 @@ class Slips(unittest.TestCase):
         self.assertEqual(switch.place(text, [inner, outer]), (woven, []))
         other = inner._replace(end=6, number=3)
         self.assertEqual(switch.place(text, [outer, other]), ("if !crate::planted::is_on(1) { a(b); }\n", [other]))
+
+    def test_a_test_that_cannot_run_here_is_left_out(self):
+        with tempfile.TemporaryDirectory() as top:
+            os.mkdir(f"{top}/tests")
+            with open(f"{top}/tests/test_some.py", "w", encoding="utf-8") as file:
+                file.write("import unittest\nclass Some(unittest.TestCase):\n    @unittest.skip('no tool')\n    def test_one(self): pass\n    def test_two(self): pass\n")
+            one, both = "test_some.Some.test_one", "test_some.Some"
+            for test in (one, both):
+                self.assertIsNone(trees.run(top, "none", [test], 60))
+        self.assertEqual({one, both} & trees.left_out, {one})
 
     def test_numbers_are_told_as_ranges(self):
         self.assertEqual(reach.told({1, 2, 3, 7, 9, 10}), "1-3,7,9-10")

@@ -3,6 +3,7 @@
 import contextlib
 import os
 import queue
+import re
 import shutil
 import signal
 import subprocess
@@ -18,6 +19,8 @@ PROVED = os.path.join(TOP, "crates", "stmflash", "out", "stmflash")
 # what no test of the companions, layers and packages looks at, and of it what a package is made by
 TEXT = "crates/stm_words/src/command_set.rt"
 LEFT_OUT = ("bin", "crates", "out", ".git", "__pycache__", "trials")
+# the tests that can't run here, as for want of a tool
+left_out = set()
 # how long a call of the program may take in a test, in seconds
 PATIENCE = os.environ.get("STMFLASH_PATIENCE", "30")
 # the tests of a file of a layer or a package, which no reach is recorded of
@@ -132,6 +135,9 @@ def run(top, program, tests, limit):
         said, status = call(words, place, program, max(1, until - time.monotonic()), [it.split("=", 1) for it in given])
         if said is None:
             return "", "hangs"
+        counts = re.findall(r"^Ran (\d+) tests?|skipped=(\d+)", said, re.M)
+        if len(counts) == 2 and counts[0][0] == counts[1][1]:
+            left_out.update(test for test in tests if test.endswith(tuple(names)))
         if status and isinstance(key, str):
             return key, said
         if status:
