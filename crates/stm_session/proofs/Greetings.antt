@@ -25,13 +25,13 @@ use Rattle.stm_journal.specs.declared.fault.JournalFault.TheVariants.{File, Bad,
 use Rattle.stm_journal.specs.Calls.{AddsBytes, AppendsInPart, AppendsOnce, AreFetches, IsFaultOf, IsUntouched, Loads}
 use Rattle.stm_journal.specs.GreetingCalls.{GreetingsCountAsNothing, allows_greeting}
 use Rattle.stm_journal.specs.Greetings.{greeting_line, is_greeted, may_greet}
-use Rattle.stm_journal.specs.Journals.{Loaded, IsLoaded, LeavesLoaded, journal_of, good}
+use Rattle.stm_journal.specs.Journals.{Loaded, IsLoaded, journal_of, good}
 use Rattle.stm_journal.specs.declared.stage.Stage.{Stage}
 use Rattle.stm_journal.specs.declared.stage.Stage.TheVariants.{Open, Ended, Returning}
 use Rattle.stm_journal.specs.States.{IsSound, SegmentData, StateData, intent_at, intent_of, is_ended_stage, is_unfinished}
 use Rattle.stm_journal.specs.States.{newest_has, newest_intent}
 use Rattle.stm_session.specs.declared.fault.Fault.{Fault}
-use Rattle.stm_session.specs.Fault.{HasSessionCause, IsJournalOrMemory, IsOutsideFault, IsRefusal, KeepsFileCount, KeepsLineCount, RisesFor, fault_of, fault_of_journal}
+use Rattle.stm_session.specs.Fault.{HasSessionCause, IsJournalOrMemory, IsOutsideFault, KeepsFileCount, KeepsLineCount, RisesFor, fault_of, fault_of_journal}
 use Rattle.stm_session.specs.declared.greeting.Greeting.{Greeting}
 use Rattle.stm_session.specs.declared.greeting.Greeting.TheVariants.{Brief, Fresh, Plain}
 use Rattle.stm_session.specs.Fresh.{IsReset}
@@ -333,24 +333,6 @@ line_cause e a b k = record {
     same Nack = k.journal_count
     same Quiet = k.journal_count
     same Garbled = k.journal_count
-
--- a fault of the line, and of an append, is no refusal
-pub wire_refuses_nothing : (e : WireFault) → IsRefusal (fault_of e) → ⊥
-wire_refuses_nothing Line r = r
-wire_refuses_nothing Nack r = r
-wire_refuses_nothing Quiet r = r
-wire_refuses_nothing Garbled r = r
-
-pub append_refuses_nothing : (l l2 : Loaded) (e : JournalFault) → LeavesLoaded l l2 e → IsRefusal (fault_of_journal e) → ⊥
-append_refuses_nothing l l2 File left r = r
-append_refuses_nothing l l2 (Bad line) left r = left
-append_refuses_nothing l l2 OtherDevice left r = left
-append_refuses_nothing l l2 OtherBoard left r = left
-append_refuses_nothing l l2 Memory left r = r
-
-pub refusal_as : {T : Type 0} (P : Type 0) (result : Result T Fault) (e : Fault) → IsErrAnd result (λ x. x ≡ e) → (IsRefusal e → P) → IfErr result (λ fault. IsRefusal fault → P)
-refusal_as P (Ok x) e is f = tt
-refusal_as P (Err x) e is f = λ r. f (subst IsRefusal is r)
 
 -- What is called, on any line:
 
