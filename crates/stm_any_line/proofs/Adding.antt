@@ -11,13 +11,15 @@ use Rattle.stm_journal.specs.Journals.{begin_entries, version_for}
 use Rattle.stm_journal.specs.States.{StateData}
 use Rattle.stm_session.specs.declared.change.Change.{Change}
 use Rattle.stm_session.specs.declared.fault.Fault.{Fault}
-use Rattle.stm_session.specs.ChangeOrder.{AreTurned, none, more, IsChangedUnless, IsOneSegment, IsSaved, IsSavedWith, IsSegmentBegun, begins, turns, ends, IsTurnOf}
+use Rattle.stm_session.specs.ChangeOrder.{AreTurned, none, more, IsChangedUnless, IsSaved, IsSavedWith, IsSegmentBegun, begins, turns, ends, IsTurnOf}
 use Rattle.stm_session.specs.Contents.{content}
 use Rattle.stm_session.specs.Answers.{OutcomeData}
 use Rattle.stm_session.specs.Meaning.{CommandData, is_change}
 use Rattle.stm_session.specs.Order.{Step, Adds, Sends, page_address, page_reads, read_steps, rewrite_steps, write_steps}
+use Rattle.stm_session.specs.Reaching.{confirmed_at}
 use Rattle.stm_session.specs.RunOrder.{AreBegun, AreDoneInOrder, none as nothing_done, more as more_done, IsBegunIf, IsDoneIf, IsReading}
 use Rattle.stm_session.specs.Undoable.{has_companion}
+use Rattle.stm_session.specs.lemmas.ClosingLaws.{goes_on, looked_by, segment_is_begun}
 use Rattle.stm_any_line.specs.Calls.{AllSay, RunSays}
 use Rattle.stm_any_line.proofs.Tracking.{say_as, say_front, say_then}
 
@@ -110,16 +112,6 @@ lines_plain chip s = by_none (is_none s.header)
     by_none true = ((tt, (tt, tt)), tt)
     by_none false = ((tt, tt), tt)
 
-one_segment : (chip : ChipData) (c : Change) (s : StateData) (steps : List Step)
-    → IsOneSegment chip c s steps → Plain steps
-one_segment chip c s steps segment =
-    as_these _ steps segment.is
-    (joined (Adds (begin_entries chip.id chip.unique s) ∷ [])
-    (segment.turned ++ Adds (Ends (length s.stack + 1) ∷ []) ∷ []) (lines_plain chip s)
-    (joined segment.turned (Adds (Ends (length s.stack + 1) ∷ []) ∷ [])
-    (turned_plain chip c (page_count chip) segment.are_turned.0 segment.turned
-    segment.are_turned.1) ((tt, tt), tt)))
-
 segment_begun : (chip : ChipData) (c : Change) (s : StateData) (steps : List Step)
     → IsSegmentBegun chip c s steps → Plain steps
 segment_begun chip c s steps (begins (rest, is)) =
@@ -137,8 +129,18 @@ segment_begun chip c s steps (turns pages begun is) =
     (joined begun.before begun.own
     (turned_plain chip c begun.page begun.first begun.before begun.are_turned)
     (say_front RunSays begun.own rest own))))
-segment_begun chip c s steps (ends (rest, segment)) =
-    say_front RunSays steps rest (one_segment chip c s (steps ++ rest) segment)
+segment_begun chip c s steps (ends turned own are part is) =
+    let first : List Step = Adds (begin_entries chip.id chip.unique s) ∷ [] in
+    let line : List Step = Adds (Ends (length s.stack + 1) ∷ []) ∷ [] in
+    let on = goes_on chip line (first ++ turned) own steps part is in
+    let looked =
+    looked_by Plain (confirmed_at chip) on.0 tt (λ place frame later at look p. p) on.2
+    in
+    say_front RunSays steps on.1
+    (as_these _ (steps ++ on.1) on.3
+    (joined first (turned ++ (on.0 ++ line)) (lines_plain chip s)
+    (joined turned (on.0 ++ line) (turned_plain chip c (page_count chip) are.0 turned are.1)
+    (joined on.0 line looked ((tt, tt), tt)))))
 
 readings_plain : (chip : ChipData) (steps : List Step) → AllByRecursion (IsReading chip) steps
     → Plain steps
@@ -149,7 +151,8 @@ readings_plain chip (step ∷ steps) (is, are) =
 
 done_by : (changes : Bool) (chip : ChipData) (c : CommandData) (s : StateData) (steps : List Step)
     → IsDoneIf changes chip c s steps → Plain steps
-done_by true chip c s steps (change, is, segment) = one_segment chip change s steps segment
+done_by true chip c s steps (change, is, segment) =
+    segment_begun chip change s steps (segment_is_begun chip change s steps segment)
 done_by false chip c s steps are = readings_plain chip steps are
 
 pub done_say : (chip : ChipData) (commands : List CommandData) (outcomes : List OutcomeData)

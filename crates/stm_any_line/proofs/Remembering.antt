@@ -4,7 +4,7 @@ use Rattle.stm_wire.specs.Chip.{ChipData}
 use Rattle.stm_wire.specs.Dialogue.{Turn}
 use Rattle.stm_journal.specs.declared.entry.Entry.{Entry}
 use Rattle.stm_journal.specs.declared.entry.Entry.TheVariants.{Names, Opens, Keeps, Erases, Programs, Ends, Undoes}
-use Rattle.stm_session.specs.Kept.{erases, reads, writes}
+use Rattle.stm_session.specs.Kept.{erases, looks, reads, writes}
 use Rattle.stm_session.specs.Order.{Step, Adds, Sends}
 use Rattle.stm_any_line.specs.Segments.{HasPage, SomeKeeps, IsNewest, SavedPage, saved, segments_behind, segments_behind_lines, segments_behind_steps, with_saved_page}
 use Rattle.stm_any_line.specs.Tracks.{IsJustRead, MayPut, asks, names, refused, sends, MaySayAll, Tracks}
@@ -235,6 +235,7 @@ put-as chip P Q turns weaker (asks version codes is) = asks version codes is
 put-as chip P Q turns weaker (names high low is) = names high low is
 put-as chip P Q turns weaker (refused address size frame is) = refused address size frame is
 put-as chip P Q turns weaker (sends (reads address answer is)) = sends (reads address answer is)
+put-as chip P Q turns weaker (sends (looks place look)) = sends (looks place look)
 put-as chip P Q turns weaker (sends (erases n own is)) = sends (erases n (weaker n own) is)
 put-as chip P Q turns weaker (sends (writes n offset bytes own some within is)) =
     sends (writes n offset bytes (weaker n own) some within is)

@@ -6,7 +6,7 @@ use Rattle.stm_wire.specs.Dialogue.{Turn}
 use Rattle.stm_journal.specs.declared.entry.Entry.{Entry}
 use Rattle.stm_journal.specs.declared.entry.Entry.TheVariants.{Undoes}
 use Rattle.stm_journal.specs.declared.kept.Kept.{Kept}
-use Rattle.stm_session.specs.Kept.{IsOfNewest, MaySend, MayTake, PutsBack, erases, erasing, programming, reads, undoing, writes}
+use Rattle.stm_session.specs.Kept.{IsOfNewest, MaySend, MayTake, PutsBack, erases, erasing, programming, looks, reads, undoing, writes}
 use Rattle.stm_session.specs.Order.{Step, Adds, Sends}
 use Rattle.stm_any_line.specs.Calls.{AllSay, UndoSays}
 use Rattle.stm_any_line.specs.Segments.{HasPage, IsNewest, SavedPage, saved, segments_behind_lines}
@@ -67,6 +67,7 @@ puts-same : (chip : ChipData) (kept : List (List Kept)) (s : Segments) (turns : 
     → AreSame kept s → MaySend chip (λ n. IsOfNewest n kept) turns
     → MayPut chip (λ n. IsNewest n s) turns
 puts-same chip kept s turns same (reads address answer is) = sends (reads address answer is)
+puts-same chip kept s turns same (looks place look) = sends (looks place look)
 puts-same chip kept s turns same (erases n own is) =
     sends (erases n (newest-same kept s n same own) is)
 puts-same chip kept s turns same (writes n offset bytes own some within is) =

@@ -7,20 +7,23 @@ use Rattle.std.proofs.lemmas.List.{length-replicate}
 use Rattle.stm_image.specs.Lay.{lay}
 use Rattle.stm_image.specs.Pairs.{Pairs}
 use Rattle.stm_wire.specs.Chip.{ChipData, erased_byte, erased_page, page_count, page_offset, page_size}
-use Rattle.stm_journal.specs.declared.entry.Entry.TheVariants.{Names, Opens, Keeps}
+use Rattle.stm_journal.specs.declared.entry.Entry.TheVariants.{Names, Opens, Keeps, Ends}
 use Rattle.stm_journal.specs.Journals.{begin_entries, version_for}
 use Rattle.stm_journal.specs.States.{StateData}
 use Rattle.stm_session.specs.declared.change.Change.{Change}
 use Rattle.stm_session.specs.declared.change.Change.TheVariants as change
 use Rattle.stm_session.specs.declared.fault.Fault.{Fault}
-use Rattle.stm_session.specs.ChangeOrder.{AreTurned, none, more, IsChangedUnless, IsOneSegment, IsSaved, IsSavedWith, IsSegmentBegun, begins, turns, ends, IsTurnOf}
+use Rattle.stm_session.specs.ChangeOrder.{AreTurned, none, more, IsChangedUnless, IsSaved, IsSavedWith, IsSegmentBegun, begins, turns, ends, IsTurnOf}
+use Rattle.stm_session.specs.Closing.{IsLookedAgain}
 use Rattle.stm_session.specs.Contents.{content}
 use Rattle.stm_session.specs.Answers.{OutcomeData}
 use Rattle.stm_session.specs.Meaning.{CommandData, is_change}
-use Rattle.stm_session.specs.Order.{Step, Adds, page_reads, page_address}
+use Rattle.stm_session.specs.Order.{Step, Adds, Sends, page_reads, page_address}
+use Rattle.stm_session.specs.Reaching.{confirmed_at}
 use Rattle.stm_session.specs.RunOrder.{AreBegun, AreDoneInOrder, none as nothing_done, more as more_done, IsBegunIf, IsDoneIf, IsReading}
-use Rattle.stm_session.specs.Kept.{reads}
+use Rattle.stm_session.specs.Kept.{looks, reads}
 use Rattle.stm_session.specs.Undoable.{has_companion}
+use Rattle.stm_session.specs.lemmas.ClosingLaws.{goes_on, looked_by, segment_is_begun}
 use Rattle.stm_any_line.specs.Segments.{IsNewest, saved, segments_behind_steps, with_saved_page}
 use Rattle.stm_any_line.specs.Tracks.{IsJustRead, sends, SendReads, Tracks}
 use Rattle.stm_any_line.proofs.Tracking.{Segments, IsBegun, behind-append, begun-more, just_read, just_then, newest-more, newest-new, reads-then, tracks_as, tracks_front, tracks_then}
@@ -189,14 +192,12 @@ module _ (lengths : (set : Pairs) (address : ℕ) (bytes : List ℕ) → length 
       let lines = begun_lines chip s t b in
       tracks_then chip t b first pages lines.tracks (next (segments_behind_steps t first) (subst IsBegun (sym lines.same) tt))
 
-  -- a segment
-  one_segment : (chip : ChipData) (c : Change) (s : StateData) (t : Segments) (b steps : List Step) → IsOneSegment chip c s steps → Tracks chip t b steps
-  one_segment chip c s t b steps segment =
-      tracks_as chip t b _ steps segment.is
-      (in_segment chip s t b _ (λ u begun.
-      let turned = turned_leave chip c (page_count chip) segment.are_turned.0 u _ segment.turned (omega arith) begun segment.are_turned.1 in
-      tracks_then chip u _ segment.turned _ turned.tracks ((tt, tt), tt)))
+  -- the question behind the last frame
+  looked_tracks : (chip : ChipData) (s : Segments) (steps : List Step) → IsLookedAgain (confirmed_at chip) steps → (b : List Step) → Tracks chip s b steps
+  looked_tracks chip s steps =
+      looked_by (λ xs. (b : List Step) → Tracks chip s b xs) (confirmed_at chip) steps (λ b. tt) (λ place frame later at look p b. (sends (looks place look), p (b ++ Sends frame ∷ [])))
 
+  -- a beginning of a segment
   segment_begun : (chip : ChipData) (c : Change) (s : StateData) (t : Segments) (b steps : List Step) → IsSegmentBegun chip c s steps → Tracks chip t b steps
   segment_begun chip c s t b steps (begins (rest, is)) = tracks_front chip t b steps rest (tracks_as chip t b _ (steps ++ rest) is (begun_lines chip s t b).tracks)
   segment_begun chip c s t b steps (turns pages begun is) =
@@ -210,7 +211,14 @@ module _ (lengths : (set : Pairs) (address : ℕ) (bytes : List ℕ) → length 
       let turn = begun.is_begun.1 in
       let own = turn_leaves (begun.page == 257 && begun.first) chip c begun.page turn.0 mid _ (begun.own ++ rest) turned.begun already turn.1 in
       tracks_then chip u _ begun.before begun.own turned.tracks (tracks_front chip mid _ begun.own rest own.tracks))))
-  segment_begun chip c s t b steps (ends (rest, segment)) = tracks_front chip t b steps rest (one_segment chip c s t b (steps ++ rest) segment)
+  segment_begun chip c s t b steps (ends turned own are part is) =
+      let line : List Step = Adds (Ends (length s.stack + 1) ∷ []) ∷ [] in
+      let on = goes_on chip line (Adds (begin_entries chip.id chip.unique s) ∷ turned) own steps part is in
+      tracks_front chip t b steps on.1
+      (tracks_as chip t b _ (steps ++ on.1) on.3
+      (in_segment chip s t b (turned ++ (on.0 ++ line)) (λ u begun.
+      let pages = turned_leave chip c (page_count chip) are.0 u _ turned (omega arith) begun are.1 in
+      tracks_then chip u _ turned _ pages.tracks (tracks_then chip _ _ on.0 line (looked_tracks chip _ on.0 on.2 _) ((tt, tt), tt)))))
 
   -- frames that read
   readings_track : (chip : ChipData) (t : Segments) (b steps : List Step) → AllByRecursion (IsReading chip) steps → Tracks chip t b steps
@@ -221,7 +229,7 @@ module _ (lengths : (set : Pairs) (address : ℕ) (bytes : List ℕ) → length 
 
   -- commands
   done_by : (changes : Bool) (chip : ChipData) (c : CommandData) (s : StateData) (t : Segments) (b steps : List Step) → IsDoneIf changes chip c s steps → Tracks chip t b steps
-  done_by true chip c s t b steps (change, is, segment) = one_segment chip change s t b steps segment
+  done_by true chip c s t b steps (change, is, segment) = segment_begun chip change s t b steps (segment_is_begun chip change s steps segment)
   done_by false chip c s t b steps are = readings_track chip t b steps are
 
   pub done_tracks : (chip : ChipData) (commands : List CommandData) (outcomes : List OutcomeData) (s last : StateData) (t : Segments) (b steps : List Step) → AreDoneInOrder chip commands outcomes s last steps → Tracks chip t b steps

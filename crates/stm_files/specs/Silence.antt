@@ -6,8 +6,8 @@ use Rattle.stm_wire.specs.declared.rig.Patience.{Patience}
 use Rattle.stm_wire.specs.declared.rig.Patience.TheVariants.{Brief, Long}
 use Rattle.stm_files.specs.BatchWait.{time_beyond, wait_behind}
 use Rattle.stm_files.specs.declared.silence.Known.{Known}
-use Rattle.stm_files.specs.declared.silence.Known.TheVariants.{Nothing, Batched, Quiet, Answered}
-use Rattle.stm_files.specs.declared.silence.Known.TheVariants.{Rested, Begun}
+use Rattle.stm_files.specs.declared.silence.Known.TheVariants.{Nothing, Batched, Paired, Quiet}
+use Rattle.stm_files.specs.declared.silence.Known.TheVariants.{Answered, Rested, Begun}
 
 pub record SilenceData : Type 0 where
   -- the whole wait, in milliseconds
@@ -20,7 +20,8 @@ pub record SilenceData : Type 0 where
   pub longest : Option ℕ
   -- how many bits a second the line has, where that is known
   pub baud : Option ℕ
-  -- the bytes put since the last get that stayed quiet, or was of the patience that waits long
+  -- the bytes put since the last get that stayed quiet, or was of the patience that waits long, but for
+  -- those of a batch that were refused
   pub bytes : ℕ
 
 -- A device that was just reset owes nothing, so that its line is quiet from the start.
@@ -44,11 +45,12 @@ abbrev pub due_wait : ℕ → Option ℕ → ℕ
 due_wait whole None = whole
 due_wait whole (Some longest) = min whole (4 * longest + 20)
 
--- Behind an answer nothing more is due. A device at rest owes nothing, so that what is there is only
--- looked at; and it is silent to one byte, the first of a pair. Elsewhere it is waited for whole, and
--- longer behind many bytes.
+-- Behind an answer nothing more is due. A device at rest owes nothing, and on a quiet line a whole wait
+-- is over, so that what is there is only looked at; and a device at rest is silent to one byte, the
+-- first of a pair. Elsewhere it is waited for whole, and longer behind many bytes.
 abbrev pub wait_of : Known → ℕ → ℕ → Option ℕ → ℕ → ℕ
 wait_of Answered puts whole longest behind = if puts == 0 then due_wait whole longest else behind
+wait_of Quiet puts whole longest behind = if puts == 0 then min whole 1 else behind
 wait_of Rested puts whole longest behind =
     if puts == 0 then min whole 1
     else if puts == 1 then due_wait whole longest else behind
@@ -88,6 +90,7 @@ after_get known puts (Some byte) = known_after known puts byte
 -- Behind a batch nothing is known, until a command was answered.
 abbrev pub unless_batched : Known → Known → Known
 unless_batched Batched known = Batched
+unless_batched Paired known = Batched
 unless_batched other known = known
 
 abbrev pub known_behind : Known → ℕ → Known → Known
@@ -98,19 +101,37 @@ longer_of None taken = taken
 longer_of (Some longest) None = Some longest
 longer_of (Some longest) (Some taken) = Some (max longest taken)
 
--- Bytes that were put are on their way until a get stayed quiet.
-abbrev pub bytes_behind : Option ℕ → ℕ → ℕ
-bytes_behind None bytes = 0
-bytes_behind (Some byte) bytes = bytes
+-- Of a batch that is put to a device at rest each two bytes are refused by one 1F, and nothing else
+-- comes. Whether a byte that came refuses two of them, where so many aren't refused yet.
+abbrev pub refuses_pair : Known → ℕ → ℕ → ℕ → Bool
+refuses_pair Rested puts bytes byte = nat_le 2 puts && byte == nack
+refuses_pair Paired puts bytes byte = puts == 0 && (nat_le 2 bytes && byte == nack)
+refuses_pair other puts bytes byte = false
+
+-- Then nothing more is due once they all were.
+abbrev pub rest_of_pairs : ℕ → Known
+rest_of_pairs bytes = if nat_le bytes 2 then Answered else Paired
+
+abbrev pub known_heard : Known → ℕ → ℕ → Option ℕ → Known
+known_heard known puts bytes None = known_behind known puts (after_get known puts None)
+known_heard known puts bytes (Some byte) =
+    if refuses_pair known puts bytes byte then rest_of_pairs bytes
+    else known_behind known puts (after_get known puts (Some byte))
+
+-- Bytes that were put are on their way until a get stayed quiet, or they were refused.
+abbrev pub bytes_heard : Known → ℕ → ℕ → Option ℕ → ℕ
+bytes_heard known puts bytes None = 0
+bytes_heard known puts bytes (Some byte) =
+    if refuses_pair known puts bytes byte then bytes - 2 else bytes
 
 -- A brief get that had to wait answered a byte after so many milliseconds, or stayed quiet.
 abbrev pub with_answer : Option ℕ → Option ℕ → SilenceData → SilenceData
 with_answer answer taken s =
     record s {
-      known = known_behind s.known s.puts (after_get s.known s.puts answer);
+      known = known_heard s.known s.puts s.bytes answer;
       puts = 0;
       longest = longer_of s.longest taken;
-      bytes = bytes_behind answer s.bytes;
+      bytes = bytes_heard s.known s.puts s.bytes answer;
     }
 
 -- A get that waits long, as each step of a command has one, was answered or stayed quiet. Behind an
@@ -146,18 +167,22 @@ with_long answer taken s =
     }
 
 -- A get answered a byte that was there: it came before what was put was sent, and is no answer to it.
-abbrev pub known_held : Patience → Known → ℕ → Known
-known_held Brief known puts = known_behind known puts Nothing
-known_held Long known puts = if puts == 0 then known else unless_batched known Nothing
+abbrev pub known_held : Patience → Known → ℕ → ℕ → ℕ → Known
+known_held Brief known puts bytes byte =
+    if puts == 0 && refuses_pair known puts bytes byte then rest_of_pairs bytes
+    else known_behind known puts Nothing
+known_held Long known puts bytes byte =
+    if puts == 0 then known else unless_batched known Nothing
 
-abbrev pub bytes_held : Patience → ℕ → ℕ
-bytes_held Brief bytes = bytes
-bytes_held Long bytes = 0
+abbrev pub bytes_held : Patience → Known → ℕ → ℕ → ℕ → ℕ
+bytes_held Brief known puts bytes byte =
+    if puts == 0 && refuses_pair known puts bytes byte then bytes - 2 else bytes
+bytes_held Long known puts bytes byte = 0
 
-abbrev pub with_held : Patience → SilenceData → SilenceData
-with_held patience s =
+abbrev pub with_held : Patience → ℕ → SilenceData → SilenceData
+with_held patience byte s =
     record s {
-      known = known_held patience s.known s.puts;
+      known = known_held patience s.known s.puts s.bytes byte;
       puts = 0;
-      bytes = bytes_held patience s.bytes;
+      bytes = bytes_held patience s.known s.puts s.bytes byte;
     }

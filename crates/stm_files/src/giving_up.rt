@@ -1,4 +1,6 @@
 // A journal that is given up: its file is removed, or renamed.
+ghost use Rattle.std.specs.Prelude.{◌≡◌, false};
+ghost use Rattle.stm_journal.specs.States.{is_unfinished};
 
 use crate::file_fault::FileFault;
 use crate::files::sync_folder;
@@ -7,13 +9,18 @@ use std::fs::{Files, Metadata};
 use std::io::ErrorKind;
 use std::os::unix::fs::MetadataExt;
 use std::{fs, io};
+use stm_journal::Journal;
 
-/// Removes the file of a journal, or renames it to a name that isn't there.
+/// Removes the file of a journal, or renames it to a name that isn't there: of one that was read, and
+/// none of whose writes and erases is unfinished.
 pub fn give_up_journal<'a, R: Files + AllocGlobal>(
     rt: &R,
+    _journal: &Journal,
     name: &'a str,
     to: Option<&'a str>,
-) -> Result<(), FileFault<'a>> {
+) -> Result<(), FileFault<'a>>
+    requires finished { is_unfinished _journal.now.state ≡ false }
+{
     match to {
         Some(to) => rename(rt, name, to),
         None => remove(rt, name),

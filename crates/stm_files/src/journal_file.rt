@@ -2,6 +2,7 @@
 ghost use Rattle.std.specs.Prelude.{◌≡◌, ◌≤◌, ◌<◌, ◌-◌, ◌^◌, true, false, IfOk, OnErr, OnOk};
 ghost use Rattle.std.specs.Prelude.{◌||◌, IfSome, length};
 ghost use Rattle.std.specs.Io.KnownBytes.{Appends, IsAtEnd};
+ghost use Rattle.stm_journal.specs.States.{is_unfinished};
 ghost use Rattle.stm_files.specs.JournalFile.{JournalBytes, IsNew, ahead_of, is_failed, known_bytes};
 ghost use Rattle.stm_files.specs.JournalFile.{lock_of};
 ghost use Rattle.stm_files.specs.Locks.{IsHeld, IsHeldIfThere};
@@ -26,6 +27,7 @@ use std::marker::Model;
 use std::os::unix::fs::OpenOptionsExt;
 use std::{fs, io, mem};
 use stm_disk::add_lines;
+use stm_journal::Journal;
 
 /// Up to how many bytes of a journal that is added to are kept in memory.
 const HELD: u64 = 1 << 26;
@@ -276,11 +278,19 @@ impl<'a, R: Locks + AllocGlobal> JournalFile<'a, R> {
 
     /// Ends the journal, by its name: the file is removed, or renamed to a name that isn't there, and
     /// from then on it isn't there. It has to be the one still that was read and added to.
-    pub fn end<'w>(&mut self, name: &'w str, to: Option<&'w str>) -> Result<(), FileFault<'w>> {
+    /// None of what it says is unfinished.
+    pub fn end<'w>(
+        &mut self,
+        journal: &Journal,
+        name: &'w str,
+        to: Option<&'w str>,
+    ) -> Result<(), FileFault<'w>>
+        requires finished { is_unfinished journal.now.state ≡ false }
+    {
         if !self.stays() {
             return Err(FileFault::Journal(self.take_reason()));
         }
-        give_up_journal(self.rt, name, to)?;
+        give_up_journal(self.rt, journal, name, to)?;
         self.writing = Writing::Unopened;
         self.reading = None;
         self.end = 0;

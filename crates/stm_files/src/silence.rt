@@ -1,11 +1,11 @@
 // How long a brief get waits for a byte.
 ghost use Rattle.std.specs.Prelude.{◌≡◌, ◌≤◌, None};
 ghost use Rattle.stm_files.specs.BatchWait.{wait_behind};
-ghost use Rattle.stm_files.specs.Silence.{SilenceData, after_get, at_first, beyond_now, bytes_behind};
-ghost use Rattle.stm_files.specs.Silence.{bytes_held, due_wait, is_lone_ack, is_refusal};
-ghost use Rattle.stm_files.specs.Silence.{is_reply, known_after, known_behind, known_held, known_long};
-ghost use Rattle.stm_files.specs.Silence.{known_unmeasured, longer_of, quiet_after, unless_batched};
-ghost use Rattle.stm_files.specs.Silence.{wait_now};
+ghost use Rattle.stm_files.specs.Silence.{SilenceData, after_get, at_first, beyond_now, bytes_heard};
+ghost use Rattle.stm_files.specs.Silence.{bytes_held, due_wait, is_lone_ack, is_refusal, is_reply};
+ghost use Rattle.stm_files.specs.Silence.{known_after, known_behind, known_heard, known_held, known_long};
+ghost use Rattle.stm_files.specs.Silence.{known_unmeasured, longer_of, quiet_after, refuses_pair};
+ghost use Rattle.stm_files.specs.Silence.{rest_of_pairs, unless_batched, wait_now};
 ghost use Rattle.stm_files.specs.Silence.{with_answer, with_held, with_long, with_put};
 
 use crate::batch_wait::{time_beyond, wait_behind};
@@ -26,13 +26,15 @@ pub enum Known {
     Nothing,
     /// Nothing either, and a batch was put, whose replies may come late.
     Batched,
+    /// A batch was put to a device at rest, which refused two of its bytes by each byte that came since.
+    Paired,
     /// The line was quiet for a whole wait, or its device was just reset.
     Quiet,
     /// The one byte that was put to a quiet line was answered by 79 or 1F, as 79 alone where the reply
-    /// was waited for long.
+    /// was waited for long; or each two bytes of a batch by 1F.
     Answered,
-    /// Behind that it was quiet, or a command was answered: the device is connected, has nothing
-    /// begun, and owes nothing.
+    /// Behind that it was quiet, or a command was answered, or all of a batch was refused: the device
+    /// is connected, has nothing begun, and owes nothing.
     Rested,
     /// A byte was put to a device at rest, and it was silent: the first of a pair is begun.
     Begun,
@@ -99,6 +101,17 @@ fn is_refusal(byte: u8) -> Known
     }
 }
 
+/// What is known where two more of a batch were refused, of which so many bytes were not.
+fn rest_of_pairs(bytes: u32) -> Known
+    ensures { result ≡ rest_of_pairs bytes }
+{
+    if bytes <= 2 {
+        Known::Answered
+    } else {
+        Known::Paired
+    }
+}
+
 impl Known {
     /// What is known behind a get that stayed quiet.
     fn quiet_after(self, puts: u8) -> Known
@@ -138,7 +151,7 @@ impl Known {
         ensures { result ≡ unless_batched self known }
     {
         match self {
-            Known::Batched => Known::Batched,
+            Known::Batched | Known::Paired => Known::Batched,
             _ => known,
         }
     }
@@ -151,6 +164,39 @@ impl Known {
             return Known::Batched;
         }
         self.unless_batched(known)
+    }
+
+    /// Whether a byte refuses two of a batch that was put to a device at rest, of which so many bytes
+    /// aren't refused yet.
+    fn refuses_pair(self, puts: u8, bytes: u32, byte: u8) -> bool
+        ensures { result ≡ refuses_pair self puts bytes byte }
+    {
+        match self {
+            Known::Rested => puts >= 2 && byte == NACK,
+            Known::Paired => puts == 0 && (bytes >= 2 && byte == NACK),
+            _ => false,
+        }
+    }
+
+    /// What is known behind a brief get that had to wait, where so many bytes are on their way.
+    fn known_heard(self, puts: u8, bytes: u32, answer: Option<u8>) -> Known
+        ensures { result ≡ known_heard self puts bytes answer }
+    {
+        match answer {
+            Some(byte) if self.refuses_pair(puts, bytes, byte) => rest_of_pairs(bytes),
+            _ => self.known_behind(puts, self.after_get(puts, answer)),
+        }
+    }
+
+    /// How many bytes may still be on their way behind such a get: none, where it stayed quiet.
+    fn bytes_heard(self, puts: u8, bytes: u32, answer: Option<u8>) -> u32
+        ensures { result ≡ bytes_heard self puts bytes answer }
+    {
+        match answer {
+            Some(byte) if self.refuses_pair(puts, bytes, byte) => bytes.saturating_sub(2),
+            Some(_) => bytes,
+            None => 0,
+        }
     }
 
     /// Whether a get that waits long answered 79 for the one byte that was put to a quiet line. `bytes`
@@ -188,13 +234,31 @@ impl Known {
 
     /// What is known behind a byte that was there.
     #[inline(always)]
-    fn known_held(self, patience: Patience, puts: u8) -> Known
-        ensures { result ≡ known_held patience self puts }
+    fn known_held(self, patience: Patience, puts: u8, bytes: u32, byte: u8) -> Known
+        ensures { result ≡ known_held patience self puts bytes byte }
     {
         match patience {
             Patience::Long if puts == 0 => self,
             Patience::Long => self.unless_batched(Known::Nothing),
+            Patience::Brief if puts == 0 && self.refuses_pair(puts, bytes, byte) => {
+                rest_of_pairs(bytes)
+            }
             Patience::Brief => self.known_behind(puts, Known::Nothing),
+        }
+    }
+
+    /// How many of so many bytes may still be on their way behind it: none, where the reply to a
+    /// command was asked for.
+    #[inline(always)]
+    fn bytes_held(self, patience: Patience, puts: u8, bytes: u32, byte: u8) -> u32
+        ensures { result ≡ bytes_held patience self puts bytes byte }
+    {
+        match patience {
+            Patience::Brief if puts == 0 && self.refuses_pair(puts, bytes, byte) => {
+                bytes.saturating_sub(2)
+            }
+            Patience::Brief => bytes,
+            Patience::Long => 0,
         }
     }
 }
@@ -206,29 +270,6 @@ fn due_wait(whole: u64, longest: Option<u32>) -> u64
     match longest {
         Some(longest) => whole.min(4 * u64::from(longest) + MARGIN),
         None => whole,
-    }
-}
-
-/// How many of so many bytes may still be on their way behind a brief get: none, where it stayed
-/// quiet.
-fn bytes_behind(answer: Option<u8>, bytes: u32) -> u32
-    ensures { result ≡ bytes_behind answer bytes }
-{
-    match answer {
-        Some(_) => bytes,
-        None => 0,
-    }
-}
-
-/// How many of so many bytes may still be on their way behind a byte that was there: none, where the
-/// reply to a command was asked for.
-#[inline(always)]
-fn bytes_held(patience: Patience, bytes: u32) -> u32
-    ensures { result ≡ bytes_held patience bytes }
-{
-    match patience {
-        Patience::Brief => bytes,
-        Patience::Long => 0,
     }
 }
 
@@ -269,7 +310,7 @@ impl Silence {
     {
         match self.known {
             Known::Answered if self.puts == 0 => due_wait(self.whole, self.longest),
-            Known::Rested if self.puts == 0 => self.whole.min(1),
+            Known::Quiet | Known::Rested if self.puts == 0 => self.whole.min(1),
             Known::Rested if self.puts == 1 => due_wait(self.whole, self.longest),
             _ => wait_behind(self.whole, self.baud, self.bytes),
         }
@@ -287,11 +328,11 @@ impl Silence {
     pub fn hear(&mut self, answer: Option<u8>, taken: Option<u32>)
         ensures { self.new ≡ with_answer answer taken self.old }
     {
-        let after = self.known.after_get(self.puts, answer);
-        self.known = self.known.known_behind(self.puts, after);
+        let bytes = self.known.bytes_heard(self.puts, self.bytes, answer);
+        self.known = self.known.known_heard(self.puts, self.bytes, answer);
         self.puts = 0;
         self.longest = longer_of(self.longest, taken);
-        self.bytes = bytes_behind(answer, self.bytes);
+        self.bytes = bytes;
     }
 
     /// A get that waits long, and had to wait, has answered: a byte after so many milliseconds, or
@@ -310,11 +351,12 @@ impl Silence {
     /// A get answered a byte that was there: it came before what was put was sent, and is no answer to
     /// it.
     #[inline(always)]
-    pub fn hold(&mut self, patience: Patience)
-        ensures { self.new ≡ with_held patience self.old }
+    pub fn hold(&mut self, patience: Patience, byte: u8)
+        ensures { self.new ≡ with_held patience byte self.old }
     {
-        self.known = self.known.known_held(patience, self.puts);
+        let bytes = self.known.bytes_held(patience, self.puts, self.bytes, byte);
+        self.known = self.known.known_held(patience, self.puts, self.bytes, byte);
         self.puts = 0;
-        self.bytes = bytes_held(patience, self.bytes);
+        self.bytes = bytes;
     }
 }

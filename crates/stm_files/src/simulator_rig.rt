@@ -1,7 +1,8 @@
 // A simulated device, and a journal kept in a file.
-ghost use Rattle.std.specs.Prelude.{◌≡◌, ◌≤◌, [], drop, length, IfOk, IfSome, OnErr, OnOk, true};
+ghost use Rattle.std.specs.Prelude.{◌≡◌, ◌≤◌, [], drop, length, IfOk, IfSome, OnErr, OnOk, true, false};
 ghost use Rattle.std.specs.Io.KnownBytes.{Appends};
 ghost use Rattle.std.proofs.Common.{sym};
+ghost use Rattle.stm_journal.specs.States.{is_unfinished};
 ghost use Rattle.stm_sim.specs.Memory.{PutsInMemory, GetsInMemory, rig_state};
 ghost use Rattle.stm_wire.specs.Rig.{AppendsHonestly, FetchesHonestly, FetchesWithin, GetsHonestly};
 ghost use Rattle.stm_wire.specs.Call.{Put, Fetch};
@@ -22,6 +23,7 @@ use std::alloc::{AllocError, Global};
 use std::io;
 use std::io::ErrorKind;
 use std::marker::Model;
+use stm_journal::Journal;
 use stm_sim::MemoryRig;
 use stm_wire::{Patience, Rig, RigCall, RigFault};
 
@@ -87,14 +89,17 @@ impl<'a, 'f, R: Locks + AllocGlobal> SimulatorRig<'a, 'f, R> {
         (self.memory, self.file, self.simulator)
     }
 
-    /// Ends the journal: its file is removed or renamed, and isn't there from then on. The device
-    /// goes on as it stands, once its files are stored, with the steps that are left to a stop.
+    /// Ends the journal, of which nothing is unfinished: its file is removed or renamed, and isn't
+    /// there from then on. The device goes on as it stands, once its files are stored, with the steps
+    /// that are left to a stop.
     pub fn end_journal<'w>(
         &mut self,
         alloc: Global,
+        journal: &Journal,
         name: &'w str,
         to: Option<&'w str>,
     ) -> Result<(), FileFault<'w>>
+        requires finished { is_unfinished journal.now.state ≡ false }
         ensures err { OnErr result ((self.new.memory ≡ self.old.memory)
             × (self.new.journal_failures ≡ self.old.journal_failures)) }
         ensures ends { let old = simulator_rig_state self.old in
@@ -112,7 +117,7 @@ impl<'a, 'f, R: Locks + AllocGlobal> SimulatorRig<'a, 'f, R> {
             self.is_unstored = true;
             return Err(FileFault::Journal(None));
         }
-        self.file.end(name, to)?;
+        self.file.end(journal, name, to)?;
         self.memory = memory;
         self.stop = left;
         Ok(())

@@ -264,7 +264,7 @@ impl<'a, S: Timed, C: Clock> SocketLine<'a, S, C> {
         }
         let byte = self.incoming.pop()?;
         self.short_waits.get(patience, None);
-        self.silence.hold(patience);
+        self.silence.hold(patience, byte);
         Some(byte)
     }
 
@@ -280,7 +280,7 @@ impl<'a, S: Timed, C: Clock> SocketLine<'a, S, C> {
         if let Some(byte) = self.incoming.pop() {
             self.reply_time.came(Some(byte), 0);
             self.short_waits.get(patience, None);
-            self.silence.hold(patience);
+            self.silence.hold(patience, byte);
             return Ok(Some(byte));
         }
         let time = self.wait(patience)?;

@@ -1,6 +1,7 @@
 // A device behind a socket, and a journal kept in a file.
-ghost use Rattle.std.specs.Prelude.{◌≡◌, ◌<◌, ◌-◌, ◌^◌, IfOk, OnOk, MatchResult, Err, Ok, length};
+ghost use Rattle.std.specs.Prelude.{◌≡◌, ◌<◌, ◌-◌, ◌^◌, IfOk, OnOk, MatchResult, Err, Ok, length, false};
 ghost use Rattle.std.specs.Io.KnownBytes.{IsAtEnd};
+ghost use Rattle.stm_journal.specs.States.{is_unfinished};
 ghost use Rattle.stm_files.specs.JournalFile.{AppendsIfTaken};
 ghost use Rattle.stm_files.specs.SocketRig.{SocketState, socket_rig_state};
 ghost use Rattle.stm_files.specs.SocketLine.{PutsOnLine, ReadsNothing, SendsAll, TakesFromLine};
@@ -17,6 +18,7 @@ use crate::socket_line::{SocketLine, Timed};
 use std::io;
 use std::marker::Model;
 use std::time::Clock;
+use stm_journal::Journal;
 use stm_wire::{Patience, Rig, RigFault};
 
 /// A device behind a socket, and a journal kept in a file.
@@ -60,15 +62,18 @@ impl<'a, S: Timed + Drop, R: Locks + Clock + AllocGlobal> SocketRig<'a, S, R> {
         self.line.has_given_up()
     }
 
-    /// Ends the journal: its file is removed or renamed, and isn't there from then on.
+    /// Ends the journal, of which nothing is unfinished: its file is removed or renamed, and isn't
+    /// there from then on.
     pub fn end_journal<'w>(
         &mut self,
+        journal: &Journal,
         name: &'w str,
         to: Option<&'w str>,
     ) -> Result<(), FileFault<'w>>
+        requires finished { is_unfinished journal.now.state ≡ false }
         ensures { self.new.failures ≡ self.old.failures }
     {
-        self.file.end(name, to)
+        self.file.end(journal, name, to)
     }
 
     /// The journal's file; the line is closed.

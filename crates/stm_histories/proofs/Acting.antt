@@ -26,7 +26,7 @@ use Rattle.stm_work.specs.declared.content.Content.{Content}
 use Rattle.stm_work.specs.declared.content.Content.TheVariants.{Placed, AtBase}
 use Rattle.stm_work.specs.declared.failure.Failure.{Failure}
 use Rattle.stm_work.specs.declared.failure.Failure.TheVariants.{Session}
-use Rattle.stm_work.specs.Action.{Calls, DoesAction, HandsOn, Parts, PlacesFirst}
+use Rattle.stm_work.specs.Action.{Calls, DoesAction, HandsOn, Parts, PlacesFirst, told_undone}
 use Rattle.stm_work.specs.Answer.{outcomes_told}
 use Rattle.stm_work.specs.Conduct.{PromisesInfo, AsksThenGoesOn, RunsIfRoom, RunsTold}
 use Rattle.stm_work.specs.Content.{ImageOn}
@@ -203,6 +203,7 @@ module _ {R : Type 0} (view : R → RigState) (laws : Laws view) where
     does-goes (action.Go address) old new result at can (said, goes, hands) = parts-goes _ _ _ old new said at can.stays goes.parts
     does-goes (action.Protect kind) old new result at can (said, parts, hands) = parts-goes _ _ _ old new said at can.stays parts
     does-goes action.UnprotectFresh old new result at can done = absurd can.stays
+    does-goes action.UnprotectBegun old new result at can done = absurd can.stays
 
   pub actions-are-histories : ActionsAreHistories R view
   actions-are-histories table starts does old new result can done =
@@ -240,7 +241,7 @@ module _ {R : Type 0} (view : R → RigState) (laws : Laws view) where
       knows : Knows table (end_of (is.history ++ after) start)
       knows = let K : World → Type 0 = λ x. Knows table x in subst K (sym ends) (knows-made table start (now_of (view again)) make can.knows)
 
-      by-answer : (u : Result ℕ Fault) → UndoContract table 0 (view again) (view last) u → HandsOn answer.Undone u (Ok told) → (view last).device.flash ≡ oldest_start starts start
+      by-answer : (u : Result ℕ Fault) → UndoContract table 0 (view again) (view last) u → HandsOn told_undone u (Ok told) → (view last).device.flash ≡ oldest_start starts start
       by-answer (Err fault) contract hands = absurd (cc)
       by-answer (Ok n) contract hands =
           (laws.whole (is.history ++ after) start starts can.start leads table again last n (now_of (view last)) ((honest, sym ends), knows, contract, refl)).0

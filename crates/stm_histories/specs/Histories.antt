@@ -34,8 +34,8 @@ pub record IsHistory {R : Type 0} (view : R → RigState) (old new : R) : Type 0
 abbrev pub IsPartingRefused : List ℕ → Type 0
 IsPartingRefused journal = IsSome (open_refusal (journal_of journal))
 
--- the action is no `go` and no protection, or the journal refuses these; one that no journal refuses
--- resets its device, of which another law speaks
+-- the action is no `go` and no protection, or the journal refuses these; those that no journal refuses
+-- reset their device, and of one another law speaks
 abbrev pub StaysInSession : Action → List ℕ → Type 0
 StaysInSession action.Info journal = Unit {0}
 StaysInSession (action.Read range) journal = Unit {0}
@@ -49,6 +49,7 @@ StaysInSession (action.UndoVerified count) journal = Unit {0}
 StaysInSession (action.Go address) journal = IsPartingRefused journal
 StaysInSession (action.Protect kind) journal = IsPartingRefused journal
 StaysInSession action.UnprotectFresh journal = ⊥
+StaysInSession action.UnprotectBegun journal = ⊥
 
 -- an action can be done on this Rig: what was begun before can be undone, and
 -- the table knows the device

@@ -120,20 +120,20 @@ asked_few id a b asked = part_few None true 268 a.calls b.calls (asked_puts id a
 pub read_broken_length : (address size : ℕ) (answer : List ℕ) → length answer ≡ size → length (read_turns address answer) ≤ 12 + size
 read_broken_length address size answer same = omega (arith, same, length-read_turns address answer)
 
+pub refused_length : (address size : ℕ) (frame : List ℕ) (turns : List Turn) → IsRefusedRead address size frame turns → length turns ≤ 12 + size
+refused_length address size frame turns (at_code f t) = omega (arith, ap length t)
+refused_length address size frame turns (at_address f t) = omega (arith, ap length t)
+refused_length address size frame turns (at_count f t) = omega (arith, ap length t)
+
 -- a read that was answered
 module _ (address size : ℕ) (bytes : List ℕ) (a b : RigState) where
-  pub refused_length : (frame : List ℕ) (turns : List Turn) → IsRefusedRead address size frame turns → length turns ≤ 12 + size
-  refused_length frame turns (at_code f t) = omega (arith, ap length t)
-  refused_length frame turns (at_address f t) = omega (arith, ap length t)
-  refused_length frame turns (at_count f t) = omega (arith, ap length t)
-
   pub read_unwritten : (told : Bool) → ReadsOrIsRefused address size bytes a b told → GoesOn AppendsNothing a.calls b.calls
   read_unwritten true held = held_appends_nothing (read_turns address bytes) a.calls b.calls held.recorded
   read_unwritten false (frame, turns, is, held) = held_appends_nothing turns a.calls b.calls held.recorded
 
   pub read_few : (told : Bool) → length bytes ≡ size → ReadsOrIsRefused address size bytes a b told → GoesOn (AreFew (12 + size)) a.calls b.calls
   read_few true same held = few_held (12 + size) (read_turns address bytes) a.calls b.calls (read_broken_length address size bytes same) held.recorded
-  read_few false same (frame, turns, is, held) = few_held (12 + size) turns a.calls b.calls (refused_length frame turns is) held.recorded
+  read_few false same (frame, turns, is, held) = few_held (12 + size) turns a.calls b.calls (refused_length address size frame turns is) held.recorded
 
   pub read_ordered : (told torn : Bool) → length bytes ≡ size → ReadsOrIsRefused address size bytes a b told
       → (steps : List Step) × IsAsked address size (came_in told bytes) steps × GoesOn (IsInOrder torn steps) a.calls b.calls

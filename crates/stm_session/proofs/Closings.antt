@@ -1,8 +1,8 @@
--- The segment of a command ends.
-use Rattle.std.proofs.Common.{◌≡◌, ◌⊎◌, inl, inr, ℕ, Bool, List, [], ◌∷◌, ◌++◌, length, take, Result, Ok, Err, IsErrAnd, refl, sym, ap, ◌∙◌, subst, IsTrue}
+-- The segment of a command ends, behind a question.
+use Rattle.std.proofs.Common.{◌≡◌, ◌⊎◌, inl, inr, ℕ, Bool, List, [], ◌∷◌, ◌++◌, length, take, Result, Ok, Err, IsErrAnd, OnOk, refl, sym, ap, ◌∙◌, subst, IsTrue}
 use Rattle.stm_wire.specs.Device.{Device, IsSettled}
 use Rattle.stm_wire.specs.Moments.{LeavesOnly}
-use Rattle.stm_wire.specs.lemmas.MomentLaws.{weaker}
+use Rattle.stm_wire.specs.lemmas.MomentLaws.{joined, weaker}
 use Rattle.stm_wire.specs.Rig.{RigState, IsModel, LeftByAppend}
 use Rattle.stm_journal.specs.declared.entry.Entry.{Entry}
 use Rattle.stm_journal.specs.declared.entry.Entry.TheVariants.{Ends}
@@ -15,14 +15,52 @@ use Rattle.stm_journal.specs.Journals.{Loaded, journal_of, good, added_bytes, lo
 use Rattle.stm_journal.specs.Newest.{HasEnded}
 use Rattle.stm_journal.specs.States.{StateData, newest_is_open, IsSound}
 use Rattle.stm_session.specs.declared.fault.Fault.{Fault}
+use Rattle.stm_session.specs.Asking.{Asks, IsStill}
 use Rattle.stm_session.specs.Fault.{IsOutsideFault, fault_of_journal}
 use Rattle.stm_session.specs.Lines.{depth_at, is_torn_at, text_added}
 use Rattle.stm_session.specs.Segments.{Closes, IsClosing}
 use Rattle.stm_session.specs.StepLaws.{StepLaws}
-use Rattle.stm_session.specs.Steps.{KeepsFlashes, IsSteady}
+use Rattle.stm_session.specs.Steps.{AddsLines, KeepsFlashes, IsSteady}
 use Rattle.stm_session.specs.Undoable.{state_at}
 use Rattle.stm_session.proofs.Keeping.{depth_text, good_at, keeps_pages, text_is}
-use Rattle.stm_session.proofs.Standing.{journal_outside, loses_nothing, same_make, settled_undoable}
+use Rattle.stm_session.proofs.Standing.{journal_outside, loses_nothing, makes_then, same_make, settled_undoable, still_stands}
+
+-- the question wasn't answered, or told another board; or it was answered, and behind it comes the end
+module _ (laws : StepLaws) (flashes : List (List ℕ)) (l : Loaded) (old mid : RigState) (steady : IsSteady flashes l old) where
+  asking_moment : (entries : List Entry) (d : Device) (journal : List ℕ) → IsStill old d journal → IsClosing entries flashes old d journal
+  asking_moment entries d journal still =
+      let stands = still_stands laws entries flashes l old steady d journal still in
+      record { undoable = stands.undoable; make = stands.make; flash = still.flash; written = stands.written; lines = stands.lines }
+
+  pub unasked : {T U : Type 0} {Done : T → Type 0} (entries : List Entry) (l2 : Loaded) (e : Fault) (result : Result U Fault) → Asks {T = T} old mid (Err e) Done → IsErrAnd result (λ y. y ≡ e) → Closes flashes entries l2 old mid result
+  unasked entries l2 e (Ok y) asks is = absurd is
+  unasked entries l2 e (Err y) asks is =
+      record { moments = weaker (IsStill old) (IsClosing entries flashes old) old mid asks.moments (asking_moment entries); fails = subst IsOutsideFault (sym is) asks.fails; honest = asks.honest; steady = tt; lines = tt; same_device = tt }
+
+  pub behind_asking : {T U : Type 0} {Done : T → Type 0} (x : T) (l2 : Loaded) (new : RigState) (result : Result U Fault) → Asks old mid (Ok x) Done → Closes flashes (Ends (depth_at mid.journal) ∷ []) l2 mid new result
+      → Closes flashes (Ends (depth_at old.journal) ∷ []) l2 old new result
+  behind_asking {T} {U} x l2 new result asks closes =
+      let same = asks.left.journal_same in
+      let C : List ℕ → Type 0 = λ j. Closes {T = U} flashes (Ends (depth_at j) ∷ []) l2 mid new result in
+      let own : List Entry = Ends (depth_at old.journal) ∷ [] in
+      let then = subst C same closes in
+      let A : List ℕ → Type 0 = λ j. OnOk result (AddsLines own j new.journal) in
+      let D : Device → Type 0 = λ d. OnOk result (new.device ≡ d) in
+      let later : (d : Device) (journal : List ℕ) → IsClosing own flashes mid d journal → IsClosing own flashes old d journal = λ d journal s. record {
+        undoable = s.undoable;
+        make = makes_then old.device mid.device d asks.left.make s.make;
+        flash = s.flash ∙ asks.left.flash;
+        written = s.written;
+        lines = s.lines ∙ ap (λ (j : List ℕ). j ++ take s.written (text_added (is_torn_at j) own)) same;
+      } in
+      record {
+        moments = joined (IsStill old) (IsClosing own flashes mid) (IsClosing own flashes old) old mid new asks.moments then.moments (asking_moment own) later;
+        fails = then.fails;
+        honest = then.honest;
+        steady = then.steady;
+        lines = subst A same then.lines;
+        same_device = subst D asks.same then.same_device;
+      }
 
 module _ (laws : StepLaws) (flashes : List (List ℕ)) (l : Loaded) (old : RigState) (model : IsModel old) (steady : IsSteady flashes l old) (is_open : IsTrue (newest_is_open l.state)) where
   abbrev Line : Entry

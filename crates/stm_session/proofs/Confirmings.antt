@@ -1,5 +1,5 @@
 -- Asking a device once more for its unique id: the frames of that, what it tells, and what comes behind.
-use Rattle.std.proofs.Common.{◌≡◌, inl, inr, ⊎_elim, ℕ, ◌+◌, ◌≤◌, ◌&&◌, ◌==◌, Bool, true, false, if◌then◌else◌, List, [], ◌∷◌, length, Option, Some, None, Result, IsErrAnd, IsTrue, refl, sym, ◌∙◌, ap, ap₂, subst, arith}
+use Rattle.std.proofs.Common.{◌≡◌, inl, inr, ⊎_elim, ℕ, ◌+◌, ◌≤◌, ◌&&◌, ◌==◌, Bool, true, false, List, [], ◌∷◌, length, Option, Some, None, Result, IsErrAnd, IsTrue, refl, sym, ◌∙◌, ap, ap₂, subst, arith}
 use Rattle.std.specs.Prelude.{◌⊎◌, bytes_eq}
 use Rattle.std.proofs.lemmas.Bool.Decides.{nat_tests}
 use Rattle.std.proofs.lemmas.Slice.Eq.{bytes_eq-Decides}
@@ -24,19 +24,20 @@ use Rattle.stm_session.specs.AskingBoard.{came_in}
 use Rattle.stm_session.specs.Confirming.{HasAgain, TellsAgain}
 use Rattle.stm_session.specs.Fault.{IsOfLine, cause_of}
 use Rattle.stm_session.specs.Order.{Step, Begin, DoesSteps, IsInOrder, Sends, FaultEnds, StopsBy, torn_behind}
-use Rattle.stm_session.specs.Reaching.{IsAsked, IsConfirming, confirm_steps, confirming, confirmed_at, place_of_bytes}
+use Rattle.stm_session.specs.Reaching.{IsAsked, IsConfirming, confirm_steps, confirming, confirmed_at}
 use Rattle.stm_session.specs.Sending.{most_of_confirming}
+use Rattle.stm_session.specs.lemmas.ClosingLaws.{place_known}
 use Rattle.stm_session.proofs.AskingBoards.{read_broken_length, refused_length}
 use Rattle.stm_session.proofs.CutShort.{begin_as, part_stops}
 use Rattle.stm_session.proofs.ToldBoards.{unique_same}
 
 -- the frame of such a read, or its head
-refused_sends : (address size : ℕ) (frame : List ℕ) (turns : List Turn) → IsRefusedRead address size frame turns → sent_bytes turns ≡ frame
+pub refused_sends : (address size : ℕ) (frame : List ℕ) (turns : List Turn) → IsRefusedRead address size frame turns → sent_bytes turns ≡ frame
 refused_sends address size frame turns (at_code f t) = ap (λ (l : List Turn). sent_bytes l) t ∙ sym f
 refused_sends address size frame turns (at_address f t) = ap (λ (l : List Turn). sent_bytes l) t ∙ sym f
 refused_sends address size frame turns (at_count f t) = ap (λ (l : List Turn). sent_bytes l) t ∙ sym f
 
-refused_head : (address size : ℕ) (frame : List ℕ) (turns : List Turn) → IsRefusedRead address size frame turns → IsHeadOfRead address size frame
+pub refused_head : (address size : ℕ) (frame : List ℕ) (turns : List Turn) → IsRefusedRead address size frame turns → IsHeadOfRead address size frame
 refused_head address size frame turns (at_code f t) = inr (inl f)
 refused_head address size frame turns (at_address f t) = inr (inr f)
 refused_head address size frame turns (at_count f t) = inl f
@@ -53,7 +54,7 @@ module _ (chip : ChipData) (place : UniquePlace) (known : chip.places.unique ≡
       held_is_part (Some chip) (12 + size) (read_frame address size) (read_turns address bytes) a.calls b.calls (read_sends address bytes ∙ ap (λ (n : ℕ). read_frame address n) len)
       (telling (read_frame address size) (inl refl)) (read_broken_length address size bytes len) held.recorded
   place_held bytes a b false len (frame, turns, is, held) =
-      held_is_part (Some chip) (12 + size) frame turns a.calls b.calls (refused_sends address size frame turns is) (telling frame (refused_head address size frame turns is)) (refused_length address size bytes a b frame turns is) held.recorded
+      held_is_part (Some chip) (12 + size) frame turns a.calls b.calls (refused_sends address size frame turns is) (telling frame (refused_head address size frame turns is)) (refused_length address size frame turns is) held.recorded
 
   pub place_broken : (answer : List ℕ) (fault : WireFault) (a b : Option (List Call)) → length answer ≡ size → GoesOn (IsBrokenOff fault (read_turns address answer)) a b → GoesOn (IsPart (Some chip) false (12 + size)) a b
   place_broken answer fault a b len broken =
@@ -94,7 +95,7 @@ module _ (place : UniquePlace) (unique : List ℕ) (torn : Bool) (a b : RigState
       at false came = other false bytes came
 
 -- in few calls
-short_enough : (n : ℕ) → IsTrue (is_unique_length n) → n ≤ 32
+pub short_enough : (n : ℕ) → IsTrue (is_unique_length n) → n ≤ 32
 short_enough n long = grind (arith, nat_tests)
 
 pub confirm_part : (chip : ChipData) (whole : Bool) (place : UniquePlace) (count : ℕ) (a b : Option (List Call)) → count ≡ place.length → IsTrue (is_unique_length place.length) → GoesOn (IsPart (Some chip) whole (12 + count)) a b
@@ -108,18 +109,6 @@ again_read d is place unique bytes told same count long eq told_is has =
     let one : (length d.chip.unique == place.length) ≡ true = ap (λ (u : List ℕ). length u == place.length) has.has ∙ has.long in
     let both = unique_same d is place has.known count bytes told long told_is one in
     eq ∙ ap₂ (λ (t : Bool) (xs : List ℕ). t && bytes_eq xs unique) both.0 (both.1 ∙ has.has) ∙ (bytes_eq-Decides unique unique).1 refl
-
--- where a chip's device is asked
-pub place_known : (p : Option UniquePlace) (unique : List ℕ) (place : UniquePlace) → place_of_bytes p unique ≡ Some place → (p ≡ Some place) × ((length unique == place.length) ≡ true)
-place_known None unique place is = absurd (let h : None ≡ Some place = is in cc)
-place_known (Some here) unique place is = by (length unique == here.length) refl is
-  where
-    by : (e : Bool) → (length unique == here.length) ≡ e → (if e then Some here else None) ≡ Some place → (Some here ≡ Some place) × ((length unique == place.length) ≡ true)
-    by true e some =
-        let h : Some here ≡ Some place = some in
-        let one : here ≡ place = cc in
-        (some, ap (λ (q : UniquePlace). length unique == q.length) (sym one) ∙ e)
-    by false e none = absurd (let h : None ≡ Some place = none in cc)
 
 -- a device of this chip has its unique id there
 pub has_again : (chip own : ChipData) (place : UniquePlace) → own ≡ chip → confirmed_at chip ≡ Some place → HasAgain place chip.unique own

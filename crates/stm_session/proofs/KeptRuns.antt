@@ -11,23 +11,25 @@ use Rattle.stm_wire.specs.lemmas.DialogueLaws.{GoesOn-weaker}
 use Rattle.stm_wire.specs.Rig.{RigState}
 use Rattle.stm_wire.specs.Dialogue.{GoesOn}
 use Rattle.stm_chip.specs.Plan.{frames_of}
-use Rattle.stm_journal.specs.declared.entry.Entry.TheVariants.{Names, Opens, Keeps}
+use Rattle.stm_journal.specs.declared.entry.Entry.TheVariants.{Names, Opens, Keeps, Ends}
 use Rattle.stm_journal.specs.Journals.{Loaded, begin_entries, version_for}
 use Rattle.stm_journal.specs.States.{IsSound, StateData}
 use Rattle.stm_session.specs.declared.change.Change.{Change}
 use Rattle.stm_session.specs.declared.change.Change.TheVariants as change
 use Rattle.stm_session.specs.declared.fault.Fault.{Fault}
 use Rattle.stm_session.specs.Fault.{Cause, cause_of}
-use Rattle.stm_session.specs.ChangeOrder.{AreTurned, none, more, IsChangedUnless, IsOneSegment, IsSaved, IsSavedWith, IsSegmentBegun, begins, turns, ends, IsTurnOf}
+use Rattle.stm_session.specs.ChangeOrder.{AreAllTurned, AreTurned, none, more, IsChangedUnless, IsOneSegment, IsSaved, IsSavedWith, IsSegmentBegun, begins, turns, ends, IsTurnOf}
+use Rattle.stm_session.specs.Closing.{IsLookedAgain, closing}
 use Rattle.stm_session.specs.Contents.{content}
 use Rattle.stm_session.specs.Fresh.{Way, contact_way}
 use Rattle.stm_session.specs.Answers.{OutcomeData}
 use Rattle.stm_session.specs.Meaning.{CommandData, is_change}
 use Rattle.stm_session.specs.Order.{Step, Adds, AreCutShort, IsAfter, page_reads, page_address}
-use Rattle.stm_session.specs.Reaching.{IsConfirmedInPart, ReachesAndDoes, ReachesAndStops, Session, SettlesThen, asking_steps}
+use Rattle.stm_session.specs.Reaching.{IsConfirmedInPart, ReachesAndDoes, ReachesAndStops, Session, SettlesThen, asking_steps, confirmed_at}
 use Rattle.stm_session.specs.RunOrder.{AreBegun, AreDoneInOrder, none as nothing_done, more as more_done, IsBegunIf, IsDoneIf, IsReading, RunsInOrder, RunStops}
-use Rattle.stm_session.specs.Kept.{KeepsFirst, RunKeeps, RunStopsKept, reads}
+use Rattle.stm_session.specs.Kept.{KeepsFirst, RunKeeps, RunStopsKept, looks, reads}
 use Rattle.stm_session.specs.Undoable.{has_companion}
+use Rattle.stm_session.specs.lemmas.ClosingLaws.{closing_is_looked, goes_on, looked_by}
 use Rattle.stm_session.proofs.KeptSteps.{Leads, here, later as further, keeps_front, keeps_then, leads_nothing, leads_reads, leads_rewrite, leads_then}
 
 -- a session that does such steps does others, where these are such of its journal and chip
@@ -185,14 +187,20 @@ module _ (lengths : (set : Pairs) (address : ℕ) (bytes : List ℕ) → length 
           at true is = behind (grind (arith, is))
           at false is = kept
 
-  -- a segment
+  -- a segment, whatever came of the question behind its pages
+  asked_segment : (chip : ChipData) (c : Change) (s : StateData) (turned asked : List Step) → AreAllTurned chip c turned → IsLookedAgain (confirmed_at chip) asked
+      → Leads chip None (Adds (begin_entries chip.id chip.unique s) ∷ (turned ++ (asked ++ Adds (Ends (length s.stack + 1) ∷ []) ∷ []))) None
+  asked_segment chip c s turned asked are looked =
+      let pages = turned_leave chip c (page_count chip) are.0 turned (omega arith) are.1 in
+      let kept = Some pages.later in
+      let asks = looked_by (λ xs. Leads chip kept xs kept) (confirmed_at chip) asked (leads_nothing chip kept) (λ place frame later at look p. record { keeps = (looks place look, p.keeps); behind = p.behind }) looked in
+      leads_then chip None (Some []) None (Adds (begin_entries chip.id chip.unique s) ∷ []) _ (begun_lines chip s)
+      (leads_then chip (Some []) kept None turned _ pages.leads (leads_then chip kept kept None asked _ asks (record { keeps = ((tt, tt), tt); behind = refl })))
+
   one_segment : (chip : ChipData) (c : Change) (s : StateData) (steps : List Step) → IsOneSegment chip c s steps → Leads chip None steps None
   one_segment chip c s steps segment =
-      let turned = turned_leave chip c (page_count chip) segment.are_turned.0 segment.turned (omega arith) segment.are_turned.1 in
       let P : List Step → Type 0 = λ xs. Leads chip None xs None in
-      subst P (sym segment.is)
-      (leads_then chip None (Some []) None (Adds (begin_entries chip.id chip.unique s) ∷ []) _ (begun_lines chip s)
-      (leads_then chip (Some []) (Some turned.later) None segment.turned _ turned.leads (record { keeps = ((tt, tt), tt); behind = refl })))
+      subst P (sym segment.is) (asked_segment chip c s segment.turned (closing chip) segment.are_turned (closing_is_looked chip))
 
   segment_begun : (chip : ChipData) (c : Change) (s : StateData) (steps : List Step) → IsSegmentBegun chip c s steps → KeepsFirst chip None steps
   segment_begun chip c s steps (begins (rest, is)) =
@@ -212,7 +220,10 @@ module _ (lengths : (set : Pairs) (address : ℕ) (bytes : List ℕ) → length 
       subst R (sym begun.is) (keeps_then chip (Some []) begun.before begun.own turned.leads.keeps (subst S (sym turned.leads.behind) (keeps_front chip (Some turned.later) begun.own rest own.leads.keeps))) in
       let first = begun_lines chip s in
       subst P (sym is) (keeps_then chip None (Adds (begin_entries chip.id chip.unique s) ∷ []) pages first.keeps (subst Q (sym first.behind) in_pages))
-  segment_begun chip c s steps (ends (rest, segment)) = keeps_front chip None steps rest (one_segment chip c s (steps ++ rest) segment).keeps
+  segment_begun chip c s steps (ends turned own are part is) =
+      let on = goes_on chip (Adds (Ends (length s.stack + 1) ∷ []) ∷ []) (Adds (begin_entries chip.id chip.unique s) ∷ turned) own steps part is in
+      let P : List Step → Type 0 = λ xs. KeepsFirst chip None xs in
+      keeps_front chip None steps on.1 (subst P (sym on.3) (asked_segment chip c s turned on.0 are on.2).keeps)
 
   -- commands
   done_by : (changes : Bool) (chip : ChipData) (c : CommandData) (s : StateData) (steps : List Step) → IsDoneIf changes chip c s steps → Leads chip None steps None

@@ -2,6 +2,7 @@
 use Rattle.std.proofs.Common.{◌≡◌, Contains, ⊎_elim, inl, inr, ℕ, zero, suc, ◌+◌, ◌*◌, ◌/◌, ◌≤◌, Bool, true, false, ◌&&◌, ◌==◌, if◌then◌else◌, List, [], ◌∷◌, ◌++◌, map, length, take, drop, Option, Some, None, refl, sym, ◌∙◌, ap, subst, arith, append-nil, append_assoc}
 use Rattle.std.specs.Prelude.{bytes_eq}
 use Rattle.stm_wire.specs.declared.intent.Intent.{Intent}
+use Rattle.stm_wire.specs.declared.places.UniquePlace.{UniquePlace}
 use Rattle.stm_wire.specs.Chip.{ChipData, erased_byte, page_size}
 use Rattle.stm_wire.specs.Frames.{read_turns}
 use Rattle.stm_wire.specs.Rig.{RigState}
@@ -12,17 +13,20 @@ use Rattle.stm_journal.specs.declared.kept.Kept.{Kept}
 use Rattle.stm_journal.specs.Newest.{pages_of_newest, pages_of_segments}
 use Rattle.stm_journal.specs.States.{IsSound, SegmentData, StateData, intent_of, intent_page, keeps, newest_has, newest_keeps}
 use Rattle.stm_session.specs.declared.fault.Fault.{Fault}
+use Rattle.stm_session.specs.Closing.{IsLookedAgain, closing}
 use Rattle.stm_session.specs.declared.returned.Returned.{Returned}
 use Rattle.stm_session.specs.Fault.{cause_of}
 use Rattle.stm_session.specs.Fresh.{settling_way}
-use Rattle.stm_session.specs.Kept.{IsOfNewest, PutsBack, PutsBackFrom, UndoPutsBack, UndoStopsBack, erases, erasing, programming, reads, undoing, writes}
-use Rattle.stm_session.specs.Order.{Step, Adds, Sends, Tells, AreAllUndone, AreGivenBack, AreRewritten, AreSegmentsUndone, IsGivenBack, IsSegmentUndone, tells_behind, Begin, OrMisread, page_address, page_reads, read_steps, give_back_steps, return_steps, rewrite_steps, untold, write_steps}
-use Rattle.stm_session.specs.UndoOrder.{AreUndoneInOrder, BeginTaking, GivesBackInOrder, UndoDoes, UndoStopsAs, UndoesInOrder}
-use Rattle.stm_session.specs.Reaching.{StepsOf}
+use Rattle.stm_session.specs.Kept.{IsOfNewest, PutsBack, PutsBackFrom, UndoPutsBack, UndoStopsBack, erases, erasing, looks, programming, reads, undoing, writes}
+use Rattle.stm_session.specs.Order.{Step, Adds, Sends, Tells, AreGivenBack, AreReadsOf, AreRewritten, IsGivenBack, tells_behind, Begin, page_address, page_reads, read_steps, give_back_steps, return_steps, rewrite_steps, untold, write_steps}
+use Rattle.stm_session.specs.UndoOrder.{AreAllUndone, AreSegmentsUndone, AreUndoneInOrder, BeginTaking, EndsOtherwise, GivesBackInOrder, IsSegmentUndone, OrMisread, such, elsewhere, misread, UndoDoes, UndoStopsAs, UndoesInOrder}
+use Rattle.stm_session.specs.lemmas.ClosingLaws.{closing_is_looked, looked_by}
+use Rattle.stm_session.specs.Reaching.{StepsOf, confirmed_at}
 use Rattle.stm_session.specs.Work.{beside, pages_at_work, pages_of_intent}
 use Rattle.stm_session.proofs.Keeping.{newest-listed}
 use Rattle.stm_session.proofs.KeptRuns.{after_as, as_session, confirmed_as, does_as, stops_as}
-use Rattle.stm_session.proofs.KeptSteps.{AreInside, bytes_inside, frames_inside, here, later as further}
+use Rattle.stm_session.specs.lemmas.FramesInside.{AreInside, bytes_inside, frames_inside}
+use Rattle.stm_session.proofs.KeptSteps.{here, later as further}
 
 -- the numbers of kept pages
 abbrev numbers : List Kept → List ℕ
@@ -50,6 +54,10 @@ reads_within chip segments address zero bytes = λ ys p. p
 reads_within chip segments address (suc blocks) bytes =
     let answer = take 256 (drop (256 * blocks) bytes) in
     within_then chip segments (read_steps address blocks bytes) (Sends (read_turns (address + 256 * blocks) answer) ∷ []) (reads_within chip segments address blocks bytes) (λ ys p. (reads (address + 256 * blocks) answer refl, p))
+
+-- and the question which board it is, whatever it answers
+looked_within : (chip : ChipData) (segments : List (List Kept)) (place : Option UniquePlace) (steps : List Step) → IsLookedAgain place steps → Within chip segments steps
+looked_within chip segments place steps = looked_by (Within chip segments) place steps (λ ys p. p) (λ at turns later same look more ys p. (looks at look, more ys p))
 
 module _ (chip : ChipData) (pages : List Kept) (below : List (List Kept)) where
   writes_within : (n : ℕ) (page : List ℕ) (frames : List Frame) → Contains (numbers pages) n → length page ≡ page_size chip n → AreInside (length page) frames → Within chip (pages ∷ below) (write_steps chip n page frames)
@@ -97,10 +105,14 @@ module _ (chip : ChipData) (pages : List Kept) (below : List (List Kept)) where
   -- the segment is undone
   taken_within : (again : Bool) (Told : Tells) (steps : List Step) → IsSegmentUndone again chip Told pages (length below + 1) steps → (ys : List Step) → PutsBack chip below ys → PutsBack chip (pages ∷ below) (steps ++ ys)
   taken_within again Told steps taken ys p =
-      let P : List Step → Type 0 = λ l. PutsBack chip (pages ∷ below) (l ++ ys) in
-      let Q : List Step → Type 0 = λ l. PutsBack chip (pages ∷ below) l in
+      let segments : List (List Kept) = pages ∷ below in
+      let asked = closing chip in
       let last : List Step = Adds (Undoes (length below + 1) ∷ []) ∷ [] in
-      subst P (sym taken.is) (subst Q (sym (append_assoc taken.returns last ys)) (all_within again Told pages taken.returns (λ m is_one. is_one) taken.are_returns (last ++ ys) (below, undoing pages below, p)))
+      let P : List Step → Type 0 = λ l. PutsBack chip segments l in
+      let returned = all_within again Told pages taken.returns (λ m is_one. is_one) taken.are_returns in
+      let all = within_then chip segments taken.returns asked returned (looked_within chip segments (confirmed_at chip) asked (closing_is_looked chip)) in
+      let is : steps ++ ys ≡ (taken.returns ++ asked) ++ (last ++ ys) = ap (λ (l : List Step). l ++ ys) (taken.is ∙ sym (append_assoc taken.returns asked last)) ∙ append_assoc (taken.returns ++ asked) last ys in
+      subst P (sym is) (all (last ++ ys) (below, undoing pages below, p))
 
 -- and one after another
 taken_puts : (again : Bool) (chip : ChipData) (Told : Tells) (count : ℕ) (segments : List (List Kept)) (steps : List Step) → AreSegmentsUndone again chip Told count segments steps → PutsBack chip segments steps
@@ -162,28 +174,30 @@ work_own s sound = by_intent (intent_of s) sound.intended
 taken_puts_back : (again : Bool) (taken : ℕ) (chip : ChipData) (s : StateData) (steps : List Step) → IsSound s → AreUndoneInOrder again taken chip s steps → PutsBackFrom chip s steps
 taken_puts_back again taken chip s steps sound = all_puts again chip untold (pages_at_work s.stack) taken (pages_of_segments s.stack) steps (work_own s sound)
 
--- such steps, and behind them reads, whatever comes
-puts_reads : (chip : ChipData) (segments : List (List Kept)) (xs zs ys : List Step) → PutsBack chip segments (xs ++ zs) → ((later : List (List Kept)) → PutsBack chip later ys) → PutsBack chip segments (xs ++ ys)
-puts_reads chip segments [] zs ys p more = more segments
-puts_reads chip segments (Adds entries ∷ xs) zs ys (later, may, p) more = (later, may, puts_reads chip later xs zs ys p more)
-puts_reads chip segments (Sends turns ∷ xs) zs ys (may, p) more = (may, puts_reads chip segments xs zs ys p more)
-
--- or a beginning of them, or one whose last reads brought other bytes
-begun_puts_back : (again : Bool) (taken : ℕ) (chip : ChipData) (s : StateData) (steps : List Step) → IsSound s → OrMisread again chip (Begin (AreUndoneInOrder again taken chip s)) steps → PutsBackFrom chip s steps
-begun_puts_back false taken chip s steps sound (rest, are) = puts_front chip (pages_of_segments s.stack) steps rest (taken_puts_back false taken chip s (steps ++ rest) sound are)
-begun_puts_back true taken chip s steps sound (inl (rest, are)) = puts_front chip (pages_of_segments s.stack) steps rest (taken_puts_back true taken chip s (steps ++ rest) sound are)
-begun_puts_back true taken chip s steps sound (inr misread) =
-    let segments = pages_of_segments s.stack in
-    let own = misread.before ++ page_reads chip misread.n misread.page in
-    let all = puts_front chip segments own misread.own.0 (taken_puts_back true taken chip s (own ++ misread.own.0) sound misread.own.1) in
-    let address = page_address chip misread.n in
-    let blocks = page_size chip misread.n / 256 in
-    let nil : (later : List (List Kept)) → PutsBack chip later [] = λ later. tt in
-    let P : List (List Kept) → List Step → Type 0 = λ later l. PutsBack chip later l in
-    let more : (later : List (List Kept)) → PutsBack chip later (misread.reads ++ misread.begun.0) =
-    λ later. subst (P later) (append-nil (page_reads chip misread.n misread.came) ∙ sym misread.begun.1) (reads_within chip later address blocks misread.came [] (nil later)) in
+-- such steps, or those whose last question was answered otherwise
+puts_otherwise : (chip : ChipData) (segments : List (List Kept)) (P Comes : List Step → Type 0) (due steps : List Step) → ((xs : List Step) → P xs → PutsBack chip segments xs) → ((later : List (List Kept)) (xs : List Step) → Comes xs → Within chip later xs) → EndsOtherwise P due Comes steps → PutsBack chip segments steps
+puts_otherwise chip segments P Comes due steps puts comes o =
     let Q : List Step → Type 0 = λ l. PutsBack chip segments l in
-    subst Q (sym misread.is) (puts_reads chip segments misread.before (page_reads chip misread.n misread.page) misread.reads all (λ later. puts_front chip later misread.reads misread.begun.0 (more later)))
+    subst Q (sym o.is) (replaced segments o.before (puts (o.before ++ due) o.own))
+  where
+    replaced : (segments : List (List Kept)) (xs : List Step) → PutsBack chip segments (xs ++ due) → PutsBack chip segments (xs ++ o.came)
+    replaced segments [] p =
+        let R : List Step → Type 0 = λ l. PutsBack chip segments l in
+        puts_front chip segments o.came o.begun.0 (subst R (append-nil (o.came ++ o.begun.0)) (comes segments (o.came ++ o.begun.0) o.begun.1 [] tt))
+    replaced segments (Adds entries ∷ xs) (later, may, p) = (later, may, replaced later xs p)
+    replaced segments (Sends turns ∷ xs) (may, p) = (may, replaced segments xs p)
+
+-- or a beginning of them
+begun_whole : (again : Bool) (taken : ℕ) (chip : ChipData) (s : StateData) → IsSound s → (xs : List Step) → Begin (AreUndoneInOrder again taken chip s) xs → PutsBackFrom chip s xs
+begun_whole again taken chip s sound xs (rest, are) = puts_front chip (pages_of_segments s.stack) xs rest (taken_puts_back again taken chip s (xs ++ rest) sound are)
+
+begun_puts_back : (again : Bool) (taken : ℕ) (chip : ChipData) (s : StateData) (steps : List Step) → IsSound s → OrMisread again chip (Begin (AreUndoneInOrder again taken chip s)) steps → PutsBackFrom chip s steps
+begun_puts_back again taken chip s steps sound (such p) = begun_whole again taken chip s sound steps p
+begun_puts_back again taken chip s steps sound (elsewhere o) =
+    puts_otherwise chip (pages_of_segments s.stack) (Begin (AreUndoneInOrder again taken chip s)) (IsLookedAgain (confirmed_at chip)) (closing chip) steps (begun_whole again taken chip s sound) (λ later xs. looked_within chip later (confirmed_at chip) xs) o
+begun_puts_back again taken chip s steps sound (misread is n page size o) =
+    puts_otherwise chip (pages_of_segments s.stack) (Begin (AreUndoneInOrder again taken chip s)) (AreReadsOf (page_address chip n) (page_size chip n)) (page_reads chip n page) steps (begun_whole again taken chip s sound)
+    (λ later xs read. within_as chip later (page_reads chip n read.held) xs read.is (reads_within chip later (page_address chip n) (page_size chip n / 256) read.held)) o
 
 -- other steps are allowed too
 pub undo_does_as : (table : List ChipData) (old new : RigState) (P Q : StepsOf) → ((chip : ChipData) (s : StateData) (steps : List Step) → P chip s steps → Q chip s steps) → UndoDoes P table old new → UndoDoes Q table old new

@@ -71,6 +71,7 @@ pub mod Turns
 pub mod Beginnings
 pub mod AskingBoards
 pub mod Confirmings
+pub mod LookingAgain
 pub mod Closings
 pub mod CommandChecks
 pub mod Comparisons
@@ -90,6 +91,7 @@ pub mod Confirmed
 pub mod KeptSteps
 pub mod KeptRuns
 pub mod KeptUndoes
+pub mod Untold
 pub mod Foreign
 pub mod Unprotections
 pub mod Unasked

@@ -20,7 +20,8 @@ use Rattle.stm_journal.specs.Calls.{AppendsOnce, AreFetches}
 use Rattle.stm_journal.specs.Journals.{Loaded, added_bytes}
 use Rattle.stm_journal.specs.Newest.{pages_of_segments}
 use Rattle.stm_journal.specs.States.{SegmentData}
-use Rattle.stm_session.specs.Order.{Step, Adds, Sends, Tells, AreGivenBack, AreSegmentsUndone, DoesSteps, IsInOrder, IsGivenBack, IsSegmentUndone, acts_of, acts_of_steps, tells_behind, page_address, program_steps, read_steps, torn_behind, write_step, write_steps}
+use Rattle.stm_session.specs.Order.{Step, Adds, Sends, Tells, AreGivenBack, DoesSteps, IsInOrder, IsGivenBack, acts_of, acts_of_steps, tells_behind, page_address, program_steps, read_steps, torn_behind, write_step, write_steps}
+use Rattle.stm_session.specs.UndoOrder.{AreSegmentsUndone, IsSegmentUndone}
 use Rattle.stm_session.specs.Reaching.{SettlesFirst, SettlesThen}
 use Rattle.stm_session.specs.Undoable.{newest_kept}
 use Rattle.stm_session.proofs.Tellings.{behind_both, returned_as, taken_as}

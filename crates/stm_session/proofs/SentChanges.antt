@@ -19,16 +19,18 @@ use Rattle.stm_journal.specs.Journals.{Loaded, begin_entries}
 use Rattle.stm_journal.specs.States.{StateData}
 use Rattle.stm_session.specs.declared.change.Change.{Change}
 use Rattle.stm_session.specs.declared.fault.Fault.{Fault}
-use Rattle.stm_session.specs.ChangeOrder.{AreTurned, none, more, IsChangedUnless, IsOneSegment, IsSaved, IsSavedWith, IsSegmentBegun, begins, turns, ends, IsTurnOf}
+use Rattle.stm_session.specs.ChangeOrder.{AreTurned, none, more, IsChangedUnless, IsSaved, IsSavedWith, IsSegmentBegun, begins, turns, ends, IsTurnOf}
 use Rattle.stm_session.specs.Contents.{content}
 use Rattle.stm_session.specs.Meaning.{CommandData}
 use Rattle.stm_session.specs.Order.{Step, Adds, Follows, FaultEnds, erase_steps, page_reads}
 use Rattle.stm_session.specs.Order.{program_steps, rewrite_steps}
 use Rattle.stm_session.specs.RunOrder.{IsBegunIf, IsDoneIf}
-use Rattle.stm_session.specs.Sending.{is_whole, most_of_command}
+use Rattle.stm_session.specs.Sending.{is_whole, most_of_closing, most_of_command}
 use Rattle.stm_session.specs.Undoable.{has_companion}
+use Rattle.stm_session.specs.lemmas.ClosingLaws.{goes_on, segment_is_begun}
 use Rattle.stm_session.proofs.KeptRuns.{length-content}
-use Rattle.stm_session.proofs.KeptSteps.{frames-few, frames_inside}
+use Rattle.stm_session.specs.lemmas.FramesInside.{frames-few, frames_inside}
+use Rattle.stm_session.proofs.LookingAgain.{put_looked}
 use Rattle.stm_session.proofs.Savings.{is_first}
 use Rattle.stm_session.proofs.SentPages.{put_erase, put_page, put_program}
 use Rattle.stm_session.proofs.SentSteps.{PutFew, put_as, put_front, put_none, put_then, steps_put}
@@ -72,7 +74,7 @@ below_next chip n lt =
     extra most (suc zero) = omega arith
     extra most (suc (suc n)) = grind (arith, nat_tests)
 
-below_all : (chip : ChipData) → IsChip chip → (n : ℕ) → n ≤ page_count chip → below chip n ≤ most_of_command
+below_all : (chip : ChipData) → IsChip chip → (n : ℕ) → n ≤ page_count chip → below chip n + most_of_closing ≤ most_of_command
 below_all chip limits n le = omega (arith, le, limits.size, limits.last_page, pages chip.kind, offset_within chip.sizes n, either (nat_lt 1 n) (2 * flash_size chip))
   where
     pages : (kind : EraseKind) → page_limit kind ≤ 512
@@ -124,15 +126,7 @@ module _ (lengths : (set : Pairs) (address : ℕ) (bytes : List ℕ) → length 
       put_as (Some chip) (below chip n + most_of chip n) (below chip (n + 1)) (before ++ own) (before ++ own) (below_next chip n exists) refl
       (put_then (Some chip) (below chip n) (most_of chip n) before own (put_turned c n was before (omega (arith, le)) are) (put_turn (n == 257 && was) c n changed own exists turn))
 
-  -- a segment, and a beginning of one
-  put_segment : (c : Change) (s : StateData) (steps : List Step) → IsOneSegment chip c s steps → PutFew (Some chip) most_of_command steps
-  put_segment c s steps segment =
-      let turned = put_turned c (page_count chip) segment.are_turned.0 segment.turned (omega arith) segment.are_turned.1 in
-      let last : List Step = Adds (Ends (length s.stack + 1) ∷ []) ∷ [] in
-      let all = put_then (Some chip) (below chip (page_count chip)) 0 segment.turned last turned (record { sent = tt; few = omega arith }) in
-      put_as (Some chip) most_of_command most_of_command (Adds (begin_entries chip.id chip.unique s) ∷ (segment.turned ++ last)) steps (omega arith) segment.is
-      (record { sent = all.sent; few = omega (arith, all.few, below_all chip limits (page_count chip) (omega arith)) })
-
+  -- a beginning of a segment
   put_begun : (c : Change) (s : StateData) (steps : List Step) → IsSegmentBegun chip c s steps → PutFew (Some chip) most_of_command steps
   put_begun c s steps (begins (rest, is)) = put_front (Some chip) most_of_command steps rest (put_as (Some chip) 0 most_of_command (Adds (begin_entries chip.id chip.unique s) ∷ []) (steps ++ rest) (omega arith) is (record { sent = tt; few = omega arith }))
   put_begun c s steps (turns pages begun is) =
@@ -142,11 +136,20 @@ module _ (lengths : (set : Pairs) (address : ℕ) (bytes : List ℕ) → length 
       let all = put_then (Some chip) (below chip n) (most_of chip n) begun.before begun.own before (put_front (Some chip) (most_of chip n) begun.own begun.is_begun.0 own) in
       let some = put_as (Some chip) (below chip n + most_of chip n) most_of_command (begun.before ++ begun.own) pages (omega (arith, below_next chip n begun.exists, below_all chip limits (n + 1) (omega (arith, begun.exists)))) begun.is all in
       put_as (Some chip) most_of_command most_of_command (Adds (begin_entries chip.id chip.unique s) ∷ pages) steps (omega arith) is (record { sent = some.sent; few = some.few })
-  put_begun c s steps (ends (rest, segment)) = put_front (Some chip) most_of_command steps rest (put_segment c s (steps ++ rest) segment)
+  put_begun c s steps (ends turned own are part is) =
+      let first : Step = Adds (begin_entries chip.id chip.unique s) in
+      let line : List Step = Adds (Ends (length s.stack + 1) ∷ []) ∷ [] in
+      let on = goes_on chip line (first ∷ turned) own steps part is in
+      let pages = put_turned c (page_count chip) are.0 turned (omega arith) are.1 in
+      let last = put_then (Some chip) most_of_closing 0 on.0 line (put_looked chip limits on.0 on.2) (record { sent = tt; few = omega arith }) in
+      let all = put_then (Some chip) (below chip (page_count chip)) (most_of_closing + 0) turned (on.0 ++ line) pages last in
+      put_front (Some chip) most_of_command steps on.1
+      (put_as (Some chip) most_of_command most_of_command (first ∷ (turned ++ (on.0 ++ line))) (steps ++ on.1) (omega arith) on.3
+      (record { sent = all.sent; few = omega (arith, all.few, below_all chip limits (page_count chip) (omega arith)) }))
 
   -- a command that changes the flash
   pub change_puts : {T : Type 0} (c : CommandData) (Told : T → List Step → Type 0) (l l2 : Loaded) (a b : RigState) (result : Result T Fault) → IfOk result (λ x. Follows (λ xs. IsDoneIf true chip c l.state xs × Told x xs) l l2 a b)
       → FaultEnds (IsBegunIf true chip c l.state) l.is_torn a b result → GoesOn (IsPart (Some chip) (is_whole result) most_of_command) a.calls b.calls
   change_puts c Told l l2 a b result =
       steps_put (Some chip) most_of_command (λ x xs. IsDoneIf true chip c l.state xs × Told x xs) (IsBegunIf true chip c l.state) l l2 a b result
-      (λ x xs done. put_segment done.0.0 l.state xs done.0.2) (λ xs begun. put_begun begun.0 l.state xs begun.2)
+      (λ x xs done. put_begun done.0.0 l.state xs (segment_is_begun chip done.0.0 l.state xs done.0.2)) (λ xs begun. put_begun begun.0 l.state xs begun.2)

@@ -8,7 +8,7 @@ use Rattle.stm_wire.specs.Intents.{InPage}
 use Rattle.stm_wire.specs.SentList.{erase, read, write}
 use Rattle.stm_chip.specs.declared.plan.Frame.{Frame}
 use Rattle.stm_session.specs.Order.{Sends, erase_steps, page_address, page_reads, program_steps, read_steps, write_steps}
-use Rattle.stm_session.proofs.KeptSteps.{AreInside, bytes_inside}
+use Rattle.stm_session.specs.lemmas.FramesInside.{AreInside, bytes_inside}
 use Rattle.stm_session.proofs.SentSteps.{PutFew, put_as, put_none, put_then}
 
 -- a page, of the chip's

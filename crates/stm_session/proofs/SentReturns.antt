@@ -1,9 +1,10 @@
 -- What the steps of an undo put on any line, whole or cut short: what the greatest flash allows for each segment, and for the pages at work.
-use Rattle.std.proofs.Common.{◌≡◌, inl, inr, ℕ, zero, suc, ◌+◌, ◌*◌, ◌/◌, ◌<◌, ◌==◌, ◌&&◌, Bool, true, false, if◌then◌else◌, List, [], ◌∷◌, ◌++◌, length, take, drop, Option, Some, None, refl, sym, ◌∙◌, ap, subst, arith, append_assoc, length-take}
+use Rattle.std.proofs.Common.{◌≡◌, ℕ, zero, suc, ◌+◌, ◌*◌, ◌/◌, ◌<◌, ◌≤◌, ◌==◌, ◌&&◌, Bool, true, false, if◌then◌else◌, List, [], ◌∷◌, ◌++◌, length, take, drop, Option, Some, None, refl, sym, ◌∙◌, ap, subst, arith, append_assoc, eqb-true, length-take}
 use Rattle.std.specs.Prelude.{bytes_eq}
 use Rattle.std.proofs.lemmas.List.{length-drop}
 use Rattle.std.proofs.lemmas.List.Elements.{All-get_or}
 use Rattle.stm_wire.specs.declared.intent.Intent.{Intent}
+use Rattle.stm_wire.specs.declared.places.UniquePlace.{UniquePlace}
 use Rattle.stm_wire.specs.Chip.{ChipData, IsChip, IsPageSize, erased_byte, page_count, page_size}
 use Rattle.stm_wire.specs.Frames.{read_frame, read_turns}
 use Rattle.stm_wire.specs.lemmas.DialogueLaws.{length-read_turns, read_sends}
@@ -15,9 +16,15 @@ use Rattle.stm_journal.specs.Fits.{AllFit, AllKeptFit}
 use Rattle.stm_journal.specs.lemmas.FitsLaws.{fits-exists}
 use Rattle.stm_journal.specs.Newest.{pages_of_segments}
 use Rattle.stm_journal.specs.States.{StateData, SegmentData, AllOnce, IsSound, intent_of, intent_page, keeps, newest_has, newest_keeps}
-use Rattle.stm_session.specs.Order.{Step, Adds, Sends, AreAllUndone, AreGivenBack, AreRewritten, AreSegmentsUndone, BeginTold, IsGivenBack, IsMisread, IsRewritten, OrMisread, Tells, page_address, page_reads, read_steps, return_steps, rewrite_steps, so_far, tells_behind}
+use Rattle.stm_session.specs.Order.{Step, Adds, Sends, AreGivenBack, AreRewritten, BeginTold, IsGivenBack, IsRewritten, Tells, page_address, page_reads, read_steps, return_steps, rewrite_steps, so_far, tells_behind}
+use Rattle.stm_session.specs.Closing.{IsLookedAgain, closing, closing_steps}
+use Rattle.stm_session.specs.Reaching.{IsAsked, confirmed_at}
+use Rattle.stm_session.specs.UndoOrder.{AreAllUndone, AreSegmentsUndone, EndsOtherwise, OrMisread, such, elsewhere, misread}
 use Rattle.stm_session.specs.Sending.{most_of_command, most_of_undo}
 use Rattle.stm_session.specs.Work.{pages_at_work, pages_of_intent}
+use Rattle.stm_session.specs.lemmas.ClosingLaws.{closing_is_looked, place_known}
+use Rattle.stm_session.proofs.AskingBoards.{refused_length}
+use Rattle.stm_session.proofs.LookingAgain.{put_looked}
 use Rattle.stm_session.proofs.PageSums.{kept_size, kept_within}
 use Rattle.stm_session.proofs.SentChanges.{put_rewritten}
 use Rattle.stm_session.proofs.SentPages.{put_page}
@@ -45,21 +52,31 @@ alike chip address (suc blocks) bytes other same =
       omega (arith, before.1, count-append (read_steps address blocks bytes) own, count-append (read_steps address blocks other) came, length-read_turns at xs, length-read_turns at ys, long),
     )
 
-put_misread : (chip : ChipData) (most : ℕ) (P : List Step → Type 0) (steps : List Step) → ((xs : List Step) → P xs → PutFew (Some chip) most xs) → IsMisread chip P steps → PutFew (Some chip) most steps
-put_misread chip most P steps few m =
-    let own = page_reads chip m.n m.page in
-    let came = page_reads chip m.n m.came in
-    let all = few (m.before ++ own) m.own in
-    let parts = sent_parts (Some chip) m.before own all.sent in
-    let like = alike chip (page_address chip m.n) (page_size chip m.n / 256) m.page m.came m.size in
-    let whole : PutFew (Some chip) most (m.before ++ came) = record {
-      sent = sent_then (Some chip) m.before came parts.0 (like.0 parts.1);
-      few = omega (arith, all.few, count-append m.before own, count-append m.before came, like.1);
+-- nor does another answer to the question behind the last frame put more
+looked_count : (chip : ChipData) (o : Option UniquePlace) (steps : List Step) → confirmed_at chip ≡ o → IsLookedAgain o steps → count_of steps ≤ count_of (closing_steps o chip)
+looked_count chip None steps at is = omega (arith, ap count_of is)
+looked_count chip (Some place) steps at (high, low, (own, is, (came, asked))) =
+    let long = eqb-true (length chip.unique) place.length (place_known chip.places.unique chip.unique place at).1 in
+    omega (arith, ap count_of is, long, length-read_turns place.address chip.unique, last came asked)
+  where
+    last : (came : Option (List ℕ)) → IsAsked place.address place.length came own → count_of own ≤ 12 + place.length
+    last (Some bytes) (size, same) = omega (arith, ap count_of same, size, length-read_turns place.address bytes)
+    last None (frame, turns, refused, same) = omega (arith, ap count_of same, refused_length place.address place.length frame turns refused)
+
+-- what came otherwise put no more
+put_otherwise : (chip : ChipData) (most : ℕ) (P Comes : List Step → Type 0) (due steps : List Step) → ((xs : List Step) → P xs → PutFew (Some chip) most xs) → ((xs : List Step) → Comes xs → AreSent (Some chip) due → PutFew (Some chip) (count_of due) xs) → EndsOtherwise P due Comes steps
+    → PutFew (Some chip) most steps
+put_otherwise chip most P Comes due steps few comes o =
+    let all = few (o.before ++ due) o.own in
+    let parts = sent_parts (Some chip) o.before due all.sent in
+    let rest = o.begun.0 in
+    let came : List Step = o.came ++ rest in
+    let other = comes came o.begun.1 parts.1 in
+    let whole : PutFew (Some chip) most (o.before ++ came) = record {
+      sent = sent_then (Some chip) o.before came parts.0 other.sent;
+      few = omega (arith, all.few, other.few, count-append o.before due, count-append o.before came);
     } in
-    let rest = m.begun.0 in
-    put_front (Some chip) most steps rest
-    (put_as (Some chip) most most (m.before ++ came) (steps ++ rest) (omega arith)
-    (ap (λ (l : List Step). l ++ rest) m.is ∙ append_assoc m.before m.reads rest ∙ ap (λ (l : List Step). m.before ++ l) m.begun.1) whole)
+    put_front (Some chip) most steps rest (put_as (Some chip) most most (o.before ++ came) (steps ++ rest) (omega arith) (ap (λ (l : List Step). l ++ rest) o.is ∙ append_assoc o.before o.came rest) whole)
 
 module _ (chip : ChipData) (limits : IsChip chip) where
   put_nothing : (most : ℕ) (steps : List Step) → steps ≡ [] → PutFew (Some chip) most steps
@@ -72,11 +89,11 @@ module _ (chip : ChipData) (limits : IsChip chip) where
       put_as (Some chip) (9 + 2 * length is.page) (3 * page_size chip n) _ steps (omega (arith, is.size, some.0)) is.is (put_rewritten chip n is.page exists is.size)
 
   -- or given back, and read again or not
-  put_given : (again : Bool) (Told : Tells) (n : ℕ) (steps : List Step) → n < page_count chip → IsGivenBack again chip Told n steps → PutFew (Some chip) (13 * page_size chip n) steps
+  put_given : (again : Bool) (Told : Tells) (n : ℕ) (steps : List Step) → n < page_count chip → IsGivenBack again chip Told n steps → PutFew (Some chip) (7 * page_size chip n) steps
   put_given again Told n steps exists given =
       let size = page_size chip n in
-      put_as (Some chip) (2 * size + 11 * size) (13 * size) _ steps (omega arith) given.is
-      (put_then (Some chip) (2 * size) (11 * size) (page_reads chip n given.held) _ (put_page chip n exists given.held given.held_size) (returned again))
+      put_as (Some chip) (2 * size + 5 * size) (7 * size) _ steps (omega arith) given.is
+      (put_then (Some chip) (2 * size) (5 * size) (page_reads chip n given.held) _ (put_page chip n exists given.held given.held_size) (returned again))
     where
       some : IsPageSize (page_size chip n)
       some = All-get_or IsPageSize chip.sizes n 0 exists limits.sizes
@@ -85,19 +102,19 @@ module _ (chip : ChipData) (limits : IsChip chip) where
       gave true = put_none (Some chip) (3 * page_size chip n)
       gave false = put_as (Some chip) (9 + 2 * length given.page) (3 * page_size chip n) _ _ (omega (arith, given.size, some.0)) refl (put_rewritten chip n given.page exists given.size)
 
-      returned : (b : Bool) → PutFew (Some chip) (11 * page_size chip n) (return_steps b chip n given.held given.page)
-      returned false = put_as (Some chip) (3 * page_size chip n) (11 * page_size chip n) _ _ (omega arith) refl (gave (bytes_eq given.held given.page))
+      returned : (b : Bool) → PutFew (Some chip) (5 * page_size chip n) (return_steps b chip n given.held given.page)
+      returned false = put_as (Some chip) (3 * page_size chip n) (5 * page_size chip n) _ _ (omega arith) refl (gave (bytes_eq given.held given.page))
       returned true =
           let size = page_size chip n in
-          put_as (Some chip) (3 * size + 2 * size) (11 * size) _ _ (omega arith) refl (put_then (Some chip) (3 * size) (2 * size) _ (page_reads chip n given.page) (gave (bytes_eq given.held given.page)) (put_page chip n exists given.page given.size))
+          put_as (Some chip) (3 * size + 2 * size) (5 * size) _ _ (omega arith) refl (put_then (Some chip) (3 * size) (2 * size) _ (page_reads chip n given.page) (gave (bytes_eq given.held given.page)) (put_page chip n exists given.page given.size))
 
   -- the pages of a segment,
-  put_pages : (again : Bool) (Told : Tells) (pages : List Kept) (steps : List Step) → AllKeptFit chip pages → AreGivenBack again chip Told pages steps → PutFew (Some chip) (13 * kept_size chip pages) steps
+  put_pages : (again : Bool) (Told : Tells) (pages : List Kept) (steps : List Step) → AllKeptFit chip pages → AreGivenBack again chip Told pages steps → PutFew (Some chip) (7 * kept_size chip pages) steps
   put_pages again Told [] steps fit is = put_nothing 0 steps is
   put_pages again Told (kept ∷ pages) steps (fits, fit) (first, rest, is, one, more) =
-      let own = 13 * page_size chip kept.page in
-      let others = 13 * kept_size chip pages in
-      put_as (Some chip) (own + others) (13 * kept_size chip (kept ∷ pages)) (first ++ rest) steps (omega arith) is
+      let own = 7 * page_size chip kept.page in
+      let others = 7 * kept_size chip pages in
+      put_as (Some chip) (own + others) (7 * kept_size chip (kept ∷ pages)) (first ++ rest) steps (omega arith) is
       (put_then (Some chip) own others first rest (put_given again Told kept.page first (fits-exists chip kept fits) one) (put_pages again (tells_behind first Told) pages rest fit more))
 
   -- and of some
@@ -109,8 +126,8 @@ module _ (chip : ChipData) (limits : IsChip chip) where
       let last : List Step = Adds (Undoes (length (pages_of_segments below) + 1) ∷ []) ∷ [] in
       let size = kept_size chip segment.pages in
       let line : PutFew (Some chip) 0 last = record { sent = tt; few = omega arith } in
-      let own = put_as (Some chip) (13 * size + 0) 27262976 (one.returns ++ last) first (omega (arith, kept_within chip segment.pages once.0 fits.0, limits.size)) one.is
-      (put_then (Some chip) (13 * size) 0 one.returns last (put_pages again Told segment.pages one.returns fits.0 one.are_returns) line) in
+      let own = put_as (Some chip) (7 * size + (51 + 0)) 27262976 _ first (omega (arith, kept_within chip segment.pages once.0 fits.0, limits.size)) one.is
+      (put_then (Some chip) (7 * size) (51 + 0) one.returns _ (put_pages again Told segment.pages one.returns fits.0 one.are_returns) (put_then (Some chip) 51 0 (closing chip) last (put_looked chip limits (closing chip) (closing_is_looked chip)) line)) in
       put_as (Some chip) (27262976 + taken * 27262976) (suc taken * most_of_command) (first ++ rest) steps (omega arith) is
       (put_then (Some chip) 27262976 (taken * 27262976) first rest own (put_segments again (tells_behind first Told) taken below rest once.1 fits.1 more))
 
@@ -146,6 +163,12 @@ module _ (chip : ChipData) (limits : IsChip chip) where
     put_begun again Told taken steps begun = put_front (Some chip) (most_of_undo taken) steps begun.0 (put_undone again (so_far (length steps) Told) taken (steps ++ begun.0) begun.1)
 
     pub put_undone_in_part : (again : Bool) (Told : Tells) (taken : ℕ) (steps : List Step) → OrMisread again chip (BeginTold (λ T. AreAllUndone again chip T (pages_at_work s.stack) taken (pages_of_segments s.stack)) Told) steps → PutFew (Some chip) (most_of_undo taken) steps
-    put_undone_in_part false Told taken steps begun = put_begun false Told taken steps begun
-    put_undone_in_part true Told taken steps (inl begun) = put_begun true Told taken steps begun
-    put_undone_in_part true Told taken steps (inr misread) = put_misread chip (most_of_undo taken) _ steps (put_begun true Told taken) misread
+    put_undone_in_part again Told taken steps (such begun) = put_begun again Told taken steps begun
+    put_undone_in_part again Told taken steps (elsewhere o) = put_otherwise chip (most_of_undo taken) _ _ (closing chip) steps (put_begun again Told taken)
+        (λ xs looked sent. record { sent = (put_looked chip limits xs looked).sent; few = looked_count chip (confirmed_at chip) xs refl looked }) o
+    put_undone_in_part again Told taken steps (misread is n page size o) =
+        put_otherwise chip (most_of_undo taken) _ _ (page_reads chip n page) steps (put_begun again Told taken)
+        (λ xs read sent.
+        let blocks = page_size chip n / 256 in
+        let like = alike chip (page_address chip n) blocks page read.held (read.size ∙ sym size) in
+        put_as (Some chip) (count_of (page_reads chip n page)) (count_of (page_reads chip n page)) (page_reads chip n read.held) xs (omega arith) read.is (record { sent = like.0 sent; few = omega (arith, like.1) })) o

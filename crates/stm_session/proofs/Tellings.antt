@@ -2,7 +2,8 @@
 use Rattle.std.proofs.Common.{◌≡◌, ℕ, zero, suc, Bool, List, [], ◌∷◌, ◌++◌, ◌∙◌, ap, subst, append_assoc}
 use Rattle.stm_wire.specs.Chip.{ChipData}
 use Rattle.stm_journal.specs.declared.kept.Kept.{Kept}
-use Rattle.stm_session.specs.Order.{Step, Tells, AreAllUndone, AreGivenBack, AreRewritten, AreSegmentsUndone, IsGivenBack, IsRewritten, IsSegmentUndone, tells_behind, page_reads}
+use Rattle.stm_session.specs.Order.{Step, Tells, AreGivenBack, AreRewritten, IsGivenBack, IsRewritten, tells_behind, page_reads}
+use Rattle.stm_session.specs.UndoOrder.{AreAllUndone, AreSegmentsUndone, IsSegmentUndone}
 
 -- one says at least what the other does
 abbrev pub SaysAlso : Tells → Tells → Type 0

@@ -6,7 +6,6 @@ use Rattle.stm_wire.specs.Chip.{ChipData, erased_byte, page_size}
 use Rattle.stm_wire.specs.Dialogue.{GoesOn}
 use Rattle.stm_wire.specs.Rig.{RigState}
 use Rattle.stm_chip.specs.Plan.{frames_of}
-use Rattle.stm_journal.specs.declared.entry.Entry.TheVariants.{Undoes}
 use Rattle.stm_journal.specs.declared.fault.JournalFault.{JournalFault}
 use Rattle.stm_journal.specs.declared.fault.JournalFault.TheVariants.{File, Bad, OtherDevice, OtherBoard, Memory}
 use Rattle.stm_journal.specs.declared.kept.Kept.{Kept}
@@ -14,7 +13,8 @@ use Rattle.stm_journal.specs.Newest.{pages_of_segments}
 use Rattle.stm_journal.specs.States.{SegmentData}
 use Rattle.stm_session.specs.declared.fault.Fault.{Fault}
 use Rattle.stm_session.specs.Fault.{Cause, cause_of, fault_of_journal}
-use Rattle.stm_session.specs.Order.{Step, Adds, Are, Tells, AreAllUndone, AreReadsOf, AreGivenBack, AreRewritten, AreSegmentsUndone, Begin, BeginTold, StepFailsBy, IsInOrder, IsGivenBack, IsRewritten, IsSegmentUndone, FaultEnds, StopsBy, tells_behind, page_address, page_reads, read_steps, return_steps, rewrite_steps, so_far, torn_behind}
+use Rattle.stm_session.specs.Order.{Step, Are, Tells, AreReadsOf, AreGivenBack, AreRewritten, Begin, BeginTold, StepFailsBy, IsInOrder, IsGivenBack, IsRewritten, FaultEnds, StopsBy, tells_behind, page_address, page_reads, read_steps, return_steps, rewrite_steps, so_far, torn_behind}
+use Rattle.stm_session.specs.UndoOrder.{AreAllUndone, AreSegmentsUndone, IsSegmentUndone, ending_steps}
 use Rattle.stm_session.proofs.CutShort.{by_fault, halts}
 use Rattle.stm_session.proofs.Orders.{returned_next, taken_next}
 use Rattle.stm_session.proofs.Tellings.{SaysAlso, behind_both, pages_as, returned_as, rewritten_as, segments_as, taken_as, work_as}
@@ -82,7 +82,7 @@ some_segments again chip Told zero segments free within = ([], refl)
 some_segments again chip Told (suc taken) [] free within = absurd (omega (arith, within))
 some_segments again chip Told (suc taken) (pages ∷ below) free within =
     let returns = some_pages again chip Told pages free in
-    let first : List Step = returns.0 ++ Adds (Undoes (length below + 1) ∷ []) ∷ [] in
+    let first : List Step = returns.0 ++ ending_steps chip (length below + 1) in
     let rest = some_segments again chip (tells_behind first Told) taken below (free_behind Told first free) (omega (arith, within)) in
     (first ++ rest.0, (first, rest.0, refl, record { returns = returns.0; are_returns = returns.1; is = refl }, rest.1))
 
@@ -159,11 +159,11 @@ return_begun again chip A B Told pages i kept xs at first own are ys (rest, is) 
 -- its segment is, with it
 pub pages_begun : (again : Bool) (chip : ChipData) (Told : Tells) (pages : List Kept) (number : ℕ) (ys : List Step) → BeginTold (λ T. AreGivenBack again chip T pages) Told ys → BeginTold (λ T. IsSegmentUndone again chip T pages number) Told ys
 pages_begun again chip Told pages number ys (rest, are) =
-    let own : List Step = Adds (Undoes number ∷ []) ∷ [] in
+    let own = ending_steps chip number in
     (rest ++ own, record { returns = ys ++ rest; are_returns = are; is = sym (append_assoc ys rest own) })
 
--- or its last line, behind all of them
-pub undoes_begun : (again : Bool) (chip : ChipData) (A Told : Tells) (pages : List Kept) (number : ℕ) (xs : List Step) → SaysAlso A Told → AreGivenBack again chip A pages xs → (ys : List Step) → Begin (Are (Adds (Undoes number ∷ []) ∷ [])) ys
+-- or its end, behind all of them
+pub undoes_begun : (again : Bool) (chip : ChipData) (A Told : Tells) (pages : List Kept) (number : ℕ) (xs : List Step) → SaysAlso A Told → AreGivenBack again chip A pages xs → (ys : List Step) → Begin (Are (ending_steps chip number)) ys
     → BeginTold (λ T. IsSegmentUndone again chip T pages number) Told (xs ++ ys)
 undoes_begun again chip A Told pages number xs more are ys (rest, is) =
     let T = so_far (length (xs ++ ys)) Told in

@@ -18,7 +18,8 @@ use Rattle.stm_session.specs.declared.fault.Fault.{Fault}
 use Rattle.stm_session.specs.Fault.{IsOutsideFault}
 use Rattle.stm_session.specs.SegmentsUndo.{AmidNewest, UndoesNewest, going_lines}
 use Rattle.stm_session.specs.Lines.{is_torn_at, text_added, taken_entries}
-use Rattle.stm_session.specs.Order.{Follows, AreSegmentsUndone, Tells}
+use Rattle.stm_session.specs.Order.{Follows, Tells}
+use Rattle.stm_session.specs.UndoOrder.{AreSegmentsUndone}
 use Rattle.stm_session.specs.StepLaws.{StepLaws}
 use Rattle.stm_session.specs.Steps.{IsSteady, Stands, torn_after}
 use Rattle.stm_session.specs.SegmentUndo.{AmidSegmentUndo, UndoesSegment, give_back_lines, taking_lines}

@@ -7,6 +7,7 @@ use Rattle.stm_journal.specs.declared.entry.Entry.TheVariants.{Keeps, Ends}
 use Rattle.stm_journal.specs.Journals.{begin_entries}
 use Rattle.stm_journal.specs.States.{StateData}
 use Rattle.stm_session.specs.declared.change.Change.{Change}
+use Rattle.stm_session.specs.Closing.{IsClosedInPart, closing}
 use Rattle.stm_session.specs.Contents.{MayTouch, content}
 use Rattle.stm_session.specs.Order.{Step, Adds, Are, Begin, page_reads, rewrite_steps}
 use Rattle.stm_session.specs.Undoable.{has_companion}
@@ -83,14 +84,17 @@ pub data AreTurned (chip : ChipData) (c : Change) : ℕ → Bool → List Step �
 abbrev pub AreAllTurned : ChipData → Change → List Step → Type 0
 AreAllTurned chip c steps = (first : Bool) × AreTurned chip c (page_count chip) first steps
 
--- A command's segment: its first lines, its pages, and its last line.
+-- A command's segment: its first lines, its pages, the question whether the board is still the one
+-- that was asked first, and its last line. So at Ok the board that was asked first answered after the
+-- last frame that erases or writes, and before its last line: its number and its unique id came, where
+-- it told that one before.
 pub record IsOneSegment (chip : ChipData) (c : Change) (s : StateData)
     (steps : List Step) : Type 0 where
   pub turned : List Step
   pub are_turned : AreAllTurned chip c turned
   pub is : steps
       ≡ Adds (begin_entries chip.id chip.unique s)
-      ∷ (turned ++ Adds (Ends (length s.stack + 1) ∷ []) ∷ [])
+      ∷ (turned ++ (closing chip ++ Adds (Ends (length s.stack + 1) ∷ []) ∷ []))
 
 -- At a fault:
 
@@ -109,12 +113,16 @@ pub record AreBegunTurns (chip : ChipData) (c : Change) (steps : List Step) : Ty
   pub is_begun : Begin (IsPageTurn (page == 257 && first) chip c page) own
   pub is : steps ≡ before ++ own
 
--- A beginning of a command's segment: of its first lines; or those, and a beginning of its pages;
--- or those, all its pages, and a beginning of its last line.
+-- A beginning of a command's segment: of its first lines; or those, and a beginning of its pages; or
+-- those, all its pages, and that question, whatever comes, or its answer and a beginning of the last
+-- line.
 pub data IsSegmentBegun (chip : ChipData) (c : Change) (s : StateData)
     (steps : List Step) : Type 0 where
   begins : Begin (Are (Adds (begin_entries chip.id chip.unique s) ∷ [])) steps
       → IsSegmentBegun chip c s steps
   turns : (pages : List Step) → AreBegunTurns chip c pages
       → steps ≡ Adds (begin_entries chip.id chip.unique s) ∷ pages → IsSegmentBegun chip c s steps
-  ends : Begin (IsOneSegment chip c s) steps → IsSegmentBegun chip c s steps
+  ends : (turned own : List Step) → AreAllTurned chip c turned
+      → IsClosedInPart chip (Begin (Are (Adds (Ends (length s.stack + 1) ∷ []) ∷ []))) own
+      → steps ≡ Adds (begin_entries chip.id chip.unique s) ∷ (turned ++ own)
+      → IsSegmentBegun chip c s steps

@@ -5,6 +5,7 @@ use Rattle.std.specs.Prelude.{Option, Some, None}
 use Rattle.stm_wire.specs.Chip.{ChipData, page_size}
 use Rattle.stm_wire.specs.Dialogue.{Turn}
 use Rattle.stm_wire.specs.Frames.{erase_turns, read_turns, write_turns}
+use Rattle.stm_wire.specs.declared.places.UniquePlace.{UniquePlace}
 use Rattle.stm_wire.specs.Rig.{RigState}
 use Rattle.stm_journal.specs.declared.entry.Entry.{Entry}
 use Rattle.stm_journal.specs.declared.entry.Entry.TheVariants.{Names, Opens, Keeps, Erases}
@@ -12,6 +13,7 @@ use Rattle.stm_journal.specs.declared.entry.Entry.TheVariants.{Programs, Ends, U
 use Rattle.stm_journal.specs.declared.kept.Kept.{Kept}
 use Rattle.stm_journal.specs.Newest.{pages_of_segments}
 use Rattle.stm_session.specs.declared.fault.Fault.{Fault}
+use Rattle.stm_session.specs.Closing.{IsLook}
 use Rattle.stm_session.specs.Order.{Step, Adds, Sends, page_address}
 use Rattle.stm_session.specs.Reaching.{StepsOf}
 use Rattle.stm_session.specs.UndoOrder.{UndoDoes, UndoDoesInPart}
@@ -56,10 +58,11 @@ abbrev pub MayAddAll : Option (List ℕ) → List Entry → Type 0
 MayAddAll kept [] = Unit {0}
 MayAddAll kept (entry ∷ entries) = MayAdd kept entry × MayAddAll (kept_behind kept entry) entries
 
--- A frame that changes nothing but pages of which this holds: it reads; or it erases such a page;
--- or it writes some bytes into one.
+-- A frame that changes nothing but pages of which this holds: it reads; or it asks which board the
+-- device is; or it erases such a page; or it writes some bytes into one.
 pub data MaySend (chip : ChipData) (P : ℕ → Type 0) (turns : List Turn) : Type 0 where
   reads : (address : ℕ) (answer : List ℕ) → turns ≡ read_turns address answer → MaySend chip P turns
+  looks : (place : UniquePlace) → IsLook place turns → MaySend chip P turns
   erases : (n : ℕ) → P n → turns ≡ erase_turns chip.kind n → MaySend chip P turns
   writes : (n offset : ℕ) (bytes : List ℕ) → P n → 1 ≤ length bytes
       → offset + length bytes ≤ page_size chip n

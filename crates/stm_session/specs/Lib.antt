@@ -4,6 +4,7 @@ pub mod Unwritten
 pub mod Fresh
 pub mod Order
 pub mod Reaching
+pub mod Closing
 pub mod ReturnedBytes
 pub mod UndoOrder
 pub mod Told

@@ -1,6 +1,6 @@
 -- In which order a session sends frames and appends lines, on any line: at Ok all of it, at a fault
 -- a beginning. Fetches are left out: they change nothing.
-use Rattle.std.specs.Prelude.{◌≡◌, ◌≢◌, ◌⊎◌, ℕ, zero, suc, ◌+◌, ◌*◌, ◌/◌, ◌<◌, Bool, true, false}
+use Rattle.std.specs.Prelude.{◌≡◌, ◌≢◌, ℕ, zero, suc, ◌+◌, ◌*◌, ◌/◌, ◌<◌, Bool, true, false}
 use Rattle.std.specs.Prelude.{if◌then◌else◌, List, [], ◌∷◌, ◌++◌, length, take, drop, map, bytes_eq}
 use Rattle.std.specs.Prelude.{Option, Some, None, Result, IfErr}
 use Rattle.stm_wire.specs.declared.fault.WireFault.{WireFault}
@@ -13,7 +13,7 @@ use Rattle.stm_wire.specs.Rig.{RigState}
 use Rattle.stm_chip.specs.declared.plan.Frame.{Frame}
 use Rattle.stm_chip.specs.Plan.{frames_of}
 use Rattle.stm_journal.specs.declared.entry.Entry.{Entry}
-use Rattle.stm_journal.specs.declared.entry.Entry.TheVariants.{Erases, Programs, Undoes}
+use Rattle.stm_journal.specs.declared.entry.Entry.TheVariants.{Erases, Programs}
 use Rattle.stm_journal.specs.declared.kept.Kept.{Kept}
 use Rattle.stm_journal.specs.Calls.{AppendsInPart}
 use Rattle.stm_journal.specs.Journals.{Loaded, added_bytes}
@@ -204,24 +204,6 @@ abbrev pub return_steps : Bool → ChipData → ℕ → List ℕ → List ℕ �
 return_steps false chip n held page = give_back_steps chip n held page
 return_steps true chip n held page = give_back_steps chip n held page ++ page_reads chip n page
 
--- Steps that end as such do that read a page again, or begin to: but for what came in these reads,
--- which may be any bytes. Behind a page that doesn't hold its own there is no other step.
-pub record IsMisread (chip : ChipData) (P : List Step → Type 0) (steps : List Step) : Type 0 where
-  pub before : List Step
-  pub n : ℕ
-  pub page : List ℕ
-  pub own : P (before ++ page_reads chip n page)
-  pub came : List ℕ
-  pub size : length came ≡ length page
-  pub reads : List Step
-  pub begun : Begin (Are (page_reads chip n came)) reads
-  pub is : steps ≡ before ++ reads
-
--- such steps, or also those, where pages are read again
-abbrev pub OrMisread : Bool → ChipData → (List Step → Type 0) → List Step → Type 0
-OrMisread false chip P steps = P steps
-OrMisread true chip P steps = P steps ⊎ IsMisread chip P steps
-
 -- a page is read, and given the bytes that the journal told behind that; and then it is read again,
 -- where that is asked for
 pub record IsGivenBack (again : Bool) (chip : ChipData) (Told : Tells) (n : ℕ)
@@ -240,22 +222,6 @@ AreGivenBack again chip Told (kept ∷ pages) steps = (first : List Step) × (re
     × (steps ≡ first ++ rest) × IsGivenBack again chip Told kept.page first
     × AreGivenBack again chip (tells_behind first Told) pages rest
 
--- and then the line that says so is appended
-pub record IsSegmentUndone (again : Bool) (chip : ChipData) (Told : Tells) (pages : List Kept)
-    (number : ℕ) (steps : List Step) : Type 0 where
-  pub returns : List Step
-  pub are_returns : AreGivenBack again chip Told pages returns
-  pub is : steps ≡ returns ++ Adds (Undoes number ∷ []) ∷ []
-
--- so many segments of these pages are undone, the newest first
-abbrev pub AreSegmentsUndone : Bool → ChipData → Tells → ℕ → List (List Kept) → List Step → Type 0
-AreSegmentsUndone again chip Told zero segments steps = steps ≡ []
-AreSegmentsUndone again chip Told (suc taken) [] steps = ⊥
-AreSegmentsUndone again chip Told (suc taken) (pages ∷ below) steps =
-    (first : List Step) × (rest : List Step) × (steps ≡ first ++ rest)
-    × IsSegmentUndone again chip Told pages (length below + 1) first
-    × AreSegmentsUndone again chip (tells_behind first Told) taken below rest
-
 -- a page is given the bytes that the journal told first, unread
 pub record IsRewritten (chip : ChipData) (Told : Tells) (n : ℕ) (steps : List Step) : Type 0 where
   pub page : List ℕ
@@ -269,12 +235,3 @@ AreRewritten chip Told [] steps = steps ≡ []
 AreRewritten chip Told (n ∷ pages) steps = (first : List Step) × (rest : List Step)
     × (steps ≡ first ++ rest) × IsRewritten chip Told n first
     × AreRewritten chip (tells_behind first Told) pages rest
-
--- the pages at work first, and then so many segments are undone
-pub record AreAllUndone (again : Bool) (chip : ChipData) (Told : Tells) (work : List ℕ)
-    (taken : ℕ) (segments : List (List Kept)) (steps : List Step) : Type 0 where
-  pub first : List Step
-  pub is_first : AreRewritten chip Told work first
-  pub back : List Step
-  pub are_back : AreSegmentsUndone again chip (tells_behind first Told) taken segments back
-  pub is : steps ≡ first ++ back

@@ -28,6 +28,10 @@ most_calls n = 4100 * 131076 + 268 + n * most_of_command
 abbrev pub most_of_confirming : ℕ
 most_of_confirming = 44
 
+-- of the question behind the last frame: Get ID, and that read
+abbrev pub most_of_closing : ℕ
+most_of_closing = 7 + most_of_confirming
+
 -- of settling with so many bytes at most, Get and Get ID
 abbrev pub most_of_reaching : ℕ → ℕ
 most_of_reaching limit = 4100 * (limit + 4) + 268

@@ -11,9 +11,10 @@ use Rattle.stm_journal.specs.PageFetching.{Brings}
 use Rattle.stm_session.specs.declared.fault.Fault.{Fault}
 use Rattle.stm_session.specs.declared.returned.Returned.{Returned}
 use Rattle.stm_session.specs.Order.{Step, Tells, BeginTold, IsInOrder, acts_of, acts_of_steps}
-use Rattle.stm_session.specs.Order.{OrMisread, tells_behind}
+use Rattle.stm_session.specs.Order.{tells_behind}
 use Rattle.stm_session.specs.Reaching.{StepsOf, confirming}
-use Rattle.stm_session.specs.UndoOrder.{AreTakenAs, AreTakenWhole, UndoDoes, UndoDoesInPart}
+use Rattle.stm_session.specs.UndoOrder.{AreTakenAs, AreTakenWhole, OrMisread, UndoDoes}
+use Rattle.stm_session.specs.UndoOrder.{UndoDoesInPart}
 
 -- some calls
 abbrev pub AreCalls : List Call → Type 0

@@ -54,6 +54,6 @@ pub fn change_flash<R: Rig>(
 {
     let segment = begin_segment(rig, journal, chip)?;
     let pages = turn_pages(alloc, rig, journal, chip, change)?;
-    end_segment(rig, journal)?;
+    end_segment(rig, journal, chip)?;
     Ok((segment, pages))
 }

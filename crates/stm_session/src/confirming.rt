@@ -16,7 +16,7 @@ use crate::asking_board::ask_place;
 use stm_wire::{Chip, Rig, UniquePlace, sending_is_harmless};
 
 /// Where a device of this chip is asked once more for its unique id: where it told one before.
-fn confirmed_at(chip: &Chip) -> Option<UniquePlace>
+pub fn confirmed_at(chip: &Chip) -> Option<UniquePlace>
     ensures place { result ≡ confirmed_at chip.now }
     ensures length { IfSome result (λ place. IsTrue (is_unique_length place.length)) }
 {

@@ -55,7 +55,7 @@ pub enum Fault {
     #[error("journal is of another board")]
     OtherBoard,
     /// The device told its unique id before the session, and on being asked once more, before the
-    /// first command or page, it tells another one or refuses.
+    /// first command or page or behind a segment's last frame, it tells another one or refuses.
     #[error("another board answers than at first")]
     BoardChanged,
     /// The journal has no room for so many segments more.

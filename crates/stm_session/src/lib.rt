@@ -7,6 +7,7 @@ mod board_session;
 mod change;
 mod changing;
 mod check;
+mod closing;
 mod command;
 mod command_check;
 mod commanding;

@@ -9,8 +9,9 @@ ghost use Rattle.stm_journal.specs.Newest.{KeepsSame};
 ghost use Rattle.stm_session.specs.Asking.{Asks};
 ghost use Rattle.stm_session.specs.Fault.{HasSessionCause};
 ghost use Rattle.stm_session.specs.Lines.{rewrite_entries};
-ghost use Rattle.stm_session.specs.Order.{Are, AreReadsOf, Begin, DoesSteps, IsInOrder, OrMisread};
+ghost use Rattle.stm_session.specs.Order.{Are, AreReadsOf, Begin, DoesSteps, IsInOrder};
 ghost use Rattle.stm_session.specs.Order.{FaultEnds, page_address, page_reads, return_steps};
+ghost use Rattle.stm_session.specs.UndoOrder.{OrMisread};
 ghost use Rattle.stm_session.specs.Steps.{IsSteady, Goes};
 
 use crate::Fault;

@@ -3,8 +3,8 @@ ghost use Rattle.std.specs.Prelude.{◌≡◌, ◌<◌, ◌∷◌, List, ℕ, dr
 ghost use Rattle.stm_journal.specs.Fits.{AllFit};
 ghost use Rattle.stm_journal.specs.Newest.{KeepsSame, pages_of_segments};
 ghost use Rattle.stm_session.specs.Fault.{HasSessionCause};
-ghost use Rattle.stm_session.specs.Order.{BeginTold, Follows, AreGivenBack, IsSegmentUndone};
-ghost use Rattle.stm_session.specs.Order.{OrMisread, FaultEnds};
+ghost use Rattle.stm_session.specs.Order.{BeginTold, Follows, AreGivenBack, FaultEnds};
+ghost use Rattle.stm_session.specs.UndoOrder.{IsSegmentUndone, OrMisread};
 ghost use Rattle.stm_session.specs.Told.{ToldIn};
 ghost use Rattle.stm_session.specs.Undoable.{newest_kept};
 ghost use Rattle.stm_session.specs.Steps.{IsSteady, Goes};
@@ -12,6 +12,7 @@ ghost use Rattle.stm_session.specs.SegmentUndo.{UndoesSegment, newest_at, give_b
 ghost use Rattle.stm_session.specs.SegmentUndo.{with_pages};
 
 use crate::Fault;
+use crate::closing::look_again;
 use crate::laws_of_steps::step_laws;
 use crate::returning::give_back_line;
 use std::alloc::Global;
@@ -61,7 +62,7 @@ pub fn give_back_segment<R: Rig>(
     Ok(())
 }
 
-/// Undoes the newest segment.
+/// Undoes the newest segment, once the board has told that it is still the one that was asked first.
 pub fn undo_segment<R: Rig>(
     alloc: Global,
     rig: &mut R,
@@ -93,6 +94,7 @@ pub fn undo_segment<R: Rig>(
 {
     step_laws();
     give_back_segment(alloc, rig, journal, chip, again)?;
+    look_again(rig, chip)?;
     let _depth = journal.depth();
     journal.undone(rig)?;
     Ok(())

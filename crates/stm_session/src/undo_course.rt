@@ -7,7 +7,6 @@ ghost use Rattle.stm_session.specs.Promises.{UndoContract};
 ghost use Rattle.stm_session.specs.ReturnedBytes.{segments_of};
 ghost use Rattle.stm_session.specs.Sending.{SendsAsUndo};
 ghost use Rattle.stm_session.specs.Told.{GivesBackTold, UndoStopsToldAs};
-ghost use Rattle.stm_session.specs.UndoOrder.{GivesBackInOrder, UndoStopsAs};
 ghost use Rattle.stm_session.specs.Undoes.{taken_count};
 
 use crate::Fault;
@@ -51,11 +50,6 @@ pub fn undo_as<R: Rig>(
     ensures none { IfOk result (λ returned. returned.segments ≡ 0 → returned.bytes ≡ 0) }
     ensures puts { let old = R.view rig.old in let new = R.view rig.new in
         SendsAsUndo table.now count old new (segments_of result) }
-    ensures order { let old = R.view rig.old in let new = R.view rig.new in
-        IfOk result (λ returned. 1 ≤ returned.segments
-        → GivesBackInOrder again table.now returned old new) }
-    ensures stops { let old = R.view rig.old in let new = R.view rig.new in
-        IfErr result (UndoStopsAs again table.now count old new) }
     ensures given { let old = R.view rig.old in let new = R.view rig.new in
         IfOk result (λ returned. 1 ≤ returned.segments
         → GivesBackTold R.view again table.now returned old new) }

@@ -13,7 +13,7 @@ const TABLE: &str =
 const TURNS: u64 = 110;
 
 /// The table of that text.
-fn the_table(rt: &HostRuntime) -> Result<Table, Fail> {
+pub fn the_table(rt: &HostRuntime) -> Result<Table, Fail> {
     match read_table(rt.alloc(), TABLE.as_bytes()) {
         Ok(table) => Ok(table),
         Err(_) => Err(Fail::new("no table")),
@@ -21,12 +21,12 @@ fn the_table(rt: &HostRuntime) -> Result<Table, Fail> {
 }
 
 /// A test's failure at a number of steps.
-fn failed_at(steps: u64) -> Fail {
+pub fn failed_at(steps: u64) -> Fail {
     Fail::new(format_args!("something else than is due at {steps}"))
 }
 
 /// A flash of 1,024 bytes, of which byte i is i modulo 251.
-fn counting(rt: &HostRuntime) -> Result<Vec<u8>, Fail> {
+pub fn counting(rt: &HostRuntime) -> Result<Vec<u8>, Fail> {
     let mut bytes = Vec::new(rt.alloc());
     for place in 0..1_024_u32 {
         bytes.push((place % 251) as u8)?;
@@ -35,7 +35,7 @@ fn counting(rt: &HostRuntime) -> Result<Vec<u8>, Fail> {
 }
 
 /// Whether byte i is i modulo 251.
-fn is_counting(bytes: &[u8]) -> bool {
+pub fn is_counting(bytes: &[u8]) -> bool {
     let mut due = 0_u8;
     for byte in bytes {
         if *byte != due {

@@ -10,11 +10,15 @@ use stm_session::{
     the_first_difference_is_the_first, told_board_is_the_devices,
 };
 use stm_sim::{FlipRig, MemoryRig};
-use stm_weak::{an_undo_believes_no_page_at_work, weak_pages_are_at_work};
+use stm_weak::{
+    WeakRig, a_weak_history_can_be_undone, an_undo_believes_no_page_at_work, weak_pages_are_at_work,
+};
 
 #[test]
 fn laws_are_had(_rt: HostRuntime) {
     a_session_can_be_undone::<MemoryRig>();
+    a_session_can_be_undone::<WeakRig>();
+    a_weak_history_can_be_undone::<WeakRig>();
     the_first_difference_is_the_first();
     an_undo_believes_no_page_at_work::<MemoryRig>();
     weak_pages_are_at_work::<MemoryRig>();

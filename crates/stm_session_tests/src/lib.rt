@@ -7,3 +7,5 @@ mod faults;
 mod greeting;
 #[cfg(test)]
 mod laws;
+#[cfg(test)]
+mod weak;

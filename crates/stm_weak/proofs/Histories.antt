@@ -14,12 +14,13 @@ use Rattle.stm_session.specs.declared.fault.Fault.{Fault}
 use Rattle.stm_session.specs.Fault.{cause_of}
 use Rattle.stm_session.specs.Fresh.{contact_way, settling_way}
 use Rattle.stm_session.specs.Meaning.{CommandData}
-use Rattle.stm_session.specs.Order.{Step, AreAllUndone, Begin, IsAfter, OrMisread, untold}
+use Rattle.stm_session.specs.Order.{Step, Begin, IsAfter, untold}
 use Rattle.stm_session.specs.Reaching.{IsConfirmedInPart, ReachesAndStops, ReachesInPart, StepsOf}
 use Rattle.stm_session.specs.Reaching.{confirming}
 use Rattle.stm_session.specs.RunOrder.{AreBegun, AreDoneSomehow, RunsInOrder}
 use Rattle.stm_session.specs.Undoable.{IsJournalOf, has_companion}
-use Rattle.stm_session.specs.UndoOrder.{AreUndoneInOrder, AreTakenWhole, BeginTaking, UndoDoes}
+use Rattle.stm_session.specs.UndoOrder.{AreAllUndone, AreTakenWhole, AreUndoneInOrder}
+use Rattle.stm_session.specs.UndoOrder.{BeginTaking, OrMisread, UndoDoes}
 use Rattle.stm_session.specs.Work.{pages_at_work, pages_of_intent}
 use Rattle.stm_weak.specs.Weak.{NoneIs, intent_behind, weak_behind}
 use Rattle.stm_weak.specs.Believed.{AreAtWork, NoneBelieved}

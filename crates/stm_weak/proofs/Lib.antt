@@ -41,3 +41,4 @@ mod Heading
 mod ShortReplies
 mod FedSteadily
 mod Batches
+mod Lining

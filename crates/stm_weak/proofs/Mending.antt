@@ -2,7 +2,7 @@
 -- weak.
 use Rattle.std.proofs.Common.{◌≡◌, ◌⊎◌, inl, inr, ⊎_elim, ℕ, zero, suc, ◌+◌, ◌/◌, ◌==◌, ◌&&◌, Bool}
 use Rattle.std.proofs.Common.{true, false, if◌then◌else◌, List, [], ◌∷◌, ◌++◌, length, Contains}
-use Rattle.std.proofs.Common.{Option, Some, None, sym, ◌∙◌, ap, subst, arith, append-nil}
+use Rattle.std.proofs.Common.{Option, Some, None, refl, sym, ◌∙◌, ap, subst, arith, append-nil}
 use Rattle.stm_wire.specs.declared.intent.Intent.{Intent}
 use Rattle.stm_wire.specs.declared.intent.Intent.TheVariants.{Erase}
 use Rattle.stm_wire.specs.Chip.{ChipData, erased_byte}
@@ -10,15 +10,20 @@ use Rattle.stm_chip.specs.Plan.{frames_of}
 use Rattle.stm_journal.specs.declared.entry.Entry.TheVariants.{Undoes}
 use Rattle.stm_journal.specs.declared.kept.Kept.{Kept}
 use Rattle.stm_journal.specs.States.{intent_page}
-use Rattle.stm_session.specs.Order.{Step, Adds, AreAllUndone, AreGivenBack, AreRewritten}
-use Rattle.stm_session.specs.Order.{AreSegmentsUndone, IsGivenBack, IsRewritten, IsSegmentUndone, Tells}
-use Rattle.stm_session.specs.Order.{tells_behind, page_reads, return_steps}
+use Rattle.stm_session.specs.Closing.{closing}
+use Rattle.stm_session.specs.Order.{Step, Adds, AreGivenBack, AreRewritten}
+use Rattle.stm_session.specs.Order.{IsGivenBack, IsRewritten, Tells, tells_behind, page_reads}
+use Rattle.stm_session.specs.Order.{return_steps}
+use Rattle.stm_session.specs.UndoOrder.{AreAllUndone, AreSegmentsUndone, IsSegmentUndone}
+use Rattle.stm_session.specs.Reaching.{confirmed_at}
 use Rattle.stm_session.specs.Work.{beside, pages_of_intent}
+use Rattle.stm_session.specs.lemmas.ClosingLaws.{closing_is_looked}
 use Rattle.stm_weak.specs.Weak.{NoneIs}
 use Rattle.stm_weak.specs.Believed.{AreAtWork}
 use Rattle.stm_weak.proofs.Frames.{here}
 use Rattle.stm_weak.proofs.Pieces.{all_frames_inside, free_page, free_return, rewrite_goes}
 use Rattle.stm_weak.proofs.Pieces.{rewritten}
+use Rattle.stm_weak.proofs.Sessions.{looked_goes}
 use Rattle.stm_weak.proofs.Walking.{Free, Goes, free_as, free_lines, free_nothing, free_then}
 use Rattle.stm_weak.proofs.Walking.{goes_as, goes_then, intended, past, past_then, still}
 
@@ -45,10 +50,14 @@ module _ (again : Bool) (chip : ChipData) (both : Bool) where
   free_segment : (Told : Tells) (pages : List Kept) (number : ℕ) (steps : List Step)
       → IsSegmentUndone again chip Told pages number steps → Free chip both steps
   free_segment Told pages number steps taken =
-      free_as chip both (taken.returns ++ Adds (Undoes number ∷ []) ∷ []) steps taken.is
-      (free_then chip both taken.returns (Adds (Undoes number ∷ []) ∷ [])
+      let line : List Step = Adds (Undoes number ∷ []) ∷ [] in
+      free_as chip both (taken.returns ++ (closing chip ++ line)) steps taken.is
+      (free_then chip both taken.returns (closing chip ++ line)
       (free_pages Told pages taken.returns taken.are_returns)
-      (free_lines chip both (Undoes number ∷ [])))
+      (free_then chip both (closing chip) line
+      (λ W o none.
+      looked_goes chip both W o (confirmed_at chip) (closing chip) refl (closing_is_looked chip))
+      (free_lines chip both (Undoes number ∷ []))))
 
   free_segments : (Told : Tells) (count : ℕ) (segments : List (List Kept)) (steps : List Step)
       → AreSegmentsUndone again chip Told count segments steps → Free chip both steps

@@ -1,5 +1,5 @@
 -- An undo reads only where no page may be weak; so it may read other bytes there.
-use Rattle.std.proofs.Common.{◌≡◌, ◌⊎◌, inl, inr, ℕ, zero, suc, ◌+◌, ◌*◌, ◌/◌, Bool, true, false}
+use Rattle.std.proofs.Common.{◌≡◌, ◌⊎◌, inl, inr, ℕ, zero, suc, ◌+◌, ◌*◌, ◌/◌, Bool}
 use Rattle.std.proofs.Common.{List, [], ◌∷◌, ◌++◌, length, take, drop, Option, refl, sym, subst}
 use Rattle.std.proofs.Common.{arith}
 use Rattle.stm_wire.specs.declared.intent.Intent.{Intent}
@@ -8,15 +8,20 @@ use Rattle.stm_wire.specs.Frames.{erase_turns, read_turns}
 use Rattle.stm_chip.specs.declared.plan.Frame.{Frame}
 use Rattle.stm_chip.specs.Plan.{frames_of}
 use Rattle.stm_journal.specs.declared.kept.Kept.{Kept}
-use Rattle.stm_session.specs.Order.{Step, Adds, Sends, AreAllUndone, AreRewritten, Begin}
-use Rattle.stm_session.specs.Order.{OrMisread, Tells, tells_behind, page_address, page_reads, read_steps}
+use Rattle.stm_session.specs.Closing.{IsLookedAgain, closing}
+use Rattle.stm_session.specs.Order.{Step, Adds, Sends, AreReadsOf, AreRewritten, Begin}
+use Rattle.stm_session.specs.Order.{Tells, tells_behind, page_address, page_reads, read_steps}
 use Rattle.stm_session.specs.Order.{rewrite_steps, write_step, write_steps}
+use Rattle.stm_session.specs.UndoOrder.{AreAllUndone, EndsOtherwise, OrMisread}
+use Rattle.stm_session.specs.UndoOrder.{such, elsewhere, misread}
+use Rattle.stm_session.specs.Reaching.{confirmed_at}
 use Rattle.stm_session.specs.Work.{pages_of_intent}
 use Rattle.stm_weak.specs.Weak.{does, NoneIs, weak_after}
 use Rattle.stm_weak.specs.Believed.{AreAtWork}
 use Rattle.stm_weak.proofs.Frames.{byte_at, first_of_erase, no_erase_reads}
 use Rattle.stm_weak.proofs.Pieces.{free_page}
 use Rattle.stm_weak.proofs.Mending.{all_mend, work_mends}
+use Rattle.stm_weak.proofs.Sessions.{looked_goes}
 use Rattle.stm_weak.proofs.Walking.{Goes, goes_as, goes_front, goes_then, intended, past}
 
 -- each read comes where no page may be weak
@@ -140,40 +145,52 @@ other_reads chip both W o n page came late =
         subst P (sym nothing) tt
     either (inr none) = free_page chip both n came W o none
 
--- A beginning of an undo, or one whose last reads brought other bytes.
+-- Steps that may come, but for what came behind the last question.
+otherwise_goes : (chip : ChipData) (both : Bool) (W : ℕ → Type 0) (o : Option Intent)
+    (P Comes : List Step → Type 0) (due steps : List Step) → ((xs : List Step) → P xs → Goes chip both W o xs)
+    → (e : EndsOtherwise P due Comes steps) → ((xs : List Step) → Comes xs
+    → Goes chip both (λ n. past chip W e.before n) (intended o e.before) xs)
+    → Goes chip both W o steps
+otherwise_goes chip both W o P Comes due steps may e comes =
+    let W1 : ℕ → Type 0 = λ n. past chip W e.before n in
+    let rest = e.begun.0 in
+    goes_as chip both W o (e.before ++ e.came) steps e.is
+    (goes_then chip both W o e.before e.came
+    (goes_front chip both W o e.before due (may (e.before ++ due) e.own))
+    (goes_front chip both W1 (intended o e.before) e.came rest (comes (e.came ++ rest) e.begun.1)))
+
+begun_whole : (again : Bool) (chip : ChipData) (both : Bool) (Told : Tells) (o : Option Intent)
+    (W : ℕ → Type 0) (count : ℕ) (segments : List (List Kept)) → AreAtWork both W o
+    → (xs : List Step)
+    → Begin (AreAllUndone again chip Told (pages_of_intent o both) count segments) xs
+    → Goes chip both W o xs
+begun_whole again chip both Told o W count segments own xs (rest, taken) =
+    goes_front chip both W o xs rest
+    (all_mend again chip both Told o W count segments (xs ++ rest) own taken).goes
+
+-- A beginning of an undo, or one whose last question was answered otherwise.
 pub begun_goes : (again : Bool) (chip : ChipData) (both : Bool) (Told : Tells) (o : Option Intent)
     (W : ℕ → Type 0) (count : ℕ) (segments : List (List Kept)) (steps : List Step)
     → AreAtWork both W o
     → OrMisread again chip
     (Begin (AreAllUndone again chip Told (pages_of_intent o both) count segments)) steps
     → Goes chip both W o steps
-begun_goes false chip both Told o W count segments steps own (rest, taken) =
-    goes_front chip both W o steps rest
-    (all_mend false chip both Told o W count segments (steps ++ rest) own taken).goes
-begun_goes true chip both Told o W count segments steps own (inl (rest, taken)) =
-    goes_front chip both W o steps rest
-    (all_mend true chip both Told o W count segments (steps ++ rest) own taken).goes
-begun_goes true chip both Told o W count segments steps own (inr misread) =
-    let own_reads = page_reads chip misread.n misread.page in
-    let all : List Step = misread.before ++ own_reads in
-    let rest = misread.own.0 in
-    let taken = misread.own.1 in
-    let goes =
-    goes_front chip both W o misread.before own_reads
-    (goes_front chip both W o all rest
-    (all_mend true chip both Told o W count segments (all ++ rest) own taken).goes)
-    in
+begun_goes again chip both Told o W count segments steps own (such p) =
+    begun_whole again chip both Told o W count segments own steps p
+begun_goes again chip both Told o W count segments steps own (elsewhere e) =
+    otherwise_goes chip both W o _ (IsLookedAgain (confirmed_at chip)) (closing chip) steps
+    (begun_whole again chip both Told o W count segments own) e
+    (λ xs looked. looked_goes chip both _ _ (confirmed_at chip) xs refl looked)
+begun_goes again chip both Told o W count segments steps own (misread is n page size e) =
+    let reads = page_reads chip n page in
+    let all : List Step = e.before ++ reads in
+    let W1 : ℕ → Type 0 = λ m. past chip W e.before m in
     let late =
-    late_back chip W misread.before own_reads
-    (late_front chip W all rest (all_late true chip both Told o W count segments
-    (all ++ rest) own taken))
+    late_back chip W e.before reads
+    (late_front chip W all e.own.0 (all_late again chip both Told o W count segments
+    (all ++ e.own.0) own e.own.1))
     in
-    let W1 : ℕ → Type 0 = λ n. past chip W misread.before n in
-    let o1 = intended o misread.before in
-    let came = other_reads chip both W1 o1 misread.n misread.page misread.came late in
-    let begun = goes_front chip both W1 o1 misread.reads misread.begun.0
-    (goes_as chip both W1 o1 (page_reads chip misread.n misread.came)
-    (misread.reads ++ misread.begun.0) misread.begun.1 came)
-    in
-    goes_as chip both W o (misread.before ++ misread.reads) steps misread.is
-    (goes_then chip both W o misread.before misread.reads goes begun)
+    otherwise_goes chip both W o _ (AreReadsOf (page_address chip n) (page_size chip n)) reads
+    steps (begun_whole again chip both Told o W count segments own) e
+    (λ xs read. goes_as chip both W1 (intended o e.before) (page_reads chip n read.held) xs read.is
+    (other_reads chip both W1 (intended o e.before) n page read.held late))

@@ -1,16 +1,15 @@
 -- Reads, and a page's new bytes, step by step.
-use Rattle.std.proofs.Common.{◌≡◌, ℕ, zero, suc, ◌+◌, ◌-◌, ◌*◌, ◌/◌, ◌≤◌, ◌==◌, Bool, true, false}
-use Rattle.std.proofs.Common.{if◌then◌else◌, List, [], ◌∷◌, ◌++◌, length, take, drop, Option, Some}
-use Rattle.std.proofs.Common.{refl, sym, subst, arith, length-take}
+use Rattle.std.proofs.Common.{◌≡◌, ℕ, zero, suc, ◌+◌, ◌-◌, ◌*◌, ◌/◌, ◌≤◌, Bool, true, false}
+use Rattle.std.proofs.Common.{if◌then◌else◌, List, [], ◌∷◌, length, take, drop, Option, Some}
+use Rattle.std.proofs.Common.{refl, sym, subst, arith}
 use Rattle.std.specs.Prelude.{bytes_eq}
-use Rattle.std.specs.List.{AllByRecursion}
-use Rattle.std.proofs.lemmas.List.{length-drop}
 use Rattle.stm_wire.specs.declared.intent.Intent.{Intent}
 use Rattle.stm_wire.specs.declared.intent.Intent.TheVariants.{Erase, Program}
 use Rattle.stm_wire.specs.Chip.{ChipData, erased_byte, page_size}
 use Rattle.stm_wire.specs.Frames.{erase_turns, read_turns, write_turns}
 use Rattle.stm_chip.specs.declared.plan.Frame.{Frame}
-use Rattle.stm_chip.specs.Plan.{block_of, cut_length, frame_of, frames_of, used_length}
+use Rattle.stm_chip.specs.Plan.{frames_of}
+use Rattle.stm_session.specs.lemmas.FramesInside.{AreInside, bytes_inside, frames_inside}
 use Rattle.stm_session.specs.Order.{Sends, page_address, page_reads, read_steps, give_back_steps}
 use Rattle.stm_session.specs.Order.{return_steps, rewrite_steps, write_steps}
 use Rattle.stm_weak.specs.Weak.{does, weak_after}
@@ -32,47 +31,6 @@ pub free_page : (chip : ChipData) (both : Bool) (n : ℕ) (held : List ℕ)
     → Free chip both (page_reads chip n held)
 free_page chip both n held = free_reads chip both (page_address chip n)
     (page_size chip n / 256) held
-
--- the frames of a page's bytes lie in it, and have some each
-abbrev pub AreInside : ℕ → List Frame → Type 0
-AreInside size frames =
-    AllByRecursion (λ (f : Frame). (f.offset + 256 ≤ size) × (4 ≤ f.length)) frames
-
-inside_append : (size : ℕ) (xs ys : List Frame) → AreInside size xs → AreInside size ys
-    → AreInside size (xs ++ ys)
-inside_append size [] ys p q = q
-inside_append size (x ∷ xs) ys (first, p) q = (first, inside_append size xs ys p q)
-
-one_inside : (size erased offset : ℕ) (block : List ℕ) → offset + 256 ≤ size
-    → AreInside size (frame_of erased offset block)
-one_inside size erased offset block le = by_none (used_length erased block == 0) refl
-  where
-    by_none : (none : Bool) → (used_length erased block == 0) ≡ none
-        → AreInside size (frame_of erased offset block)
-    by_none true is = rw is tt
-    by_none false is =
-        let some : 1 ≤ used_length erased block = grind (arith, is) in
-        let long : 4 ≤ cut_length erased block = omega (arith, some) in
-        rw is ((le, long), tt)
-
-frames_inside : (size erased : ℕ) (page : List ℕ) (blocks : ℕ) → 256 * blocks ≤ size
-    → AreInside size (frames_of erased page blocks)
-unfolding frames_of
-frames_inside size erased page zero le = tt
-frames_inside size erased page (suc blocks) le =
-    inside_append size (frames_of erased page blocks)
-    (frame_of erased (256 * blocks) (block_of page blocks))
-    (frames_inside size erased page blocks (omega (arith, le)))
-    (one_inside size erased (256 * blocks) (block_of page blocks) (omega (arith, le)))
-
--- what a frame writes of a page
-bytes_inside : (page : List ℕ) (offset count : ℕ) → offset + 256 ≤ length page → 4 ≤ count
-    → (1 ≤ length (take count (drop offset page)))
-    × (offset + length (take count (drop offset page)) ≤ length page)
-bytes_inside page offset count le some =
-    let left : length (drop offset page) ≡ length page - offset = length-drop offset page in
-    let size = length-take count (drop offset page) in
-    (omega (arith, left, size, le, some), omega (arith, left, size, le, some))
 
 -- frames that write it, under its intent
 writes_go : (chip : ChipData) (both : Bool) (n : ℕ) (page : List ℕ) (frames : List Frame)

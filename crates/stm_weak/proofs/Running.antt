@@ -15,18 +15,21 @@ use Rattle.stm_journal.specs.States.{StateData}
 use Rattle.stm_session.specs.declared.change.Change.{Change}
 use Rattle.stm_session.specs.declared.change.Change.TheVariants as change
 use Rattle.stm_session.specs.declared.fault.Fault.{Fault}
-use Rattle.stm_session.specs.ChangeOrder.{AreTurned, none, more, IsChangedUnless, IsOneSegment}
+use Rattle.stm_session.specs.ChangeOrder.{AreTurned, none, more, IsChangedUnless}
 use Rattle.stm_session.specs.ChangeOrder.{IsSaved, IsSavedWith, IsSegmentBegun, begins, turns, ends}
 use Rattle.stm_session.specs.ChangeOrder.{IsTurnOf}
 use Rattle.stm_session.specs.Contents.{content}
 use Rattle.stm_session.specs.Answers.{OutcomeData}
 use Rattle.stm_session.specs.Meaning.{CommandData, is_change}
 use Rattle.stm_session.specs.Order.{Step, Adds, page_reads, rewrite_steps}
+use Rattle.stm_session.specs.Reaching.{confirmed_at}
 use Rattle.stm_session.specs.RunOrder.{AreBegun, AreDoneInOrder, none as nothing_done, more as more_done}
 use Rattle.stm_session.specs.RunOrder.{IsBegunIf, IsDoneIf, IsReading}
 use Rattle.stm_session.specs.Undoable.{has_companion}
+use Rattle.stm_session.specs.lemmas.ClosingLaws.{goes_on, segment_is_begun}
 use Rattle.stm_weak.specs.Believed.{reads}
 use Rattle.stm_weak.proofs.Pieces.{free_page, free_rewrite}
+use Rattle.stm_weak.proofs.Sessions.{looked_goes}
 use Rattle.stm_weak.proofs.Walking.{Free, Goes, free_as, free_front, free_lines, free_nothing}
 use Rattle.stm_weak.proofs.Walking.{free_then}
 
@@ -97,18 +100,6 @@ module _ (lengths : (set : Pairs) (address : ℕ) (bytes : List ℕ) → length
       free_then chip both before own (turned_free c n was before are)
       (turn_free (n == 257 && was) c n changed own turn)
 
-  one_segment : (c : Change) (s : StateData) (steps : List Step) → IsOneSegment chip c s steps
-      → Free chip both steps
-  one_segment c s steps segment =
-      let first : List Step = Adds (begin_entries chip.id chip.unique s) ∷ [] in
-      let last : List Step = Adds (Ends (length s.stack + 1) ∷ []) ∷ [] in
-      free_as chip both (first ++ (segment.turned ++ last)) steps segment.is
-      (free_then chip both first (segment.turned ++ last)
-      (free_lines chip both (begin_entries chip.id chip.unique s))
-      (free_then chip both segment.turned last
-      (turned_free c (page_count chip) segment.are_turned.0 segment.turned segment.are_turned.1)
-      (free_lines chip both (Ends (length s.stack + 1) ∷ []))))
-
   segment_begun : (c : Change) (s : StateData) (steps : List Step)
       → IsSegmentBegun chip c s steps → Free chip both steps
   segment_begun c s steps (begins (rest, is)) =
@@ -129,8 +120,18 @@ module _ (lengths : (set : Pairs) (address : ℕ) (bytes : List ℕ) → length
       (free_then chip both begun.before begun.own
       (turned_free c begun.page begun.first begun.before begun.are_turned)
       (free_front chip both begun.own rest own))))
-  segment_begun c s steps (ends (rest, segment)) =
-      free_front chip both steps rest (one_segment c s (steps ++ rest) segment)
+  segment_begun c s steps (ends turned own are part is) =
+      let first : List Step = Adds (begin_entries chip.id chip.unique s) ∷ [] in
+      let line : List Step = Adds (Ends (length s.stack + 1) ∷ []) ∷ [] in
+      let on = goes_on chip line (first ++ turned) own steps part is in
+      free_front chip both steps on.1
+      (free_as chip both _ (steps ++ on.1) on.3
+      (free_then chip both first (turned ++ (on.0 ++ line))
+      (free_lines chip both (begin_entries chip.id chip.unique s))
+      (free_then chip both turned (on.0 ++ line) (turned_free c (page_count chip) are.0 turned are.1)
+      (free_then chip both on.0 line
+      (λ W o none. looked_goes chip both W o (confirmed_at chip) on.0 refl on.2)
+      (free_lines chip both (Ends (length s.stack + 1) ∷ []))))))
 
   readings_free : (steps : List Step) → AllByRecursion (IsReading chip) steps
       → Free chip both steps
@@ -144,7 +145,8 @@ module _ (lengths : (set : Pairs) (address : ℕ) (bytes : List ℕ) → length
 
   done_by : (changes : Bool) (c : CommandData) (s : StateData) (steps : List Step)
       → IsDoneIf changes chip c s steps → Free chip both steps
-  done_by true c s steps (change, is, segment) = one_segment change s steps segment
+  done_by true c s steps (change, is, segment) =
+      segment_begun change s steps (segment_is_begun chip change s steps segment)
   done_by false c s steps are = readings_free steps are
 
   pub done_free : (commands : List CommandData) (outcomes : List OutcomeData) (s last : StateData)

@@ -4,6 +4,7 @@ use Rattle.std.proofs.Common.{refl, sym, subst}
 use Rattle.stm_wire.specs.declared.intent.Intent.{Intent}
 use Rattle.stm_wire.specs.declared.places.UniquePlace.{UniquePlace}
 use Rattle.stm_wire.specs.Chip.{ChipData}
+use Rattle.stm_session.specs.Closing.{IsLookedAgain}
 use Rattle.stm_session.specs.Order.{Step}
 use Rattle.stm_session.specs.Reaching.{IsAsked, IsConfirmedInPart, IsConfirming, asking_steps}
 use Rattle.stm_session.specs.Reaching.{confirm_steps, confirmed_at, confirming}
@@ -38,6 +39,15 @@ confirming_goes : (chip : ChipData) (both : Bool) (W : ℕ → Type 0) (o : Opti
 confirming_goes chip both W o None steps at is = goes_as chip both W o [] steps is tt
 confirming_goes chip both W o (Some place) steps at (came, asked) =
     is_asked_goes chip both W o place came steps at asked
+
+-- the question behind the last frame
+pub looked_goes : (chip : ChipData) (both : Bool) (W : ℕ → Type 0) (o : Option Intent)
+    (place : Option UniquePlace) (steps : List Step) → confirmed_at chip ≡ place
+    → IsLookedAgain place steps → Goes chip both W o steps
+looked_goes chip both W o None steps at is = goes_as chip both W o [] steps is tt
+looked_goes chip both W o (Some place) steps at (high, low, (own, is, asked)) =
+    goes_as chip both W o _ steps is
+    (names high low refl, confirming_goes chip both _ o (Some place) own at asked)
 
 -- asking leaves the intent as it was
 confirm_leaves : (o : Option Intent) (place : Option UniquePlace) (unique : List ℕ)

@@ -15,4 +15,5 @@ pub mod FedAsking
 pub mod FedHistory
 pub mod WeakHeadline
 pub mod SettledBatches
+pub mod WeakLine
 pub mod lemmas

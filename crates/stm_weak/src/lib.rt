@@ -6,6 +6,7 @@ mod device;
 mod headline;
 mod laws;
 mod undoing;
+mod weak_rig;
 
 pub use device::{
     a_history_is_that_of_an_ordinary_device, a_weak_device_is_ordinary_while_unread,
@@ -16,3 +17,4 @@ pub use device::{
 pub use headline::a_weak_history_can_be_undone;
 pub use laws::{an_undo_believes_no_page_at_work, weak_pages_are_at_work};
 pub use undoing::undo_segment;
+pub use weak_rig::WeakRig;

@@ -126,10 +126,10 @@ IsTask name given (Protect kind is_sure in_session) = (name ≡ codes "protect")
     × (in_session ≡ has given (codes "in-session"))
     × (in_session ≡ true → kind.now ≡ codes "write-unprotect")
 
--- it is done only on a device that is said to be fresh from reset
-abbrev pub wants_fresh : Task → Bool
-wants_fresh (Protect kind is_sure in_session) = in_session
-wants_fresh _ = false
+-- it may be done where a session was stopped
+abbrev pub goes_in_session : Task → Bool
+goes_in_session (Protect kind is_sure in_session) = in_session
+goes_in_session _ = false
 
 -- an erase of neither all pages nor some, or of both
 abbrev pub wants_pages : Task → Bool
@@ -179,15 +179,14 @@ pub record IsFollowedBy (name : List ℕ) (given : Found) (sequel : Sequel) : Ty
   pub write : name ≡ codes "write" → IsSequel given sequel
   pub other : (name ≡ codes "write" → ⊥) → IsAlone sequel
 
--- the device is said to be fresh from reset, and isn't asked anything before its session
-pub record IsFreshUnasked (o : Options) : Type 0 where
-  pub fresh : o.is_fresh ≡ true
+-- the device isn't asked anything before its session
+pub record IsUnasked (o : Options) : Type 0 where
   pub unwanted : o.board ≡ None
   pub named : o.in_folder ≡ false
   pub unwatched : o.watches ≡ false
 
--- A use of a device. Only a simulator is stopped, an erase names all pages or some, and what is done
--- only on a device that is fresh from reset is asked for only so.
+-- A use of a device. Only a simulator is stopped, an erase names all pages or some, and what may be
+-- done where a session was stopped has no question before it.
 pub record IsUseAsked (e : Environment) (name : List ℕ) (given : Found) (o : Options) (t : Task)
     (s : Sequel) : Type 0 where
   pub options : AreOptions e given o
@@ -195,7 +194,7 @@ pub record IsUseAsked (e : Environment) (name : List ℕ) (given : Found) (o : O
   pub sequel : IsFollowedBy name given s
   pub stops : IsSome o.stop → is_simulator o.device ≡ true
   pub pages : wants_pages t ≡ false
-  pub fresh : wants_fresh t ≡ true → IsFreshUnasked o
+  pub unasked : goes_in_session t ≡ true → IsUnasked o
 
 -- the subcommand of this name, with these words, asks for this
 abbrev pub AsksBySubcommand : Environment → List ℕ → Found → Request → Type 0

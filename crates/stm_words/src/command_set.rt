@@ -8,8 +8,8 @@ ghost use Rattle.stm_words.specs.CommandSet.{wait_word, with_places, with_table,
 ghost use Rattle.stm_words.specs.CommandSet.{write_app};
 
 use crate::argument::{
-    default_option, flag, kind, letter, needed, needed_option, option, range, repeated,
-    repeated_option, spare, spare_option, standing_option,
+    default_option, flag, hidden_flag, kind, letter, needed, needed_option, option, range,
+    repeated, repeated_option, spare, spare_option, standing_option,
 };
 use crate::environment::Environment;
 use crate::help;
@@ -86,7 +86,7 @@ fn with_waits<'a>(
         .arg(default_option(alloc, "wait", "MS", standing_wait(environment), help::WAIT))?
         .arg(spare_option(alloc, "baud", "N", environment.baud, help::BAUD))?
         .arg(option(alloc, "give-up", "SECONDS", help::GIVE_UP))?
-        .arg(flag(alloc, "fresh", help::FRESH))
+        .arg(hidden_flag(alloc, "fresh", help::FRESH))
 }
 
 /// A subcommand with the options that every use of a device has.

@@ -132,7 +132,7 @@ pub const ADDRESS: &str = "Where to go on: 0x and hexadecimal digits, or a decim
 pub const YES: &str = "Doesn't ask on a terminal before readout-unprotect erases the chip";
 
 pub const IN_SESSION: &str =
-    "Takes the write protection off also where a write or an undo was stopped; needs --fresh";
+    "Takes the write protection off also where a write or an undo was stopped";
 
 pub const KIND: &str = "Which protection, and how it is changed";
 

@@ -1,7 +1,7 @@
 // What the words ask for.
 ghost use Rattle.std.specs.Prelude.{IfOk, OnOk};
 ghost use Rattle.clap.specs.Words.{found_of, subcommand_rows_of};
-ghost use Rattle.stm_words.specs.Request.{AsksBySubcommand, AsksFor, IsFreshUnasked};
+ghost use Rattle.stm_words.specs.Request.{AsksBySubcommand, AsksFor, IsUnasked};
 
 use crate::environment::Environment;
 use crate::given::{flag, word};
@@ -62,7 +62,7 @@ impl<'a> Request<'a> {
 
     /// The same of a subcommand that uses a device. The first word that can't be read decides,
     /// options before further words; then a stop that there can't be; then an erase that names no
-    /// pages; then what is done only on a device that is said to be fresh, of one that isn't.
+    /// pages; then a question ahead of what asks by itself, or not at all.
     fn of_device(
         alloc: Global,
         environment: Environment<'a>,
@@ -80,21 +80,18 @@ impl<'a> Request<'a> {
         if task.wants_pages() {
             return Err(Unfit::Usage(UsageFault::GivePages));
         }
-        if task.wants_fresh() {
-            check_fresh(&options)?;
+        if task.goes_in_session() {
+            check_unasked(&options)?;
         }
         Ok(Request::Use(options, task, sequel))
     }
 }
 
-/// Refuses a device that isn't said to be fresh from reset, or that is to be asked something first:
-/// behind a question it isn't fresh any more.
-fn check_fresh<'a>(options: &Options<'a>) -> Result<(), UsageFault<'a>>
-    ensures { OnOk result (IsFreshUnasked options.now) }
+/// Refuses a device that is to be asked something first: one that is said to be fresh from reset isn't
+/// so any more behind a question, and any other is asked in its session.
+fn check_unasked<'a>(options: &Options<'a>) -> Result<(), UsageFault<'a>>
+    ensures { OnOk result (IsUnasked options.now) }
 {
-    if !options.is_fresh {
-        return Err(UsageFault::InSessionNeedsFresh);
-    }
     if options.board.is_some() || options.in_folder || options.watches {
         return Err(UsageFault::InSessionUnasked);
     }

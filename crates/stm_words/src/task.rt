@@ -2,7 +2,7 @@
 ghost use Rattle.std.specs.Prelude.{◌≡◌, IfOk, codes, nat_eq};
 ghost use Rattle.std.specs.List.{ends_with};
 ghost use Rattle.clap.specs.Words.{found_of};
-ghost use Rattle.stm_words.specs.Request.{IsTask, wants_fresh, wants_pages};
+ghost use Rattle.stm_words.specs.Request.{IsTask, goes_in_session, wants_pages};
 
 use crate::extent::Extent;
 use crate::given::{flag, number, pages, range, word, word_range};
@@ -130,9 +130,9 @@ impl<'a> Task<'a> {
         })
     }
 
-    /// Whether it is done only on a device that is said to be fresh from reset.
-    pub fn wants_fresh(&self) -> bool
-        ensures { result ≡ wants_fresh self.now }
+    /// Whether it may be done where a session was stopped.
+    pub fn goes_in_session(&self) -> bool
+        ensures { result ≡ goes_in_session self.now }
     {
         matches!(
             self,

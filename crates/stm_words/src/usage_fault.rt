@@ -71,11 +71,8 @@ pub enum UsageFault<'a> {
     /// Another protection than the write protection is to be changed in a session that was stopped.
     #[error("usage: --in-session goes with write-unprotect alone")]
     InSessionUnprotects,
-    /// The write protection is to be taken off in a session that was stopped, and the device isn't
-    /// said to be fresh from reset.
-    #[error("usage: --in-session needs --fresh")]
-    InSessionNeedsFresh,
-    /// The same, and the device is to be asked something before, behind which it isn't fresh.
+    /// The write protection is to be taken off in a session that was stopped, and the device to be
+    /// asked something before.
     #[error("usage: --in-session asks the board nothing first: no --board, --journals or --watch")]
     InSessionUnasked,
     /// A variable of the environment is no text.

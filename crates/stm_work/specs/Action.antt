@@ -15,6 +15,8 @@ use Rattle.stm_journal.specs.Calls.{AreFetches, IsUntouched}
 use Rattle.stm_journal.specs.Journals.{journal_of}
 use Rattle.stm_session.specs.declared.fault.Fault.{Fault}
 use Rattle.stm_session.specs.declared.fault.Fault.TheVariants.{Memory}
+use Rattle.stm_session.specs.declared.contact.Told.{Told}
+use Rattle.stm_session.specs.declared.information.Info.{Info}
 use Rattle.stm_session.specs.declared.returned.Returned.{Returned}
 use Rattle.stm_session.specs.Fault.{HasSessionCause, IsOutsideFault}
 use Rattle.stm_session.specs.Leaving.{CanLeave, IsSettledThen, Leaves}
@@ -46,6 +48,7 @@ use Rattle.stm_work.specs.Content.{ComesOf, ImageOn, IsCopy, is_hex}
 use Rattle.stm_work.specs.Protections.{protection_of}
 use Rattle.stm_work.specs.ReadingFor.{ReadsAsHex, SumsUp}
 use Rattle.stm_work.specs.Reading.{ReadsRange}
+use Rattle.stm_work.specs.Unprotecting.{UnprotectsBegun}
 use Rattle.stm_work.specs.WayBack.{FindsWay, beside_way, undo_of}
 
 -- some bytes mean it, by the words that name the image's file
@@ -75,18 +78,28 @@ IsFor (task.Protect word is_sure false) does = (kind : Protection) × (does ≡ 
     × (protection_of word.now ≡ Some kind)
 
 -- what takes the write protection off a device that is said to be fresh from reset is else what does
--- so where nothing was stopped
+-- so of any device
 abbrev pub unless_fresh : Bool → Action → Action
-unless_fresh false action.UnprotectFresh = action.Protect WriteUnprotect
+unless_fresh false action.UnprotectFresh = action.UnprotectBegun
 unless_fresh is_fresh does = does
 
 abbrev pub work_unless_fresh : Bool → Work → Work
 work_unless_fresh is_fresh (work.Act does) = work.Act (unless_fresh is_fresh does)
 work_unless_fresh is_fresh does = does
 
--- what is told of an undo that was verified
+-- what is told of what a device is, and of what it says itself, before tables are looked at
+abbrev pub told_info : Info → Answer
+told_info info = answer.Told info None
+
+abbrev pub told_itself : Told → Answer
+told_itself told = answer.Identified told None
+
+-- what is told of an undo of so many segments, and of one that was verified
+abbrev pub told_undone : ℕ → Answer
+told_undone count = answer.Undone count None
+
 abbrev pub told_returned : Returned → Answer
-told_returned returned = answer.UndoneAndVerified returned.segments returned.bytes
+told_returned returned = answer.Undone returned.segments (Some returned.bytes)
 
 -- What a session answered is handed on.
 abbrev pub HandsOn : {T : Type 0} → (T → Answer) → Result T Fault → Result Answer Failure → Type 0
@@ -180,7 +193,7 @@ pub record GoesTo (address : ℕ) (old new : RigState)
 abbrev pub DoesAction : {R : Type 0} → (R → RigState) → List ChipData → Action → R → R
     → Result Answer Failure → Type 0
 DoesAction view table action.Info old new result =
-    Calls answer.Told (λ a b said. PromisesInfo table (view a) (view b) said) old new result
+    Calls told_info (λ a b said. PromisesInfo table (view a) (view b) said) old new result
 DoesAction view table (action.Read range) old new result =
     Calls (λ said. said) (ReadsRange view table range) old new result
 DoesAction view table (action.Write content) old new result =
@@ -198,7 +211,7 @@ DoesAction view table (action.Erase pages) old new result =
 DoesAction view table action.EraseAll old new result =
     Calls (λ said. said) (ErasesAll view table) old new result
 DoesAction view table (action.Undo count) old new result =
-    Calls answer.Undone (λ a b said. PromisesUndo table count (view a) (view b) said) old new result
+    Calls told_undone (λ a b said. PromisesUndo table count (view a) (view b) said) old new result
 DoesAction view table (action.UndoVerified count) old new result =
     Calls told_returned (UndoesVerified view table count) old new result
 DoesAction view table (action.Go address) old new result =
@@ -210,6 +223,8 @@ DoesAction view table (action.Protect kind) old new result =
     old new result
 DoesAction view table action.UnprotectFresh old new result =
     Calls (λ done. answer.Nothing) (λ a b said. Unprotects (view a) (view b) said) old new result
+DoesAction view table action.UnprotectBegun old new result =
+    Calls (λ done. answer.Nothing) (UnprotectsBegun view table) old new result
 
 -- What an undo answers is handed on, with what the journal said before it.
 abbrev pub HandsOnBeside : WayBack → Result Answer Failure → Result Answer Failure → Type 0
@@ -233,7 +248,7 @@ pub record UndoesBack {R : Type 0} (view : R → RigState) (table : List ChipDat
 abbrev pub Works : {R : Type 0} → (R → RigState) → List ChipData → Work → R → R
     → Result Answer Failure → Type 0
 Works view table work.Identify old new result =
-    Calls answer.Identified (λ a b said. Identifies (view a) (view b) said) old new result
+    Calls told_itself (λ a b said. Identifies (view a) (view b) said) old new result
 Works view table (work.Sum range) old new result =
     (said : Result Answer Fault) × ReadsRange view table range old new said × SumsUp said result
 Works view table (work.ReadHex range skips) old new result =

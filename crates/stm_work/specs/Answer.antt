@@ -11,42 +11,33 @@ use Rattle.stm_work.specs.TriedBoards.{AreTried}
 -- the outcomes that it tells, in their order
 abbrev pub outcomes_told : Answer → List OutcomeData
 outcomes_told answer.Nothing = []
-outcomes_told (answer.Told info) = []
-outcomes_told (answer.ToldBeside info tried) = []
-outcomes_told (answer.Identified told) = []
-outcomes_told (answer.IdentifiedBeside told table) = []
+outcomes_told (answer.Told info tried) = []
+outcomes_told (answer.Identified told table) = []
 outcomes_told (answer.Bytes bytes) = was_read bytes.items ∷ []
 outcomes_told (answer.Sum crc) = []
-outcomes_told (answer.Written segment pages) = was_written segment pages ∷ []
-outcomes_told (answer.WrittenAndVerified segment pages bytes) =
+outcomes_told (answer.Written segment pages bytes true) =
     was_written segment pages ∷ was_verified ∷ []
+outcomes_told (answer.Written segment pages bytes false) = was_written segment pages ∷ []
 outcomes_told (answer.Verified bytes) = was_verified ∷ []
 outcomes_told (answer.Erased segment pages) = was_erased segment pages ∷ []
-outcomes_told (answer.Undone count) = []
-outcomes_told (answer.UndoneAndVerified count bytes) = []
+outcomes_told (answer.Undone count bytes) = []
 outcomes_told (answer.UndoneBeside count bytes unchanged left) = []
 outcomes_told (answer.Logged text) = []
-outcomes_told (answer.Kept count) = []
-outcomes_told (answer.KeptBut count left) = []
-
--- what a device is, beside how many real boards with its chip were tried, where that is told
-abbrev pub info_beside : Info → Option ℕ → Answer
-info_beside info None = answer.Told info
-info_beside info (Some tried) = answer.ToldBeside info tried
+outcomes_told (answer.Kept count left) = []
 
 -- it tells what a device is, and how many real boards with its chip were tried, where the texts of
 -- tables tell that
 pub record IsToldBeside (texts : List (List ℕ)) (info : Info) (told : Answer) : Type 0 where
   pub tried : Option ℕ
-  pub told_is : told ≡ info_beside info tried
+  pub told_is : told ≡ answer.Told info tried
   pub tried_is : AreTried info.id texts tried
 
 -- An answer beside what the tables say: what the device is, with what they tell of such boards;
 -- what it says itself, with the names of the tables; any other as it is.
 abbrev pub IsBeside : List (List ℕ) → Answer → Answer → Type 0
-IsBeside texts (answer.Told info) told = IsToldBeside texts info told
-IsBeside texts (answer.Identified said) told =
-    (table : String Global) × (told ≡ answer.IdentifiedBeside said table)
+IsBeside texts (answer.Told info tried) told = IsToldBeside texts info told
+IsBeside texts (answer.Identified said before) told =
+    (table : String Global) × (told ≡ answer.Identified said (Some table))
 IsBeside texts other told = told ≡ other
 
 -- it is what was read of the flash

@@ -145,9 +145,10 @@ asking_of (work.Act (action.UndoVerified count)) = OfBegun
 asking_of (work.Undo extent verifies) = OfBegun
 asking_of other = OfFinished
 
--- whether, and beside which journals, the device of a work is asked: never one that is said to be
--- fresh from reset, to take its write protection off
+-- whether, and beside which journals, the device of a work is asked: never one whose write protection
+-- is taken off while a session is unfinished
 abbrev pub asking_if : Bool → Work → Option Asking
 asking_if true (work.Act action.UnprotectFresh) = None
+asking_if true (work.Act action.UnprotectBegun) = None
 asking_if true work = Some (asking_of work)
 asking_if false work = None

@@ -13,6 +13,8 @@ is_of_refusal hint.Silent = false
 is_of_refusal hint.Echo = false
 is_of_refusal hint.NoAnswer = false
 is_of_refusal (hint.IdOf count) = false
+is_of_refusal (hint.LikeErase address) = false
+is_of_refusal (hint.LikeEraseBehind count) = false
 is_of_refusal other = true
 
 -- nothing came
@@ -25,6 +27,11 @@ abbrev pub is_undo_again : Hint → Bool
 is_undo_again hint.UndoAgain = true
 is_undo_again other = false
 
+-- and that at the board that was asked first
+abbrev pub is_undo_at_first : Hint → Bool
+is_undo_at_first hint.UndoAtFirst = true
+is_undo_at_first other = false
+
 -- the journal is open
 abbrev pub is_in_session : Hint → Bool
 is_in_session hint.InSession = true
@@ -35,6 +42,7 @@ abbrev pub behind_fault : Hint → Fault → Bool
 behind_fault told fault.Line = not (is_silent told)
 behind_fault told fault.Device = true
 behind_fault told (fault.NotHeld page) = is_undo_again told
+behind_fault told fault.BoardChanged = is_undo_at_first told
 behind_fault told fault.InSession = is_in_session told
 behind_fault told other = false
 
@@ -52,3 +60,9 @@ hint_told told why = if is_told told why then Some told else None
 abbrev pub told_done : Hint → Option Hint
 told_done hint.NowUndo = Some hint.NowUndo
 told_done other = None
+
+-- and in a line of JSON what the bytes that were written look like
+abbrev pub told_in_line : Hint → Option Hint
+told_in_line (hint.LikeErase address) = Some (hint.LikeErase address)
+told_in_line (hint.LikeEraseBehind count) = Some (hint.LikeEraseBehind count)
+told_in_line other = told_done other

@@ -1,5 +1,5 @@
 -- Which journals may be kept for good.
-use Rattle.std.specs.Prelude.{◌≡◌, ◌-◌, ℕ, List, false}
+use Rattle.std.specs.Prelude.{◌≡◌, ◌-◌, ℕ, List, Some, None, false}
 use Rattle.stm_journal.specs.Journals.{journal_of, good}
 use Rattle.stm_journal.specs.States.{StateData, depth, is_unfinished}
 use Rattle.stm_work.specs.declared.answer.Answer.{Answer}
@@ -16,9 +16,9 @@ pub record IsFinished (journal : List ℕ) (count : ℕ) : Type 0 where
 -- a journal was given up, none of whose writes and erases is unfinished; so many it had
 pub record IsGivenUp (state : StateData) (told : Answer) : Type 0 where
   pub ended : is_unfinished state ≡ false
-  pub count : told ≡ answer.Kept (depth state)
+  pub count : told ≡ answer.Kept (depth state) None
 
 -- and it was given up but for the newest, so many, which can be undone
 pub record IsCutTo (last : ℕ) (state : StateData) (told : Answer) : Type 0 where
   pub ended : is_unfinished state ≡ false
-  pub count : told ≡ answer.KeptBut (depth state - last) (depth state - (depth state - last))
+  pub count : told ≡ answer.Kept (depth state - last) (Some (depth state - (depth state - last)))

@@ -22,6 +22,7 @@ pub mod ReadingFor
 pub mod Steps
 pub mod ToldJson
 pub mod TriedBoards
+pub mod Unprotecting
 pub mod Watching
 pub mod WayBack
 pub mod Numbers

@@ -17,11 +17,14 @@ use Rattle.stm_work.specs.declared.work.Work.TheVariants as work
 abbrev pub next_of : Work → Next
 next_of (work.Act (action.Protect WriteUnprotect)) = next.Unprotecting
 next_of (work.Act action.UnprotectFresh) = next.Undo
+next_of (work.Act action.UnprotectBegun) = next.Undo
+next_of (work.Undo extent verifies) = next.UndoAgain
 next_of does = next.Nothing
 
--- a page doesn't hold what an undo wrote, or the journal is open
+-- a page doesn't hold what an undo wrote, or another board answered it; or the journal is open
 abbrev pub hint_behind : Failure → Next → Option Hint
 hint_behind (Session (fault.NotHeld page)) then = Some hint.UndoAgain
+hint_behind (Session fault.BoardChanged) next.UndoAgain = Some hint.UndoAtFirst
 hint_behind (Session fault.InSession) next.Unprotecting = Some hint.InSession
 hint_behind failure then = None
 

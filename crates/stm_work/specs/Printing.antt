@@ -1,5 +1,5 @@
 -- The text that each answer of the program is told by on standard output: lines, each ended by LF.
-use Rattle.std.specs.Prelude.{ℕ, ◌==◌, List, [], ◌++◌, codes, decimal}
+use Rattle.std.specs.Prelude.{ℕ, ◌==◌, List, [], ◌++◌, codes, decimal, true, false}
 use Rattle.std.specs.Prelude.{Option, Some, None, if◌then◌else◌, string_bytes}
 use Rattle.stm_session.specs.declared.asking_board.Board.{Board}
 use Rattle.stm_work.specs.declared.answer.Answer.{Answer}
@@ -64,33 +64,29 @@ tried_text tried =
 -- an answer, but for what is told beside it
 abbrev pub answer_text : Answer → List ℕ
 answer_text answer.Nothing = []
-answer_text (answer.Told info) = info_text info
-answer_text (answer.ToldBeside info tried) = info_text info
-answer_text (answer.Identified told) = told_text told
-answer_text (answer.IdentifiedBeside told table) = told_text told ++ table_text (string_bytes table)
+answer_text (answer.Told info tried) = info_text info
+answer_text (answer.Identified told (Some table)) = told_text told ++ table_text (string_bytes table)
+answer_text (answer.Identified told None) = told_text told
 answer_text (answer.Bytes bytes) = bytes.items
 answer_text (answer.Sum crc) = sum_text crc
-answer_text (answer.Written segment pages) = written_text segment pages
-answer_text (answer.WrittenAndVerified segment pages bytes) =
+answer_text (answer.Written segment pages bytes true) =
     written_text segment pages ++ verified_text bytes
+answer_text (answer.Written segment pages bytes false) = written_text segment pages
 answer_text (answer.Verified bytes) = verified_text bytes
 answer_text (answer.Erased segment pages) = erased_text segment pages
-answer_text (answer.Undone count) = undone_text count None
-answer_text (answer.UndoneAndVerified count bytes) = undone_text count (Some bytes)
+answer_text (answer.Undone count bytes) = undone_text count bytes
 answer_text (answer.UndoneBeside count bytes unchanged left) = undone_text count bytes
 answer_text (answer.Logged text) = text.items
-answer_text (answer.Kept count) = kept_text count
-answer_text (answer.KeptBut count left) = kept_text count ++ left_text left
+answer_text (answer.Kept count (Some left)) = kept_text count ++ left_text left
+answer_text (answer.Kept count None) = kept_text count
 
 -- which board told an answer, where it tells what a device is
 abbrev pub board_text_of : Answer → Board → List ℕ
-board_text_of (answer.Told info) board = board_text board (Some info.size)
-board_text_of (answer.ToldBeside info tried) board = board_text board (Some info.size)
-board_text_of (answer.Identified told) board = board_text board None
-board_text_of (answer.IdentifiedBeside told table) board = board_text board None
+board_text_of (answer.Told info tried) board = board_text board (Some info.size)
+board_text_of (answer.Identified told table) board = board_text board None
 board_text_of _ board = []
 
 -- how many boards were tried, where that is of an answer
 abbrev pub tried_text_of : Answer → List ℕ
-tried_text_of (answer.ToldBeside info tried) = tried_text tried
+tried_text_of (answer.Told info (Some tried)) = tried_text tried
 tried_text_of _ = []

@@ -1,13 +1,13 @@
 -- What a line of JSON tells of an answer, and of words that are refused.
-use Rattle.std.specs.Prelude.{ℕ, Bool, true, false, List, [], ◌++◌, codes, string_bytes}
-use Rattle.std.specs.Prelude.{◌≡◌, Option, Some, None, MatchOption, if◌then◌else◌}
+use Rattle.std.specs.Prelude.{ℕ, List, [], ◌++◌, codes, string_bytes, true, false}
+use Rattle.std.specs.Prelude.{◌≡◌, Option, Some, None, MatchOption}
 use Rattle.stm_session.specs.declared.asking_board.Board.{Board}
 use Rattle.stm_work.specs.declared.answer.Answer.{Answer}
 use Rattle.stm_work.specs.declared.answer.Answer.TheVariants as answer
 use Rattle.stm_work.specs.declared.hint.Hint.{Hint}
 use Rattle.stm_work.specs.declared.steps.Steps.{Steps}
 use Rattle.stm_work.specs.DeviceJson.{board_members, info_members, told_members}
-use Rattle.stm_work.specs.HintTold.{told_done}
+use Rattle.stm_work.specs.HintTold.{told_in_line}
 use Rattle.stm_work.specs.JsonLine.{line_end, lines_member, number_member, numbers_member}
 use Rattle.stm_work.specs.JsonLine.{object_of, text_member}
 use Rattle.stm_work.specs.UpperHex.{upper_hex}
@@ -20,22 +20,18 @@ undone_name (Some bytes) = codes "undone_and_verified"
 -- the name of an answer, wherever programs read it
 abbrev pub answer_name : Answer → List ℕ
 answer_name answer.Nothing = codes "done"
-answer_name (answer.Told info) = codes "info"
-answer_name (answer.ToldBeside info tried) = codes "info"
-answer_name (answer.Identified told) = codes "identified"
-answer_name (answer.IdentifiedBeside told table) = codes "identified"
+answer_name (answer.Told info tried) = codes "info"
+answer_name (answer.Identified told table) = codes "identified"
 answer_name (answer.Bytes bytes) = codes "done"
 answer_name (answer.Sum crc) = codes "crc"
-answer_name (answer.Written segment pages) = codes "written"
-answer_name (answer.WrittenAndVerified segment pages bytes) = codes "written_and_verified"
+answer_name (answer.Written segment pages bytes true) = codes "written_and_verified"
+answer_name (answer.Written segment pages bytes false) = codes "written"
 answer_name (answer.Verified bytes) = codes "verified"
 answer_name (answer.Erased segment pages) = codes "erased"
-answer_name (answer.Undone count) = codes "undone"
-answer_name (answer.UndoneAndVerified count bytes) = codes "undone_and_verified"
+answer_name (answer.Undone count bytes) = undone_name bytes
 answer_name (answer.UndoneBeside count bytes unchanged left) = undone_name bytes
 answer_name (answer.Logged text) = codes "log"
-answer_name (answer.Kept count) = codes "kept"
-answer_name (answer.KeptBut count left) = codes "kept"
+answer_name (answer.Kept count left) = codes "kept"
 
 -- the number of a segment, and how many pages it changed
 abbrev pub change_members : ℕ → ℕ → List ℕ
@@ -51,50 +47,36 @@ undone_members count (Some bytes) =
 -- what an answer tells
 abbrev pub members_of : Answer → List ℕ
 members_of answer.Nothing = []
-members_of (answer.Told info) = info_members info ++ number_member (codes "tried") 0
-members_of (answer.ToldBeside info tried) =
+members_of (answer.Told info (Some tried)) =
     info_members info ++ number_member (codes "tried") tried
-members_of (answer.Identified told) = told_members told
-members_of (answer.IdentifiedBeside told table) =
+members_of (answer.Told info None) = info_members info ++ number_member (codes "tried") 0
+members_of (answer.Identified told (Some table)) =
     told_members told ++ text_member (codes "table") (string_bytes table)
+members_of (answer.Identified told None) = told_members told
 members_of (answer.Bytes bytes) = []
 members_of (answer.Sum crc) = text_member (codes "crc") (upper_hex 8 crc)
-members_of (answer.Written segment pages) = change_members segment pages
-members_of (answer.WrittenAndVerified segment pages bytes) =
+members_of (answer.Written segment pages bytes is_verified) =
     change_members segment pages ++ number_member (codes "bytes") bytes
 members_of (answer.Verified bytes) = number_member (codes "bytes") bytes
 members_of (answer.Erased segment pages) = change_members segment pages
-members_of (answer.Undone count) = number_member (codes "count") count
-members_of (answer.UndoneAndVerified count bytes) = undone_members count (Some bytes)
+members_of (answer.Undone count bytes) = undone_members count bytes
 members_of (answer.UndoneBeside count bytes unchanged left) =
     undone_members count bytes ++ numbers_member (codes "unchanged") unchanged.items
 members_of (answer.Logged text) = lines_member (codes "lines") text.items
-members_of (answer.Kept count) = number_member (codes "count") count
-members_of (answer.KeptBut count left) =
+members_of (answer.Kept count None) = number_member (codes "count") count
+members_of (answer.Kept count (Some left)) =
     number_member (codes "count") count ++ number_member (codes "left") left
 
--- whether an answer is of a board, which is named in it
-abbrev pub is_of_board : Answer → Bool
-is_of_board (answer.Told info) = true
-is_of_board (answer.ToldBeside info tried) = true
-is_of_board (answer.Identified told) = true
-is_of_board (answer.IdentifiedBeside told table) = true
-is_of_board _ = false
-
--- the board of such an answer
-abbrev pub board_members_of : Answer → Option Board → List ℕ
-board_members_of answer board = if is_of_board answer then board_members board else []
-
--- the line of an answer, with the board that told it
+-- the line of an answer, with the board, where the device was asked which it is
 abbrev pub answer_line : Answer → Option Board → List ℕ
 answer_line answer board =
     object_of (codes "answer") (answer_name answer) ++ members_of answer
-    ++ board_members_of answer board ++ line_end
+    ++ board_members board ++ line_end
 
 -- the line of what stays, where the journal was kept
 abbrev pub kept_line : Option ℕ → List ℕ
 kept_line None = []
-kept_line (Some count) = answer_line (answer.Kept count) None
+kept_line (Some count) = answer_line (answer.Kept count None) None
 
 -- the lines of what was done
 abbrev pub steps_lines : Steps → List ℕ
@@ -104,18 +86,18 @@ steps_lines steps = answer_line steps.answer steps.board ++ kept_line steps.kept
 abbrev pub next_line : List ℕ → Steps → List ℕ
 next_line says steps =
     object_of (codes "answer") (answer_name steps.answer) ++ members_of steps.answer
-    ++ board_members_of steps.answer steps.board ++ text_member (codes "hint") says ++ line_end
+    ++ board_members steps.board ++ text_member (codes "hint") says ++ line_end
 
 -- what is told to be done behind what was done
 abbrev pub next_told : Option Hint → Option Hint
 next_told None = None
-next_told (Some hint) = told_done hint
+next_told (Some hint) = told_in_line hint
 
--- it is the lines of what was done, or, where something is to be done then, the one that says it too
+-- it is the lines of what was done, of which the first says it too where something is to be done then
 abbrev pub AreLines : Option Hint → Steps → List ℕ → Type 0
 AreLines hint steps text =
     MatchOption (next_told hint) (text ≡ steps_lines steps)
-    (λ next. (says : List ℕ) × (text ≡ next_line says steps))
+    (λ next. (says : List ℕ) × (text ≡ next_line says steps ++ kept_line steps.kept))
 
 -- the line of words that are refused, with this text
 abbrev pub refusal_line : List ℕ → List ℕ

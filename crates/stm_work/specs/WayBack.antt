@@ -1,7 +1,7 @@
 -- How far back an undo goes, by the journal as it is before it, and which of the segments that it
 -- undoes had changed nothing: the journal keeps no page of theirs.
 use Rattle.std.specs.Prelude.{◌≡◌, ◌⊎◌, ◌+◌, ◌-◌, ◌==◌, ◌<◌, ◌≤◌, ℕ, Bool, true, false, List}
-use Rattle.std.specs.Prelude.{None, Some, Result, Err, MatchResult}
+use Rattle.std.specs.Prelude.{Result, Err, MatchResult}
 use Rattle.std.specs.List.{filter, range_with_len}
 use Rattle.stm_wire.specs.Dialogue.{GoesOn}
 use Rattle.stm_wire.specs.Rig.{RigState}
@@ -67,7 +67,5 @@ undo_of count false = action.Undo count
 
 -- the answer of the undo, with what the journal said before it
 abbrev pub beside_way : WayBack → Answer → Answer
-beside_way way (answer.Undone count) = answer.UndoneBeside count None way.unchanged way.left
-beside_way way (answer.UndoneAndVerified count bytes) =
-    answer.UndoneBeside count (Some bytes) way.unchanged way.left
+beside_way way (answer.Undone count bytes) = answer.UndoneBeside count bytes way.unchanged way.left
 beside_way way other = other

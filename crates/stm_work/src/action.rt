@@ -1,6 +1,7 @@
 // What is done on a device, over any Rig.
 ghost use Rattle.std.specs.Prelude.{◌≡◌, IfOk};
-ghost use Rattle.stm_work.specs.Action.{DoesAction, IsFor, told_returned, unless_fresh};
+ghost use Rattle.stm_work.specs.Action.{DoesAction, IsFor, told_info, told_returned, told_undone};
+ghost use Rattle.stm_work.specs.Action.{unless_fresh};
 ghost use Rattle.stm_work.specs.WayBack.{undo_of};
 
 use crate::answer::Answer;
@@ -9,10 +10,11 @@ use crate::content::{Content, read_content};
 use crate::failure::Failure;
 use crate::protection::protection;
 use crate::reading::read;
+use crate::unprotecting::unprotect_begun;
 use std::alloc::Global;
 use std::fs::Files;
 use stm_chip::Table;
-use stm_session::{Returned, go, info, protect, undo, undo_verified, unprotect_fresh};
+use stm_session::{Info, Returned, go, info, protect, undo, undo_verified, unprotect_fresh};
 use stm_wire::{Protection, Rig};
 use stm_words::{Range, Task, UsageFault};
 
@@ -44,6 +46,8 @@ pub enum Action {
     /// Takes the write protection off a device that is said to be fresh from reset, whatever the
     /// journal holds.
     UnprotectFresh,
+    /// Does so of a device of which nothing is said: it is reached as an undo reaches it.
+    UnprotectBegun,
 }
 
 impl Action {
@@ -96,13 +100,13 @@ impl Action {
         }
     }
 
-    /// The same where the device may be said to be fresh from reset: what is done only on such a
-    /// device is else what it is where nothing was stopped.
+    /// The same where the device may be said to be fresh from reset: else its write protection is
+    /// taken off as one of which nothing is said.
     pub fn unless_fresh(self, is_fresh: bool) -> Action
         ensures { result ≡ unless_fresh is_fresh self }
     {
         match self {
-            Action::UnprotectFresh if !is_fresh => Action::Protect(Protection::WriteUnprotect),
+            Action::UnprotectFresh if !is_fresh => Action::UnprotectBegun,
             action => action,
         }
     }
@@ -122,7 +126,7 @@ impl Action {
         ensures { DoesAction L.view table.now self rig.old rig.new result }
     {
         match self {
-            Action::Info => Ok(Answer::Told(info(alloc, rig, table)?)),
+            Action::Info => Ok(told(info(alloc, rig, table)?)),
             Action::Read(range) => Ok(read(alloc, rig, table, range)?),
             Action::Write(content) => {
                 let image = content.on_device(alloc, rig, table)?;
@@ -138,7 +142,7 @@ impl Action {
             }
             Action::Erase(pages) => Ok(erase(alloc, rig, table, pages)?),
             Action::EraseAll => Ok(erase_all(alloc, rig, table)?),
-            Action::Undo(count) => Ok(Answer::Undone(undo(alloc, rig, table, count)?)),
+            Action::Undo(count) => Ok(undone(undo(alloc, rig, table, count)?)),
             Action::UndoVerified(count) => {
                 Ok(verified(undo_verified(alloc, rig, table, count)?))
             }
@@ -154,16 +158,34 @@ impl Action {
                 unprotect_fresh(alloc, rig)?;
                 Ok(Answer::Nothing)
             }
+            Action::UnprotectBegun => {
+                unprotect_begun(alloc, rig, table)?;
+                Ok(Answer::Nothing)
+            }
         }
     }
+}
+
+/// What is told of what a device is.
+fn told(info: Info) -> Answer
+    ensures { result ≡ told_info info }
+{
+    Answer::Told { info, tried: None }
+}
+
+/// What is told of an undo of so many segments.
+fn undone(count: u32) -> Answer
+    ensures { result ≡ told_undone count }
+{
+    Answer::Undone { count, bytes: None }
 }
 
 /// What is told of an undo that was verified.
 fn verified(returned: Returned) -> Answer
     ensures { result ≡ told_returned returned }
 {
-    Answer::UndoneAndVerified {
+    Answer::Undone {
         count: returned.segments,
-        bytes: returned.bytes,
+        bytes: Some(returned.bytes),
     }
 }

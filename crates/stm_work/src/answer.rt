@@ -1,7 +1,7 @@
 // What came of the words, and how it is told.
 ghost use Rattle.std.specs.Io.KnownBytes.{Appends};
 ghost use Rattle.std.specs.Prelude.{◌≡◌, ◌++◌, IfOk, OnOk, Some};
-ghost use Rattle.stm_work.specs.Answer.{IsBeside, IsToldBeside, info_beside};
+ghost use Rattle.stm_work.specs.Answer.{IsBeside, IsToldBeside};
 ghost use Rattle.stm_work.specs.DeviceText.{board_text, info_text, table_text, told_text};
 ghost use Rattle.stm_work.specs.Printing.{board_text_of, erased_text, kept_text, left_text};
 ghost use Rattle.stm_work.specs.Printing.{sum_text, answer_text, tried_text, tried_text_of};
@@ -25,34 +25,28 @@ use stm_words::TableNames;
 pub enum Answer {
     /// Nothing that is told.
     Nothing,
-    /// What the device is.
-    Told(Info),
-    /// The same, and how many real boards with its chip were tried, where the chip table says so.
-    ToldBeside {
+    /// What the device is, and how many real boards with its chip were tried, where the chip table
+    /// says so.
+    Told {
         info: Info,
-        tried: usize,
+        tried: Option<usize>,
     },
-    /// What the device says itself.
-    Identified(Told),
-    /// The same, and the chip table that was read, by its name as it is printed.
-    IdentifiedBeside {
+    /// What the device says itself, and the chip table that was read, by its name as it is printed.
+    Identified {
         told: Told,
-        table: String,
+        table: Option<String>,
     },
     /// Bytes of the flash.
     Bytes(Vec<u8>),
     /// The CRC of bytes of the flash.
     Sum(u32),
-    /// The number of a write's segment, and how many pages it changed.
+    /// The number of a write's segment, how many pages it changed, and how many bytes the image has;
+    /// whether the flash was compared with them.
     Written {
         segment: u32,
         pages: u32,
-    },
-    /// The same, and of how many bytes the flash has the image's.
-    WrittenAndVerified {
-        segment: u32,
-        pages: u32,
         bytes: usize,
+        is_verified: bool,
     },
     /// Of how many bytes the flash has the image's.
     Verified(usize),
@@ -61,15 +55,13 @@ pub enum Answer {
         segment: u32,
         pages: u32,
     },
-    /// How many segments were undone.
-    Undone(u32),
-    /// The same, and how many bytes were read again.
-    UndoneAndVerified {
+    /// How many segments were undone, and how many bytes were read again, where they were.
+    Undone {
         count: u32,
-        bytes: u64,
+        bytes: Option<u64>,
     },
-    /// The same, where bytes were read again; and which of them had changed nothing, by their numbers,
-    /// and how many can still be undone.
+    /// The same, which of them had changed nothing, by their numbers, and how many can still be
+    /// undone.
     UndoneBeside {
         count: u32,
         bytes: Option<u64>,
@@ -78,12 +70,10 @@ pub enum Answer {
     },
     /// What a journal says, in lines.
     Logged(Vec<u8>),
-    /// How many segments stay.
-    Kept(u32),
-    /// The same, and how many can still be undone.
-    KeptBut {
+    /// How many segments stay, and how many can still be undone, where some were left.
+    Kept {
         count: u32,
-        left: u32,
+        left: Option<u32>,
     },
 }
 
@@ -99,10 +89,10 @@ impl Answer {
         ensures { IfOk result (IsBeside (table_texts tables.now) self) }
     {
         match self {
-            Answer::Told(info) => Ok(told_beside(alloc, info, tables)?),
-            Answer::Identified(told) => Ok(Answer::IdentifiedBeside {
+            Answer::Told { info, .. } => Ok(told_beside(alloc, info, tables)?),
+            Answer::Identified { told, .. } => Ok(Answer::Identified {
                 told,
-                table: format!(in alloc; "{}", Escaped(names))?,
+                table: Some(format!(in alloc; "{}", Escaped(names))?),
             }),
             answer => Ok(answer),
         }
@@ -114,11 +104,8 @@ impl Answer {
             (board_text_of self.now board.now)) }
     {
         match self {
-            Answer::Told(info) => print_board(board, Some(info.size), out),
-            Answer::ToldBeside { info, .. } => print_board(board, Some(info.size), out),
-            Answer::Identified(_) | Answer::IdentifiedBeside { .. } => {
-                print_board(board, None, out)
-            }
+            Answer::Told { info, .. } => print_board(board, Some(info.size), out),
+            Answer::Identified { .. } => print_board(board, None, out),
             _ => Ok(()),
         }
     }
@@ -129,7 +116,10 @@ impl Answer {
             (tried_text_of self.now)) }
     {
         match self {
-            Answer::ToldBeside { tried, .. } => print_tried_boards(*tried, out),
+            Answer::Told {
+                tried: Some(tried),
+                ..
+            } => print_tried_boards(*tried, out),
             _ => Ok(()),
         }
     }
@@ -140,26 +130,30 @@ impl Answer {
             (answer_text self.now)) }
     {
         match self {
-            Answer::Told(info) => print_info(info, out),
-            Answer::ToldBeside { info, .. } => print_info(info, out),
-            Answer::Identified(told) => print_told(told, out),
-            Answer::IdentifiedBeside { told, table } => print_beside(told, table.as_str(), out),
-            Answer::Written { segment, pages } => print_written(*segment, *pages, out),
-            Answer::WrittenAndVerified {
+            Answer::Told { info, .. } => print_info(info, out),
+            Answer::Identified {
+                told,
+                table: Some(table),
+            } => print_beside(told, table.as_str(), out),
+            Answer::Identified { told, .. } => print_told(told, out),
+            Answer::Written {
                 segment,
                 pages,
                 bytes,
+                is_verified: true,
             } => print_written_and_verified(*segment, *pages, *bytes, out),
+            Answer::Written { segment, pages, .. } => print_written(*segment, *pages, out),
             Answer::Sum(crc) => print_sum(*crc, out),
             Answer::Verified(bytes) => print_verified(*bytes, out),
             Answer::Erased { segment, pages } => print_erased(*segment, *pages, out),
-            Answer::Undone(count) => print_undone(*count, None, out),
-            Answer::UndoneAndVerified { count, bytes } => {
-                print_undone(*count, Some(*bytes), out)
+            Answer::Undone { count, bytes } | Answer::UndoneBeside { count, bytes, .. } => {
+                print_undone(*count, *bytes, out)
             }
-            Answer::UndoneBeside { count, bytes, .. } => print_undone(*count, *bytes, out),
-            Answer::Kept(count) => print_kept(*count, out),
-            Answer::KeptBut { count, left } => print_kept_but(*count, *left, out),
+            Answer::Kept {
+                count,
+                left: Some(left),
+            } => print_kept_but(*count, *left, out),
+            Answer::Kept { count, .. } => print_kept(*count, out),
             Answer::Logged(bytes) | Answer::Bytes(bytes) => out.write_all(bytes.as_slice()),
             Answer::Nothing => Ok(()),
         }
@@ -171,17 +165,7 @@ fn told_beside(alloc: Global, info: Info, tables: &ChipTables<'_>) -> Result<Ans
     ensures { IfOk result (IsToldBeside (table_texts tables.now) info) }
 {
     let tried = tables.tried(alloc, info.id)?;
-    Ok(info_beside(info, tried))
-}
-
-/// The same, where so many are told, or nothing is.
-fn info_beside(info: Info, tried: Option<usize>) -> Answer
-    ensures { result ≡ info_beside info tried }
-{
-    match tried {
-        Some(tried) => Answer::ToldBeside { info, tried },
-        None => Answer::Told(info),
-    }
+    Ok(Answer::Told { info, tried })
 }
 
 /// Prints the line of the boards that were tried.

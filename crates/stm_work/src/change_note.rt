@@ -18,9 +18,7 @@ pub fn note_of(alloc: Global, steps: &Steps) -> Result<Vec<u8>, AllocError>
             left,
             ..
         } => { unchanged_note(alloc, unchanged.as_slice(), *left) }
-        Answer::Written { segment, pages } => change_note(alloc, *segment, *pages, steps.kept),
-        Answer::Erased { segment, pages } => change_note(alloc, *segment, *pages, steps.kept),
-        Answer::WrittenAndVerified { segment, pages, .. } => {
+        Answer::Written { segment, pages, .. } | Answer::Erased { segment, pages } => {
             change_note(alloc, *segment, *pages, steps.kept)
         }
         _ => Ok(Vec::new(alloc)),

@@ -1,5 +1,5 @@
 // Writing, verifying and erasing, and what is told of it.
-ghost use Rattle.std.specs.Prelude.{◌≡◌, ◌∷◌, ℕ, [], length, IfOk};
+ghost use Rattle.std.specs.Prelude.{◌≡◌, ◌∷◌, ℕ, [], length, IfOk, true, false};
 ghost use Rattle.std.specs.List.{range_with_len};
 ghost use Rattle.stm_session.specs.Meaning.{erases, verifies, writes};
 ghost use Rattle.stm_work.specs.Conduct.{ErasesAll, RunsIfRoom, RunsTold};
@@ -21,15 +21,21 @@ pub fn write<L: Rig>(
     ensures runs { let old = L.view rig.old in let new = L.view rig.new in
         RunsTold table.now (writes image ∷ []) old new result }
     ensures told { IfOk result (λ answer. (segment : ℕ) × (pages : ℕ)
-        × (answer ≡ Answer.Written segment pages)) }
+        × (answer ≡ Answer.Written segment pages (length image) false)) }
 {
+    let bytes = image.len();
     let commands = [Command::Write(image)];
     let report = run(alloc, rig, table, &commands)?;
     let mut outcomes = report.outcomes;
     let Some(Outcome::Written { segment, pages }) = outcomes.pop() else {
         unreachable!()
     };
-    Ok(Answer::Written { segment, pages })
+    Ok(Answer::Written {
+        segment,
+        pages,
+        bytes,
+        is_verified: false,
+    })
 }
 
 /// Writes an image, and compares the flash with it in the same session.
@@ -43,17 +49,18 @@ pub fn write_and_verify<L: Rig>(
     ensures runs { let commands = writes image ∷ verifies image ∷ [] in
         RunsIfRoom L.view table.now commands rig.old rig.new result }
     ensures told { IfOk result (λ answer. (segment : ℕ) × (pages : ℕ)
-        × (answer ≡ Answer.WrittenAndVerified segment pages (length image))) }
+        × (answer ≡ Answer.Written segment pages (length image) true)) }
 {
     let bytes = image.len();
     let commands = [Command::Write(image.clone()?), Command::Verify(image)];
     let report = run(alloc, rig, table, &commands)?;
     match report.outcomes.as_slice() {
         [Outcome::Written { segment, pages }, Outcome::Verified] => {
-            Ok(Answer::WrittenAndVerified {
+            Ok(Answer::Written {
                 segment: *segment,
                 pages: *pages,
                 bytes,
+                is_verified: true,
             })
         }
         _ => unreachable!(),

@@ -123,7 +123,7 @@ pub enum Failure<'a> {
     #[error("{0} doesn't name its board")]
     Misnamed(&'a str),
     /// Journals of a folder are unfinished or can't be used, and the device may be a board of theirs.
-    #[error("unfinished or bad: {0}; say --board and the digits of its board, or reset the board and say --fresh")]
+    #[error("unfinished or bad: {0}; say --board and all digits of the board that is here")]
     BegunJournals(&'a str),
     /// The device tells no unique id, by which a folder's journal could be known.
     #[error("the board tells no unique id: --journal names its journal")]

@@ -3,6 +3,7 @@ ghost use Rattle.std.specs.Prelude.{◌≡◌};
 ghost use Rattle.stm_work.specs.FalseErase.{begins_erase, has_erase, has_false_erase};
 
 use crate::content::Content;
+use crate::hint::Hint;
 use stm_image::Image;
 
 /// What connects a device that is fresh from reset (AN3155, section 2).
@@ -51,22 +52,23 @@ pub fn has_false_erase(block: &[u8]) -> bool
     }
 }
 
-/// Whether one of a placed image's blocks has such bytes. What the image doesn't name within
-/// a block is left as 0xFF.
-fn has_false_erase_placed(image: &Image) -> bool {
+/// The address of a placed image's first block that has such bytes. What the image doesn't name
+/// within a block is left as 0xFF.
+fn first_placed(image: &Image) -> Option<u32> {
     let mut block = [0xFF_u8; BLOCK];
-    let mut number = 0_u32;
+    let mut block_at = 0_u32;
     let mut from = 0_u32;
     for _ in 0..image.len() {
         let Some((address, byte)) = image.next_from(from) else {
             break;
         };
-        if address / 256 != number {
+        let begin = address - address % 256;
+        if begin != block_at {
             if has_false_erase(&block) {
-                return true;
+                return Some(block_at);
             }
             block = [0xFF; BLOCK];
-            number = address / 256;
+            block_at = begin;
         }
         block[(address % 256) as usize] = byte;
         match address.checked_add(1) {
@@ -74,21 +76,29 @@ fn has_false_erase_placed(image: &Image) -> bool {
             None => break,
         }
     }
-    has_false_erase(&block)
+    if has_false_erase(&block) {
+        return Some(block_at);
+    }
+    None
 }
 
-/// Whether a block of an image has such bytes. The flash is taken to begin at
-/// the beginning of a block.
-pub fn has_false_erases(content: &Content) -> bool {
+/// Where an image's first block lies that has such bytes. The flash is taken to begin at the beginning
+/// of a block.
+pub fn first_false_erase(content: &Content) -> Option<Hint> {
     match content {
-        Content::Placed(image) => has_false_erase_placed(image),
+        Content::Placed(image) => match first_placed(image) {
+            Some(address) => Some(Hint::LikeErase(address)),
+            None => None,
+        },
         Content::AtBase(bytes) => {
+            let mut at = 0_u32;
             for block in bytes.chunks(BLOCK) {
                 if has_false_erase(block) {
-                    return true;
+                    return Some(Hint::LikeEraseBehind(at));
                 }
+                at = at.saturating_add(256);
             }
-            false
+            None
         }
     }
 }

@@ -1,7 +1,8 @@
 // What came on a line that failed, by name, and what to do.
 
 ghost use Rattle.std.specs.Prelude.{◌≡◌};
-ghost use Rattle.stm_work.specs.HintTold.{behind_fault, is_of_refusal, is_told, told_done, hint_told};
+ghost use Rattle.stm_work.specs.HintTold.{behind_fault, hint_told, is_of_refusal, is_told, told_done};
+ghost use Rattle.stm_work.specs.HintTold.{told_in_line};
 ghost use Rattle.stm_work.specs.NextStep.{hint_behind, hint_behind_done};
 
 use crate::failure::Failure;
@@ -42,19 +43,30 @@ pub enum Hint {
     ReadRefusedAt(u32),
     /// A NACK came for the address of a write, or for its data.
     #[error("address {0:08X}: the device refused to write it: is its page write-protected? If so: \
-        reset, protect write-unprotect --in-session --fresh, undo 1")]
+        protect write-unprotect --in-session, undo 1")]
     WriteRefusedAt(u32),
     /// A NACK came for the number of a page that was to be erased.
-    #[error("page {0}: the device refused to erase it: is it write-protected? If so: reset, protect \
-        write-unprotect --in-session --fresh, undo 1")]
+    #[error("page {0}: the device refused to erase it: is it write-protected? If so: protect \
+        write-unprotect --in-session, undo 1")]
     PageRefused(u16),
     /// A page doesn't hold what an undo wrote.
     #[error("undo again; if it stays so, the flash may be worn out, or the page write-protected")]
     UndoAgain,
+    /// Another board answered in an undo.
+    #[error("undo again, at the board that was asked first")]
+    UndoAtFirst,
     /// The write protection was to be taken off while there is something to undo.
-    #[error("to undo what a write-protected page refuses: reset, protect write-unprotect \
-        --in-session --fresh, undo 1")]
+    #[error("to undo what a write-protected page refuses: protect write-unprotect --in-session, \
+        undo 1")]
     InSession,
+    /// What was written has bytes of an erase, in the block at this address.
+    #[error("at {0:08X} the image holds bytes that a device which loses power in the midst would take \
+        for an erase; use -v, and reset before an undo")]
+    LikeErase(u32),
+    /// The same, so many bytes behind the flash's first.
+    #[error("at {0:X} of the flash the image holds bytes that a device which loses power in the midst \
+        would take for an erase; use -v, and reset before an undo")]
+    LikeEraseBehind(u32),
     /// The write protection was taken off, and there may be something to undo.
     #[error("the board resets itself; now: undo 1")]
     NowUndo,
@@ -67,7 +79,12 @@ impl Hint {
     {
         !matches!(
             self,
-            Hint::Silent | Hint::Echo | Hint::NoAnswer | Hint::IdOf(_)
+            Hint::Silent
+                | Hint::Echo
+                | Hint::NoAnswer
+                | Hint::IdOf(_)
+                | Hint::LikeErase(_)
+                | Hint::LikeEraseBehind(_)
         )
     }
 
@@ -77,6 +94,9 @@ impl Hint {
     {
         match failure {
             Failure::Session(Fault::NotHeld(_)) => Some(Hint::UndoAgain),
+            Failure::Session(Fault::BoardChanged) if next == Next::UndoAgain => {
+                Some(Hint::UndoAtFirst)
+            }
             Failure::Session(Fault::InSession) if next == Next::Unprotecting => {
                 Some(Hint::InSession)
             }
@@ -101,6 +121,16 @@ impl Hint {
         match self {
             Hint::NowUndo => Some(self),
             _ => None,
+        }
+    }
+
+    /// The same in a line of JSON, which tells too what the bytes that were written look like.
+    pub fn in_line(self) -> Option<Hint>
+        ensures { result ≡ told_in_line self }
+    {
+        match self {
+            Hint::LikeErase(_) | Hint::LikeEraseBehind(_) => Some(self),
+            _ => self.of_done(),
         }
     }
 
@@ -136,6 +166,7 @@ impl Hint {
             Fault::Line => !matches!(self, Hint::Silent),
             Fault::Device => true,
             Fault::NotHeld(_) => matches!(self, Hint::UndoAgain),
+            Fault::BoardChanged => matches!(self, Hint::UndoAtFirst),
             Fault::InSession => matches!(self, Hint::InSession),
             _ => false,
         }

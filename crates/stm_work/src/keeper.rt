@@ -1,7 +1,8 @@
 // A Rig whose journal can be kept: what it says stays for good, and the journal is empty.
-ghost use Rattle.std.specs.Prelude.{◌≡◌, IfOk, OnErr, OnOk};
+ghost use Rattle.std.specs.Prelude.{◌≡◌, false, IfOk, OnErr, OnOk};
 ghost use Rattle.stm_wire.specs.Dialogue.{GoesOn};
 ghost use Rattle.stm_journal.specs.Calls.{AreFetches};
+ghost use Rattle.stm_journal.specs.States.{is_unfinished};
 ghost use Rattle.stm_files.specs.Ending.{EndsJournal};
 ghost use Rattle.stm_work.specs.Keeping.{IsFinished};
 ghost use Rattle.stm_work.specs.Steps.{Stays};
@@ -42,20 +43,22 @@ pub trait Keeper: Rig {
             old.is_honest → IfOk result (IsFinished old.journal) };
 }
 
-/// How many writes and erases the journal of a Rig has, none of which is unfinished.
+/// The journal of a Rig, and how many writes and erases it has, none of which is unfinished.
 #[tactic(auto, using(crate::proofs::Finished::finished))]
-fn count_in<'a, L: Rig>(alloc: Global, rig: &mut L) -> Result<u32, Failure<'a>>
+fn load_finished<'a, L: Rig>(alloc: Global, rig: &mut L) -> Result<(Journal, u32), Failure<'a>>
     ensures calls { GoesOn AreFetches (L.view rig.old).calls (L.view rig.new).calls }
     ensures same { let old = L.view rig.old in let new = L.view rig.new in
         old.is_honest → OnOk result (new.is_honest × (new.device ≡ old.device)) }
+    ensures ended { IfOk result (λ loaded. is_unfinished loaded.0.state ≡ false) }
     ensures finished { let old = L.view rig.old in
-        old.is_honest → IfOk result (IsFinished old.journal) }
+        old.is_honest → IfOk result (λ loaded. IsFinished old.journal loaded.1) }
 {
     let journal = match Journal::load(alloc, rig) {
         Ok(journal) => journal,
         Err(fault) => return Err(Failure::Session(Fault::from(fault))),
     };
-    Ok(count_kept(&journal)?)
+    let count = count_kept(&journal)?;
+    Ok((journal, count))
 }
 
 impl<'a, S: Timed + Drop, R: Locks + Clock + AllocGlobal> Keeper for SocketRig<'a, S, R> {
@@ -71,8 +74,8 @@ impl<'a, S: Timed + Drop, R: Locks + Clock + AllocGlobal> Keeper for SocketRig<'
         name: &'w str,
         to: Option<&'w str>,
     ) -> Result<u32, Failure<'w>> {
-        let count = count_in(alloc, self)?;
-        self.end_journal(name, to)?;
+        let (journal, count) = load_finished(alloc, self)?;
+        self.end_journal(&journal, name, to)?;
         Ok(count)
     }
 }
@@ -90,8 +93,8 @@ impl<'a, 'f, R: Locks + AllocGlobal> Keeper for SimulatorRig<'a, 'f, R> {
         name: &'w str,
         to: Option<&'w str>,
     ) -> Result<u32, Failure<'w>> {
-        let count = count_in(alloc, self)?;
-        self.end_journal(alloc, name, to)?;
+        let (journal, count) = load_finished(alloc, self)?;
+        self.end_journal(alloc, &journal, name, to)?;
         Ok(count)
     }
 }

@@ -39,6 +39,7 @@ mod reading_hex;
 mod steps;
 mod summing;
 mod told_json;
+mod unprotecting;
 mod watchable;
 mod watching;
 mod way_back;

@@ -6,11 +6,6 @@ use std::io::{IsTerminal, Write};
 use stm_files::{Escaped, is_there};
 use stm_words::{Options, Progress};
 
-/// What is said on a terminal before an image is written that has bytes of an erase.
-const FALSE_ERASES: &str =
-    "note: the image holds bytes that a device which loses power in the midst would take for an erase; \
-    use -v, and reset before an undo";
-
 /// Whether it begins a journal: a write or an erase does whose journal isn't there yet.
 pub fn begins_journal<R: Files>(rt: &R, options: &Options, work: &Work) -> bool {
     work.is_change() && !is_there(rt, options.journal)
@@ -46,8 +41,8 @@ pub fn tell_notes<E: Write + IsTerminal>(
     if is_begun {
         let _ = writeln!(err, "note: journal {} is new", Escaped(options.journal));
     }
-    if work.writes_false_erases() {
-        let _ = writeln!(err, "{FALSE_ERASES}");
+    if let Some(hint) = work.false_erase() {
+        let _ = writeln!(err, "note: {hint}");
     }
 }
 

@@ -37,16 +37,6 @@ pub struct Steps<'a> {
 }
 
 impl<'a> Steps<'a> {
-    /// A session that nothing follows.
-    pub fn only(answer: Answer) -> Steps<'a> {
-        Steps {
-            board: None,
-            answer,
-            kept: None,
-            failure: None,
-        }
-    }
-
     /// Whether the device was asked, and told a unique id.
     pub fn has_named_board(&self) -> bool {
         match &self.board {

@@ -3,8 +3,8 @@ ghost use Rattle.std.specs.Prelude.{◌≡◌, ◌++◌, ℕ, List, IfOk, OnOk, 
 ghost use Rattle.stm_work.specs.Answer.{is_flash};
 ghost use Rattle.stm_work.specs.DeviceJson.{info_members};
 ghost use Rattle.stm_work.specs.JsonLine.{number_member, numbers_member, text_member};
-ghost use Rattle.stm_work.specs.ToldJson.{AreLines, answer_line, answer_name, board_members_of};
-ghost use Rattle.stm_work.specs.ToldJson.{change_members, is_of_board, members_of, next_line};
+ghost use Rattle.stm_work.specs.ToldJson.{AreLines, answer_line, answer_name, change_members};
+ghost use Rattle.stm_work.specs.ToldJson.{kept_line, members_of, next_line};
 ghost use Rattle.stm_work.specs.ToldJson.{next_told, refusal_line, steps_lines, undone_members};
 ghost use Rattle.stm_work.specs.ToldJson.{undone_name};
 
@@ -30,10 +30,24 @@ fn json_of_steps(alloc: Global, steps: &Steps) -> Result<Vec<u8>, AllocError>
     ensures { IfOk result (λ text. text.items ≡ steps_lines steps.now) }
 {
     let mut text = json_of(alloc, &steps.answer, &steps.board)?;
-    if let Some(count) = steps.kept {
-        text.extend_from_slice(json_of(alloc, &Answer::Kept(count), &None)?.as_slice())?;
-    }
+    add_kept(alloc, &mut text, steps.kept)?;
     Ok(text)
+}
+
+/// Adds the line of what stays, where the journal was kept.
+fn add_kept(alloc: Global, text: &mut Vec<u8>, kept: Option<u32>) -> Result<(), AllocError>
+    ensures { OnOk result (text.new.items ≡ text.old.items ++ kept_line kept) }
+{
+    match kept {
+        Some(count) => {
+            text.extend_from_slice(json_of(
+                alloc,
+                &Answer::Kept { count, left: None },
+                &None,
+            )?.as_slice())
+        }
+        None => Ok(()),
+    }
 }
 
 /// The same, or the line of what was done with what is to be done then, where the hint says that.
@@ -41,7 +55,11 @@ pub fn json_of_done(alloc: Global, steps: &Steps, hint: Option<Hint>) -> Result<
     ensures { IfOk result (λ text. AreLines hint steps.now text.items) }
 {
     match told_next(hint) {
-        Some(next) => json_of_next(alloc, steps, next),
+        Some(next) => {
+            let mut text = json_of_next(alloc, steps, next)?;
+            add_kept(alloc, &mut text, steps.kept)?;
+            Ok(text)
+        }
         None => json_of_steps(alloc, steps),
     }
 }
@@ -51,7 +69,7 @@ fn told_next(hint: Option<Hint>) -> Option<Hint>
     ensures { result ≡ next_told hint }
 {
     match hint {
-        Some(hint) => hint.of_done(),
+        Some(hint) => hint.in_line(),
         None => None,
     }
 }
@@ -62,35 +80,19 @@ fn json_of_next(alloc: Global, steps: &Steps, hint: Hint) -> Result<Vec<u8>, All
 {
     let mut line = JsonLine::of(alloc, ANSWER, name_of(&steps.answer))?;
     add_members(alloc, &mut line, &steps.answer)?;
-    add_board_of(alloc, &mut line, &steps.answer, &steps.board)?;
+    add_board(alloc, &mut line, &steps.board)?;
     add_hint(alloc, &mut line, Behind::Hint(hint))?;
     line.end()
 }
 
-/// The line of an answer, with the board that told it where it is of a board.
+/// The line of an answer, with the board, where the device was asked which it is.
 fn json_of(alloc: Global, answer: &Answer, board: &Option<Board>) -> Result<Vec<u8>, AllocError>
     ensures { IfOk result (λ line. line.items ≡ answer_line answer.now board.now) }
 {
     let mut line = JsonLine::of(alloc, ANSWER, name_of(answer))?;
     add_members(alloc, &mut line, answer)?;
-    add_board_of(alloc, &mut line, answer, board)?;
+    add_board(alloc, &mut line, board)?;
     line.end()
-}
-
-/// Adds the board that told an answer, where it is of a board.
-fn add_board_of(
-    alloc: Global,
-    line: &mut JsonLine,
-    answer: &Answer,
-    board: &Option<Board>,
-) -> Result<(), AllocError>
-    ensures { OnOk result (line.new.text.items
-        ≡ line.old.text.items ++ board_members_of answer.now board.now) }
-{
-    if is_of_board(answer) {
-        add_board(alloc, line, board)?;
-    }
-    Ok(())
 }
 
 /// The name that an answer has wherever programs read it.
@@ -99,18 +101,19 @@ pub fn name_of(answer: &Answer) -> &'static str
 {
     match answer {
         Answer::Nothing | Answer::Bytes(_) => "done",
-        Answer::Told(_) | Answer::ToldBeside { .. } => "info",
-        Answer::Identified(_) | Answer::IdentifiedBeside { .. } => "identified",
+        Answer::Told { .. } => "info",
+        Answer::Identified { .. } => "identified",
         Answer::Sum(_) => "crc",
+        Answer::Written {
+            is_verified: true,
+            ..
+        } => "written_and_verified",
         Answer::Written { .. } => "written",
-        Answer::WrittenAndVerified { .. } => "written_and_verified",
         Answer::Verified(_) => "verified",
         Answer::Erased { .. } => "erased",
-        Answer::Undone(_) => "undone",
-        Answer::UndoneAndVerified { .. } => "undone_and_verified",
-        Answer::UndoneBeside { bytes, .. } => undone_name(*bytes),
+        Answer::Undone { bytes, .. } | Answer::UndoneBeside { bytes, .. } => undone_name(*bytes),
         Answer::Logged(_) => "log",
-        Answer::Kept(_) | Answer::KeptBut { .. } => "kept",
+        Answer::Kept { .. } => "kept",
     }
 }
 
@@ -131,19 +134,6 @@ pub fn is_flash(answer: &Answer) -> bool
     matches!(answer, Answer::Bytes(_))
 }
 
-/// Whether an answer is of a board, which is named in it.
-fn is_of_board(answer: &Answer) -> bool
-    ensures { result ≡ is_of_board answer.now }
-{
-    matches!(
-        answer,
-        Answer::Told(_)
-            | Answer::ToldBeside { .. }
-            | Answer::Identified(_)
-            | Answer::IdentifiedBeside { .. }
-    )
-}
-
 /// Adds what an answer tells.
 #[tactic(auto, using(crate::proofs::TextParts::goes_on))]
 fn add_members(alloc: Global, line: &mut JsonLine, answer: &Answer) -> Result<(), AllocError>
@@ -152,28 +142,32 @@ fn add_members(alloc: Global, line: &mut JsonLine, answer: &Answer) -> Result<()
 {
     match answer {
         Answer::Nothing | Answer::Bytes(_) => Ok(()),
-        Answer::Told(info) => add_info_beside(alloc, line, info, 0),
-        Answer::ToldBeside { info, tried } => add_info_beside(alloc, line, info, *tried),
-        Answer::Identified(told) => add_told(alloc, line, told),
-        Answer::IdentifiedBeside { told, table } => {
+        Answer::Told {
+            info,
+            tried: Some(tried),
+        } => add_info_beside(alloc, line, info, *tried),
+        Answer::Told { info, .. } => add_info_beside(alloc, line, info, 0),
+        Answer::Identified {
+            told,
+            table: Some(table),
+        } => {
             add_told(alloc, line, told)?;
             line.text("table", table.as_str())
         }
+        Answer::Identified { told, .. } => add_told(alloc, line, told),
         Answer::Sum(crc) => line.text("crc", eight_digits(alloc, *crc)?.as_str()),
-        Answer::Written { segment, pages } | Answer::Erased { segment, pages } => {
-            add_change(line, *segment, *pages)
-        }
-        Answer::WrittenAndVerified {
+        Answer::Erased { segment, pages } => add_change(line, *segment, *pages),
+        Answer::Written {
             segment,
             pages,
             bytes,
+            ..
         } => {
             add_change(line, *segment, *pages)?;
             line.number("bytes", *bytes as u64)
         }
         Answer::Verified(bytes) => line.number("bytes", *bytes as u64),
-        Answer::Undone(count) | Answer::Kept(count) => line.number("count", u64::from(*count)),
-        Answer::UndoneAndVerified { count, bytes } => add_undone(line, *count, Some(*bytes)),
+        Answer::Undone { count, bytes } => add_undone(line, *count, *bytes),
         Answer::UndoneBeside {
             count,
             bytes,
@@ -181,10 +175,14 @@ fn add_members(alloc: Global, line: &mut JsonLine, answer: &Answer) -> Result<()
             ..
         } => add_undone_beside(line, *count, *bytes, unchanged.as_slice()),
         Answer::Logged(text) => line.lines("lines", text.as_slice()),
-        Answer::KeptBut { count, left } => {
+        Answer::Kept {
+            count,
+            left: Some(left),
+        } => {
             line.number("count", u64::from(*count))?;
             line.number("left", u64::from(*left))
         }
+        Answer::Kept { count, .. } => line.number("count", u64::from(*count)),
     }
 }
 

@@ -99,15 +99,9 @@ impl WayBack {
         ensures { result ≡ beside_way self answer }
     {
         match answer {
-            Answer::Undone(count) => Answer::UndoneBeside {
+            Answer::Undone { count, bytes } => Answer::UndoneBeside {
                 count,
-                bytes: None,
-                unchanged: self.unchanged,
-                left: self.left,
-            },
-            Answer::UndoneAndVerified { count, bytes } => Answer::UndoneBeside {
-                count,
-                bytes: Some(bytes),
+                bytes,
                 unchanged: self.unchanged,
                 left: self.left,
             },

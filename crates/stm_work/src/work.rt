@@ -1,6 +1,7 @@
 // What is done on a device, whether or not the table has its chip.
 ghost use Rattle.std.specs.Prelude.{◌≡◌, IfOk};
-ghost use Rattle.stm_work.specs.Action.{IsDoneAgain, UndoesBack, Works, work_unless_fresh};
+ghost use Rattle.stm_work.specs.Action.{IsDoneAgain, UndoesBack, Works, told_itself};
+ghost use Rattle.stm_work.specs.Action.{work_unless_fresh};
 ghost use Rattle.stm_work.specs.Board.{asking_if, asking_of};
 ghost use Rattle.stm_work.specs.NextStep.{next_of};
 ghost use Rattle.stm_work.specs.Plan.{leaves};
@@ -10,7 +11,8 @@ use crate::action::Action;
 use crate::answer::Answer;
 use crate::board::Asking;
 use crate::failure::Failure;
-use crate::false_erase::has_false_erases;
+use crate::false_erase::first_false_erase;
+use crate::hint::Hint;
 use crate::progress_course::Goal;
 use crate::reading_hex::read_as_hex;
 use crate::summing::sum;
@@ -18,7 +20,7 @@ use crate::way_back::WayBack;
 use std::alloc::{AllocError, Global};
 use std::fs::Files;
 use stm_chip::Table;
-use stm_session::identify;
+use stm_session::{Told, identify};
 use stm_wire::{Protection, Rig};
 use stm_words::{Extent, Range, Task};
 
@@ -52,6 +54,8 @@ pub enum Next {
     Unprotecting,
     /// An undo, at a board without write protection.
     Undo,
+    /// It is an undo, and another board may answer than at first.
+    UndoAgain,
 }
 
 impl Work {
@@ -81,14 +85,14 @@ impl Work {
         }
     }
 
-    /// Whether it writes an image whose bytes a device that loses power in the midst
-    /// would take for an erase.
-    pub fn writes_false_erases(&self) -> bool {
+    /// Where it writes bytes of an image which a device that loses power in the midst would take for
+    /// an erase.
+    pub fn false_erase(&self) -> Option<Hint> {
         match self {
             Work::Act(Action::Write(content)) | Work::Act(Action::WriteAndVerify(content)) => {
-                has_false_erases(content)
+                first_false_erase(content)
             }
-            _ => false,
+            _ => None,
         }
     }
 
@@ -129,7 +133,8 @@ impl Work {
     {
         match self {
             Work::Act(Action::Protect(Protection::WriteUnprotect)) => Next::Unprotecting,
-            Work::Act(Action::UnprotectFresh) => Next::Undo,
+            Work::Act(Action::UnprotectFresh) | Work::Act(Action::UnprotectBegun) => Next::Undo,
+            Work::Undo { .. } => Next::UndoAgain,
             _ => Next::Nothing,
         }
     }
@@ -147,13 +152,13 @@ impl Work {
         }
     }
 
-    /// The same where devices are asked at all. One that is said to be fresh from reset, to take its
-    /// write protection off, never is: it would not be fresh then.
+    /// The same where devices are asked at all. One whose write protection is taken off while a session
+    /// is unfinished never is: it would not be fresh then, or is asked by that session itself.
     pub fn asking_if(&self, is_asked: bool) -> Option<Asking>
         ensures { result ≡ asking_if is_asked self.now }
     {
         match self {
-            Work::Act(Action::UnprotectFresh) => None,
+            Work::Act(Action::UnprotectFresh) | Work::Act(Action::UnprotectBegun) => None,
             work if is_asked => Some(work.asking()),
             _ => None,
         }
@@ -200,7 +205,7 @@ impl Work {
         ensures { Works L.view table.now self rig.old rig.new result }
     {
         match self {
-            Work::Identify => Ok(Answer::Identified(identify(alloc, rig)?)),
+            Work::Identify => Ok(identified(identify(alloc, rig)?)),
             Work::Sum(range) => sum(alloc, rig, table, range),
             Work::ReadHex { range, skips_blank } => {
                 read_as_hex(alloc, rig, table, range, skips_blank)
@@ -209,6 +214,13 @@ impl Work {
             Work::Act(action) => action.run(alloc, rig, table),
         }
     }
+}
+
+/// What is told of what a device says itself.
+fn identified(told: Told) -> Answer
+    ensures { result ≡ told_itself told }
+{
+    Answer::Identified { told, table: None }
 }
 
 /// Undoes writes and erases as far back as is said. The journal, which is read first, says how many that

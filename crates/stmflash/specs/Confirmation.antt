@@ -2,6 +2,10 @@
 use Rattle.std.specs.Prelude.{◌≡◌, ℕ, min, List, [], ◌∷◌, ◌++◌, length, take}
 use Rattle.std.specs.Prelude.{Bool, codes, true, false, bytes_eq, not, ◌&&◌, ◌||◌, Option}
 use Rattle.std.specs.Io.KnownBytes.{Consumes}
+use Rattle.stm_words.specs.Request.{IsAskedFor}
+use Rattle.stm_words.specs.declared.environment.Environment.{Environment}
+use Rattle.stm_words.specs.declared.request.Request.{Request}
+use Rattle.stm_words.specs.declared.request.Request.TheVariants.{Use}
 use Rattle.stm_words.specs.declared.task.Task.{Task}
 use Rattle.stm_words.specs.declared.task.Task.TheVariants as task
 
@@ -34,3 +38,24 @@ pub record SaysYes (old new : Option (List ℕ)) : Type 0 where
   pub line : List ℕ
   pub yes : is_yes line ≡ true
   pub taken : Consumes old new (line ++ 0x0A ∷ [])
+
+-- what is written where it is asked
+abbrev pub question : List ℕ
+question =
+    codes "this erases the whole flash, and no journal keeps it: it can't be undone"
+    ++ codes "\ngo on? [y/N] "
+
+-- where a yes is due, just one was taken from what is typed; else nothing was
+abbrev pub IsConfirmed : Bool → Option (List ℕ) → Option (List ℕ) → Type 0
+IsConfirmed true typed left = SaysYes typed left
+IsConfirmed false typed left = left ≡ typed
+
+-- a request of which a yes is due, where someone is at the terminal
+abbrev pub wants_yes : Request → Bool → Bool
+wants_yes (Use options task sequel) is_there = is_there && erases_for_good task
+wants_yes other is_there = false
+
+-- the words ask for no request of which a yes is due
+abbrev pub WantNoYes : Environment → List (List ℕ) → Bool → Type 0
+WantNoYes e words is_there = (request : Request) → IsAskedFor e words request
+    → wants_yes request is_there ≡ false

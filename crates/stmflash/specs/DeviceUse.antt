@@ -1,13 +1,12 @@
 -- What one use of a device comes to: the session by its plan, behind a greeting where one comes, on
 -- a Rig that is shown and watched, and what is told of it at the end.
-use Rattle.std.specs.Prelude.{◌≡◌, ◌⊎◌, ◌&&◌, ◌++◌, ℕ, Bool, true, false, List, [], Option, None, Some}
+use Rattle.std.specs.Prelude.{◌≡◌, ◌⊎◌, ◌&&◌, ℕ, Bool, true, false, List, [], Option, None, Some}
 use Rattle.std.specs.Prelude.{Result, Ok, Err, IfErr, IfOk, OnOk, MatchResult}
 use Rattle.stm_wire.specs.Chip.{ChipData}
 use Rattle.stm_wire.specs.Command.{with_rest}
 use Rattle.stm_wire.specs.Dialogue.{GoesOn}
 use Rattle.stm_wire.specs.Rig.{RigState}
-use Rattle.stm_journal.specs.Calls.{AppendsInPart, AreFetches}
-use Rattle.stm_journal.specs.Greetings.{is_greeted}
+use Rattle.stm_journal.specs.Calls.{AreFetches}
 use Rattle.stm_session.specs.declared.fault.Fault.{Fault}
 use Rattle.stm_session.specs.declared.fault.Fault.TheVariants.{Line}
 use Rattle.stm_session.specs.declared.greeting.Greeting.{Greeting}
@@ -15,7 +14,6 @@ use Rattle.stm_session.specs.declared.greeting.Greeting.TheVariants as greeting
 use Rattle.stm_session.specs.Fault.{HasSessionCause, IsRefusal}
 use Rattle.stm_session.specs.Greeting.{GreetsBy, GreetsInPartBy, GreetsSafely, IsConnectable}
 use Rattle.stm_session.specs.Greeting.{IsGreetableAs, ReadsFirst, greets}
-use Rattle.stm_session.specs.Silence.{silent_line}
 use Rattle.stm_session.specs.Undoable.{Undoable}
 use Rattle.stm_words.specs.declared.device.Device.{Device}
 use Rattle.stm_words.specs.declared.device.Device.TheVariants.{Simulator, Socket}
@@ -32,6 +30,7 @@ use Rattle.stm_work.specs.declared.work.Work.{Work}
 use Rattle.stm_work.specs.declared.work.Work.TheVariants as work
 use Rattle.stm_work.specs.Answer.{is_flash}
 use Rattle.stm_work.specs.Plan.{IsUsePlan, TellsSteps}
+use Rattle.stm_work.specs.Unprotecting.{TellsSilence}
 use Rattle.stm_work.specs.Watching.{IsWatchingBegun, TakesWatched}
 use Rattle.stmflash.specs.declared.output.Output.{Output}
 use Rattle.stmflash.specs.declared.output.Output.TheVariants.{Printed}
@@ -48,12 +47,13 @@ greeting_at true baud = greeting.Fresh
 greeting_at false None = greeting.Brief
 greeting_at false (Some baud) = greeting.Plain
 
--- of what is done on a device an undo alone is greeted; the one that follows a write which failed is of
--- a device that isn't fresh any more
+-- of what is done on a device an undo is greeted, and what takes the write protection off ahead of one;
+-- the one that follows a write which failed is of a device that isn't fresh any more
 abbrev pub greeting_for : Work → Options → Option Greeting
 greeting_for (work.Undo extent verifies) options = Some (greeting_at options.is_fresh options.baud)
 greeting_for (work.Act (action.Undo count)) options = Some (greeting_at false options.baud)
 greeting_for (work.Act (action.UndoVerified count)) options = Some (greeting_at false options.baud)
+greeting_for (work.Act action.UnprotectBegun) options = Some (greeting_at false options.baud)
 greeting_for does options = None
 
 -- A greeting came ahead of a session. Where the journal has an intent, and doesn't say yet that 7F may
@@ -71,14 +71,6 @@ pub record GreetsAhead (table : List ChipData) (way : Greeting) (old new : RigSt
       → IsGreetableAs way old.device old.journal → GreetsSafely table flashes old new came
   pub connected : old.is_honest → IsConnectable way old.device → came ≡ Ok true
       → new.device ≡ with_rest [] old.device
-
--- The journal says that nothing answered a greeting, where its last line is one.
-pub record TellsSilence (old new : RigState) (came : Result (Unit {0}) Fault) : Type 0 where
-  pub cause : HasSessionCause old new came
-  pub calls : GoesOn (ReadsFirst (AppendsInPart silent_line)) old.calls new.calls
-  pub alone : old.is_honest → is_greeted old.journal ≡ false → GoesOn AreFetches old.calls new.calls
-  pub told : old.is_honest → is_greeted old.journal ≡ true
-      → OnOk came (new.journal ≡ old.journal ++ silent_line)
 
 -- A session behind a greeting. Where its line failed, the journal may say that nothing answered.
 pub record TakesUnlessSilent {R : Type 0} (view : R → RigState) (plan : Plan) (old new : R)
@@ -125,9 +117,9 @@ pub record TakesAround {R L : Type 0} (view : R → RigState) (inner : R → L)
   pub left : inner new ≡ after
   pub tells : TellsSteps done told
 
--- Steps whose bytes are in a file: nothing more is told of them than how they failed.
+-- Steps whose bytes are in a file: of them it is told of which board they were, and how they failed.
 pub record AreFiled (taken told : Steps) : Type 0 where
-  pub board : told.board ≡ None
+  pub board : told.board ≡ taken.board
   pub answer : told.answer ≡ answer.Nothing
   pub kept : told.kept ≡ None
   pub failure : told.failure ≡ taken.failure

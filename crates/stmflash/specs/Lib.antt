@@ -7,4 +7,5 @@ pub mod Tables
 pub mod DeviceUse
 pub mod WriteUse
 pub mod TaskUse
+pub mod JournalTasks
 pub mod Printed

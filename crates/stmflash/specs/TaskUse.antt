@@ -1,7 +1,7 @@
 -- From the task that the words name to the steps that are told of it: which work runs on the device,
 -- by which options, and what the tables add to its answer.
 use Rattle.std.specs.Prelude.{◌≡◌, ◌⊎◌, ◌++◌, ◌==◌, ◌&&◌, ℕ, Bool, true, false, not}
-use Rattle.std.specs.Prelude.{List, Some, codes, bytes_eq}
+use Rattle.std.specs.Prelude.{List, Some, codes, bytes_eq, is_some}
 use Rattle.std.specs.Borrow.{Bor}
 use Rattle.hex.specs.Hex.{encode_upper}
 use Rattle.stm_wire.specs.Rig.{RigState}
@@ -15,6 +15,7 @@ use Rattle.stm_work.specs.Answer.{IsBeside}
 use Rattle.stm_work.specs.Action.{work_unless_fresh}
 use Rattle.stm_work.specs.TaskWork.{IsWorkFor}
 use Rattle.stmflash.specs.WriteUse.{UsesLast}
+use Rattle.stmflash.specs.declared.on_device.Prepared.{Prepared}
 
 -- Steps with an answer beside what the tables say; all else of them is as it was.
 pub record AreBeside (texts : List (List ℕ)) (used told : Steps) : Type 0 where
@@ -32,6 +33,11 @@ abbrev pub is_filed : Task → Bool
 is_filed (task.Read range out) = is_file out.now
 is_filed (task.ReadHex range out skips) = is_file out.now
 is_filed other = false
+
+-- What a use of a task is made of: its work, and a file for the flash's bytes where it names one.
+pub record IsPrepared (asked : Task) (prepared : Prepared) : Type 0 where
+  pub is_work : IsWorkFor asked prepared.work
+  pub filed : is_some prepared.files.out ≡ is_filed asked
 
 -- A work was done, where its line failed again and again, and its steps are told beside what the
 -- tables say. Bytes that are for a file are in it, unless it is a write that may be done again.

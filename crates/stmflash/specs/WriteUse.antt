@@ -28,7 +28,7 @@ words_by options texts sequel = record { options = options; texts = texts; seque
 
 -- how many segments were undone, as an undo tells it
 abbrev pub count_undone : Answer → ℕ
-count_undone (answer.Undone count) = count
+count_undone (answer.Undone count bytes) = count
 count_undone other = 0
 
 -- So many of the newest segments were undone by one use, which nothing follows.

@@ -123,7 +123,7 @@ fn count_undone(answer: &Answer) -> u32
     ensures { result ≡ count_undone answer.now }
 {
     match answer {
-        Answer::Undone(count) => *count,
+        Answer::Undone { count, .. } => *count,
         _ => 0,
     }
 }

@@ -1,9 +1,10 @@
 // The question before what erases the whole flash for good.
 ghost use Rattle.std.specs.Prelude.{◌≡◌, ◌+◌, ◌++◌, ◌∷◌, [], length, min, take, false, true};
 ghost use Rattle.std.specs.Prelude.{◌≤◌, IfErr, IfSome, IsTrue, Ok, OnOk};
-ghost use Rattle.std.specs.Io.KnownBytes.{Consumes};
+ghost use Rattle.std.specs.Io.KnownBytes.{Appends, Consumes};
 ghost use Rattle.stm_work.specs.declared.failure.Failure.TheVariants.{Unconfirmed};
-ghost use Rattle.stmflash.specs.Confirmation.{SaysYes, TakesLine, erases_for_good, is_yes};
+ghost use Rattle.stmflash.specs.Confirmation.{IsConfirmed, SaysYes, TakesLine, erases_for_good};
+ghost use Rattle.stmflash.specs.Confirmation.{is_yes, question};
 
 use std::io::{Read, Write};
 use stm_words::Task;
@@ -80,7 +81,8 @@ fn keep_byte(answer: &mut [u8], count: usize, byte: u8) -> usize
 
 /// Asks whether to go on, and answers whether that is so.
 fn ask<I: Read, E: Write>(input: &mut I, err: &mut E) -> bool
-    ensures { IsTrue result → SaysYes (I.remaining input.old) (I.remaining input.new) }
+    ensures yes { IsTrue result → SaysYes (I.remaining input.old) (I.remaining input.new) }
+    ensures asked { IsTrue result → Appends (E.contents err.old) (E.contents err.new) question }
 {
     let asked = write!(err, "{ERASES}\ngo on? [y/N] ");
     if asked.is_err() {
@@ -97,20 +99,22 @@ fn ask<I: Read, E: Write>(input: &mut I, err: &mut E) -> bool
     }
 }
 
-/// Asks on a terminal before the whole flash is erased for good, and refuses that where the answer
-/// isn't yes. Where there is none, nobody is asked, and nothing is read.
+/// Asks before the whole flash is erased for good, and refuses that where the answer isn't yes.
+/// Where it isn't due, nobody is asked, and nothing is read.
 pub fn confirm<'a, I: Read, E: Write>(
-    is_terminal: bool,
+    is_due: bool,
     input: &mut I,
     err: &mut E,
 ) -> Result<(), Failure<'a>>
-    ensures unasked { is_terminal ≡ false
+    ensures unasked { is_due ≡ false
         → (result ≡ Ok tt) × (input.new ≡ input.old) × (err.new ≡ err.old) }
-    ensures asked { is_terminal ≡ true
-        → OnOk result (SaysYes (I.remaining input.old) (I.remaining input.new)) }
+    ensures asked { is_due ≡ true
+        → OnOk result (Appends (E.contents err.old) (E.contents err.new) question) }
+    ensures confirmed { let left = I.remaining in
+        OnOk result (IsConfirmed is_due (left input.old) (left input.new)) }
     ensures refused { IfErr result (λ failure. failure ≡ Unconfirmed) }
 {
-    if !is_terminal {
+    if !is_due {
         return Ok(());
     }
     if ask(input, err) {

@@ -33,9 +33,9 @@ pub fn keep_newest<'a, R: Locks + AllocGlobal>(
         return Err(Failure::of_reason(Some(e)));
     }
     match beside.place(rt) {
-        Ok(_) => Ok(Answer::KeptBut {
+        Ok(_) => Ok(Answer::Kept {
             count,
-            left: depth - count,
+            left: Some(depth - count),
         }),
         Err(e) => Err(Failure::of_file(&e, Failure::CannotWrite(name))),
     }

@@ -22,16 +22,17 @@ fn greeting_at(is_fresh: bool, baud: Option<u32>) -> Greeting
     }
 }
 
-/// Where a work is greeted at a socket, by the options: an undo, and nothing else is. One that follows
-/// a write which failed is of a device that isn't fresh from reset any more.
+/// Where a work is greeted at a socket, by the options: an undo, and what takes the write protection
+/// off ahead of one. One that follows a write which failed is of a device that isn't fresh from reset
+/// any more.
 pub fn greeting_for(work: &Work, options: &Options) -> Option<Greeting>
     ensures { result ≡ greeting_for work.now options.now }
 {
     match work {
         Work::Undo { .. } => Some(greeting_at(options.is_fresh, options.baud)),
-        Work::Act(Action::Undo(_)) | Work::Act(Action::UndoVerified(_)) => {
-            Some(greeting_at(false, options.baud))
-        }
+        Work::Act(Action::Undo(_))
+        | Work::Act(Action::UndoVerified(_))
+        | Work::Act(Action::UnprotectBegun) => Some(greeting_at(false, options.baud)),
         _ => None,
     }
 }

@@ -1,6 +1,8 @@
 // What is done with a journal alone: it is looked at, or its way back is given up.
 ghost use Rattle.std.specs.Prelude.{IfOk};
+ghost use Rattle.stm_journal.specs.States.{StateData};
 ghost use Rattle.stm_work.specs.Keeping.{IsGivenUp};
+ghost use Rattle.stmflash.specs.JournalTasks.{TellsKept, TellsLog};
 
 use crate::cut_journal::keep_newest;
 use crate::named_files::check_owner;
@@ -29,7 +31,9 @@ pub fn load<'a, S: Source + Drop>(
 
 /// Tells what the journal in a file says by now. It isn't locked: a session beside it goes on, and
 /// adds whole lines, of which the last may be torn and counts as nothing.
-pub fn log<'a, R: Files + AllocGlobal>(rt: &R, name: &'a str) -> Result<Answer, Failure<'a>> {
+pub fn log<'a, R: Files + AllocGlobal>(rt: &R, name: &'a str) -> Result<Answer, Failure<'a>>
+    ensures { IfOk result (λ told. (state : StateData) × TellsLog state told) }
+{
     let journal = look(rt, name)?;
     tell(rt.alloc(), &journal)
 }
@@ -66,14 +70,18 @@ pub fn look<'a, R: Files + AllocGlobal>(rt: &R, name: &'a str) -> Result<Journal
 }
 
 /// What a journal says.
-fn tell<'a>(alloc: Global, journal: &Journal) -> Result<Answer, Failure<'a>> {
+fn tell<'a>(alloc: Global, journal: &Journal) -> Result<Answer, Failure<'a>>
+    ensures { IfOk result (TellsLog journal.now.state) }
+{
     Ok(Answer::Logged(log_lines(alloc, journal)?))
 }
 
 /// Lets the writes and erases of a journal stay: the journal, which has to be there, is removed, or
 /// renamed to a name that isn't; or it's cut to its newest ones. This program has it for itself
 /// until then.
-pub fn keep<'a, R: Locks + AllocGlobal>(rt: &R, kept: &Kept<'a>) -> Result<Answer, Failure<'a>> {
+pub fn keep<'a, R: Locks + AllocGlobal>(rt: &R, kept: &Kept<'a>) -> Result<Answer, Failure<'a>>
+    ensures { IfOk result (λ told. (state : StateData) × TellsKept kept.now.last state told) }
+{
     let file = match JournalFile::open(rt, kept.journal, kept.without_lock, kept.trusts_others) {
         Ok(file) => file,
         Err(why) => return Err(Failure::of_journal(why, kept.journal)),
@@ -105,6 +113,6 @@ fn keep_loaded<'a, R: Locks + AllocGlobal>(
     if let Err(e) = file.check_unchanged() {
         return Err(Failure::of_reason(Some(e)));
     }
-    give_up_journal(rt, kept.journal, kept.to)?;
-    Ok(Answer::Kept(count))
+    give_up_journal(rt, journal, kept.journal, kept.to)?;
+    Ok(Answer::Kept { count, left: None })
 }

@@ -3,6 +3,7 @@
 #![tactic(auto)]
 
 mod again;
+mod command_line;
 mod confirmation;
 mod cut_journal;
 mod first_question;
@@ -21,17 +22,20 @@ mod program;
 mod protected_pages;
 mod recovery;
 mod serving;
+mod system;
 mod tables;
 mod variable;
 mod variables;
 
-use program::{fail, program};
-use std::io::ErrorKind;
+use command_line::{end, run_words};
+use program::fail;
+use std::io::IsTerminal;
 use std::process::ExitCode;
 use std::{env, io};
 use variables::Variables;
 
-/// Runs the program on the words that the system hands in.
+/// Runs the program on the words that the system hands in. Who typed them can be asked where
+/// standard input and standard error are a terminal.
 fn run(rt: &HostRuntime) -> io::Result<u8> {
     let variables = match Variables::read(rt) {
         Ok(variables) => variables,
@@ -42,27 +46,19 @@ fn run(rt: &HostRuntime) -> io::Result<u8> {
     for word in &given {
         words.push(word.as_str())?;
     }
-    let tables = variables.tables(rt)?;
-    Ok(program(
+    let is_there = rt.stdin().is_terminal() && rt.stderr().is_terminal();
+    let status = run_words(
         rt,
-        variables.environment(tables.as_slice()),
+        &variables,
         words.as_slice(),
+        is_there,
         &mut rt.stdin(),
         &mut rt.stdout(),
         &mut rt.stderr(),
-    ))
+    )?;
+    Ok(status)
 }
 
 fn main(rt: HostRuntime) -> ExitCode {
-    match run(&rt) {
-        Ok(status) => ExitCode::from(status),
-        Err(e) if e.kind() == ErrorKind::OutOfMemory => {
-            let _ = rt.eprintln("stmflash: out of memory");
-            ExitCode::from(1)
-        }
-        Err(_) => {
-            let _ = rt.eprintln("stmflash: usage: the words are not text");
-            ExitCode::from(2)
-        }
-    }
+    end(run(&rt), &mut rt.stderr())
 }

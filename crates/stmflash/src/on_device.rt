@@ -1,9 +1,11 @@
 // A use of a device: the files that belong to it are opened, the task is done, and they are closed,
 // whatever came of it. Nothing is printed here but what goes on, on standard error.
-ghost use Rattle.std.specs.Prelude.{◌&&◌, ◌==◌, IfOk, is_some};
+ghost use Rattle.std.specs.Prelude.{◌≡◌, ◌&&◌, ◌==◌, IfOk, OnOk, false, is_some};
+ghost use Rattle.stm_words.specs.declared.task.Task.{Task};
+ghost use Rattle.stmflash.specs.Confirmation.{IsConfirmed, erases_for_good};
 ghost use Rattle.stmflash.specs.DeviceUse.{UsesOnce, goes_out};
 ghost use Rattle.stm_work.specs.Action.{work_unless_fresh};
-ghost use Rattle.stmflash.specs.TaskUse.{AreBeside, UsesBeside, UsesTask};
+ghost use Rattle.stmflash.specs.TaskUse.{AreBeside, IsPrepared, UsesBeside, UsesTask};
 ghost use Rattle.stm_work.specs.TriedBoards.{table_texts};
 ghost use Rattle.stmflash.specs.WriteUse.{UsesLast};
 
@@ -16,6 +18,8 @@ use crate::on_socket::on_socket;
 use crate::output::Output;
 use crate::planned_session::{ShownSimulator, ShownSocket};
 use crate::recovery::{done_or_end, recover, told_end};
+use crate::system::System;
+use std::fs::Files;
 use std::io::{IsTerminal, Read, Write};
 use std::net::Net;
 use std::time::Clock;
@@ -29,39 +33,84 @@ use stm_work::{
     has_telling_chip, lacks_journal, tell_lacking, tell_nameless, tell_notes, tells_board,
 };
 
-/// Does a task on a device, and what follows it. Where it takes the readout protection off, it is
-/// asked before a file of the session is opened. Where a folder has its journal, the device is asked
-/// first which board it is; `place` keeps what came of that. What the line's last turns tell of a
-/// session that was broken off becomes `hint`, or what is to be done behind what came of it.
-pub fn use_device<
-    'a,
-    'r,
-    'e,
-    R: Locks + Net + Clock + AllocGlobal + Clone + Drop,
-    I: Read + IsTerminal,
-    E: Write + IsTerminal,
->(
+/// What a use is made of before the device is used: the chip tables, the files that the words
+/// name, and the work.
+#[derive(Drop)]
+pub struct Prepared<'a> {
+    tables: ChipTables<'a>,
+    files: NamedFiles<'a>,
+    work: Work,
+}
+
+impl<'a> Prepared<'a> {
+    /// That of a task. The tables are read, and its image.
+    fn of<R: Files + AllocGlobal>(
+        rt: &R,
+        options: &Options<'a>,
+        task: Task<'a>,
+    ) -> Result<Prepared<'a>, Failure<'a>>
+        ensures { IfOk result (IsPrepared task.entry) }
+    {
+        let tables = ChipTables::read(rt, options.table)?;
+        let files = NamedFiles::of(options, &task);
+        let work = Work::of(rt, task)?;
+        files.check(rt)?;
+        Ok(Prepared {
+            tables,
+            files,
+            work,
+        })
+    }
+}
+
+/// Does a task on a device, and what follows it. Where it takes the readout protection off, and
+/// someone is there who can be asked, that is done before a file of the session is opened. What
+/// the line's last turns tell of a session that was broken off becomes `hint`, or what is to be
+/// done behind what came of it.
+pub fn use_device<'a, 'r, 'e, R: System, I: Read, E: Write + IsTerminal>(
     rt: &'r R,
     options: &Options<'a>,
     task: Task<'a>,
     sequel: &Sequel<'a>,
     place: &'a mut Place,
+    is_there: bool,
     input: &mut I,
     err: &'e mut E,
     hint: &mut Option<Hint>,
 ) -> Result<Steps<'a>, Failure<'a>>
-    ensures { IfOk result (UsesTask
+    ensures used { IfOk result (UsesTask
         ⟦<ShownSimulator<'r, 'e, R, E> as Rig>⟧.view ⟦<ShownSocket<'r, 'e, R, E> as Rig>⟧.view
         options.now task.entry sequel.now) }
+    ensures confirmed { OnOk result (IsConfirmed (is_there && erases_for_good task.entry)
+        (I.remaining input.old) (I.remaining input.new)) }
+    ensures unasked { is_there && erases_for_good task.entry ≡ false → input.new ≡ input.old }
 {
-    let is_for_good = erases_for_good(&task);
-    let tables = ChipTables::read(rt, options.table)?;
-    let files = NamedFiles::of(options, &task);
-    let work = Work::of(rt, task)?;
-    files.check(rt)?;
-    if is_for_good {
-        confirm(input.is_terminal() && err.is_terminal(), input, err)?;
-    }
+    let is_due = is_there && erases_for_good(&task);
+    let prepared = Prepared::of(rt, options, task)?;
+    confirm(is_due, input, err)?;
+    use_prepared(rt, options, prepared, sequel, place, err, hint)
+}
+
+/// The same, once nothing is to be asked of who typed. Where a folder has the journal, the device
+/// is asked first which board it is; `place` keeps what came of that.
+fn use_prepared<'a, 'r, 'e, R: System, E: Write + IsTerminal>(
+    rt: &'r R,
+    options: &Options<'a>,
+    prepared: Prepared<'a>,
+    sequel: &Sequel<'a>,
+    place: &'a mut Place,
+    err: &'e mut E,
+    hint: &mut Option<Hint>,
+) -> Result<Steps<'a>, Failure<'a>>
+    ensures { (task : Task) → IsPrepared task prepared.entry → IfOk result (UsesTask
+        ⟦<ShownSimulator<'r, 'e, R, E> as Rig>⟧.view ⟦<ShownSocket<'r, 'e, R, E> as Rig>⟧.view
+        options.now task sequel.now) }
+{
+    let Prepared {
+        tables,
+        files,
+        work,
+    } = prepared;
     if !options.in_folder {
         return use_beside(rt, options, &tables, files, work, sequel, None, err, hint);
     }
@@ -131,7 +180,11 @@ fn use_files<'a, 'r, 'e, R: Locks + Net + Clock + AllocGlobal, E: Write + IsTerm
     let is_begun = begins_journal(rt, options, &work);
     let is_lacking = lacks_journal(rt, options, &work);
     tell_notes(options, is_begun, &work, err);
+    let like_erase = work.false_erase();
     let steps = use_work(rt, options, tables, work, sequel, output, line, err, hint)?;
+    if like_erase.is_some() {
+        *hint = like_erase;
+    }
     if is_begun && !steps.has_named_board() {
         tell_nameless(options, err);
     }

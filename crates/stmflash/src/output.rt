@@ -142,7 +142,7 @@ fn write_out<'a, R: Locks + AllocGlobal>(
         return Ok(steps);
     }
     Ok(Steps {
-        board: None,
+        board: steps.board,
         answer: Answer::Nothing,
         kept: None,
         failure: steps.failure,

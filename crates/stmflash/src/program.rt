@@ -1,9 +1,11 @@
 // The program: what its words ask for.
 ghost use Rattle.std.specs.Io.KnownBytes.{Appends};
-ghost use Rattle.std.specs.Prelude.{◌≡◌, ◌≤◌, ◌⊎◌, ◌&&◌, ◌||◌, IfOk, None, OnErr, OnOk, map, not};
+ghost use Rattle.std.specs.Prelude.{◌≡◌, ◌≤◌, ◌⊎◌, ◌&&◌, ◌||◌, IfOk, None, OnErr, OnOk, map};
+ghost use Rattle.std.specs.Prelude.{false, not};
 ghost use Rattle.stm_words.specs.Json.{wants_json};
 ghost use Rattle.stm_work.specs.Answer.{is_flash};
 ghost use Rattle.stm_work.specs.ExitStatus.{status_of};
+ghost use Rattle.stmflash.specs.Confirmation.{IsConfirmed, WantNoYes, wants_yes};
 ghost use Rattle.stmflash.specs.Printed.{ArePrinted, AreStepsOf, IsDone, IsFailed, IsStatusOf};
 ghost use Rattle.stmflash.specs.Printed.{CameToSteps, IsWell};
 ghost use Rattle.stm_work.specs.ShortLine.{short_line};
@@ -14,12 +16,11 @@ use crate::journal_tasks::{check, keep, log};
 use crate::on_device::use_device;
 use crate::planned_session::{ShownSimulator, ShownSocket};
 use crate::serving::serve;
+use crate::system::System;
 use std::alloc::AllocError;
 use std::io;
 use std::io::{IsTerminal, Read, Write};
-use std::net::Net;
-use std::time::Clock;
-use stm_files::{Escaped, Locks};
+use stm_files::Escaped;
 use stm_wire::Rig;
 use stm_words::{Environment, Request, Unread, read_request, wants_json};
 use stm_work::{
@@ -32,34 +33,30 @@ use stm_work::{
 /// fault, 2 where the words can't be done, 3 where a simulator was stopped. A fault is one line on
 /// `err`, whatever the names in it, and one more where what came tells why; of words that `clap`
 /// refuses its text stands there. While a line or a journal is open nothing is printed but what goes
-/// on, where that is shown. `input` is read only where it is asked whether to go on. Where JSON is
-/// asked for, what was done is told on `out` as lines of it, and a fault there too.
-pub fn program<
-    'a,
-    'r,
-    'e,
-    R: Locks + Net + Clock + AllocGlobal + Clone + Drop,
-    I: Read + IsTerminal,
-    O: Write,
-    E: Write + IsTerminal,
->(
+/// on, where that is shown. `input` is read only where it is asked whether to go on, and that only
+/// where someone is there who can answer. Where JSON is asked for, what was done is told on `out`
+/// as lines of it, and a fault there too.
+pub fn program<'a, 'r, 'e, R: System, I: Read, O: Write, E: Write + IsTerminal>(
     rt: &'r R,
     environment: Environment<'a>,
     words: &'a [&'a str],
+    is_there: bool,
     input: &mut I,
     out: &mut O,
     err: &'e mut E,
 ) -> u8
-    ensures { result ≡ 0 → IsWell
+    ensures well { result ≡ 0 → IsWell
         ⟦<ShownSimulator<'r, 'e, R, E> as Rig>⟧.view ⟦<ShownSocket<'r, 'e, R, E> as Rig>⟧.view
-        environment.entry (map (λ s. s.now) words.entry.now)
-        (O.contents out.old) (O.contents out.new) }
+        environment.entry (map (λ s. s.now) words.entry.now) is_there
+        (I.remaining input.old) (I.remaining input.new) (O.contents out.old) (O.contents out.new) }
+    ensures unasked { WantNoYes environment.entry (map (λ s. s.now) words.entry.now) is_there
+        → input.new ≡ input.old }
 {
     // the name of a journal that the words leave to the device's board
     let mut place = Place::new(rt.alloc());
     let is_json = is_json_wanted(environment, words);
     match read_request(rt.alloc(), environment, words) {
-        Ok(request) => answer(rt, request, &mut place, is_json, input, out, err),
+        Ok(request) => answer(rt, request, &mut place, is_json, is_there, input, out, err),
         Err(Unread::Help(text)) => print_help(rt, text.as_str(), out, err),
         Err(Unread::Refused(text)) => refuse(rt, text.as_str(), is_json, out, err),
         Err(Unread::Usage(fault)) => {
@@ -94,19 +91,12 @@ fn refuse<R: AllocGlobal, O: Write, E: Write>(
 }
 
 /// Does what the words ask for, and tells what came of it.
-fn answer<
-    'a,
-    'r,
-    'e,
-    R: Locks + Net + Clock + AllocGlobal + Clone + Drop,
-    I: Read + IsTerminal,
-    O: Write,
-    E: Write + IsTerminal,
->(
+fn answer<'a, 'r, 'e, R: System, I: Read, O: Write, E: Write + IsTerminal>(
     rt: &'r R,
     request: Request<'a>,
     place: &'a mut Place,
     is_json: bool,
+    is_there: bool,
     input: &mut I,
     out: &mut O,
     err: &'e mut E,
@@ -117,48 +107,55 @@ fn answer<
     ensures done { result ≡ 0 → IsDone
         ⟦<ShownSimulator<'r, 'e, R, E> as Rig>⟧.view ⟦<ShownSocket<'r, 'e, R, E> as Rig>⟧.view
         request.entry is_json (O.contents out.old) (O.contents out.new) }
+    ensures confirmed { result ≡ 0 → IsConfirmed (wants_yes request.entry is_there)
+        (I.remaining input.old) (I.remaining input.new) }
+    ensures unasked { wants_yes request.entry is_there ≡ false → input.new ≡ input.old }
 {
     let mut hint = None;
-    match run_request(rt, request, place, input, err, &mut hint) {
+    match run_request(rt, request, place, is_there, input, err, &mut hint) {
         Ok(steps) => print_steps(rt, &steps, hint, is_json, out, err),
         Err(failure) => fail_told(rt, &failure, hint, is_json, out, err),
     }
 }
 
 /// Does what the words ask for.
-fn run_request<
-    'a,
-    'r,
-    'e,
-    R: Locks + Net + Clock + AllocGlobal + Clone + Drop,
-    I: Read + IsTerminal,
-    E: Write + IsTerminal,
->(
+fn run_request<'a, 'r, 'e, R: System, I: Read, E: Write + IsTerminal>(
     rt: &'r R,
     request: Request<'a>,
     place: &'a mut Place,
+    is_there: bool,
     input: &mut I,
     err: &'e mut E,
     hint: &mut Option<Hint>,
 ) -> Result<Steps<'a>, Failure<'a>>
-    ensures { IfOk result (AreStepsOf
+    ensures steps { IfOk result (AreStepsOf
         ⟦<ShownSimulator<'r, 'e, R, E> as Rig>⟧.view ⟦<ShownSocket<'r, 'e, R, E> as Rig>⟧.view
         request.entry) }
+    ensures confirmed { OnOk result (IsConfirmed (wants_yes request.entry is_there)
+        (I.remaining input.old) (I.remaining input.new)) }
+    ensures unasked { wants_yes request.entry is_there ≡ false → input.new ≡ input.old }
 {
     match request {
-        Request::Use(options, task, sequel) => {
-            use_device(rt, &options, task, &sequel, place, input, err, hint)
-        }
-        Request::Log(journal, false) => alone(log(rt, journal)),
-        Request::Log(journal, true) => alone(check(rt, journal)),
-        Request::Keep(kept) => alone(keep(rt, &kept)),
-        Request::Serve(served) => alone(serve(rt, &served)),
+        Request::Use(options, task, sequel) => use_device(
+            rt, &options, task, &sequel, place, is_there, input, err, hint,
+        ),
+        Request::Log(journal, false) => Ok(alone(log(rt, journal)?)),
+        Request::Log(journal, true) => Ok(alone(check(rt, journal)?)),
+        Request::Keep(kept) => Ok(alone(keep(rt, &kept)?)),
+        Request::Serve(served) => Ok(alone(serve(rt, &served)?)),
     }
 }
 
 /// What nothing follows.
-fn alone<'a>(done: Result<Answer, Failure<'a>>) -> Result<Steps<'a>, Failure<'a>> {
-    Ok(Steps::only(done?))
+fn alone<'a>(answer: Answer) -> Steps<'a>
+    ensures { result.answer ≡ answer }
+{
+    Steps {
+        board: None,
+        answer,
+        kept: None,
+        failure: None,
+    }
 }
 
 /// Tells a fault, in one line that is written at once. Where there is no memory for the

@@ -14,9 +14,10 @@ use Rattle.stm_session.proofs.Keeping.{depth_text, unfinished_text}
 use Rattle.std.proofs.Common.{length, refl}
 use Rattle.stm_journal.specs.Journals.{begin_entries}
 use Rattle.stm_session.specs.ChangeOrder.{AreBegunTurns, IsOneSegment, IsSegmentBegun, begins, ends, turns}
+use Rattle.stm_session.specs.Closing.{IsClosedInPart, closing}
 use Rattle.stm_session.specs.Fault.{cause_of}
 use Rattle.stm_session.specs.Order.{Step, Adds, Are, Begin, DoesSteps, StopsBy}
-use Rattle.stm_session.proofs.CutShort.{begin_after, part_stops, then_stops}
+use Rattle.stm_session.proofs.CutShort.{part_stops, then_stops}
 use Rattle.stm_session.proofs.Orders.{does_then}
 use Rattle.stm_wire.specs.Rig.{RigState}
 use Rattle.stm_journal.specs.Journals.{Loaded}
@@ -151,7 +152,8 @@ returns-in_err-end_segment-clause-honest g c flashes steady chip =
     (end_fails flashes ws zs (after g last flashes) c.turn_pages.new.journal l4 a d e
     c.in_ok-pages.pages all.whole all.make all.whole.done.flash l4 _
     c.from_residual-in_err-end_segment.result
-    (c.in_err-end_segment.ensures.honest (a.device.flash ∷ flashes) all.whole.steady)
+    (c.in_err-end_segment.ensures.honest (a.device.flash ∷ flashes) all.whole.steady
+    (all.make.chip ∙ chip))
     c.from_residual-in_err-end_segment.ensures.1)
 
 pub returns-clause-honest : goal.returns-clause-honest
@@ -165,7 +167,8 @@ returns-clause-honest g c flashes steady chip =
     let ws = begins_by g last flashes ++ turns_by g last flashes in
     let zs : List Entry = Ends (depth_at d.journal) ∷ [] in
     let closes =
-    c.in_ok-end_segment.ensures.honest (a.device.flash ∷ flashes) all.whole.steady in
+    c.in_ok-end_segment.ensures.honest (a.device.flash ∷ flashes) all.whole.steady
+    (all.make.chip ∙ chip) in
     let made = all.whole.done in
     let flash = ap (λ (x : Device). x.flash) closes.same_device ∙ made.flash in
     changes_as flashes (ws ++ zs) _ (after g last flashes) l4 a e _ all.lines
@@ -189,8 +192,8 @@ returns-clause-order g c =
     let first : List Step = Adds (begin_entries chip.id chip.unique l.state) ∷ [] in
     let turned = c.in_ok-pages.ensures.order in
     let deep : length l3.state.stack ≡ length l.state.stack + 1 = c.in_ok-pages.ensures.depth ∙ c.in_ok-segment.ensures.begun.depth in
-    let E : ℕ → Type 0 = λ m. DoesSteps (Adds (Ends m ∷ []) ∷ []) l3 l4 d e in
-    let last : List Step = Adds (Ends (length l.state.stack + 1) ∷ []) ∷ [] in
+    let E : ℕ → Type 0 = λ m. DoesSteps (closing chip ++ Adds (Ends m ∷ []) ∷ []) l3 l4 d e in
+    let last : List Step = closing chip ++ Adds (Ends (length l.state.stack + 1) ∷ []) ∷ [] in
     let all = does_then first (turned.0 ++ last) l l2 l4 a b e c.in_ok-segment.ensures.order (does_then turned.0 last l2 l3 l4 b d e turned.2 (subst E deep c.in_ok-end_segment.ensures.order)) in
     let done : IsOneSegment chip c.args.change.now l.state (first ++ (turned.0 ++ last)) = record { turned = turned.0; are_turned = turned.1; is = refl } in
     (first ++ (turned.0 ++ last), done, all)
@@ -230,10 +233,8 @@ returns-in_err-end_segment-clause-stops g c =
     let turned = c.in_ok-pages.ensures.order in
     let before : List Step = own ++ turned.0 in
     let deep : length l3.state.stack ≡ length l.state.stack + 1 = c.in_ok-pages.ensures.depth ∙ c.in_ok-segment.ensures.begun.depth in
-    let line : ℕ → List Step = λ k. Adds (Ends k ∷ []) ∷ [] in
-    let P : ℕ → Type 0 = λ k. StopsBy (Begin (Are (line k))) (cause_of c.in_err-end_segment.field-0.0) l3.is_torn d e in
-    then_stops (Begin (Are (line (length l.state.stack + 1)))) (IsSegmentBegun chip change l.state) before l l3 a d e _ c.from_residual-in_err-end_segment.result c.from_residual-in_err-end_segment.ensures.1
+    let Part : ℕ → List Step → Type 0 = λ k. IsClosedInPart chip (Begin (Are (Adds (Ends k ∷ []) ∷ []))) in
+    let P : ℕ → Type 0 = λ k. StopsBy (Part k) (cause_of c.in_err-end_segment.field-0.0) l3.is_torn d e in
+    then_stops (Part (length l.state.stack + 1)) (IsSegmentBegun chip change l.state) before l l3 a d e _ c.from_residual-in_err-end_segment.result c.from_residual-in_err-end_segment.ensures.1
     (does_then own turned.0 l l2 l3 a b d c.in_ok-segment.ensures.order turned.2) (subst P deep c.in_err-end_segment.ensures.stops)
-    (λ ys begun.
-    ends (begin_after (Are (line (length l.state.stack + 1))) (IsOneSegment chip change l.state) before
-    (λ zs is. record { turned = turned.0; are_turned = turned.1; is = ap (λ (ws : List Step). before ++ ws) is }) ys begun))
+    (λ ys part. ends turned.0 ys turned.1 part refl)

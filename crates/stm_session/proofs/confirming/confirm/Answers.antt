@@ -13,7 +13,8 @@ use Rattle.stm_session.specs.Order.{Begin, IsInOrder, StopsBy}
 use Rattle.stm_session.specs.Reaching.{IsConfirming, confirm_steps, confirmed_at}
 use Rattle.stm_session.specs.Sending.{most_of_confirming}
 use Rattle.stm_session.proofs.Asking.{asks_failed, asks_ok, nothing_asked}
-use Rattle.stm_session.proofs.Confirmings.{has_again, place_known}
+use Rattle.stm_session.specs.lemmas.ClosingLaws.{place_known}
+use Rattle.stm_session.proofs.Confirmings.{has_again}
 use Rattle.stm_session.proofs.CutShort.{begin_all, by_fault, halts}
 use Rattle.stm_session.proofs.Reaching.{at_fault}
 use Rattle.stm_session.proofs.Sending.{same_fault}

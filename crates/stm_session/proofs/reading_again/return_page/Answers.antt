@@ -4,13 +4,14 @@ use Rattle.stm_wire.specs.Chip.{page_of, with_page}
 use Rattle.stm_wire.specs.Device.{Device}
 use Rattle.stm_session.specs.ChangeOrder.{IsChanged}
 use Rattle.stm_session.specs.Lines.{rewrite_entries}
-use Rattle.stm_session.specs.Order.{Are, AreReadsOf, Begin, DoesSteps, OrMisread, page_address, page_reads, give_back_steps, return_steps}
+use Rattle.stm_session.specs.Order.{Are, AreReadsOf, Begin, DoesSteps, page_address, page_reads, give_back_steps, return_steps}
+use Rattle.stm_session.specs.UndoOrder.{OrMisread, such}
 use Rattle.stm_wire.specs.Chip.{page_size}
 use Rattle.stm_session.specs.Steps.{Goes, IsSteady}
 use Rattle.stm_session.proofs.CutShort.{page_was_read, part_stops, then_stops}
 use Rattle.stm_session.proofs.Exits.{goes_fault}
 use Rattle.stm_session.proofs.Going.{asks_fail, asks_on, at_exit, goes_as, goes_ok, goes_then}
-use Rattle.stm_session.proofs.Misreads.{may_be, may_misread}
+use Rattle.stm_session.proofs.Misreads.{may_misread}
 use Rattle.stm_session.proofs.Orders.{does_as, does_then}
 use Rattle.stm_session.proofs.Restorings.{kept_begun, kept_does, kept_lines}
 use Rattle.stm_session.proofs.Rereadings.{holds_put, restore_begun, return_is, return_whole}
@@ -93,7 +94,7 @@ returns-in_err-change_page-clause-stops g c =
     let page = c.args.page.now in
     let All = Begin (Are (return_steps again chip n held page)) in
     part_stops (Begin (IsChanged true chip n held page)) (OrMisread again chip All) c.args.journal.now.is_torn (V c.args.rig.now) (V c.change_page.new.rig) _ c.from_residual.result c.from_residual.ensures.1
-    (λ xs begun. may_be again chip All xs (restore_begun again chip n held page xs
+    (λ xs begun. such (restore_begun again chip n held page xs
     (kept_begun chip n held page xs begun))) c.in_err-change_page.ensures.performs.stops
 
 pub returns-then-not-again-clause-honest : goal.returns-then-not-again-clause-honest

@@ -17,7 +17,8 @@ use Rattle.hex.specs.Hex.{encode_upper}
 use Rattle.stm_wire.specs.Call.{Call}
 use Rattle.stm_journal.specs.PageFetching.{Brings}
 use Rattle.stm_session.specs.Fault.{cause_of}
-use Rattle.stm_session.specs.Order.{Step, Are, AreCutShort, AreReadsOf, Begin, BeginTold, DoesSteps, IsInOrder, IsGivenBack, Tells, acts_of, page_reads, OrMisread, return_steps, so_far}
+use Rattle.stm_session.specs.Order.{Step, Are, AreCutShort, AreReadsOf, Begin, BeginTold, DoesSteps, IsInOrder, IsGivenBack, Tells, acts_of, page_reads, return_steps, so_far}
+use Rattle.stm_session.specs.UndoOrder.{OrMisread, such}
 use Rattle.stm_session.specs.Told.{ToldIn}
 use Rattle.stm_session.specs.Steps.{Goes, IsSteady}
 use Rattle.stm_session.specs.Undoable.{state_at}
@@ -27,7 +28,7 @@ use Rattle.stm_session.proofs.Exits.{goes_fault, in_page, reads_page}
 use Rattle.stm_session.proofs.Fetchings.{fetch_goes, fetch_fails}
 use Rattle.stm_session.proofs.Going.{asks_fail, asks_on, goes_as, goes_ok, goes_refused, goes_then}
 use Rattle.stm_session.proofs.Keeping.{good_at}
-use Rattle.stm_session.proofs.Misreads.{may_after, may_be}
+use Rattle.stm_session.proofs.Misreads.{may_after}
 use Rattle.stm_session.proofs.Orders.{does_as, does_fetch, does_then}
 use Rattle.stm_session.proofs.Restorings.{lines_same, page_read}
 use Rattle.stm_session.proofs.ToldPages.{some_calls}
@@ -290,7 +291,7 @@ returns-in_err-held-clause-stops g c =
     let Begun = BeginTold (λ T. IsGivenBack c.args.again chip T n) Told in
     part_stops (Begin (AreReadsOf start size)) (OrMisread c.args.again chip Begun) torn a b
     _ c.from_residual.result c.from_residual.ensures.1
-    (λ ys reads. may_be c.args.again chip Begun ys
+    (λ ys reads. such
     (return_reading c.args.again chip Told n start size c.page_start-start.ensures.address
     c.page_size-size.ensures.bytes ys reads))
     (c.in_err-held.ensures.order_stops n
@@ -312,7 +313,7 @@ returns-in_err-page-clause-stops g c =
     let Begun = BeginTold (λ T. IsGivenBack c.args.again chip T n) Told in
     memory_stops (OrMisread c.args.again chip Begun) torn (page_reads chip n held) a b
     c.from_residual-in_err-page.result c.from_residual-in_err-page.ensures.1
-    (may_be c.args.again chip Begun _ (return_read c.args.again chip Told n held many))
+    (such (return_read c.args.again chip Told n held many))
     (was_read g read held refl).acts
 
 pub returns-in_err-fetch_page-clause-stops : goal.returns-in_err-fetch_page-clause-stops
@@ -330,7 +331,7 @@ returns-in_err-fetch_page-clause-stops g c =
     journal_stops (OrMisread c.args.again chip Begun) torn (page_reads chip n held) _
     (V c.args.rig.now) d c.from_residual-in_err-fetch_page.result
     c.from_residual-in_err-fetch_page.ensures.1
-    (may_be c.args.again chip Begun _ (return_read c.args.again chip Told n held many))
+    (such (return_read c.args.again chip Told n held many))
     (fetched g read held d refl c.fetch_page.ensures.calls).acts
 
 pub returns-in_err-return_page-clause-stops : goal.returns-in_err-return_page-clause-stops

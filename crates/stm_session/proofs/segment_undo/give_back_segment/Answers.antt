@@ -12,7 +12,8 @@ use Rattle.std.proofs.Common.{[], ℕ, ◌++◌, subst}
 use Rattle.std.proofs.Common.{take}
 use Rattle.stm_wire.specs.Call.{Call}
 use Rattle.stm_session.specs.Fault.{cause_of}
-use Rattle.stm_session.specs.Order.{Step, AreCutShort, AreGivenBack, BeginTold, Follows, IsInOrder, IsGivenBack, OrMisread, acts_of, tells_behind}
+use Rattle.stm_session.specs.Order.{Step, AreCutShort, AreGivenBack, BeginTold, Follows, IsInOrder, IsGivenBack, acts_of, tells_behind}
+use Rattle.stm_session.specs.UndoOrder.{OrMisread}
 use Rattle.stm_session.specs.Told.{ToldIn}
 use Rattle.stm_session.proofs.Orders.{does_nothing, does_then, returned_next}
 use Rattle.stm_session.proofs.Tellings.{pages_as, returned_as}

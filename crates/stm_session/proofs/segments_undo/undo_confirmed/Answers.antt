@@ -1,7 +1,8 @@
 use Rattle.std.proofs.Common.{◌+◌, ◌++◌, inl, inr, List, Some, length, true, refl, arith}
 use Rattle.stm_journal.specs.Newest.{pages_of_segments}
 use Rattle.stm_session.specs.Work.{pages_at_work}
-use Rattle.stm_session.specs.Order.{Step, AreAllUndone, Begin, BeginTold, OrMisread, so_far}
+use Rattle.stm_session.specs.Order.{Step, Begin, BeginTold, so_far}
+use Rattle.stm_session.specs.UndoOrder.{AreAllUndone, OrMisread}
 use Rattle.stm_session.specs.Reaching.{IsConfirmedInPart, IsConfirming, confirmed_at, confirming}
 use Rattle.stm_session.specs.SegmentsUndo.{undo_lines}
 use Rattle.stm_session.specs.Sending.{most_of_confirming, most_of_undo}

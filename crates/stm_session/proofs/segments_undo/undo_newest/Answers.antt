@@ -6,7 +6,8 @@ use Rattle.std.proofs.Common.{[], ℕ, ◌++◌, drop, sym, subst}
 use Rattle.stm_journal.specs.Newest.{pages_of_segments}
 use Rattle.stm_wire.specs.Call.{Call}
 use Rattle.stm_session.specs.Fault.{cause_of}
-use Rattle.stm_session.specs.Order.{Step, AreCutShort, AreSegmentsUndone, BeginTold, Follows, IsInOrder, IsSegmentUndone, OrMisread, acts_of, tells_behind}
+use Rattle.stm_session.specs.Order.{Step, AreCutShort, BeginTold, Follows, IsInOrder, acts_of, tells_behind}
+use Rattle.stm_session.specs.UndoOrder.{AreSegmentsUndone, IsSegmentUndone, OrMisread}
 use Rattle.stm_session.specs.Told.{ToldIn}
 use Rattle.stm_session.specs.Undoable.{newest_kept}
 use Rattle.stm_session.proofs.Orders.{does_nothing, does_then, segments_count, segments_split, taken_next}

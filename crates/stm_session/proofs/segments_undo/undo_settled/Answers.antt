@@ -1,6 +1,7 @@
 use Rattle.std.proofs.Common.{◌≡◌, ◌∙◌, ◌≤◌, ◌++◌, List, ℕ, refl, subst, arith}
 use Rattle.stm_journal.specs.declared.kept.Kept.{Kept}
-use Rattle.stm_session.specs.Order.{AreSegmentsUndone, Step, AreAllUndone, AreCutShort, AreRewritten, BeginTold, IsInOrder, OrMisread, acts_of, tells_behind}
+use Rattle.stm_session.specs.Order.{Step, AreCutShort, AreRewritten, BeginTold, IsInOrder, acts_of, tells_behind}
+use Rattle.stm_session.specs.UndoOrder.{AreAllUndone, AreSegmentsUndone, OrMisread, such}
 use Rattle.stm_session.proofs.Going.{at_exit}
 use Rattle.stm_session.proofs.GoingAll.{all_back, all_failed, work_failed}
 use Rattle.stm_session.proofs.Keeping.{fits_pages}
@@ -13,7 +14,7 @@ use Rattle.stm_session.specs.Told.{ToldIn}
 use Rattle.stm_session.proofs.CutShort.{part_stops, then_stops}
 use Rattle.stm_session.proofs.Tellings.{segments_as, work_as}
 use Rattle.stm_session.proofs.ToldPages.{told_on, told_then}
-use Rattle.stm_session.proofs.Misreads.{may_after, may_be}
+use Rattle.stm_session.proofs.Misreads.{may_after}
 use Rattle.stm_session.proofs.UndoOrders.{pages_count, segments_begun, work_begun}
 use Rattle.stm_session.specs.Steps.{IsSteady}
 use Rattle.stm_session.specs.Work.{pages_at_work}
@@ -103,7 +104,7 @@ returns-in_err-rewrite_at_work-clause-stops g c =
     let Work = BeginTold (λ T. AreRewritten chip T work) Told in
     let All = BeginTold (λ T. AreAllUndone c.args.again chip T work c.args.taken segments) Told in
     part_stops Work (OrMisread c.args.again chip All) l.is_torn a b _ c.from_residual.result c.from_residual.ensures.1
-    (λ ys begun. may_be c.args.again chip All ys (work_begun c.args.again chip Told work c.args.taken segments deep ys begun)) c.in_err-rewrite_at_work.ensures.stops
+    (λ ys begun. such (work_begun c.args.again chip Told work c.args.taken segments deep ys begun)) c.in_err-rewrite_at_work.ensures.stops
 
 pub returns-in_err-undo_newest-clause-stops : goal.returns-in_err-undo_newest-clause-stops
 returns-in_err-undo_newest-clause-stops g c =

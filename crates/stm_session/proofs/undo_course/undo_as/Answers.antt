@@ -26,9 +26,9 @@ use Rattle.std.proofs.Common.{◌++◌}
 use Rattle.std.proofs.Common.{inl, inr}
 use Rattle.stm_session.specs.Fault.{cause_of}
 use Rattle.stm_journal.specs.Newest.{pages_of_segments}
-use Rattle.stm_session.specs.Order.{Step, AreCutShort, Begin, BeginTold, IsAfter, OrMisread, so_far, untold}
+use Rattle.stm_session.specs.Order.{Step, AreCutShort, BeginTold, IsAfter, so_far}
 use Rattle.stm_session.specs.Reaching.{IsConfirmedInPart, SettlesFirst, asking_steps, confirming}
-use Rattle.stm_session.specs.UndoOrder.{AreUndoneInOrder, AreTakenAs, BeginTaking, UndoStopsAs}
+use Rattle.stm_session.specs.UndoOrder.{AreTakenAs, OrMisread}
 use Rattle.stm_session.specs.Told.{BeginTakingTold, ToldBy, ToldIn, UndoStopsToldAs, behind_confirming}
 use Rattle.stm_session.proofs.Tellings.{all_as}
 use Rattle.stm_session.proofs.Misreads.{may_as}
@@ -315,36 +315,8 @@ returns-clause-puts g c =
     sends_back c.args.table.now c.args.count a c.in_ok-journal.journal.is_greeted intent c.in-Some.id chip c.in_ok-chip.ensures.chip taken.result (V c.load.new.rig) (V c.meet.new.rig) d _ limit taken.ensures.asked refl
     c.in_ok-journal.ensures.calls c.in_ok-meet.ensures.puts c.in_ok-undo_confirmed.ensures.puts
 
-pub returns-then-depth-eq0-clause-order : goal.returns-then-depth-eq0-clause-order
-returns-then-depth-eq0-clause-order g c some = absurd (omega (arith, some))
-
 pub returns-then-depth-eq0-clause-given : goal.returns-then-depth-eq0-clause-given
 returns-then-depth-eq0-clause-given g c some = absurd (omega (arith, some))
-
-pub returns-clause-order : goal.returns-clause-order
-returns-clause-order g c some =
-    let V = g.R.Rig.view in
-    let l = c.in_ok-journal.journal in
-    let chip = c.in_ok-chip.chip.now in
-    let way = settling_way chip.kind l.is_greeted (intent_of l.state) in
-    let a = (V c.args.rig.now).calls in
-    let b = (V c.load.new.rig).calls in
-    let d = (V c.meet.new.rig).calls in
-    let e = (V c.undo_confirmed.new.rig).calls in
-    let back = c.in_ok-undo_confirmed.ensures.order in
-    let met = c.in_ok-meet.ensures.order l.is_torn in
-    let asking = asking_steps met.0 met.1 chip.id in
-    let Told = behind_confirming chip (ToldIn V l.is_torn (V c.meet.new.rig) (V c.undo_confirmed.new.rig)) in
-    let taken = all_as c.args.again chip Told untold (pages_at_work l.state.stack) c.taken_count-segments.result (pages_of_segments l.state.stack) back.1.0 (λ steps page told. tt) back.1.2 in
-    record {
-      journal = l;
-      loaded = λ h. (c.in_ok-journal.ensures.honest h).loaded;
-      sound = c.depth-depth.ensures.sound;
-      chip = chip;
-      listed = own-id c.args.table.now c.in-Some.id chip c.in_ok-chip.ensures.chip;
-      board = c.in_ok-chip.ensures.board;
-      does = (met.0, met.1, back.0, (back.1.0, back.1.1, (taken, c.kept_bytes-bytes.ensures)), fetched_then way l.is_torn (asking ++ back.0) a b e c.in_ok-journal.ensures.calls (settled_then way l.is_torn asking back.0 b d e refl met.2 back.2.acts));
-    }
 
 pub returns-clause-given : goal.returns-clause-given
 returns-clause-given g c some =
@@ -377,81 +349,6 @@ returns-clause-given g c some =
         fetched_then way l.is_torn (asking ++ back.0) a.calls b.calls e.calls c.in_ok-journal.ensures.calls (settled_then way l.is_torn asking back.0 b.calls d.calls e.calls refl met.2 back.2.acts),
       );
     }
-
-pub returns-in_err-journal-clause-stops : goal.returns-in_err-journal-clause-stops
-returns-in_err-journal-clause-stops g c =
-    let V = g.R.Rig.view in
-    let P : Fault → Type 0 = λ e. UndoStopsAs c.args.again c.args.table.now c.args.count (V c.args.rig.now) (V c.load.new.rig) e in
-    at_fault P _ c.from_residual.result c.from_residual.ensures.1 (inl c.in_err-journal.ensures.calls)
-
-pub returns-in_err-chip-clause-stops : goal.returns-in_err-chip-clause-stops
-returns-in_err-chip-clause-stops g c =
-    let V = g.R.Rig.view in
-    let P : Fault → Type 0 = λ e. UndoStopsAs c.args.again c.args.table.now c.args.count (V c.args.rig.now) (V c.load.new.rig) e in
-    at_fault P _ c.from_residual-in_err-chip.result c.from_residual-in_err-chip.ensures.1 (inl c.in_ok-journal.ensures.calls)
-
-pub returns-in_err-meet-clause-stops : goal.returns-in_err-meet-clause-stops
-returns-in_err-meet-clause-stops g c =
-    let V = g.R.Rig.view in
-    let l = c.in_ok-journal.journal in
-    let way = settling_way c.in_ok-chip.chip.now.kind l.is_greeted (intent_of l.state) in
-    let a = V c.args.rig.now in
-    let b = V c.load.new.rig in
-    let d = V c.meet.new.rig in
-    let P : Fault → Type 0 = λ e. UndoStopsAs c.args.again c.args.table.now c.args.count a d e in
-    at_fault P _ c.from_residual-in_err-meet.result c.from_residual-in_err-meet.ensures.1
-    (inr (record {
-      journal = l;
-      loaded = λ h. (c.in_ok-journal.ensures.honest h).loaded;
-      sound = c.depth-depth.ensures.sound;
-      chip = c.in_ok-chip.chip.now;
-      listed = own-id c.args.table.now c.in-Some.id c.in_ok-chip.chip.now c.in_ok-chip.ensures.chip;
-      board = c.in_ok-chip.ensures.board;
-      does = inl (fetched_stops way _ l.is_torn a.calls b.calls d.calls c.in_ok-journal.ensures.calls (c.in_err-meet.ensures.stops l.is_torn));
-    }))
-
-pub returns-in_err-undo_confirmed-clause-stops : goal.returns-in_err-undo_confirmed-clause-stops
-returns-in_err-undo_confirmed-clause-stops g c =
-    let V = g.R.Rig.view in
-    let l = c.in_ok-journal.journal in
-    let chip = c.in_ok-chip.chip.now in
-    let intent = intent_of l.state in
-    let segments = pages_of_segments l.state.stack in
-    let way = settling_way chip.kind l.is_greeted intent in
-    let a = V c.args.rig.now in
-    let b = V c.load.new.rig in
-    let d = V c.meet.new.rig in
-    let e = V c.undo_confirmed.new.rig in
-    let taken = c.taken_count-segments in
-    let within : taken.result ≤ length l.state.stack = omega (arith, taken.ensures.most, c.depth-depth.ensures.value) in
-    let met = c.in_ok-meet.ensures.order l.is_torn in
-    let cause = cause_of c.in_err-undo_confirmed.field-0.0 in
-    let Told = behind_confirming chip (ToldIn V l.is_torn d e) in
-    let Begun = BeginTold (λ T. AreTakenAs c.args.again T taken.result chip l.state) Told in
-    let Part = OrMisread c.args.again chip Begun in
-    let Own = IsConfirmedInPart chip Part in
-    let Back = IsConfirmedInPart chip (BeginTaking c.args.again c.args.count chip l.state) in
-    let Cut = AreCutShort (IsAfter (asking_steps met.0 met.1 chip.id) Own) cause l.is_torn in
-    let P : Fault → Type 0 = λ x. UndoStopsAs c.args.again c.args.table.now c.args.count a e x in
-    let back = fetched_and way Cut a.calls b.calls e.calls c.in_ok-journal.ensures.calls (reached_stops way chip.id met.0 met.1 Own cause l.is_torn b d e met.2 c.in_err-undo_confirmed.ensures.stops) in
-    let begun : (steps : List Step) → Own steps → Back steps =
-    confirmed_as chip Part (BeginTaking c.args.again c.args.count chip l.state) (λ steps part. (
-      taken.result,
-      within,
-      taken.ensures.asked,
-      may_as c.args.again chip Begun (Begin (AreUndoneInOrder c.args.again taken.result chip l.state))
-          (λ xs own. (own.0, all_as c.args.again chip (so_far (length xs) Told) untold (pages_at_work l.state.stack) taken.result segments (xs ++ own.0) (λ ys page told. tt) own.1)) steps part,
-    )) in
-    at_fault P _ c.from_residual-in_err-undo_confirmed.result c.from_residual-in_err-undo_confirmed.ensures.1
-    (inr (record {
-      journal = l;
-      loaded = λ h. (c.in_ok-journal.ensures.honest h).loaded;
-      sound = c.depth-depth.ensures.sound;
-      chip = chip;
-      listed = own-id c.args.table.now c.in-Some.id chip c.in_ok-chip.ensures.chip;
-      board = c.in_ok-chip.ensures.board;
-      does = inr (stops_as way chip.id l.is_torn Own Back cause a e begun (met.0, met.1, back));
-    }))
 
 pub returns-in_err-journal-clause-given_stops : goal.returns-in_err-journal-clause-given_stops
 returns-in_err-journal-clause-given_stops g c =

@@ -3,13 +3,19 @@ use Rattle.stm_session.specs.Order.{untold}
 use Rattle.stm_session.specs.Told.{AreGivenBackTold, AreTakenTold, ToldBy}
 use Rattle.stm_session.specs.UndoOrder.{AreUndoneInOrder, AreTakenWhole}
 use Rattle.stm_session.proofs.KeptUndoes.{undo_does_as}
+use Rattle.stm_session.proofs.Untold.{given_in_order, stops_in_order}
 use Rattle.stm_session.proofs.undoing.undo.Goals as goal
 
 pub returns-in-Ok-clause-order : goal.returns-in-Ok-clause-order
 returns-in-Ok-clause-order g c some =
     let V = g.R.Rig.view in
     let returned = c.in-Ok.returned in
-    undo_does_as c.args.table.now (V c.args.rig.now) (V c.undo_as.new.rig) (AreTakenWhole false untold returned) (AreUndoneInOrder false returned.segments) (λ chip s steps are. are.0) (c.in-Ok.ensures.order some)
+    let a = V c.args.rig.now in
+    let b = V c.undo_as.new.rig in
+    undo_does_as c.args.table.now a b (AreTakenWhole false untold returned) (AreUndoneInOrder false returned.segments) (λ chip s steps are. are.0) (given_in_order V false c.args.table.now returned a b (c.in-Ok.ensures.given some))
+
+pub returns-in-Err-clause-stops : goal.returns-in-Err-clause-stops
+returns-in-Err-clause-stops g c = let V = g.R.Rig.view in stops_in_order V false c.args.table.now c.args.count (V c.args.rig.now) (V c.undo_as.new.rig) c.in-Err.fault c.in-Err.ensures.given_stops
 
 pub returns-in-Ok-clause-given : goal.returns-in-Ok-clause-given
 returns-in-Ok-clause-given g c some =

@@ -19,4 +19,4 @@ returns c =
     let m3 : Makes a3 c.in_ok-arg-3.field-0 =
     adds a2 (option_rule (codes "give-up")) c.in_ok-arg-2.field-0 c.option.result c.in_ok-arg-3.field-0 m2 c.option.ensures.rule c.option.ensures.local c.in_ok-arg-3.ensures in
     IfOk-weaker c.arg-4.result _ _
-    (λ r h. adds a3 (flag_rule (codes "fresh")) c.in_ok-arg-3.field-0 c.flag.result r m3 c.flag.ensures.rule c.flag.ensures.local h) c.arg-4.ensures
+    (λ r h. adds a3 (flag_rule (codes "fresh")) c.in_ok-arg-3.field-0 c.hidden_flag.result r m3 c.hidden_flag.ensures.rule c.hidden_flag.ensures.local h) c.arg-4.ensures
