@@ -9,14 +9,13 @@ import os
 import pathlib
 import shutil
 import signal
-import socket
 import subprocess
 import sys
-import time
 import tty
 import unittest
 
-from place import PATIENCE, TOP, WAIT, Place, Said, program, readable
+from place import COUNTING, PATIENCE, TOP, WAIT, Place, Said, program, readable
+from served import Served
 
 LINE = os.path.join(TOP, "line", "stmflash-line")
 # runs the companion where pyserial knows the ports of tests/stand_ins
@@ -62,19 +61,22 @@ class LinePlace(Place):
         super().tearDown()
         self.assertEqual(os.listdir(self.path("temporary")), [])
 
-    def board(self, name="ttyUSB0", chip="0412"):
-        """A port of this name with a simulated board behind it."""
+    def board(self, name="ttyUSB0", chip="0412", flash=None):
+        """A port of this name with a simulated board behind it, in whose flash this stands where it is given."""
+        if flash is not None:
+            self.store(name + ".flash", flash)
         made = pty_boards.PtyBoard(program(), self.path(name), chip, self.path("table"))
         self.addCleanup(made.stop)
         return made
 
-    def plain(self, name="ttyUSB0"):
-        """A port of this name with nothing but an end of ours behind it: the descriptor of that."""
+    def plain(self, name="ttyUSB0", closes=True):
+        """A port of this name with nothing but an end of ours behind it: the descriptor of that, which is closed in the end, or by the test."""
         master, slave = os.openpty()
         tty.setraw(slave)
         os.symlink(os.ttyname(slave), self.path(name))
         os.close(slave)
-        self.addCleanup(lambda: os.close(master))
+        if closes:
+            self.addCleanup(os.close, master)
         return master
 
     def start(self, *words, line=(LINE,), before=default_signals, reads=False, **settings):
@@ -111,20 +113,7 @@ class LinePlace(Place):
         self.assertIsNone(started.poll(), "the companion doesn't start")
         return started
 
-    def listens(self):
-        with socket.socket(socket.AF_UNIX, socket.SOCK_STREAM) as client:
-            try:
-                client.connect(self.path("board"))
-            except OSError:
-                return False
-        return True
-
-    def connect(self):
-        client = socket.socket(socket.AF_UNIX, socket.SOCK_STREAM)
-        self.addCleanup(client.close)
-        client.settimeout(PATIENCE)
-        client.connect(self.path("board"))
-        return client
+    connect = Served.connect
 
     def read_from(self, master, count):
         """So many bytes that the companion has sent to the port whose other end this is."""
@@ -149,6 +138,22 @@ class LinePlace(Place):
         self.until(lambda: not os.path.exists(f"/proc/{process}"), "the command goes on")
         return started
 
+    def start_known(self, *command, words=("ttyUSB0",), start=None):
+        """Starts a command behind the companion on these words: that, and the command's process. A shell writes its number, and becomes
+        the command."""
+        started = (start or self.start)(*words, "--", "sh", "-c", 'echo $$; exec "$@"', "sh", *command)
+        return started, int(started.stdout.readline() or 0)
+
+    def kill_some(self, which, started, child):
+        """Kills the companion (`line`), its command (`client`) or both, and answers the companion's status once neither goes on."""
+        if which != "line":
+            kill(child)
+        if which != "client":
+            kill(started.pid)
+        status = started.wait(PATIENCE)
+        self.until(lambda: not os.path.exists(f"/proc/{child}"), "the command goes on")
+        return status
+
     def taken(self, master):
         """A client that the companion has taken, whose port has its other end here: it has handed its byte on."""
         client = self.connect()
@@ -162,8 +167,13 @@ class LinePlace(Place):
         self.assertSilent(self.ended(started))
 
     def until_served(self, started):
-        """One that was started to serve the socket `board`, once it listens."""
-        self.until(lambda: started.poll() is not None or self.listens(), "the companion doesn't listen")
+        """One that was started to serve the socket `board`, once it listens, or has ended."""
+        def is_ready():
+            with contextlib.suppress(OSError), self.connect():
+                return True
+            return started.poll() is not None
+
+        self.until(is_ready, "the companion doesn't listen")
         return started
 
     def assertNothingSent(self, master):
@@ -171,16 +181,41 @@ class LinePlace(Place):
         os.set_blocking(master, False)
         self.assertRaises(OSError, os.read, master, 1)
 
-    def until(self, is_so, text):
-        """Waits until something is so."""
-        end = time.monotonic() + PATIENCE
-        while not is_so():
-            self.assertLess(time.monotonic(), end, text)
-            time.sleep(0.01)
+    def assertInfo(self, said):
+        """The board was there, and told its id."""
+        self.assertEqual((said.status, said.out.split(b"\n")[0], said.err), (0, b"id 0412", b""))
+
+    def assertBadWords(self, said, text=""):
+        """The companion refused its words, so."""
+        self.assertEqual((said.status, said.out), (2, b""))
+        self.assertIn(f"stmflash-line: error: {text}", said.err.decode())
 
     def assertLineFault(self, said, text, status=1):
         """This one line was all that the companion said."""
         self.assertEqual(said, Said(status, b"", b"stmflash-line: " + text.encode() + b"\n"))
+
+
+class Named(LinePlace):
+    """A test that calls stmflash by its name, and whose user's journals are in its folder."""
+
+    wait = "500"
+
+    def setUp(self):
+        super().setUp()
+        # so that the journals that a test makes are its user's alone to write
+        self.addCleanup(os.umask, os.umask(0o022))
+        os.mkdir(self.path("bin"))
+        os.symlink(program(), self.path("bin/stmflash"))
+
+    def settings(self, **more):
+        return {"PATH": self.path("bin") + ":" + os.environ["PATH"], "TMPDIR": self.path("temporary"), "HOME": self.folder,
+                "STMFLASH_TABLE": self.path("table"), "STMFLASH_WAIT": self.wait, **more}
+
+    def telling(self, byte="A1", flash=COUNTING, name="ttyUSB0"):
+        """A board of this flash that tells a unique id of this byte alone; None: none."""
+        if byte:
+            self.store(name + ".flash.board", b"unique " + 12 * byte.encode() + b"\n")
+        return self.board(name, flash=flash)
 
 
 class WiredPlace(LinePlace):

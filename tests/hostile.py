@@ -42,18 +42,17 @@ class Line:
 
 
 class Board(PlantedBoard):
-    """A board of the model."""
+    """A board of the model; `more` is what else it has."""
 
-    def __init__(self):
+    def __init__(self, **more):
         super().__init__(0x412, SIZES, ERASE, {}, flash=FLASH)
+        vars(self).update(more)
 
 
 class Cut(Board):
-    """Falls silent behind so many bytes of its replies to a command."""
+    """Falls silent behind so many bytes, `kept`, of its replies to the command `cut`."""
 
-    def __init__(self, code, kept):
-        super().__init__()
-        self.cut, self.kept, self.code, self.left = code, kept, None, kept
+    code = None
 
     def feed(self, byte):
         if self.phase != FRESH and not self.rest:
@@ -89,36 +88,26 @@ class Slowly(Board):
 class Echoing(Board):
     """Echoes each byte, and answers."""
 
-    def hear(self, line, came, ending):
-        for byte in came:
-            line.sendall(bytes([byte]) + self.feed(byte))
+    def feed(self, byte):
+        return bytes([byte]) + super().feed(byte)
 
 
 class Doubling(Board):
     """Says each reply twice."""
 
-    def hear(self, line, came, ending):
-        for byte in came:
-            line.sendall(2 * self.feed(byte))
+    def feed(self, byte):
+        return 2 * super().feed(byte)
 
 
 class Always(Board):
-    """Answers the same to each byte."""
-
-    def __init__(self, byte):
-        super().__init__()
-        self.byte = byte
+    """Answers the same `byte` to each."""
 
     def feed(self, byte):
         return bytes([self.byte])
 
 
 class Closing(Board):
-    """Closes the line behind so many bytes of its replies."""
-
-    def __init__(self, kept):
-        super().__init__()
-        self.kept = kept
+    """Closes the line behind so many bytes, `kept`, of its replies."""
 
     def serve(self, line, ending):
         if self.kept:
@@ -154,11 +143,7 @@ class Resetting(Board):
 
 
 class Late(Board):
-    """Each reply comes so much later, in seconds."""
-
-    def __init__(self, seconds):
-        super().__init__()
-        self.seconds = seconds
+    """Each reply comes so many `seconds` later."""
 
     def hear(self, line, came, ending):
         for byte in came:

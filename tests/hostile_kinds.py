@@ -2,10 +2,8 @@
 
 import typing
 
-from hostile import ACK, ERASE, GET, GET_ID, NACK, READ, WRITE
-from hostile import Always, Closing, Cut, Doubling, Echoing, Endless, FirstReply, Garbling, Late, LongId, Resetting, Slowly
-from hostile import Trickling
-from hostile import be_deaf, be_noisy, be_silent, echo, hiss
+from hostile import ACK, ERASE, GET, GET_ID, NACK, READ, WRITE, be_deaf, be_noisy, be_silent, echo, hiss
+from hostile import Always, Closing, Cut, Doubling, Echoing, Endless, FirstReply, Garbling, Late, LongId, Resetting, Slowly, Trickling
 from place import ECHO, NOISE, SILENT
 
 # when a board is given up, and how long a reply may take, in seconds. Where it matters whether a reply is late the wait is long,
@@ -13,8 +11,8 @@ from place import ECHO, NOISE, SILENT
 GIVE_UP, WAIT, LONG_WAIT, WAITS = 2, 0.1, 0.5, 9
 
 
-def of(made, *words):
-    return lambda: made(*words).serve
+def of(made, **more):
+    return lambda: made(**more).serve
 
 
 def plain(serve):
@@ -57,11 +55,11 @@ MODEL = {"wait": LONG_WAIT, "is_model": True}
 
 
 def cut(code, kept, command, row="falls silent inside a command", **more):
-    return Kind(of(Cut, code, kept), command, row, (GONE,), **MODEL, **more)
+    return Kind(of(Cut, cut=code, kept=kept), command, row, (GONE,), **MODEL, **more)
 
 
 def same(byte, command, row, hint):
-    return Kind(of(Always, byte), command, row, (GONE,), (hint,), (WRONG,), wait=LONG_WAIT)
+    return Kind(of(Always, byte=byte), command, row, (GONE,), (hint,), (WRONG,), wait=LONG_WAIT)
 
 
 ASKED = {"may_end": ("info",)}
@@ -90,7 +88,7 @@ KINDS = {
     "echoes": Kind(plain(echo), "write", JOINED, (GONE,), (ECHO,), (WRONG,), wait=LONG_WAIT),
     "echoes and answers": Kind(of(Echoing), "undo", "echoes and answers", (GONE,), (ECHO, NOISE)),
     "doubles": Kind(of(Doubling), "read", "says each reply twice", (WRONG,), (ID.format(12), None), wait=LONG_WAIT),
-    "always 1F": Kind(of(Always, NACK), "info", ALIKE, (WRONG,), wait=LONG_WAIT),
+    "always 1F": Kind(of(Always, byte=NACK), "info", ALIKE, (WRONG,), wait=LONG_WAIT),
     "always 79": same(ACK, "write", ALIKE, None),
     "always 00": same(0x00, "read", STRANGE, NOISE),
     "always FF": same(0xFF, "undo", STRANGE, NOISE),
@@ -98,13 +96,13 @@ KINDS = {
     "always 76": same(0x76, "write", STRANGE, NOISE),
     "noise": Kind(plain(be_noisy), "read", STRANGE, (GONE, WRONG), (None, NOISE)),
     "a byte each 100 ms": Kind(plain(hiss), "info", STRANGE, (GONE, WRONG), (NOISE,)),
-    "closes at once": Kind(of(Closing, 0), "write", CLOSED, (ENDED,)),
-    "closes inside Get": Kind(of(Closing, 8), "undo", CLOSED, (ENDED,), **MODEL),
-    "closes inside a read's data": Kind(of(Closing, 100), "read", CLOSED, (ENDED,), **MODEL, **ASKED),
+    "closes at once": Kind(of(Closing, kept=0), "write", CLOSED, (ENDED,)),
+    "closes inside Get": Kind(of(Closing, kept=8), "undo", CLOSED, (ENDED,), **MODEL),
+    "closes inside a read's data": Kind(of(Closing, kept=100), "read", CLOSED, (ENDED,), **MODEL, **ASKED),
     "resets itself": Kind(of(Resetting), "write", "resets itself, and prints", (GONE, WRONG), (None, NOISE), may_end=ALL),
-    "late by 0.9 waits": Kind(of(Late, 0.9 * WAIT), "undo", SLOW, (GONE, WRONG), LATE, may_end=ALL),
-    "late by 1.1 waits": Kind(of(Late, 1.1 * WAIT), "info", SLOW, (GONE, WRONG), LATE, may_end=ALL),
-    "late by 19 waits": Kind(of(Late, 19 * WAIT), "read", SLOW, (GONE,), LATE, (WRONG, GONE)),
+    "late by 0.9 waits": Kind(of(Late, seconds=0.9 * WAIT), "undo", SLOW, (GONE, WRONG), LATE, may_end=ALL),
+    "late by 1.1 waits": Kind(of(Late, seconds=1.1 * WAIT), "info", SLOW, (GONE, WRONG), LATE, may_end=ALL),
+    "late by 19 waits": Kind(of(Late, seconds=19 * WAIT), "read", SLOW, (GONE,), LATE, (WRONG, GONE)),
     "one byte a second": Kind(of(Trickling), "write", SLOW, (GONE,), LATE, (WRONG, GONE)),
     "Get without an end": Kind(of(Endless), "info", "has a Get without an end", (WRONG,), **MODEL),
     "an id of 256 bytes": Kind(of(LongId), "read", "tells an id that isn't of 2 bytes", (WRONG,), (ID.format(256),), **MODEL),

@@ -5,6 +5,7 @@ The program is the one that the variable STMFLASH names; without it, the one tha
 """
 
 import contextlib
+import fcntl
 import os
 import select
 import socket
@@ -25,6 +26,8 @@ WAIT = "1000"
 # a table of chip 0412
 TABLE = b'[[chip]]\nid = 0x412\nbase = 0x08000000\npages = [[32, 1024]]\nerase = "page"\n'
 SIZE = 32768
+# the two files of a simulator
+SIMULATOR = ("flash", "flash.line")
 ERASED = b"\xff" * SIZE
 ZEROS = b"\x00" * SIZE
 # a flash whose byte i is i modulo 251
@@ -98,13 +101,15 @@ def new(segment):
 
 
 class Place(unittest.TestCase):
-    """A test with a folder of its own, in which a table stands. All names of files are names in it."""
+    """A test with a folder of its own, in which a table stands, and what else it begins with. All names of files are names in it."""
+
+    begins = {}
 
     def setUp(self):
         folder = tempfile.TemporaryDirectory(prefix="stmflash-")
         self.addCleanup(folder.cleanup)
         self.folder = folder.name
-        self.store("table", TABLE)
+        self.store_all({"table": TABLE, **self.begins})
 
     def tearDown(self):
         # what is written beside a file is renamed or removed, whatever came
@@ -114,6 +119,10 @@ class Place(unittest.TestCase):
         return os.path.join(self.folder, name)
 
     def store(self, name, data):
+        """Stores a file of these bytes; None: it isn't there."""
+        if data is None:
+            self.clear(name)
+            return
         with open(self.path(name), "wb") as file:
             file.write(data)
 
@@ -150,6 +159,13 @@ class Place(unittest.TestCase):
         self.addCleanup(end)
         return serving
 
+    def until(self, is_so, text):
+        """Waits until something is so."""
+        end = time.monotonic() + PATIENCE
+        while not is_so():
+            self.assertLess(time.monotonic(), end, text)
+            time.sleep(0.01)
+
     def until_it_waits(self, process):
         """Returns once a process waits for something, as one does that can't write; a simulator does so for 10 s at most."""
         seen, end = 0, time.monotonic() + PATIENCE
@@ -176,14 +192,21 @@ class Place(unittest.TestCase):
         except FileNotFoundError:
             return None
 
+    @contextlib.contextmanager
+    def locked(self, name, how=fcntl.LOCK_EX):
+        """A file that this process has locked meanwhile."""
+        with open(self.path(name), "rb") as file:
+            fcntl.flock(file, how | fcntl.LOCK_NB)
+            yield
+
     def is_there(self, name):
         return os.path.lexists(self.path(name))
 
-    def start(self, *words, before=None, variables=None, **files):
-        """Starts the program on these words, after its name, with these variables alone, and with these files in place of none to read
-        and of pipes; `before` is called in its process before it begins."""
+    def start(self, *words, before=None, variables=None, executable=None, **files):
+        """Starts the program, or another one, on these words, after its name, with these variables alone, and with these files in place
+        of none to read and of pipes; `before` is called in its process before it begins."""
         files = {"cwd": self.folder, "stdin": subprocess.DEVNULL, "stdout": subprocess.PIPE, "stderr": subprocess.PIPE, **files}
-        started = subprocess.Popen(["stmflash", *words], executable=program(), env=variables or {}, preexec_fn=before, **files)
+        started = subprocess.Popen(["stmflash", *words], executable=executable or program(), env=variables or {}, preexec_fn=before, **files)
 
         def end():
             if started.returncode is None:
@@ -216,23 +239,36 @@ class Place(unittest.TestCase):
         self.store("image", image)
         return self.use(name, *words, "image", device=device)
 
-    def assertFault(self, said, text, status=1, hint=None):
-        """This one line was all that was said, or another behind it, with this status."""
+    def each(self, cases, does):
+        """Does this for each case, and names the one that fails; one of several parts is so many words."""
+        for case in cases:
+            with self.subTest(case=case):
+                does(*case) if isinstance(case, tuple) else does(case)
+
+    def assertFault(self, said, text, status=1, hint=None, holds=(), **files):
+        """This one line was all that was said, or another behind it, with this status. The simulator's files and others hold these bytes then."""
         told = f"stmflash: {text}\n" + (f"hint: {hint}\n" if hint else "")
         self.assertEqual(said, Said(status, b"", told.encode()))
+        self.assertFiles({**dict(zip(SIMULATOR, holds)), **files})
 
     def assertUsage(self, said):
         """`clap` refused the words."""
         self.assertEqual((said.status, said.out), (2, b""))
         self.assertGreater(len(said.err), 10)
 
-    def assertTold(self, said, text, note=None):
-        """All was done, and just this was said, with a note or without one."""
+    def assertTold(self, said, text, note=None, holds=(), **files):
+        """All was done, and just this was said, with a note or without one. The simulator's files and others hold these bytes then."""
         self.assertEqual(said, Said(0, text.encode(), f"note: {note}\n".encode() if note else b""))
+        self.assertFiles({**dict(zip(SIMULATOR, holds)), **files})
 
-    def assertSilent(self, said):
+    def assertSilent(self, said, **left):
         """All was done, and nothing was said."""
-        self.assertTold(said, "")
+        self.assertTold(said, "", **left)
+
+    def assertWell(self, said, holds=(), **files):
+        """All was done, and nothing was said beside the answer. The simulator's files and others hold these bytes then."""
+        self.assertEqual((said.status, said.err), (0, b""))
+        self.assertFiles({**dict(zip(SIMULATOR, holds)), **files})
 
     def assertFile(self, name, data):
         """The file holds just these bytes; None: it isn't there."""
@@ -247,7 +283,7 @@ class Place(unittest.TestCase):
 
     def assertHolds(self, flash, line):
         """The simulator's files hold these bytes and this line."""
-        self.assertFiles({"flash": flash, "flash.line": line})
+        self.assertFiles(dict(zip(SIMULATOR, (flash, line))))
 
 
 def readable(ends, patience):
@@ -259,13 +295,17 @@ def readable(ends, patience):
     return [named[number] for number, _ in calls.poll(patience * 1000)]
 
 
+def read_some(descriptor):
+    """The next that comes from a descriptor; nothing at its end, which a terminal that was closed tells as a fault."""
+    try:
+        return os.read(descriptor, 65536)
+    except OSError:
+        return b""
+
+
 def all_from(descriptor):
-    """All that comes from a descriptor until its end, which a terminal that was closed tells as a fault."""
-    held = b""
-    with contextlib.suppress(OSError):
-        while came := os.read(descriptor, 65536):
-            held += came
-    return held
+    """All that comes from a descriptor until its end."""
+    return b"".join(iter(lambda: read_some(descriptor), b""))
 
 
 def first_of(client, count, most=4096):

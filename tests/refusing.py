@@ -18,7 +18,7 @@ SIZES = [1024] * 32
 IMAGE = bytes(range(256)) * 12
 AT = BASE + 4 * 1024
 # what is told of page 5, by its number and by its address
-THEN = "If so: reset, protect write-unprotect --in-session --fresh, undo 1"
+THEN = "If so: protect write-unprotect --in-session, undo 1"
 NOT_ERASED = f"page 5: the device refused to erase it: is it write-protected? {THEN}"
 NOT_WRITTEN = f"address {AT + 1024:08X}: the device refused to write it: is its page write-protected? {THEN}"
 
@@ -61,6 +61,8 @@ class Guarded(PlantedBoard):
 class OnBoard(Place):
     """A test that calls the program on boards, each call with a line of its own."""
 
+    begins = {"image": IMAGE}
+
     def at(self, serve, name, *words, hasty=("--wait", "300"), journal="journal"):
         """What a subcommand says to a peer."""
         return at_peer(self, serve, name, *hasty, *words, journal=journal)
@@ -68,3 +70,7 @@ class OnBoard(Place):
     def on(self, board, name, *words, journal="journal"):
         """What a subcommand says on a board."""
         return self.at(board.serve, name, *words, journal=journal)
+
+    def write_on(self, board):
+        """What a write of the image says on a board."""
+        return self.on(board, "write", "-S", f"{AT:#x}", "image")

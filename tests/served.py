@@ -49,15 +49,15 @@ class Served(Place):
                 time.sleep(0.01)
 
     @contextlib.contextmanager
-    def between(self, change, name="stand", wire=lambda line: line):
-        """Somebody between one client at a socket of this name and the simulator, who changes its replies so. `self.line` is the
-        client's line, and `wire` makes what is used of it."""
+    def between(self, change, name="stand", wire=lambda line: line, heard=lambda came: None):
+        """Somebody between one client at a socket of this name and the simulator, who changes its replies so, and is told what is sent.
+        `self.line` is the client's line, and `wire` makes what is used of it."""
         listener = self.listen(name)
 
         def hand_on():
             self.line, _ = listener.accept()
             with self.line, self.connect() as board:
-                relay(wire(self.line), board, change)
+                relay(wire(self.line), board, change, heard)
 
         serving = self.beside(listener, hand_on)
         yield
@@ -71,9 +71,11 @@ class Served(Place):
         client.sendall(sent)
         self.assertEqual(first_of(client, len(replies)), replies, sent.hex())
 
-    def assertServed(self):
-        """The simulator ends well when its last client has gone, says nothing, and its socket is no more."""
-        self.assertSilent(self.ended(self.simulator))
+    def assertServed(self, last=None, **left):
+        """The simulator ends well once its last client, or this one, has gone, and says nothing; its socket is no more, its files hold this."""
+        if last is not None:
+            self.leave(last)
+        self.assertSilent(self.ended(self.simulator), **left)
         self.assertFalse(self.is_there("board"))
 
     def connect(self, name="board"):

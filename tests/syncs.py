@@ -9,6 +9,8 @@ import errno
 import fcntl
 import os
 import select
+import shutil
+import signal
 import socket
 import struct
 import subprocess
@@ -47,9 +49,8 @@ def call(folder, words, fails=None, at=lambda number, process: None, held=FSYNC,
     ours, theirs = socket.socketpair()
     with ours, theirs:
         try:
-            started = subprocess.Popen(["stmflash", *words], executable=program(), cwd=folder, env=env or {},
-                                       stdin=subprocess.DEVNULL, stdout=subprocess.PIPE, stderr=subprocess.PIPE,
-                                       preexec_fn=lambda: listen(theirs, held))
+            started = subprocess.Popen(["stmflash", *words], executable=program(), cwd=folder, env=env or {}, stdin=subprocess.DEVNULL,
+                                       stdout=subprocess.PIPE, stderr=subprocess.PIPE, preexec_fn=lambda: listen(theirs, held))
         except subprocess.SubprocessError as e:
             raise CannotHold("this system lets no call of a program be held") from e
         _, (listener,), _, _ = socket.recv_fds(ours, 1, 1)
@@ -61,6 +62,33 @@ def call(folder, words, fails=None, at=lambda number, process: None, held=FSYNC,
         os.close(listener)
         started.kill()
         started.communicate()
+
+
+def traced(test, calls, *words, as_hex=False):
+    """What strace tells of these calls of the program on these words, which ends well; a test that it can't trace is left out."""
+    if shutil.which("strace") is None:
+        test.skipTest("strace is not installed")
+    ran = subprocess.run(["strace", "-f", *["-xx"] * as_hex, "-o", test.path("record"), "-e", f"trace={calls}", program(), *words],
+                         cwd=test.folder, env={}, stdin=subprocess.DEVNULL, capture_output=True, timeout=PATIENCE)
+    told = (test.held("record") or b"").decode()
+    if not told.strip():
+        test.skipTest("strace can't trace here")
+    test.assertEqual((ran.returncode, ran.stderr), (0, b""))
+    return told
+
+
+def kill_at(at):
+    """Ends a process at its call of this number that is held."""
+    return lambda number, process: number == at and os.kill(process, signal.SIGKILL)
+
+
+def call_of(process):
+    """The call that a process is held in, and its words. Who is told of it may be quicker than its rest: until then it says `running`."""
+    words = ["running"]
+    while words == ["running"]:
+        with open(f"/proc/{process}/syscall", encoding="ascii") as told:
+            words = told.read().split()
+    return [int(word, 0) for word in words]
 
 
 def listen(channel, held):

@@ -5,6 +5,7 @@ answers it (AN3155, section 3.4).
 """
 
 import contextlib
+import os
 import socket
 
 from place import PATIENCE, WAIT, files, readable, served
@@ -24,9 +25,7 @@ TABLE = b'[[chip]]\nid = 0x410\nbase = 0x08000000\npages = [[128, 1024]]\nerase 
 class Told(Served):
     """A test that has a table of that chip."""
 
-    def setUp(self):
-        super().setUp()
-        self.store("table", TABLE)
+    begins = {"table": TABLE}
 
     def run_on(self, serve, name, *words, variables=None):
         """Runs the program on a board that is served so, with its own table where it names none."""
@@ -49,15 +48,10 @@ class Stand:
     is cut where the client begins to write a page that was erased."""
 
     def __init__(self, line, board, told, cuts):
-        self.line = line
-        self.board = board
-        self.told = told
-        self.cuts = cuts
+        self.line, self.board, self.told, self.cuts = line, board, told, cuts
         # which places were asked for, and what was handed on to the board
-        self.asked = []
-        self.sent = b""
-        self.step = self.command
-        self.held = b""
+        self.asked, self.sent = [], b""
+        self.step, self.held = self.command, b""
 
     def hand_on(self, data):
         self.sent += data
@@ -127,12 +121,16 @@ class Stand:
 
 @contextlib.contextmanager
 def simulated(place, flash, name):
-    """A line to a simulator of its own on this flash, at a socket of this name, which has stored what was left in the end."""
-    simulator = place.start(*served("0410", flash, name))
+    """A line to a simulator of its own on this flash, at a socket of this name, which has stored what was left in the end. Under wine it is
+    the program for Linux: what stands before the simulator has to answer in time."""
+    simulator = place.start(*served("0410", flash, name), executable=os.environ.get("STMFLASH_LINUX"))
     with place.reach(name, simulator) as board:
-        yield board
-        board.shutdown(socket.SHUT_WR)
-        place.ended(simulator)
+        try:
+            yield board
+        finally:
+            # also where the client went in the midst: the next simulator may have this socket and these files
+            board.shutdown(socket.SHUT_WR)
+            place.ended(simulator)
 
 
 def serve_one(place, listener, flash, told, cuts, kind=Stand):

@@ -1,8 +1,7 @@
-"""Which board stands there: asked before each session, and once more in one that does commands or undoes some; named by the
-journal, and wanted by words."""
+"""Which board stands there: asked before each session, once more in one that does commands or undoes some, and behind the last
+frame of a segment; named by the journal, and wanted by words."""
 
 import telling
-from place import SILENT
 from telling import SIZE_AT, UNIQUE_AT
 
 SIZE = 131072
@@ -18,11 +17,13 @@ ASKED = b"\x00\xff\x02\xfd"
 # the places that a session is asked for: before it, and once more in it
 BEFORE = [UNIQUE_AT, SIZE_AT]
 AGAIN = [*BEFORE, UNIQUE_AT]
+# and behind the last frame of a segment
+BEHIND = [*AGAIN, UNIQUE_AT]
 # a simulator on a socket lists Get Version too
 INFO = "id 0410\nbase 08000000\npages %d\nsize %d\nerase 43\nerased FF\nversion 22\ncodes 00 01 02 11 21 31 43 73 82 92\n"
 INSIDE = INFO.replace(" 01", "")
 ANOTHER = "journal is of another board"
-OPEN_HINT = "to undo what a write-protected page refuses: reset, protect write-unprotect --in-session --fresh, undo 1"
+OPEN_HINT = "to undo what a write-protected page refuses: protect write-unprotect --in-session, undo 1"
 CHANGED = "another board answers than at first"
 
 
@@ -31,9 +32,7 @@ def size(kib):
 
 
 class Board(telling.Told):
-    def setUp(self):
-        super().setUp()
-        self.store_all({"flash": COUNTING, "there": COUNTING, "image": b"an image"})
+    begins = {"table": telling.TABLE, "flash": COUNTING, "there": COUNTING, "image": b"an image"}
 
     def at(self, unique, *words, kib=None, flash="flash", cuts=(False,), variables=None):
         """Runs the program on a board that tells this, in so many sessions, some of which are cut; None: the place is refused.
@@ -50,8 +49,9 @@ class Board(telling.Told):
         """Which places were asked for, in all sessions."""
         return [at for stand in self.stands for at in stand.asked]
 
-    def assertAskedAlone(self):
-        """The board was settled and asked, and nothing more was sent."""
+    def assertAskedAlone(self, said, text):
+        """This was all that was said; the board was settled and asked, and nothing more was sent."""
+        self.assertFault(said, text)
         stand, = self.stands
         self.assertEqual(stand.asked, BEFORE)
         self.assertEqual(stand.sent.lstrip(b"\x7f"), ASKED)
@@ -64,22 +64,18 @@ class Board(telling.Told):
     def test_a_journal_begins_with_the_board(self):
         self.assertTold(self.at(HERE, "write", "image"), "segment 1: 1 pages written\n")
         self.assertTrue(self.held("journal").startswith(HEAD + b"open 1\n"))
-        told = f"id 0410\nboard {NAME}\nsegment 1: ended, 1 pages: 0\n1 can be undone\n"
-        self.assertTold(self.call("log", "--journal", "journal"), told)
-        self.assertTold(self.at(HERE, "undo"), "undone 1\n")
-        self.assertFile("flash", COUNTING)
+        self.assertTold(self.call("log", "--journal", "journal"), f"id 0410\nboard {NAME}\nsegment 1: ended, 1 pages: 0\n1 can be undone\n")
+        self.assertTold(self.at(HERE, "undo"), "undone 1\n", flash=COUNTING)
 
-    def test_each_session_asks_before_it_and_once_more(self):
-        for words in (("info",), ("info", "--raw")):
+    def test_each_session_asks_before_it_and_once_more_and_behind_a_segment(self):
+        reads = (("read", "out"), ("read", "--hex", "out"), ("crc",), ("verify", "flash"))
+        uses = (("write", "image"), ("write", "-v", "image"), ("erase", "3"), ("undo", "-v", "1"))
+        # the last undoes two segments
+        for words, asked in ((("info",), BEFORE), (("info", "--raw"), BEFORE), *((words, AGAIN) for words in reads),
+                             *((words, BEHIND) for words in uses), (("undo",), [*BEHIND, UNIQUE_AT])):
             with self.subTest(words=words):
                 self.assertEqual(self.at(HERE, *words).status, 0)
-                self.assertEqual(self.asked(), BEFORE)
-        uses = (("read", "out"), ("read", "--hex", "out"), ("crc",), ("verify", "flash"), ("write", "image"), ("write", "-v", "image"),
-                ("erase", "3"), ("undo",))
-        for words in uses:
-            with self.subTest(words=words):
-                self.assertEqual(self.at(HERE, *words).status, 0)
-                self.assertEqual(self.asked(), AGAIN)
+                self.assertEqual(self.asked(), asked)
 
     def test_what_is_refused_by_itself_is_not_asked_again(self):
         """All checks of the commands come before."""
@@ -92,37 +88,29 @@ class Board(telling.Told):
             yield ("protect", *more, kind)
         yield ("go", *more, "0x08000000")
 
-    def assertLeft(self, said):
-        """The board did what can't be undone, and was reset by hand then."""
-        self.assertSilent(said)
-        self.assertNotEqual(self.stands[-1].sent.lstrip(b"\x7f")[-2:], ASKED[-2:])
-        self.store_all({"flash.line": b"fresh\n", "flash": COUNTING})
+    def assertLeft(self, unique, words, asked, variables=None):
+        """A board that tells this is asked these places, does what can't be undone, and is reset by hand then; the journal stays."""
+        journal = self.held("journal")
+        with self.subTest(words=words, journal=journal):
+            self.assertSilent(self.at(unique, *words, variables=variables), journal=journal)
+            self.assertEqual(self.asked(), asked)
+            self.assertNotEqual(self.stands[-1].sent.lstrip(b"\x7f")[-2:], ASKED[-2:])
+            self.store_all({"flash.line": b"fresh\n", "flash": COUNTING})
 
     def test_go_and_protect_ask_nothing_where_no_board_is_named_or_wanted(self):
-        for words in self.leaving():
-            with self.subTest(words=words):
-                self.assertLeft(self.at(HERE, *words))
-                self.assertEqual(self.asked(), [])
-                self.assertFile("journal", None)
-        self.store("journal", b"stmjournal 2 0410\n")
-        for words in self.leaving():
-            with self.subTest(words=words, version=2):
-                self.assertLeft(self.at(None, *words))
-                self.assertEqual(self.asked(), [])
-                self.assertFile("journal", b"stmjournal 2 0410\n")
+        for unique, journal in ((HERE, None), (None, b"stmjournal 2 0410\n")):
+            self.store("journal", journal)
+            for words in self.leaving():
+                self.assertLeft(unique, words, [])
 
     def test_go_and_protect_refuse_another_board(self):
         self.store("journal", HEAD)
         for words in self.leaving():
             for unique in (THERE, None, 12 * b"\xff") if words[0] == "go" else (THERE,):
                 with self.subTest(words=words, unique=unique):
-                    self.assertFault(self.at(unique, *words, flash="there"), ANOTHER)
-                    self.assertAskedAlone()
+                    self.assertAskedAlone(self.at(unique, *words, flash="there"), ANOTHER)
                     self.assertFiles({"there": COUNTING, "there.line": b"idle\n", "journal": HEAD})
-            with self.subTest(words=words):
-                self.assertLeft(self.at(HERE, *words))
-                self.assertEqual(self.asked(), BEFORE)
-                self.assertFile("journal", HEAD)
+            self.assertLeft(HERE, words, BEFORE)
 
     def test_go_and_protect_behind_an_undo(self):
         """The journal has a header and nothing else then."""
@@ -131,43 +119,31 @@ class Board(telling.Told):
         for words in self.leaving():
             for unique in (HERE, THERE):
                 hint = OPEN_HINT if words == ("protect", "write-unprotect") else None
-                self.assertFault(self.at(unique, *words), "journal is open, refused", hint=hint)
+                self.assertFault(self.at(unique, *words), "journal is open, refused", hint=hint, journal=journal)
                 self.assertEqual((self.asked(), self.stands[0].sent), ([], b""))
-                self.assertFile("journal", journal)
         self.assertTold(self.at(HERE, "undo"), "undone 1\n")
         journal = self.held("journal")
-        self.assertFault(self.at(THERE, "go", "0x08000000", flash="there"), ANOTHER)
-        self.assertFiles({"there": COUNTING, "journal": journal})
-        self.assertLeft(self.at(HERE, "go", "0x08000000"))
-        self.assertFile("journal", journal)
+        self.assertFault(self.at(THERE, "go", "0x08000000", flash="there"), ANOTHER, there=COUNTING, journal=journal)
+        self.assertLeft(HERE, ("go", "0x08000000"), BEFORE)
 
     def test_go_and_protect_want_a_board(self):
         for journal, words in zip((None, b"stmjournal 2 0410\n", HEAD, HEAD), self.leaving("--board", NAME[-4:])):
-            if journal is not None:
-                self.store("journal", journal)
+            self.store("journal", journal)
             with self.subTest(words=words, journal=journal):
-                self.assertFault(self.at(THERE, *words, flash="there"), "device is another board")
-                self.assertAskedAlone()
-                self.assertFault(self.at(None, *words, flash="there"), "device tells no board")
-                self.assertAskedAlone()
+                self.assertAskedAlone(self.at(THERE, *words, flash="there"), "device is another board")
+                self.assertAskedAlone(self.at(None, *words, flash="there"), "device tells no board")
                 self.assertFile("there", COUNTING)
-                self.assertLeft(self.at(HERE, *words))
-                self.assertEqual(self.asked(), BEFORE)
-                self.assertFile("journal", journal)
+                self.assertLeft(HERE, words, BEFORE)
         # the one that is wanted came, and the journal is of another one
         self.assertFault(self.at(THERE, "go", "--board", OTHER, "0x08000000", flash="there"), ANOTHER)
-        said = self.at(THERE, "go", "0x08000000", flash="there", variables={"STMFLASH_BOARD": NAME})
-        self.assertFault(said, "device is another board")
+        self.assertFault(self.at(THERE, "go", "0x08000000", flash="there", variables={"STMFLASH_BOARD": NAME}), "device is another board")
 
     def test_go_and_protect_without_a_question(self):
         """`--no-board` asks nothing, whatever the journal names."""
         self.store("journal", HEAD)
         for words in self.leaving("--no-board"):
-            with self.subTest(words=words):
-                self.assertLeft(self.at(THERE, *words))
-                self.assertEqual(self.asked(), [])
-        self.assertLeft(self.at(THERE, "go", "0x08000000", variables={"STMFLASH_NO_BOARD": "1"}))
-        self.assertEqual(self.asked(), [])
+            self.assertLeft(THERE, words, [])
+        self.assertLeft(THERE, ("go", "0x08000000"), [], variables={"STMFLASH_NO_BOARD": "1"})
 
     def test_go_and_protect_at_a_chip_that_cannot_tell(self):
         """No chip of the table has a place, or the table hasn't the device's chip."""
@@ -182,47 +158,37 @@ class Board(telling.Told):
                     self.assertEqual((self.asked(), self.stands[0].sent.lstrip(b"\x7f")), ([], ASKED))
                     self.assertFiles({"there": COUNTING, "journal": HEAD})
                     self.store("journal", b"stmjournal 2 0410\n")
-                    self.assertLeft(self.at(HERE, *words))
-                    self.assertEqual(self.asked(), [])
+                    self.assertLeft(HERE, words, [])
             self.assertFault(self.at(HERE, "go", "--table", "telling", "--board", NAME, "0x08000000", flash="there"),
-                             "device tells no board")
-            self.assertFile("there", COUNTING)
+                             "device tells no board", there=COUNTING)
         self.store("journal", HEAD)
-        self.assertFault(self.use("go", "0x08000000", device="sim:0410:there"), ANOTHER)
-        self.assertFile("there", COUNTING)
+        self.assertFault(self.use("go", "0x08000000", device="sim:0410:there"), ANOTHER, there=COUNTING)
         self.store("there.board", f"unique {OTHER}\n".encode())
-        self.assertFault(self.use("protect", "readout-unprotect", device="sim:0410:there"), ANOTHER)
-        self.assertFile("there", COUNTING)
+        self.assertFault(self.use("protect", "readout-unprotect", device="sim:0410:there"), ANOTHER, there=COUNTING)
         self.store("there.board", f"unique {NAME}\n".encode())
-        self.assertSilent(self.use("protect", "readout-unprotect", device="sim:0410:there"))
-        self.assertFile("there", SIZE * b"\xff")
+        self.assertSilent(self.use("protect", "readout-unprotect", device="sim:0410:there"), there=SIZE * b"\xff")
 
     def test_another_board_is_refused(self):
         self.assertEqual(self.at(HERE, "write", "image").status, 0)
         journal = self.held("journal")
-        uses = (("undo",), ("undo", "--fresh"), ("write", "image"), ("erase", "1"), ("read", "out"), ("verify", "image"), ("info",))
-        for words in uses:
+        for words in (("undo",), ("undo", "--fresh"), ("write", "image"), ("erase", "1"), ("read", "out"), ("verify", "image"), ("info",)):
             with self.subTest(words=words):
                 if "--fresh" in words:
                     self.store("there.line", b"fresh\n")
-                self.assertFault(self.at(THERE, *words, flash="there"), ANOTHER)
-                self.assertFiles({"there": COUNTING, "journal": journal})
+                self.assertFault(self.at(THERE, *words, flash="there"), ANOTHER, there=COUNTING, journal=journal)
         self.assertFault(self.at(None, "undo", flash="there"), ANOTHER)
-        self.assertTold(self.at(HERE, "undo"), "undone 1\n")
-        self.assertFile("flash", COUNTING)
+        self.assertTold(self.at(HERE, "undo"), "undone 1\n", flash=COUNTING)
 
     def test_a_broken_off_write_is_undone_at_its_own_board(self):
         self.break_off()
         # each undo is greeted before it asks
         journal = self.held("journal") + b"connect!\n"
-        self.assertFault(self.at(THERE, "undo", flash="there"), ANOTHER)
-        self.assertFiles({"there": COUNTING, "journal": journal})
+        self.assertFault(self.at(THERE, "undo", flash="there"), ANOTHER, there=COUNTING, journal=journal)
         for words in (("write", "image"), ("info",)):
             self.assertFault(self.at(THERE, *words, flash="there"), "unfinished command, undo first")
             self.assertEqual((self.asked(), self.stands[0].sent), ([], b""))
         self.assertFile("journal", journal)
-        self.assertTold(self.at(HERE, "undo"), "undone 1\n")
-        self.assertFile("flash", COUNTING)
+        self.assertTold(self.at(HERE, "undo"), "undone 1\n", flash=COUNTING)
 
     def test_a_fresh_board_is_greeted_whatever_the_journal_says(self):
         """By a word alone: else the board of another 7F, which the journal tells of, is settled by the byte."""
@@ -232,7 +198,7 @@ class Board(telling.Told):
             with self.subTest(words=words):
                 self.store_all({"flash.line": b"fresh\n", "journal": journal})
                 self.assertTold(self.at(HERE, "undo", *words), "undone 1\n")
-                self.assertEqual(self.asked(), AGAIN)
+                self.assertEqual(self.asked(), BEHIND)
                 self.assertTrue(self.stands[0].sent.startswith(first), self.stands[0].sent[:20])
                 self.assertFile("flash", COUNTING)
 
@@ -251,7 +217,7 @@ class Board(telling.Told):
         """The undo of a write that is broken off greets, and asks by settling, and so does the write behind it."""
         self.store("flash.line", b"fresh\n")
         self.assertEqual(self.at(HERE, "write", "--fresh", "--again", "1", "image", cuts=(True, False, False)).status, 0)
-        self.assertEqual(self.asked(), 3 * AGAIN)
+        self.assertEqual(self.asked(), [*AGAIN, *BEHIND, *BEHIND])
         first, undo, second = (stand.sent for stand in self.stands)
         self.assertTrue(first.startswith(b"\x7f\x7f\x7f" + ASKED), first[:20])
         self.assertTrue(undo.startswith(b"\x7f\x02\x02"), undo[:20])
@@ -266,13 +232,11 @@ class Board(telling.Told):
 
     def test_a_write_that_is_done_again_asks_again(self):
         self.assertEqual(self.at(HERE, "write", "--again", "1", "image", cuts=(True, False, False)).status, 0)
-        self.assertEqual(self.asked(), 3 * AGAIN)
+        self.assertEqual(self.asked(), [*AGAIN, *BEHIND, *BEHIND])
         self.assertEqual(self.held("flash")[:9], b"an image" + COUNTING[8:9])
 
     def test_a_board_is_wanted(self):
-        for word in (NAME, NAME.lower(), NAME[-1:], NAME[-5:].lower()):
-            with self.subTest(word=word):
-                self.assertIsHere("--board", word)
+        self.each((NAME, NAME.lower(), NAME[-1:], NAME[-5:].lower()), lambda word: self.assertIsHere("--board", word))
         self.assertIsHere(variables={"STMFLASH_BOARD": NAME[-4:]})
         self.assertIsHere(variables={"STMFLASH_BOARD": ""})
         self.assertIsHere("--board", NAME, variables={"STMFLASH_BOARD": OTHER})
@@ -284,20 +248,17 @@ class Board(telling.Told):
     def test_another_than_the_wanted_board_gets_nothing_more(self):
         for word in (OTHER, OTHER[-2:], "0" + NAME, NAME[:-1]):
             with self.subTest(word=word):
-                self.assertFault(self.at(HERE, "write", "--board", word, "image"), "device is another board")
-                self.assertAskedAlone()
+                self.assertAskedAlone(self.at(HERE, "write", "--board", word, "image"), "device is another board")
         self.assertFault(self.at(HERE, "erase", "1", variables={"STMFLASH_BOARD": OTHER}), "device is another board")
         for unique in (None, 12 * b"\xff", 12 * b"\x00"):
-            self.assertFault(self.at(unique, "write", "--board", NAME, "image"), "device tells no board")
-            self.assertAskedAlone()
+            self.assertAskedAlone(self.at(unique, "write", "--board", NAME, "image"), "device tells no board")
         self.assertFiles({"flash": COUNTING, "journal": None})
 
     def test_a_chip_without_places_tells_no_board(self):
         self.store("table", telling.TABLE[:telling.TABLE.index(b"unique")])
         self.assertFault(self.at(HERE, "write", "--board", NAME, "image"), "device tells no board")
         self.assertEqual((self.asked(), self.stands[0].sent), ([], b""))
-        self.assertFault(self.use("erase", "1", "--board", NAME, device="sim:0410:flash"), "device tells no board")
-        self.assertFile("flash", COUNTING)
+        self.assertFault(self.use("erase", "1", "--board", NAME, device="sim:0410:flash"), "device tells no board", flash=COUNTING)
 
     def test_the_simulator_in_the_program_tells_none(self):
         self.assertFault(self.use("erase", "1", "--board", NAME, device="sim:0410:flash"), "device tells no board")
@@ -306,21 +267,18 @@ class Board(telling.Told):
         self.assertTrue(self.held("journal").startswith(b"stmjournal 2 0410\n"))
 
     def test_what_no_board_is(self):
-        for word in ("", "0x12", "12 ", "G", 65 * "1"):
-            with self.subTest(word=word):
-                self.assertFault(self.use("info", "--board", word, device="board"), f"usage: bad board {word}", 2)
+        self.each(("", "0x12", "12 ", "G", 65 * "1"),
+                  lambda word: self.assertFault(self.use("info", "--board", word, device="board"), f"usage: bad board {word}", 2))
         self.assertFault(self.use("info", "--board", 64 * "1", device="board"), "cannot connect board")
         both = "usage: give --board or --no-board, not both"
         self.assertFault(self.use("info", "--board", "12", "--no-board", device="board"), both, 2)
         for variables in ({"STMFLASH_BOARD": "12", "STMFLASH_NO_BOARD": "1"}, {"STMFLASH_BOARD": "x"}):
-            said = self.use("info", device="board", variables=variables)
-            self.assertFault(said, both if len(variables) == 2 else "usage: bad board x", 2)
+            self.assertFault(self.use("info", device="board", variables=variables), both if len(variables) == 2 else "usage: bad board x", 2)
         self.assertFault(self.use("go", "--board", "x", "0x08000000", device="board"), "usage: bad board x", 2)
         self.assertFault(self.use("protect", "--board", "1", "--no-board", "write-unprotect", device="board"), both, 2)
 
     def test_no_board_is_asked(self):
-        said = self.at(HERE, "erase", "1", "--no-board", kib=size(1))
-        self.assertTold(said, "segment 1: 1 pages erased\n")
+        self.assertTold(self.at(HERE, "erase", "1", "--no-board", kib=size(1)), "segment 1: 1 pages erased\n")
         self.assertEqual(self.asked(), [])
         self.assertTrue(self.held("journal").startswith(b"stmjournal 2 0410\n"))
         self.assertTold(self.at(HERE, "undo", variables={"STMFLASH_NO_BOARD": "1"}), "undone 1\n")
@@ -359,17 +317,13 @@ class Board(telling.Told):
         self.assertTold(self.at(None, "info", kib=size(8)), INFO % (8, SIZE) + "flash 8 KiB, less than the pages\n")
 
     def test_a_smaller_flash_has_fewer_pages(self):
-        self.assertSilent(self.at(HERE, "read", "out", kib=size(64)))
-        self.assertFile("out", COUNTING[:65536])
-        said = self.at(HERE, "read", "--progress", "out", kib=size(64))
-        self.assertIn(b"page 63 read, 64 of 64 pages", said.err)
+        self.assertSilent(self.at(HERE, "read", "out", kib=size(64)), out=COUNTING[:65536])
+        self.assertIn(b"page 63 read, 64 of 64 pages", self.at(HERE, "read", "--progress", "out", kib=size(64)).err)
         outside = "address outside the flash"
         self.assertFault(self.at(HERE, "erase", "64", kib=size(64)), outside)
         self.assertFault(self.at(HERE, "write", "-S", "0x08010000", "image", kib=size(64)), outside)
-        self.assertFault(self.at(HERE, "write", "-S", "0x0800FFFC", "image", kib=size(64)), outside)
-        self.assertFile("journal", None)
+        self.assertFault(self.at(HERE, "write", "-S", "0x0800FFFC", "image", kib=size(64)), outside, journal=None)
         self.assertTold(self.at(HERE, "write", "-S", "0x0800FFF8", "image", kib=size(64)), "segment 1: 1 pages written\n")
         self.assertTold(self.at(HERE, "erase", "--all", kib=size(64)), "segment 2: 64 pages erased\n")
         self.assertFile("flash", 65536 * b"\xff" + COUNTING[65536:])
-        self.assertTold(self.at(HERE, "undo", kib=size(64)), "undone 2\n")
-        self.assertFile("flash", COUNTING)
+        self.assertTold(self.at(HERE, "undo", kib=size(64)), "undone 2\n", flash=COUNTING)

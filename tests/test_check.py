@@ -48,8 +48,7 @@ class Check(Place):
     def assertCheck(self, journal, text):
         """This is all that is told of the journal, which stays as it is; no other file is made."""
         self.store("journal", journal)
-        self.assertTold(self.check(), text)
-        self.assertFile("journal", journal)
+        self.assertTold(self.check(), text, journal=journal)
 
     def test_tells_each_state(self):
         """Cut at each byte, and with zeros where a crash of the PC kept none of them, it says what is there: none is refused."""

@@ -38,8 +38,7 @@ class Geometry:
 
     def told(self):
         """The lines of `info` up to the bootloader's version."""
-        return (f"base {self.base:08X}\npages {len(self.pages)}\nsize {self.size}\nerase {self.erase}\n"
-                f"erased {self.erased:02X}\nversion ")
+        return f"base {self.base:08X}\npages {len(self.pages)}\nsize {self.size}\nerase {self.erase}\nerased {self.erased:02X}\nversion "
 
     def flash(self):
         """A flash without an erased page."""
@@ -55,12 +54,11 @@ class Chips(Served):
         chip = Geometry(CHIPS[number])
         place = chip.size - len(IMAGE)
         told = self.use_chip("info", device=device, wait=wait)
-        self.assertEqual((told.status, told.err), (0, b""))
+        self.assertWell(told)
         self.assertTrue(told.out.decode().startswith(f"id {number}\n" + chip.told()), told)
         self.store("image", IMAGE)
         words = ("-v", "-S", f"0x{chip.base + place:08X}", "image")
-        self.assertTold(self.use_chip("write", *words, device=device, wait=wait),
-                        f"segment 1: 1 pages written\nverified {len(IMAGE)} bytes\n")
+        self.assertTold(self.use_chip("write", *words, device=device, wait=wait), f"segment 1: 1 pages written\nverified {len(IMAGE)} bytes\n")
         if not wait:
             self.assertFile("flash", chip.flash()[:place] + IMAGE)
         self.assertTold(self.use_chip("undo", device=device, wait=wait), "undone 1\n")
@@ -82,8 +80,7 @@ class Chips(Served):
         self.store("flash", before)
         self.serve(3, TABLE, number)
         self.try_chip(number, "board", ("--wait", WAIT))
-        self.assertServed()
-        self.assertFile("flash", before)
+        self.assertServed(flash=before)
 
     def test_each_says_where_its_numbers_come_from(self):
         for number, chip in CHIPS.items():

@@ -13,8 +13,6 @@ import time
 from place import PATIENCE, TOP, Place, readable, text_in
 
 FOLDER = os.path.join(TOP, "packaging", "completions")
-LINE = os.path.join(TOP, "line", "stmflash-line")
-TRIAL = os.path.join(TOP, "line", "stmflash-trial")
 KINDS = {"write-unprotect", "readout-protect", "readout-unprotect"}
 # runs the completion of the words after the second, and prints what it offers
 BASH = '''. "$1"; shift; function=$1; shift
@@ -29,27 +27,27 @@ def options(text):
     return found
 
 
+# what is typed behind this, and what is offered there
+CALL = "stmflash-line /dev/ttyUSB0 --baud 9600 -- stmflash"
+BEHIND = (("ver", "verify"), ("write --prog", "--progress"), ("write the-im", "the-image.hex"))
+
+
 class Completions(Place):
+    begins = {"the-image.hex": b""}
+
     def help_of(self, *words):
         said = self.call(*words, "--help")
-        self.assertEqual((said.status, said.err), (0, b""))
+        self.assertWell(said)
         return said.out.decode()
 
     def subcommands(self):
-        told = self.help_of().split("Commands:\n")[1].split("\n\n")[0]
-        return set(re.findall(r"^  ([a-z]+) ", told, re.M))
+        return set(re.findall(r"^  ([a-z]+) ", self.help_of().split("Commands:\n")[1].split("\n\n")[0], re.M))
 
-    def line_options(self):
-        ran = subprocess.run([sys.executable, LINE, "--help"], capture_output=True, text=True, timeout=PATIENCE)
+    def options_of(self, script):
+        """The options of a companion."""
+        ran = subprocess.run([sys.executable, os.path.join(TOP, "line", script), "--help"], capture_output=True, text=True, timeout=PATIENCE)
         self.assertEqual((ran.returncode, ran.stderr), (0, ""))
         return options(ran.stdout)
-
-    def trial_options(self):
-        ran = subprocess.run([sys.executable, TRIAL, "--help"], capture_output=True, text=True, timeout=PATIENCE)
-        self.assertEqual((ran.returncode, ran.stderr), (0, ""))
-        found = options(ran.stdout)
-        self.assertGreater(len(found), 20)
-        return found
 
     def shell(self, name, *words):
         """What a shell prints; the test is left out where it isn't installed."""
@@ -93,37 +91,23 @@ class Completions(Place):
 
     def test_what_follows_in_a_call_of_the_line(self):
         """Behind `--` stands a command, which is completed as it is by itself: subcommands, options and files."""
-        self.store("an-image.hex", b"")
-        for typed, offered in (("ver", "verify"), ("write --fre", "--fresh"), ("write an-im", "an-image.hex")):
-            line = f"stmflash-line /dev/ttyUSB0 --baud 9600 -- stmflash {typed}"
-            with self.subTest(shell="bash", typed=typed):
-                self.assertEqual(self.bash(*line.split(" "), function="_stmflash_line"), {offered})
+        self.each(BEHIND, lambda typed, offered: self.assertEqual(self.bash(*f"{CALL} {typed}".split(" "), function="_stmflash_line"), {offered}))
 
     def test_what_follows_in_fish(self):
-        self.store("an-image.hex", b"")
-        for typed, offered in (("ver", "verify"), ("write --fre", "--fresh"), ("write an-im", "an-image.hex")):
-            with self.subTest(typed=typed):
-                self.assertEqual(self.fish(f"stmflash-line /dev/ttyUSB0 --baud 9600 -- stmflash {typed}"), {offered})
+        self.each(BEHIND, lambda typed, offered: self.assertEqual(self.fish(f"{CALL} {typed}"), {offered}))
         self.assertIn("true", self.fish("stmflash-line /dev/ttyUSB0 -- tru"))
         self.assertNotIn("--wiring", self.fish("stmflash-line /dev/ttyUSB0 -- stmflash info --"))
 
     def test_what_follows_in_zsh(self):
         if not shutil.which("zsh"):
             self.skipTest("zsh isn't installed")
-        self.store("an-image.hex", b"")
-        for typed, offered in (("ver", "verify "), ("write --fre", "--fresh "), ("write an-im", "an-image.hex ")):
-            with self.subTest(typed=typed):
-                before = typed.rpartition(" ")[0]
-                made = f"-- stmflash {before + ' ' if before else ''}{offered}"
-                self.zsh_makes(f"stmflash-line /dev/ttyUSB0 --baud 9600 -- stmflash {typed}", made)
+        self.each(BEHIND, lambda typed, offered: self.zsh_makes(f"{CALL} {typed}", f"-- stmflash {''.join(typed.rpartition(' ')[:2])}{offered} "))
 
     def test_bash_offers_what_the_program_takes(self):
         subcommands = self.subcommands()
         self.assertEqual(self.bash("stmflash", ""), subcommands)
         self.assertEqual(self.bash("stmflash", "-"), options(self.help_of()))
-        for name in subcommands - {"help"}:
-            with self.subTest(subcommand=name):
-                self.assertEqual(self.bash("stmflash", name, "-"), options(self.help_of(name)))
+        self.each(subcommands - {"help"}, lambda name: self.assertEqual(self.bash("stmflash", name, "-"), options(self.help_of(name))))
         self.assertEqual(self.bash("stmflash", "protect", ""), KINDS)
 
     def test_bash_offers_files_with_blanks(self):
@@ -133,10 +117,8 @@ class Completions(Place):
         self.assertEqual(self.bash("stmflash", "info", "--device", "si"), {"sim:"})
 
     def test_bash_offers_what_the_line_takes(self):
-        taken = self.line_options()
-        self.assertEqual(self.bash("stmflash-line", "-", function="_stmflash_line") - {"--"}, taken)
-        offered = self.bash("stmflash-line", "/dev/ttyUSB0", "--", "stmflash", "ver", function="_stmflash_line")
-        self.assertEqual(offered, {"verify"})
+        self.assertEqual(self.bash("stmflash-line", "-", function="_stmflash_line") - {"--"}, self.options_of("stmflash-line"))
+        self.assertEqual(self.bash("stmflash-line", "/dev/ttyUSB0", "--", "stmflash", "ver", function="_stmflash_line"), {"verify"})
         self.assertEqual(self.bash("stmflash-line", "/dev/ttyUSB0", "--", "stmflash-trial", "--sp", function="_stmflash_line"), {"--speeds"})
 
     def test_all_offer_the_same_ports(self):
@@ -147,7 +129,8 @@ class Completions(Place):
 
     def test_all_offer_what_the_trial_takes(self):
         """And its manual page has it."""
-        taken = self.trial_options()
+        taken = self.options_of("stmflash-trial")
+        self.assertGreater(len(taken), 20)
         manual = text_in("line", "stmflash-trial.1").replace("\\", "")
         self.assertEqual([option for option in taken - {"-h", "--help"} if f" {option}" not in manual], [])
         part = text_in(FOLDER, "_stmflash").split("$service == stmflash-trial")[1].split("    fi\n")[0]
@@ -158,14 +141,11 @@ class Completions(Place):
     def test_fish_offers_what_the_program_takes(self):
         subcommands = self.subcommands()
         self.assertEqual(self.fish("stmflash "), subcommands)
-        for name in subcommands - {"help"}:
-            with self.subTest(subcommand=name):
-                self.assertEqual(self.fish(f"stmflash {name} -"), options(self.help_of(name)))
+        self.each(subcommands - {"help"}, lambda name: self.assertEqual(self.fish(f"stmflash {name} -"), options(self.help_of(name))))
         self.assertEqual(self.fish("stmflash protect "), KINDS)
 
     def test_fish_offers_what_the_line_takes(self):
-        taken = self.line_options()
-        self.assertEqual(self.fish("stmflash-line -"), taken)
+        self.assertEqual(self.fish("stmflash-line -"), self.options_of("stmflash-line"))
 
     def test_zsh_names_what_the_program_takes(self):
         self.shell("zsh", "-n", os.path.join(FOLDER, "_stmflash"))

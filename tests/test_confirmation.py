@@ -2,9 +2,8 @@
 
 import os
 import pty
-import time
 
-from place import COUNTING, ERASED, PATIENCE, Place, files, readable
+from place import COUNTING, ERASED, PATIENCE, Place, files, read_some, readable
 
 KIND = "readout-unprotect"
 ASKED = b"this erases the whole flash, and no journal keeps it: it can't be undone\r\ngo on? [y/N] "
@@ -13,9 +12,7 @@ END = b"\x04"
 
 
 class Confirmation(Place):
-    def setUp(self):
-        super().setUp()
-        self.store("flash", COUNTING)
+    begins = {"flash": COUNTING}
 
     def on_terminal(self, typed, *words, kind=KIND, input=True, err=True, device="sim:0412:flash"):
         """What a protection answers whose standard input and error are a terminal, where that is said, and what that showed.
@@ -28,48 +25,34 @@ class Confirmation(Place):
             shown = self.shown_until(here, b"[y/N] ")
             os.write(here, typed)
         ended = self.ended(process)
-        shown += self.shown_until(here, None)
+        shown += self.shown_until(here)
         os.close(here)
         self.assertEqual(ended.out, b"")
         return ended.status, shown, ended.err
 
-    def shown_until(self, here, text):
+    def shown_until(self, here, text=None):
         """What a terminal shows until it shows this, or has no more."""
-        shown, ends = b"", time.monotonic() + PATIENCE
-        while text is None or text not in shown:
-            if not readable([here], 0.5 if text is None else 1):
-                if text is None:
-                    break
-                self.assertLess(time.monotonic(), ends)
-                continue
-            try:
-                piece = os.read(here, 4096)
-            except OSError:
-                break
-            if not piece:
-                break
+        shown = b""
+        while (text is None or text not in shown) and readable([here], 0.5 if text is None else PATIENCE) and (piece := read_some(here)):
             shown += piece
         return shown
 
     def assertUntouched(self):
         """The flash is as it was, and no line was opened to it, and no journal."""
-        self.assertHolds(COUNTING, None)
-        self.assertFile("journal", None)
+        self.assertFiles({"flash": COUNTING, "flash.line": None, "journal": None})
 
     def test_yes_goes_on(self):
         for typed in (b"y\n", b"yes\n"):
             with self.subTest(typed=typed):
                 self.store("flash", COUNTING)
-                status, shown, _ = self.on_terminal(typed, "--quiet")
-                self.assertEqual((status, shown), (0, ASKED + typed.replace(b"\n", b"\r\n")))
+                self.assertEqual(self.on_terminal(typed, "--quiet")[:2], (0, ASKED + typed.replace(b"\n", b"\r\n")))
                 self.assertFile("flash", ERASED)
 
     def test_anything_else_ends(self):
         for typed in (b"\n", b"n\n", b"no\n", b"Y\n", b"yess\n", b" y\n", b"ye\n", b"yes please\n", b"y" * 300 + b"\n"):
             with self.subTest(typed=typed):
                 status, shown, _ = self.on_terminal(typed)
-                self.assertEqual(status, 1)
-                self.assertEqual(shown, ASKED + typed.replace(b"\n", b"\r\n") + REFUSED)
+                self.assertEqual((status, shown), (1, ASKED + typed.replace(b"\n", b"\r\n") + REFUSED))
                 self.assertUntouched()
 
     def test_an_end_of_input_ends(self):
@@ -77,27 +60,21 @@ class Confirmation(Place):
         for typed in (END, b"y" + END + END):
             with self.subTest(typed=typed):
                 status, shown, _ = self.on_terminal(typed)
-                self.assertEqual(status, 1)
-                self.assertTrue(shown.startswith(ASKED))
-                self.assertTrue(shown.endswith(b"\r\n" + REFUSED))
+                self.assertEqual((status, shown[:len(ASKED)], shown[-len(REFUSED) - 2:]), (1, ASKED, b"\r\n" + REFUSED))
                 self.assertUntouched()
 
     def test_no_line_is_opened_before(self):
         """A socket where nobody listens isn't connected to, and a journal of another program isn't waited for."""
-        status, shown, _ = self.on_terminal(b"n\n", device="nobody")
-        self.assertEqual((status, shown), (1, ASKED + b"n\r\n" + REFUSED))
-        status, shown, _ = self.on_terminal(b"y\n", device="nobody")
-        self.assertEqual((status, shown), (1, ASKED + b"y\r\nstmflash: cannot connect nobody\r\n"))
+        for typed, told in ((b"n", REFUSED), (b"y", b"stmflash: cannot connect nobody\r\n")):
+            self.assertEqual(self.on_terminal(typed + b"\n", device="nobody")[:2], (1, ASKED + typed + b"\r\n" + told))
 
     def test_faults_of_the_words_come_first(self):
         self.remove("table")
-        status, shown, _ = self.on_terminal(None)
-        self.assertEqual((status, shown), (1, b"stmflash: cannot read table\r\n"))
+        self.assertEqual(self.on_terminal(None)[:2], (1, b"stmflash: cannot read table\r\n"))
         self.assertUntouched()
 
     def test_it_is_asked_under_quiet_too(self):
-        status, shown, _ = self.on_terminal(b"n\n", "--quiet")
-        self.assertEqual((status, shown), (1, ASKED + b"n\r\n" + REFUSED))
+        self.assertEqual(self.on_terminal(b"n\n", "--quiet")[:2], (1, ASKED + b"n\r\n" + REFUSED))
         self.assertUntouched()
 
     def test_nobody_is_asked_elsewhere(self):
@@ -105,22 +82,18 @@ class Confirmation(Place):
         for input, err in ((False, True), (True, False)):
             with self.subTest(input=input):
                 self.store("flash", COUNTING)
-                status, shown, said = self.on_terminal(None, "--quiet", input=input, err=err)
-                self.assertEqual((status, shown, said), (0, b"", None if err else b""))
+                self.assertEqual(self.on_terminal(None, "--quiet", input=input, err=err), (0, b"", None if err else b""))
                 self.assertFile("flash", ERASED)
         self.store("flash", COUNTING)
-        self.assertSilent(self.use("protect", KIND))
-        self.assertFile("flash", ERASED)
+        self.assertSilent(self.use("protect", KIND), flash=ERASED)
 
     def test_nobody_is_asked_where_it_is_said(self):
-        status, shown, _ = self.on_terminal(None, "--yes", "--quiet")
-        self.assertEqual((status, shown), (0, b""))
+        self.assertEqual(self.on_terminal(None, "--yes", "--quiet")[:2], (0, b""))
         self.assertFile("flash", ERASED)
 
     def test_no_other_protection_asks(self):
         for kind in ("write-unprotect", "readout-protect"):
             with self.subTest(kind=kind):
-                status, shown, _ = self.on_terminal(None, "--quiet", kind=kind)
-                self.assertEqual((status, shown), (0, b""))
+                self.assertEqual(self.on_terminal(None, "--quiet", kind=kind)[:2], (0, b""))
                 self.assertFile("flash", COUNTING)
                 self.remove("flash.line")

@@ -1,12 +1,11 @@
 """A journal whose end a crash of the PC left with lines of another file: `undo --recover` cuts that off, keeps it beside, and undoes;
 nothing else is ever cut."""
 
-import fcntl
 import json
 import os
 
 import syncs
-from place import SIZE, WAIT, ZEROS, with_page
+from place import SIZE, WAIT, ZEROS, files, with_page
 from served import Served
 
 HEADER = b"stmjournal 2 0412\n"
@@ -46,12 +45,10 @@ class Crashed(Served):
         """Without the word nothing is done, and it is named; with it all is undone, once."""
         for words in ((), ("-v",), ("--to-change",), ("1",)):
             self.assertUncut(LEFT, FAULT, HINT, words)
-        for name, words in (("info", ()), ("write", ("table",)), ("erase", ("3",))):
-            with self.subTest(name=name):
-                self.assertFault(self.use(name, *words), FAULT, hint=HINT)
+        self.each((("info", ()), ("write", ("table",)), ("erase", ("3",))),
+                  lambda name, words: self.assertFault(self.use(name, *words), FAULT, hint=HINT))
         self.begin()
-        self.assertTold(self.use("undo", "--recover"), "undone 2\n", note(len(LEFT) - len(GOOD)))
-        self.assertHolds(ZEROS, b"idle\n")
+        self.assertTold(self.use("undo", "--recover"), "undone 2\n", note(len(LEFT) - len(GOOD)), holds=(ZEROS, b"idle\n"))
         self.assertFile("journal.cut", LEFT[len(GOOD):])
         self.assertTrue(self.held("journal").startswith(GOOD + b"erase 6\n"))
         self.assertEqual(os.stat(self.path("journal.cut")).st_mode & 0o777, 0o600)
@@ -65,8 +62,7 @@ class Crashed(Served):
             with self.subTest(words=words):
                 self.begin()
                 self.assertTold(self.use("undo", "--recover", *words), told, note(len(LEFT) - len(GOOD)))
-                self.assertTold(self.use("undo"), f"undone {left}\n")
-                self.assertHolds(ZEROS, b"idle\n")
+                self.assertTold(self.use("undo"), f"undone {left}\n", holds=(ZEROS, b"idle\n"))
 
     def test_nothing_is_written_over(self):
         self.begin()
@@ -79,33 +75,27 @@ class Crashed(Served):
         journal is as it was."""
         held = []
         self.begin()
-        said, synced = syncs.call(self.folder, ("undo", *self.words(), "--recover"), at=lambda number, process: held.append(self.held("journal")))
+        said, synced = syncs.call(self.folder, ("undo", *files(), "--recover"), at=lambda number, process: held.append(self.held("journal")))
         self.assertTold(said, "undone 2\n", note(len(LEFT) - len(GOOD)))
         self.assertEqual(synced[:3], ["journal.cut", ".", "journal"])
         self.assertEqual(held[:3], [LEFT, LEFT, GOOD])
         for fails in (0, 1):
             with self.subTest(fails=fails):
                 self.begin()
-                said, synced = syncs.call(self.folder, ("undo", *self.words(), "--recover"), fails)
-                self.assertFault(said, "journal failed", hint="Input/output error")
-                self.assertFiles({"journal": LEFT, "flash": WRITTEN})
+                said, synced = syncs.call(self.folder, ("undo", *files(), "--recover"), fails)
+                self.assertFault(said, "journal failed", hint="Input/output error", journal=LEFT, flash=WRITTEN)
                 self.assertEqual(self.use("undo", "--recover").out, b"undone 2\n")
-
-    def words(self):
-        return "--table", "table", "--device", "sim:0412:flash", "--journal", "journal"
 
     def test_a_good_journal_stays(self):
         """Also one with a torn line, with a void one, and one that isn't there."""
         for journal in (GOOD, GOOD + b"page 7 00", GOOD + b"page 7 00!\n"):
             with self.subTest(journal=journal[len(GOOD):]):
                 self.begin(journal)
-                self.assertTold(self.use("undo", "--recover"), "undone 2\n")
-                self.assertHolds(ZEROS, b"idle\n")
+                self.assertTold(self.use("undo", "--recover"), "undone 2\n", holds=(ZEROS, b"idle\n"))
                 self.assertFile("journal.cut", None)
                 self.assertTrue(self.held("journal").startswith(journal))
         self.remove("journal")
-        self.assertTold(self.use("undo", "--recover"), "undone 0\n", "journal journal isn't there")
-        self.assertFile("journal", None)
+        self.assertTold(self.use("undo", "--recover"), "undone 0\n", "journal journal isn't there", journal=None)
 
     def test_what_was_acknowledged_is_never_cut(self):
         """A line that rotted: one within a sector, whatever follows; a whole line of a page; one with more behind it than an append
@@ -131,13 +121,11 @@ class Crashed(Served):
         left = (GOOD + b"page 17 " + b"00" * 300)[:HOLE] + STALE[:700]
         self.assertUncut(left, f"bad journal line {LINE + 3}", HINT, ())
         self.begin(left)
-        self.assertTold(self.use("undo", "--recover"), "undone 2\n", note(len(left) - len(GOOD)))
-        self.assertHolds(ZEROS, b"idle\n")
+        self.assertTold(self.use("undo", "--recover"), "undone 2\n", note(len(left) - len(GOOD)), holds=(ZEROS, b"idle\n"))
 
     def test_one_that_another_program_has(self):
         self.begin()
-        with open(self.path("journal"), "rb") as file:
-            fcntl.flock(file, fcntl.LOCK_EX)
+        with self.locked("journal"):
             self.assertFault(self.use("undo", "--recover"), "journal is in use")
         self.assertFiles({"journal": LEFT, "journal.cut": None, "flash": WRITTEN})
 
@@ -172,5 +160,4 @@ class Crashed(Served):
         self.store_all({"flash": WRITTEN, "journal": LEFT})
         self.serve(1)
         self.assertTold(self.use("undo", "--recover", "--wait", WAIT, device="board"), "undone 2\n", note(len(LEFT) - len(GOOD)))
-        self.assertServed()
-        self.assertFile("flash", ZEROS[:SIZE])
+        self.assertServed(flash=ZEROS[:SIZE])

@@ -41,9 +41,8 @@ class Crc(Place):
         flash = random.Random(3).randbytes(SIZE)
         self.store("flash", flash)
         self.assertSum(flash)
-        for start, length in ((0, 4), (4, 1020), (1000, 2048), (SIZE - 4, 4), (0, SIZE), (8, 0)):
-            with self.subTest(start=start, length=length):
-                self.assertSum(flash[start:start + length], "-S", f"0x{BASE + start:X}:{length}")
+        self.each(((0, 4), (4, 1020), (1000, 2048), (SIZE - 4, 4), (0, SIZE), (8, 0)),
+                  lambda start, length: self.assertSum(flash[start:start + length], "-S", f"0x{BASE + start:X}:{length}"))
         self.assertSum(flash[-1024:], "-S", f"0x{BASE + SIZE - 1024:X}")
 
     def test_whole_words(self):
@@ -68,8 +67,7 @@ class Hex(Place):
 
     def test_printed(self):
         self.store("flash", COUNTING)
-        said = self.use("read", "--hex", "-S", "0x08000000:2", "-")
-        self.assertEqual(said.out, b":020000040800F2\n:020000000001FD\n:00000001FF\n")
+        self.assertEqual(self.use("read", "--hex", "-S", "0x08000000:2", "-").out, b":020000040800F2\n:020000000001FD\n:00000001FF\n")
 
     def test_other_names_are_raw(self):
         self.store("flash", COUNTING)
@@ -85,8 +83,7 @@ class Hex(Place):
 
     def test_blank_is_left_out(self):
         flash = ERASED[:100] + b"abc" + ERASED[103:20000] + b"\xff" * 8 + b"x" + ERASED[20009:]
-        found = self.read("--skip-blank", "out.hex", flash=flash)
-        self.assertEqual(found, [(BASE + 96, flash[96:112]), (BASE + 20000, flash[20000:20016])])
+        self.assertEqual(self.read("--skip-blank", "out.hex", flash=flash), [(BASE + 96, flash[96:112]), (BASE + 20000, flash[20000:20016])])
 
     def test_a_record_with_one_byte_is_not_blank(self):
         """Wherever it stands there, and whichever of its digits it is."""
@@ -104,8 +101,7 @@ class Hex(Place):
     def test_blank_is_what_the_chip_erases_to(self):
         # 0416 erases to 00
         self.store("table", b'[[chip]]\nid = 0x412\nbase = 0x08000000\npages = [[32, 1024]]\nerase = "page"\nerased = 0\n')
-        flash = bytes(64) + ERASED[64:128] + bytes(SIZE - 128)
-        found = self.read("--skip-blank", "out.hex", flash=flash)
+        found = self.read("--skip-blank", "out.hex", flash=bytes(64) + ERASED[64:128] + bytes(SIZE - 128))
         self.assertEqual(b"".join(data for _, data in found), ERASED[:64])
         self.assertEqual(found[0][0], BASE + 64)
 

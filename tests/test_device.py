@@ -4,8 +4,7 @@ import os
 
 from place import COUNTING, ERASED, SILENT, TABLE, ZEROS, Place
 
-INFO = ("id 0412\nbase 08000000\npages 32\nsize 32768\nerase 43\nerased FF\nversion 22\n"
-        "codes 00 02 11 21 31 43 73 82 92\n")
+INFO = "id 0412\nbase 08000000\npages 32\nsize 32768\nerase 43\nerased FF\nversion 22\ncodes 00 02 11 21 31 43 73 82 92\n"
 RAW = "id 0412\nversion 22\ncodes 00 02 11 21 31 43 73 82 92\ntable {}\n"
 BAD_FLASH = "bad simulator file flash"
 # lines that no simulator's file has
@@ -18,21 +17,17 @@ class Device(Place):
     def test_reads_a_flash_twice(self):
         self.store("flash", COUNTING)
         for _ in range(2):
-            self.assertSilent(self.use("read", "out"))
-            self.assertFile("out", COUNTING)
-            self.assertHolds(COUNTING, b"idle\n")
+            self.assertSilent(self.use("read", "out"), out=COUNTING, holds=(COUNTING, b"idle\n"))
             self.remove("out")
 
     def test_tells_what_an_erased_device_is(self):
-        self.assertTold(self.use("info"), INFO)
-        self.assertHolds(ERASED, b"idle\n")
+        self.assertTold(self.use("info"), INFO, holds=(ERASED, b"idle\n"))
 
     def test_tells_what_a_device_says_itself(self):
         """A journal of another device doesn't matter, but one that isn't finished does."""
         self.store("journal", b"stmjournal 1 0410\nopen 1\nend 1\n")
         self.assertFault(self.use("info"), "journal belongs to another device")
-        self.assertTold(self.use("info", "--raw"), RAW.format("table"))
-        self.assertHolds(ERASED, b"idle\n")
+        self.assertTold(self.use("info", "--raw"), RAW.format("table"), holds=(ERASED, b"idle\n"))
         self.store("journal", b"stmjournal 1 0412\nopen 1\n")
         self.assertFault(self.use("info", "--raw"), "unfinished command, undo first")
 
@@ -51,8 +46,7 @@ class Device(Place):
     def test_a_missing_flash_is_erased_as_its_chip_erases(self):
         """A flash that isn't there is all what the chip's erase leaves."""
         self.store("table", TABLE + b"erased = 0\n")
-        self.assertTold(self.use("info"), INFO.replace("erased FF", "erased 00"))
-        self.assertHolds(ZEROS, b"idle\n")
+        self.assertTold(self.use("info"), INFO.replace("erased FF", "erased 00"), holds=(ZEROS, b"idle\n"))
 
     def test_tells_how_many_boards_were_tried(self):
         """Simulated ones are none. In the table whose chip is taken: of others that stand below it none is counted."""
@@ -76,32 +70,26 @@ class Device(Place):
 
     def test_refuses_a_line_of_another_form(self):
         self.store("flash.line", b"fresh\n\n")
-        self.assertFault(self.use("read", "OUT"), BAD_FLASH)
-        self.assertHolds(None, b"fresh\n\n")
-        self.assertFile("OUT", None)
+        self.assertFault(self.use("read", "OUT"), BAD_FLASH, holds=(None, b"fresh\n\n"), OUT=None)
 
     def test_refuses_a_rest_that_does_not_stay(self):
         for line in BAD_LINES:
             with self.subTest(line=line):
                 self.store("flash.line", line)
-                self.assertFault(self.use("info"), BAD_FLASH)
-                self.assertHolds(None, line)
+                self.assertFault(self.use("info"), BAD_FLASH, holds=(None, line))
 
     def test_goes_on_from_a_rest(self):
         """What stood in the rest is settled by the session, and a session that sends nothing leaves it."""
         self.store_all({"flash.line": b"rest 11EE08\n", "journal": b"stmjournal 1 0412\nopen 1\n"})
-        self.assertFault(self.use("info"), "unfinished command, undo first")
-        self.assertHolds(ERASED, b"rest 11EE08\n")
+        self.assertFault(self.use("info"), "unfinished command, undo first", holds=(ERASED, b"rest 11EE08\n"))
         self.remove("journal")
-        self.assertTold(self.use("info"), INFO)
-        self.assertHolds(ERASED, b"idle\n")
+        self.assertTold(self.use("info"), INFO, holds=(ERASED, b"idle\n"))
 
     def test_follows_a_link_to_the_flash(self):
         """The link stays, and what it names is written."""
         self.store("target", COUNTING)
         os.symlink(self.path("target"), self.path("flash"))
-        self.assertSilent(self.use("protect", "readout-unprotect"))
-        self.assertFile("target", ERASED)
+        self.assertSilent(self.use("protect", "readout-unprotect"), target=ERASED)
         self.assertTrue(os.path.islink(self.path("flash")))
 
     def test_says_which_file_it_cannot_write(self):
@@ -119,8 +107,7 @@ class Device(Place):
         for name in ("a:b", ":", "a::"):
             with self.subTest(name=name):
                 self.store(name, COUNTING)
-                self.assertSilent(self.use("read", "out", device="sim:0412:" + name))
-                self.assertFile("out", COUNTING)
+                self.assertSilent(self.use("read", "out", device="sim:0412:" + name), out=COUNTING)
                 self.assertFile(name + ".line", b"idle\n")
 
     def test_says_which_device_is_bad(self):
@@ -139,13 +126,9 @@ class Device(Place):
         self.assertHolds(None, None)
 
     def test_leaves_the_bootloader(self):
-        self.assertSilent(self.use("go", "0x08000000"))
-        self.assertHolds(ERASED, b"gone\n")
-        self.assertFault(self.use("read", "OUT"), "device does not follow the protocol", hint=SILENT)
-        self.assertHolds(ERASED, b"gone\n")
-        self.assertFile("OUT", None)
+        self.assertSilent(self.use("go", "0x08000000"), holds=(ERASED, b"gone\n"))
+        self.assertFault(self.use("read", "OUT"), "device does not follow the protocol", hint=SILENT, holds=(ERASED, b"gone\n"), OUT=None)
 
     def test_ends_the_readout_protection(self):
         self.store("flash", COUNTING)
-        self.assertSilent(self.use("protect", "readout-unprotect"))
-        self.assertHolds(ERASED, b"fresh\n")
+        self.assertSilent(self.use("protect", "readout-unprotect"), holds=(ERASED, b"fresh\n"))

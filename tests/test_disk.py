@@ -25,6 +25,8 @@ KEPT = OPENED + b"page 0 " + b"0" * 512 + b"\n"
 ERASING = KEPT + b"erase 0\n"
 PROGRAMMING = ERASING + b"program 0\n"
 ENDED = PROGRAMMING + b"end 1\n"
+# the places of these bytes at which a disk is full: of a page's digits some
+ROOMS = [room for room in range(len(ENDED)) if room not in range(len(OPENED) + 9, len(KEPT) - 2) or room % 64 == 0]
 # why an append fails: the disk is full, or doesn't sync
 FULL = "File too large"
 UNSYNCED = "Input/output error"
@@ -59,10 +61,7 @@ def unkept(size):
 class Disk(Place):
     def begin(self, flash, journal=None):
         """A fresh device with this flash and this journal; None: no journal is there."""
-        self.clear("flash.line", "journal")
-        self.store("flash", flash)
-        if journal is not None:
-            self.store("journal", journal)
+        self.store_all({"flash": flash, "flash.line": None, "journal": journal})
 
     def begin_and_go_on(self, journal):
         """Keeps a page in a journal that isn't there, up to the midst of its line, and goes on with that."""
@@ -76,8 +75,7 @@ class Disk(Place):
         self.assertFile(journal, torn + b"!\nundone 1\n")
         self.assertTold(self.use("erase", "5", journal=journal), "segment 1: 1 pages erased\n")
         self.assertFile(journal, torn + b"!\nundone 1\n" + with_page(b"open 1\npage 5 ", b"0", b"\nerase 5\nend 1\n"))
-        self.assertTold(self.use("undo", journal=journal), "undone 1\n")
-        self.assertHolds(ZEROS, b"idle\n")
+        self.assertTold(self.use("undo", journal=journal), "undone 1\n", holds=(ZEROS, b"idle\n"))
 
     def test_appends_stand_in_the_file(self):
         os.mkdir(self.path("folder"))
@@ -93,8 +91,7 @@ class Disk(Place):
         for added in range(len(OPENED) + 1):
             with self.subTest(added=added):
                 self.begin(ZEROS)
-                self.assertFault(self.use("erase", "--stop", str(27 + added), "5"), "stopped", 3)
-                self.assertHolds(ZEROS, b"idle\n")
+                self.assertFault(self.use("erase", "--stop", str(27 + added), "5"), "stopped", 3, holds=(ZEROS, b"idle\n"))
                 self.assertFile("journal", OPENED[:added] if added else None)
                 if added:
                     self.assertTold(self.use("undo"), "undone %d\n" % (added == len(OPENED)), unkept(added))
@@ -105,8 +102,7 @@ class Disk(Place):
         for name, words in (("erase", ("5",)), ("write", ("table",))):
             with self.subTest(name=name):
                 said = self.use(name, *words, journal="absent/journal")
-                self.assertFault(said, "journal failed", hint="No such file or directory")
-                self.assertHolds(ZEROS, b"idle\n")
+                self.assertFault(said, "journal failed", hint="No such file or directory", holds=(ZEROS, b"idle\n"))
                 self.assertFalse(self.is_there("absent"))
 
     def begin_small(self, flash=SMALL_FLASH, journal=None):
@@ -117,26 +113,17 @@ class Disk(Place):
     def test_a_full_disk_ends_the_journal(self):
         """The disk is full at one byte after another of what a write adds. Nothing stands behind it, the command that its
         line comes before isn't sent, and an undo on a disk with room gives the flash back."""
-        digits = range(len(OPENED) + 9, len(KEPT) - 2)
-        for room in range(len(ENDED)):
-            if room in digits and room % 64:
-                continue
+        for room in ROOMS:
             with self.subTest(room=room):
                 self.begin_small(journal=VOID)
                 said = self.use("write", "image", before=files_up_to(len(VOID) + room))
-                self.assertFault(said, "journal failed", hint=FULL)
-                self.assertFile("journal", VOID + ENDED[:room])
-                flash = SMALL_FLASH
-                if room >= len(ERASING):
-                    flash = EMPTIED
-                if room >= len(PROGRAMMING):
-                    flash = WRITTEN
+                self.assertFault(said, "journal failed", hint=FULL, journal=VOID + ENDED[:room])
+                flash = WRITTEN if room >= len(PROGRAMMING) else EMPTIED if room >= len(ERASING) else SMALL_FLASH
                 self.assertHolds(flash, b"idle\n")
                 opened = room >= len(OPENED)
                 if opened:
                     self.assertFault(self.use("info"), "unfinished command, undo first")
-                self.assertTold(self.use("undo"), "undone %d\n" % opened, unkept(room))
-                self.assertHolds(SMALL_FLASH, b"idle\n")
+                self.assertTold(self.use("undo"), "undone %d\n" % opened, unkept(room), holds=(SMALL_FLASH, b"idle\n"))
                 added = (UNDONE if flash == SMALL_FLASH else GIVEN_BACK) if opened else b""
                 self.assertFile("journal", VOID + (mended(ENDED[:room]) if opened else ENDED[:room]) + added)
 
@@ -146,16 +133,10 @@ class Disk(Place):
             with self.subTest(room=room):
                 self.begin_small(WRITTEN, VOID + ENDED)
                 said = self.use("undo", before=files_up_to(len(VOID + ENDED) + room))
-                self.assertFault(said, "journal failed", hint=FULL)
-                self.assertFile("journal", VOID + ENDED + GIVEN_BACK[:room])
-                flash = WRITTEN
-                if room >= len(b"erase 0\n"):
-                    flash = EMPTIED
-                if room >= len(b"erase 0\nprogram 0\n"):
-                    flash = SMALL_FLASH
+                self.assertFault(said, "journal failed", hint=FULL, journal=VOID + ENDED + GIVEN_BACK[:room])
+                flash = SMALL_FLASH if room >= len(b"erase 0\nprogram 0\n") else EMPTIED if room >= len(b"erase 0\n") else WRITTEN
                 self.assertHolds(flash, b"idle\n")
-                self.assertTold(self.use("undo"), "undone 1\n")
-                self.assertHolds(SMALL_FLASH, b"idle\n")
+                self.assertTold(self.use("undo"), "undone 1\n", holds=(SMALL_FLASH, b"idle\n"))
                 # the page at work is written though it reads right
                 self.assertFile("journal", VOID + mended(ENDED + GIVEN_BACK[:room]) + GIVEN_BACK)
 
@@ -164,12 +145,9 @@ class Disk(Place):
         for room in (0, 1, 511):
             with self.subTest(room=room):
                 self.begin_small()
-                self.assertFault(self.use("info", before=files_up_to(room)), "cannot write flash")
-                self.assertHolds(SMALL_FLASH, None)
-                self.assertFault(self.use("read", "out", before=files_up_to(room)), "cannot write out")
-                self.assertHolds(SMALL_FLASH, None)
-        self.assertSilent(self.use("read", "out", before=files_up_to(512)))
-        self.assertFile("out", SMALL_FLASH)
+                self.assertFault(self.use("info", before=files_up_to(room)), "cannot write flash", holds=(SMALL_FLASH, None))
+                self.assertFault(self.use("read", "out", before=files_up_to(room)), "cannot write out", holds=(SMALL_FLASH, None))
+        self.assertSilent(self.use("read", "out", before=files_up_to(512)), out=SMALL_FLASH)
 
     def test_a_journal_is_a_regular_file(self):
         """A device takes every byte, and keeps none; a pipe without a writer would be waited for. Nothing is sent."""
@@ -180,8 +158,7 @@ class Disk(Place):
                 text = f"cannot read {journal}"
                 self.assertFault(self.use("erase", "5", journal=journal), text)
                 self.assertFault(self.use("write", "image", journal=journal), text)
-                self.assertFault(self.use("undo", journal=journal), text)
-                self.assertHolds(ZEROS, b"fresh\n")
+                self.assertFault(self.use("undo", journal=journal), text, holds=(ZEROS, b"fresh\n"))
 
     def use_unsynced(self, fails, *words, journal="journal"):
         """Uses the program with its sync of this number failing, and answers what was said and which files were synced."""
@@ -192,15 +169,8 @@ class Disk(Place):
         the disk, is no line: it's cut off again, since a later sync would answer for it although the disk may never get it. The
         command behind it isn't sent, nothing more is added, although the disk works again, and an undo gives the flash back."""
         simulator = ["flash.stmflash-0.new", "flash.line.stmflash-0.new", ".", "."]
-        for fails, (added, flash) in enumerate((
-            (b"", SMALL_FLASH),
-            (b"", SMALL_FLASH),
-            (OPENED, SMALL_FLASH),
-            (OPENED, SMALL_FLASH),
-            (KEPT, SMALL_FLASH),
-            (ERASING, EMPTIED),
-            (PROGRAMMING, WRITTEN),
-        )):
+        for fails, (added, flash) in enumerate((*((it, SMALL_FLASH) for it in (b"", b"", OPENED, OPENED, KEPT)), (ERASING, EMPTIED),
+                                                (PROGRAMMING, WRITTEN))):
             with self.subTest(fails=fails):
                 self.begin_small()
                 said, synced = self.use_unsynced(fails, "write", "image")
@@ -208,18 +178,13 @@ class Disk(Place):
                 self.assertEqual(synced, SYNCED[:fails + 1] + simulator)
                 self.assertFile("journal", added)
                 self.assertHolds(flash, b"idle\n")
-                self.assertTold(self.use("undo"), "undone %d\n" % (added != b""), unkept(len(added)))
-                self.assertHolds(SMALL_FLASH, b"idle\n")
-        for fails, (text, flash, line) in enumerate((
-            ("cannot write flash", SMALL_FLASH, None),
-            ("cannot write flash.line", SMALL_FLASH, None),
-            ("cannot write flash", WRITTEN, None),
-            ("cannot write flash.line", WRITTEN, b"idle\n"),
-        ), len(SYNCED)):
+                self.assertTold(self.use("undo"), "undone %d\n" % (added != b""), unkept(len(added)), holds=(SMALL_FLASH, b"idle\n"))
+        for fails, (name, flash, line) in enumerate((("flash", SMALL_FLASH, None), ("flash.line", SMALL_FLASH, None), ("flash", WRITTEN, None),
+                                                     ("flash.line", WRITTEN, b"idle\n")), len(SYNCED)):
             with self.subTest(fails=fails):
                 self.begin_small()
                 said, synced = self.use_unsynced(fails, "write", "image")
-                self.assertFault(said, text)
+                self.assertFault(said, f"cannot write {name}")
                 self.assertEqual(synced, (SYNCED + simulator)[:fails + 1])
                 self.assertFile("journal", ENDED)
                 self.assertHolds(flash, line)
@@ -247,8 +212,7 @@ class Disk(Place):
                     held.append(now)
 
                 said, _ = syncs.call(self.folder, ("write", *files(), "image"), at=look)
-                self.assertTold(said, "segment 1: 1 pages written\n")
-                self.assertFile("journal", journal + (ENDED[len(HEADER):] if begins else ENDED))
+                self.assertTold(said, "segment 1: 1 pages written\n", journal=journal + (ENDED[len(HEADER):] if begins else ENDED))
                 self.assertTold(self.use("undo"), "undone 1\n")
 
     def test_the_folder_of_a_new_journal_is_on_the_disk(self):
@@ -275,18 +239,7 @@ class Disk(Place):
         whole = ["journal", ".", "journal", "journal", *simulator, "journal"]
         # by now the line's file is there, and is removed first
         whole += [*simulator[:2], ".", *simulator[2:]]
-        given_back = b"erase 0\nprogram 0\n"
-        for fails, (added, flash) in enumerate((
-            (b"", WRITTEN),
-            (b"", WRITTEN),
-            (b"", WRITTEN),
-            (b"erase 0\n", EMPTIED),
-            (given_back, SMALL_FLASH),
-            (given_back, SMALL_FLASH),
-            (given_back, SMALL_FLASH),
-            (given_back, SMALL_FLASH),
-            (given_back, SMALL_FLASH),
-        )):
+        for fails, (added, flash) in enumerate([*3 * [(b"", WRITTEN)], (b"erase 0\n", EMPTIED), *5 * [(b"erase 0\nprogram 0\n", SMALL_FLASH)]]):
             with self.subTest(fails=fails):
                 self.begin_small(WRITTEN, ENDED)
                 said, synced = self.use_unsynced(fails, "undo")
@@ -295,8 +248,7 @@ class Disk(Place):
                 self.assertEqual(synced[:fails + 1], whole[:fails + 1])
                 self.assertFile("journal", ENDED + added)
                 self.assertHolds(flash, b"idle\n")
-                self.assertTold(self.use("undo"), "undone 1\n")
-                self.assertHolds(SMALL_FLASH, b"idle\n")
+                self.assertTold(self.use("undo"), "undone 1\n", holds=(SMALL_FLASH, b"idle\n"))
         self.begin_small(WRITTEN, ENDED)
         said, synced = self.use_unsynced(len(whole), "undo")
         self.assertTold(said, "undone 1\n")
@@ -315,8 +267,7 @@ class Disk(Place):
                     self.assertNotIn(b"undone", self.held("journal"))
                     self.assertTrue(self.held("journal").startswith(journal))
                     self.assertFile("flash", flash)
-                self.assertTold(self.use("undo"), f"undone {erases}\n")
-                self.assertHolds(COUNTING, b"idle\n")
+                self.assertTold(self.use("undo"), f"undone {erases}\n", holds=(COUNTING, b"idle\n"))
 
 
 class OverSocket(Served):
@@ -329,8 +280,7 @@ class OverSocket(Served):
     def assertTakenBack(self, added):
         """What stands in the journal is this, and by it the flash is given back."""
         self.assertFile("journal", added)
-        opened = len(added) >= len(OPENED)
-        self.assertTold(self.use("undo", "--wait", WAIT, device="board"), "undone %d\n" % opened, unkept(len(added)))
+        self.assertTold(self.use("undo", "--wait", WAIT, device="board"), "undone %d\n" % (len(added) >= len(OPENED)), unkept(len(added)))
         self.remove("journal")
         # once a further client is let go, what those before it left is stored
         self.leave(self.connect())
@@ -340,10 +290,8 @@ class OverSocket(Served):
         """The disk is full at one byte after another of what a write adds; of a page's digits at some, as in the process, above.
         Each place has a board of its own, and some are done side by side: what takes time is a line that has to be quiet."""
         self.store_all({"table": SMALL_TABLE, "image": IMAGE})
-        digits = range(len(OPENED) + 9, len(KEPT) - 2)
-        rooms = [room for room in range(len(ENDED)) if room not in digits or room % 64 == 0]
-        for first in range(0, len(rooms), SIDE_BY_SIDE):
-            self.fill_disks(rooms[first:first + SIDE_BY_SIDE])
+        for first in range(0, len(ROOMS), SIDE_BY_SIDE):
+            self.fill_disks(ROOMS[first:first + SIDE_BY_SIDE])
 
     def fill_disks(self, rooms):
         """Fills the disk at each of these places of a journal, side by side, and undoes what was begun."""

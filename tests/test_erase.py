@@ -9,11 +9,7 @@ REFUSED = (
     ("sim:0412:F", (), PAGES),
     ("sim:0412:F", ("--all", "3"), PAGES),
     ("sim:0412:F", ("3", "65536"), "usage: bad number 65536"),
-    ("sim:0412:F", ("9-4",), "usage: bad number 9-4"),
-    ("sim:0412:F", ("4-65536",), "usage: bad number 4-65536"),
-    ("sim:0412:F", ("4-",), "usage: bad number 4-"),
-    ("sim:0412:F", ("4-5-6",), "usage: bad number 4-5-6"),
-    ("sim:0412:F", ("4-05",), "usage: bad number 4-05"),
+    *(("sim:0412:F", (pages,), f"usage: bad number {pages}") for pages in ("9-4", "4-65536", "4-", "4-5-6", "4-05")),
     ("socket", ("--stop", "1", "03"), "usage: bad number 03"),
     ("socket", ("--stop", "1"), "usage: --stop needs a simulator"),
     ("socket", (), PAGES),
@@ -25,12 +21,8 @@ class Erase(Place):
         """Stopped after the two bytes of the command, with the intent in the journal; then undone."""
         stopped = with_page(HEAD, b"0", b"\nerase 5\n")
         self.store("flash", ZEROS)
-        self.assertFault(self.use("erase", "--stop", "3190", "5"), "stopped", 3)
-        self.assertHolds(ZEROS, b"rest 43BC\n")
-        self.assertFile("journal", stopped)
-        self.assertTold(self.use("undo"), "undone 1\n")
-        self.assertHolds(ZEROS, b"idle\n")
-        self.assertFile("journal", stopped + b"erase 5\nprogram 5\nundone 1\n")
+        self.assertFault(self.use("erase", "--stop", "3190", "5"), "stopped", 3, holds=(ZEROS, b"rest 43BC\n"), journal=stopped)
+        self.assertTold(self.use("undo"), "undone 1\n", holds=(ZEROS, b"idle\n"), journal=stopped + b"erase 5\nprogram 5\nundone 1\n")
 
     def test_erases_a_page(self):
         """Every other byte stays, and a page that is erased already is counted as none."""
@@ -48,22 +40,16 @@ class Erase(Place):
 
     def test_erases_all(self):
         self.store("flash", ZEROS)
-        self.assertTold(self.use("erase", "--all"), "segment 1: 32 pages erased\n")
-        self.assertHolds(ERASED, b"idle\n")
-        self.assertTold(self.use("undo"), "undone 1\n")
-        self.assertHolds(ZEROS, b"idle\n")
+        self.assertTold(self.use("erase", "--all"), "segment 1: 32 pages erased\n", holds=(ERASED, b"idle\n"))
+        self.assertTold(self.use("undo"), "undone 1\n", holds=(ZEROS, b"idle\n"))
 
     def test_erases_no_page_outside(self):
         """One page that isn't there, and no page is erased."""
         self.store("flash", ZEROS)
-        self.assertFault(self.use("erase", "5", "32"), "address outside the flash")
-        self.assertHolds(ZEROS, b"idle\n")
-        self.assertFile("journal", None)
+        self.assertFault(self.use("erase", "5", "32"), "address outside the flash", holds=(ZEROS, b"idle\n"), journal=None)
 
     def test_says_which_pages_it_wants(self):
-        for device, words, text in REFUSED:
-            with self.subTest(device=device, words=words):
-                self.assertFault(self.use("erase", *words, device=device), text, 2)
+        self.each(REFUSED, lambda device, words, text: self.assertFault(self.use("erase", *words, device=device), text, 2))
 
     def test_a_full_journal_takes_no_command(self):
         """As many segments as there can be, all ended: reading goes on, and nothing is added."""
@@ -71,8 +57,7 @@ class Erase(Place):
         self.store("journal", journal)
         self.assertFault(self.use("erase", "5"), "journal is full")
         self.assertFault(self.use_image("write", b"", "-S", "0x08000000"), "journal is full")
-        self.assertTold(self.use_image("verify", b"\xff", "-S", "0x08000000"), "verified 1 bytes\n")
-        self.assertFile("journal", journal)
+        self.assertTold(self.use_image("verify", b"\xff", "-S", "0x08000000"), "verified 1 bytes\n", journal=journal)
 
     def test_a_journal_has_a_file_of_its_own(self):
         """A journal in the simulator's own file would be lost when that is written."""
@@ -81,5 +66,4 @@ class Erase(Place):
         for journal in ("flash", "flash.line", "table", "./flash", self.path("table")):
             with self.subTest(journal=journal):
                 self.assertFault(self.use("erase", "5", journal=journal), f"cannot write {journal}")
-        self.assertHolds(ZEROS, None)
-        self.assertFile("table", table)
+        self.assertFiles({"flash": ZEROS, "flash.line": None, "table": table})

@@ -50,11 +50,8 @@ def frame(chip, page):
 
 
 def all_stops():
-    for chip in CHIPS:
-        for page in range(len(sizes(chip))):
-            for sent in range(len(frame(chip, page)) + 1):
-                for is_reset in (False, True):
-                    yield Stop(chip, page, sent, is_reset)
+    return (Stop(chip, page, sent, is_reset) for chip in CHIPS for page in range(len(sizes(chip)))
+            for sent in range(len(frame(chip, page)) + 1) for is_reset in (False, True))
 
 
 def some_stops(chance):

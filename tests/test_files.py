@@ -1,5 +1,6 @@
 """The files that a use names: which are one, how OUT and a simulator's files are written, and how long a file may be."""
 
+import itertools
 import os
 import signal
 import socket
@@ -50,9 +51,8 @@ class Files(Place):
         journal, flash = self.held("journal"), self.held("flash")
         os.link(self.path("journal"), self.path("hard"))
         os.symlink("flash.line", self.path("soft"))
-        for out in ("hard", "soft", "./journal", "./flash", "./flash.line", "table"):
-            with self.subTest(out=out):
-                self.assertFault(self.use("read", out), f"cannot write {out}")
+        self.each(("hard", "soft", "./journal", "./flash", "./flash.line", "table"),
+                  lambda out: self.assertFault(self.use("read", out), f"cannot write {out}"))
         self.assertFile("journal", journal)
         self.assertHolds(flash, b"idle\n")
 
@@ -65,11 +65,8 @@ class Files(Place):
         self.assertFault(self.use("info", device="sim:0412:G"), "cannot write G.line")
         self.assertFiles({"image": ZEROS, "F.line": b"\xaa"})
         self.assertFalse(self.is_there("G"))
-        for socket in ("flash", "./flash", "flash.line"):
-            with self.subTest(socket=socket):
-                said = self.call(*served(at=socket))
-                self.assertFault(said, f"cannot write {socket}")
-                self.assertHolds(None, None)
+        self.each(("flash", "./flash", "flash.line"),
+                  lambda socket: self.assertFault(self.call(*served(at=socket)), f"cannot write {socket}", holds=(None, None)))
 
     def test_what_says_the_board_is_only_read(self):
         """No file that is to be written is FILE.board, by whatever name, and whether it is there or not."""
@@ -88,9 +85,7 @@ class Files(Place):
                              lambda: self.use("write", "--keep-to", name, "image"), lambda: self.call(*served(at=name))):
                     with self.subTest(name=name, board=board):
                         self.assertFault(call(), f"cannot write {name}")
-                        self.assertFile("flash.board", board)
-                        self.assertHolds(None, None)
-                        self.assertFile("journal", None)
+                        self.assertFiles({"flash.board": board, "flash": None, "flash.line": None, "journal": None})
 
     def test_what_a_simulator_writes_is_none_that_says_the_board(self):
         for board in (None, b"size 16\n"):
@@ -112,30 +107,23 @@ class Files(Place):
             with self.subTest(name=name):
                 self.store("flash", COUNTING)
                 self.assertTold(self.use("erase", "5", journal=name), "segment 1: 1 pages erased\n")
-                self.assertTold(self.use("undo", journal=name), "undone 1\n")
-                self.assertFile("flash", COUNTING)
+                self.assertTold(self.use("undo", journal=name), "undone 1\n", flash=COUNTING)
                 self.remove(name)
                 self.assertSilent(self.use("read", name))
                 self.assertFile(name, COUNTING)
                 self.remove(name)
                 os.symlink("victim", self.path(name))
-                self.assertSilent(self.use("read", "out"))
-                self.assertFiles({"out": COUNTING, "victim": b"mine"})
+                self.assertSilent(self.use("read", "out"), out=COUNTING, victim=b"mine")
                 self.remove(name, "out")
                 os.mkfifo(self.path(name))
-                self.assertSilent(self.use("read", "out"))
-                self.assertFile("out", COUNTING)
+                self.assertSilent(self.use("read", "out"), out=COUNTING)
                 self.remove(name, "out")
 
     def test_out_is_replaced_whole_or_not_at_all(self):
         older = b"older" * 20000
         self.store_all({"flash": COUNTING, "out": older})
-        for room in (0, 1, 20000):
-            with self.subTest(room=room):
-                self.assertFault(self.use("read", "out", before=files_up_to(room)), "cannot write out")
-                self.assertFile("out", older)
-        self.assertSilent(self.use("read", "out"))
-        self.assertFile("out", COUNTING)
+        self.each((0, 1, 20000), lambda room: self.assertFault(self.use("read", "out", before=files_up_to(room)), "cannot write out", out=older))
+        self.assertSilent(self.use("read", "out"), out=COUNTING)
 
     def use_held(self, at, name, *words, fails=None):
         """Uses the program with its syncs held, and answers what was said and which files were synced."""
@@ -153,34 +141,29 @@ class Files(Place):
 
     def test_a_simulator_takes_no_journals_place(self):
         """The journal is made when the names were compared, and then one of the simulator's files is a link to it."""
-        for name in ("flash", "flash.line"):
-            for link, source in ((os.symlink, "journal"), (os.link, self.path("journal"))):
-                with self.subTest(name=name, link=link):
-                    self.clear("journal", "flash.line")
-                    self.store("flash", COUNTING)
-                    said, _ = self.use_held(self.make_at_first(link, source, name), "erase", "5")
-                    self.assertFault(said, f"cannot write {name}")
-                    self.assertTrue(self.held("journal").endswith(b"\nerase 5\nend 1\n"))
-                    self.assertFile(name, self.held("journal"))
-                    self.remove(name)
-                    self.store("flash", COUNTING[:5 * 1024] + b"\xff" * 1024 + COUNTING[6 * 1024:])
-                    self.assertTold(self.use("undo"), "undone 1\n")
-                    self.assertHolds(COUNTING, b"idle\n")
+        for name, (link, source) in itertools.product(("flash", "flash.line"), ((os.symlink, "journal"), (os.link, self.path("journal")))):
+            with self.subTest(name=name, link=link):
+                self.store_all({"flash": COUNTING, "flash.line": None, "journal": None})
+                said, _ = self.use_held(self.make_at_first(link, source, name), "erase", "5")
+                self.assertFault(said, f"cannot write {name}")
+                self.assertTrue(self.held("journal").endswith(b"\nerase 5\nend 1\n"))
+                self.assertFile(name, self.held("journal"))
+                self.remove(name)
+                self.store("flash", COUNTING[:5 * 1024] + b"\xff" * 1024 + COUNTING[6 * 1024:])
+                self.assertTold(self.use("undo"), "undone 1\n", holds=(COUNTING, b"idle\n"))
 
     def test_out_takes_no_other_files_place(self):
         """The simulator's file is made when the names were compared, and then OUT is a link to another file."""
         self.store("journal", b"stmjournal 2 0412\n")
-        for other in ("journal", "table", "flash"):
-            for link, source in ((os.symlink, other), (os.link, self.path(other))):
-                if (other, link) == ("flash", os.link):
-                    # it isn't there yet
-                    continue
+        for other, link in itertools.product(("journal", "table", "flash"), (os.symlink, os.link)):
+            # the flash isn't there yet
+            if (other, link) != ("flash", os.link):
                 with self.subTest(other=other, link=link):
                     self.clear("flash", "flash.line", "out")
-                    before = self.held(other)
-                    said, _ = self.use_held(self.make_at_first(link, source, "out"), "read", "-S", "0x08000000:256", "out")
-                    self.assertFault(said, "cannot write out")
-                    self.assertFile(other, ERASED if other == "flash" else before)
+                    before = ERASED if other == "flash" else self.held(other)
+                    made = self.make_at_first(link, other if link is os.symlink else self.path(other), "out")
+                    self.assertFault(self.use_held(made, "read", "-S", "0x08000000:256", "out")[0], "cannot write out")
+                    self.assertFile(other, before)
                     self.assertTrue(self.is_there("out"))
 
     def test_out_is_on_the_disk(self):
@@ -209,8 +192,7 @@ class Files(Place):
                 self.remove("out")
 
         said, _ = self.use_held(turn, "read", "out")
-        self.assertFault(said, "cannot write out")
-        self.assertFiles({"one": b"1", "out": None})
+        self.assertFault(said, "cannot write out", one=b"1", out=None)
 
     def test_out_is_tried_first(self):
         """What can't be written is told before anything is asked of a device that doesn't answer."""
@@ -219,8 +201,7 @@ class Files(Place):
                 os.makedirs(self.path("folder"), exist_ok=True)
                 self.assertFault(self.use("read", out, device="absent-board"), f"cannot write {out}")
         self.store("out", b"older")
-        self.assertFault(self.use("read", "out", device="absent-board"), "cannot connect absent-board")
-        self.assertFile("out", b"older")
+        self.assertFault(self.use("read", "out", device="absent-board"), "cannot connect absent-board", out=b"older")
         self.assertEqual([name for name in os.listdir(self.folder) if name.startswith("out")], ["out"])
 
     def test_out_keeps_its_mode(self):
@@ -257,8 +238,7 @@ class Files(Place):
                 if name == "flash":
                     self.remove("flash")
                 os.symlink("folder/" + name, self.path(name))
-                said = self.use(*words)
-                self.assertEqual((said.status, said.err), (0, b""))
+                self.assertWell(self.use(*words))
                 self.assertTrue(os.path.islink(self.path(name)))
                 self.assertIsNotNone(self.held("folder/" + name))
                 os.remove(self.path("folder/" + name))
@@ -274,9 +254,7 @@ class Files(Place):
         self.assertSilent(self.use("read", "/dev/null"))
         for name in ("/dev/full", "/dev/zero"):
             self.assertFault(self.use("read", name), f"cannot write {name}: {NO_OUTPUT}")
-        for out in ("-", "/dev/stdout"):
-            with self.subTest(out=out):
-                self.assertEqual(self.use("read", out), Said(0, COUNTING, b""))
+        self.each(("-", "/dev/stdout"), lambda out: self.assertEqual(self.use("read", out), Said(0, COUNTING, b"")))
         self.assertFalse(self.is_there("-"))
         self.assertSilent(self.use("read", "./-"))
         self.assertFile("-", COUNTING)
@@ -318,8 +296,7 @@ class Files(Place):
 
                 old = os.umask(mask)
                 try:
-                    said, _ = self.use_held(look, "erase", "5")
-                    self.assertTold(said, "segment 1: 0 pages erased\n", new(1))
+                    self.assertTold(self.use_held(look, "erase", "5")[0], "segment 1: 0 pages erased\n", new(1))
                     self.assertSilent(self.use("read", "out"))
                 finally:
                     os.umask(old)
@@ -334,38 +311,21 @@ class Files(Place):
     def test_what_a_killed_program_left_is_removed(self):
         """By the next one that has the simulator's file; a file of another name stays."""
         mine = {"flash.0.new": b"mine", "flash.new": b"mine", "flash.stmflash-x.new": b"mine"}
-        for kills in range(4):
-            for begun in (None, COUNTING):
-                with self.subTest(kills=kills, begun=begun is not None):
-                    self.clear("flash", "flash.line")
-                    if begun is not None:
-                        self.store("flash", begun)
-                    for name, text in mine.items():
-                        self.store(name, text)
-
-                    def kill(number, process, kills=kills):
-                        if number == kills:
-                            os.kill(process, signal.SIGKILL)
-
-                    said, _ = self.use_held(kill, "info")
-                    self.assertEqual(said.status, -signal.SIGKILL)
-                    said = self.use("info")
-                    self.assertEqual((said.status, said.err), (0, b""))
-                    self.assertEqual({name for name in os.listdir(self.folder) if name.endswith(".new")}, set(mine))
-                    self.remove(*mine)
+        for kills, begun in itertools.product(range(4), (None, COUNTING)):
+            with self.subTest(kills=kills, begun=begun is not None):
+                self.store_all({"flash": begun, "flash.line": None, **mine})
+                self.assertEqual(self.use_held(syncs.kill_at(kills), "info")[0].status, -signal.SIGKILL)
+                self.assertWell(self.use("info"))
+                self.assertEqual({name for name in os.listdir(self.folder) if name.endswith(".new")}, set(mine))
+                self.remove(*mine)
 
     def test_all_that_killed_programs_left_is_removed(self):
         """However many they were, also where the flash is made anew."""
         for begun in (COUNTING, None):
             with self.subTest(begun=begun is not None):
-                self.clear("flash", "flash.line")
-                if begun is not None:
-                    self.store("flash", begun)
-                for number in range(3):
-                    for name in ("flash", "flash.line"):
-                        self.store(f"{name}.stmflash-{number}.new", b"left")
-                said = self.use("info")
-                self.assertEqual((said.status, said.err), (0, b""))
+                left = {f"{name}.stmflash-{number}.new": b"left" for name in ("flash", "flash.line") for number in range(3)}
+                self.store_all({"flash": begun, "flash.line": None, **left})
+                self.assertWell(self.use("info"))
                 self.assertEqual([name for name in os.listdir(self.folder) if name.endswith(".new")], [])
 
     def test_what_is_read_is_a_regular_file(self):
@@ -387,9 +347,8 @@ class Files(Place):
     def test_an_image_may_come_from_standard_input(self):
         """Also by a pipe, which was opened for the program."""
         self.store("flash", COUNTING)
-        for name in ("/dev/stdin", "/dev/fd/0"):
-            with self.subTest(name=name):
-                self.assertTold(self.use("verify", "-S", "0x08000005", name, given=COUNTING[5:500]), "verified 495 bytes\n")
+        self.each(("/dev/stdin", "/dev/fd/0"),
+                  lambda name: self.assertTold(self.use("verify", "-S", "0x08000005", name, given=COUNTING[5:500]), "verified 495 bytes\n"))
 
     def test_a_table_may_come_from_standard_input(self):
         """Also by a pipe, whose bytes come once; and of a simulator that is served."""
@@ -414,7 +373,6 @@ class Files(Place):
     def test_a_table_of_a_mebibyte(self):
         table = self.held("table")
         self.store("table", table + b"#" * ((1 << 20) - len(table)))
-        said = self.use("info")
-        self.assertEqual((said.status, said.err), (0, b""))
+        self.assertWell(self.use("info"))
         self.store("table", table + b"#" * ((1 << 20) - len(table) + 1))
         self.assertFault(self.use("info"), "cannot read table")

@@ -10,6 +10,7 @@ import io
 import os
 import re
 import shlex
+import shutil
 import subprocess
 import sys
 import tempfile
@@ -19,7 +20,7 @@ import types
 import unittest
 import unittest.mock
 
-from place import TOP
+from place import TOP, text_in
 
 
 def script(*names):
@@ -44,12 +45,28 @@ def shell(text, *more):
     return GATE.Step(shlex.join(["sh", "-c", text]), *more)
 
 
-class Gate(unittest.TestCase):
+class Room(unittest.TestCase):
+    """A test with a folder of its own."""
+
     def setUp(self):
         folder = tempfile.TemporaryDirectory(prefix="stmflash-")
         self.addCleanup(folder.cleanup)
         self.folder = folder.name
 
+    def named(self, name):
+        """The path of a file there, as a shell reads it."""
+        return shlex.quote(os.path.join(self.folder, name))
+
+    def put(self, path, text):
+        """Writes a file there, and answers its path."""
+        path = os.path.join(self.folder, path)
+        os.makedirs(os.path.dirname(path), exist_ok=True)
+        with open(path, "w", encoding="utf-8") as file:
+            file.write(text)
+        return path
+
+
+class Gate(Room):
     def run_steps(self, *steps):
         """What the gate says of these steps, and its status. What a step says that waits isn't among it: it is said at once."""
         said = io.StringIO()
@@ -65,9 +82,19 @@ class Gate(unittest.TestCase):
         self.assertIn("gate: failed,   0.0 min,   0.0 of processor: false\n", said)
         self.assertIn("gate: 2 steps passed, 1 failed, in  0.0 min,   0.0 of processor\n", said)
 
+    def test_tells_last_how_what_failed_ended_whether_it_waits_or_computes(self):
+        steps = [shell(f"seq 30 | sed s/^/{name}/; echo end of {name} >&2; exit {status}", goes)
+                 for name, goes, status in (("a", GATE.WAITS, 1), ("b", GATE.COMPUTES, 2), ("c", GATE.WAITS, 0))]
+        said, _ = self.run_steps(*steps)
+        last = said.split("failed, in")[1]
+        for name, (words, _, _) in zip("ab", steps):
+            self.assertIn(f"gate: the end of what {words} said:\n{name}20\n{name}21\n", last)
+            self.assertIn(f"{name}30\nend of {name}\n", last)
+        self.assertNotIn("end of c", last)
+
     def test_tells_the_time_of_what_a_step_calls_and_not_of_the_one_beside_it(self):
         busy = "import os; at = os.times().user\nwhile os.times().user < at + 3.2: pass"
-        made = shlex.quote(os.path.join(self.folder, "made"))
+        made = self.named("made")
         said, _ = self.run_steps(shell(shlex.join([sys.executable, "-c", busy]) + f"; touch {made}"), shell(AWAIT.format(made), GATE.COMPUTES))
         self.assertRegex(said, r"gate: passed,   [0-9.]+ min,   0\.1 of processor: sh -c '/")
         self.assertRegex(said, r"gate: passed,   [0-9.]+ min,   0\.0 of processor: sh -c 'for")
@@ -76,7 +103,7 @@ class Gate(unittest.TestCase):
         self.assertEqual(self.run_steps(GATE.Step("true"), GATE.Step("test 1"))[1], 0)
 
     def test_a_step_that_computes_goes_on_beside_one_that_waits(self):
-        here, there = (shlex.quote(os.path.join(self.folder, name)) for name in ("here", "there"))
+        here, there = self.named("here"), self.named("there")
         steps = shell(f"touch {here}; " + AWAIT.format(there), GATE.COMPUTES), shell(f"touch {there}; " + AWAIT.format(here))
         self.assertEqual(self.run_steps(*steps)[1], 0)
 
@@ -89,21 +116,19 @@ class Gate(unittest.TestCase):
                  for number, goes in enumerate((GATE.COMPUTES, GATE.ALONE, GATE.ALONE, GATE.COMPUTES))]
         said, status = self.run_steps(*steps)
         self.assertEqual(status, 0)
-        begun = [line[-2] for line in said.splitlines() if re.match("gate: (beside others: )?sh", line)]
-        self.assertEqual("".join(begun), "001233")
+        self.assertEqual("".join(line[-2] for line in said.splitlines() if re.match("gate: (beside others: )?sh", line)), "001233")
 
     def test_begins_a_step_behind_the_one_that_it_waits_for(self):
-        made = shlex.quote(os.path.join(self.folder, "made"))
+        made = self.named("made")
         makes = shell(f"sleep 0.3; touch {made}", GATE.COMPUTES)
         self.assertEqual(self.run_steps(shell(f"test -e {made}", GATE.WAITS, makes.words), makes)[1], 0)
 
     def test_a_step_that_computes_has_the_lowest_priority(self):
-        steps = shell('test "$(nice)" = 19', GATE.COMPUTES), shell(f'test "$(nice)" = {os.nice(0)}')
-        self.assertEqual(self.run_steps(*steps)[1], 0)
+        self.assertEqual(self.run_steps(shell('test "$(nice)" = 19', GATE.COMPUTES), shell(f'test "$(nice)" = {os.nice(0)}'))[1], 0)
 
     def test_what_a_step_beside_another_says_is_one_piece_after_that(self):
         """The one that waits ends once the last one goes on, and so after the one that says something."""
-        made = shlex.quote(os.path.join(self.folder, "made"))
+        made = self.named("made")
         steps = shell(AWAIT.format(made)), shell("echo one; sleep 0.1; echo two >&2", GATE.COMPUTES), GATE.Step(f"touch {made}", GATE.COMPUTES)
         said, _ = self.run_steps(*steps)
         self.assertRegex(said, r"(?s)gate: beside others: touch.*gate: sh -c 'echo one[^\n]*'\none\ntwo\ngate: touch [^\n]*\ngate: passed")
@@ -117,6 +142,17 @@ class Gate(unittest.TestCase):
             # what the demo makes is used behind it alone
             if GATE.UNPROVED in step.words:
                 self.assertEqual(step.behind, "sh tools/demo.sh")
+
+    def test_a_step_without_its_tools_is_left_out_where_the_call_names_them(self):
+        """They are among those that CI installs. Here sh has nothing else but what its first lines call."""
+        os.symlink(shutil.which("dirname"), os.path.join(self.folder, "dirname"))
+        installed = set(text_in("tools", "packages").replace('"', " ").split())
+        for script in ("arm64", "web", "windows"):
+            needs = re.findall(r"([\w-]+):\S", re.search(r"for need in ((?:.|\n)*?);", text_in(script, "try"))[1])
+            self.assertLessEqual(set(needs), installed)
+            for named, status in ((needs[:1], 0), (needs[1:], 1)):
+                ran = subprocess.run(["/bin/sh", os.path.join(TOP, script, "try"), *named], env={"PATH": self.folder}, capture_output=True, text=True)
+                self.assertEqual((ran.returncode, ran.stdout[:10]), (status, "left out: "), ran.stderr)
 
     def test_a_second_turn_is_for_a_test_that_failed_and_hears_a_board(self):
         runs = script("tests", "run")
@@ -169,8 +205,7 @@ class Mutants(unittest.TestCase):
         self.assertEqual(names, {it.name for it in mutants.sampled(faults[::-1], 12, "a")})
         # one that comes takes the place of one at the most
         for number in range(20):
-            more = {it.name for it in mutants.sampled([make("program", f"new {number}"), *faults], 12, "a")}
-            self.assertIn(len(names - more), (0, 1))
+            self.assertIn(len(names - {it.name for it in mutants.sampled([make("program", f"new {number}"), *faults], 12, "a")}), (0, 1))
 
     def test_a_fault_is_looked_for_by_the_test_that_found_it_and_then_by_some_that_reach_it(self):
         mutants = script("tools", "mutants")
@@ -184,38 +219,28 @@ class Mutants(unittest.TestCase):
         self.assertEqual([it for it in looking.parts(["a", "b", "c", "d"]) if it], [["a"], ["b", "c"], ["d"]])
 
 
-class KeptModule(unittest.TestCase):
+class KeptModule(Room):
     """tools/unproved.py: what the demo made of the whole program is taken for 64-bit ARM where it is of the same text."""
 
     def test_a_module_is_taken_for_the_very_text_that_it_is_of(self):
-        unproved = script("tools", "unproved.py")
-        with tempfile.TemporaryDirectory() as folder:
-            def store(name, text):
-                path = os.path.join(folder, name)
-                os.makedirs(os.path.dirname(path), exist_ok=True)
-                with open(path, "w", encoding="utf-8") as file:
-                    file.write(text)
-                return path
-
-            top, kept = os.path.join(folder, "top"), os.path.join(folder, "kept")
-            store("top/crates/one/src/lib.rt", "one")
+        unproved, top, kept = script("tools", "unproved.py"), os.path.join(self.folder, "top"), os.path.join(self.folder, "kept")
+        self.put("top/crates/one/src/lib.rt", "one")
+        self.assertFalse(unproved.is_kept(kept, top))
+        unproved.keep(self.put("module", "a module"), kept, top)
+        self.assertEqual(text_in(kept), "a module")
+        self.assertTrue(unproved.is_kept(kept, top))
+        # what a build leaves is no text of it
+        self.put("top/crates/one/out/made", "made")
+        self.assertTrue(unproved.is_kept(kept, top))
+        with unittest.mock.patch.object(unproved, "kit_name", lambda: b"another kit"):
             self.assertFalse(unproved.is_kept(kept, top))
-            unproved.keep(store("module", "a module"), kept, top)
-            with open(kept, encoding="utf-8") as file:
-                self.assertEqual(file.read(), "a module")
-            self.assertTrue(unproved.is_kept(kept, top))
-            # what a build leaves is no text of it
-            store("top/crates/one/out/made", "made")
-            self.assertTrue(unproved.is_kept(kept, top))
-            with unittest.mock.patch.object(unproved, "kit_name", lambda: b"another kit"):
-                self.assertFalse(unproved.is_kept(kept, top))
-            for name, text in (("top/crates/one/src/lib.rt", "other"), ("top/crates.txt", "one:")):
-                unproved.keep(store("module", "a module"), kept, top)
-                store(name, text)
-                self.assertFalse(unproved.is_kept(kept, top))
+        for name, text in (("top/crates/one/src/lib.rt", "other"), ("top/crates.txt", "one:")):
+            unproved.keep(self.put("module", "a module"), kept, top)
+            self.put(name, text)
+            self.assertFalse(unproved.is_kept(kept, top))
 
 
-class Weight(unittest.TestCase):
+class Weight(Room):
     """tools/weight, of a checkout that has one file of each kind."""
 
     # each file with its group and its kind
@@ -228,18 +253,14 @@ class Weight(unittest.TestCase):
     FIRST = {"tools/a": "#!/usr/bin/env python3\n", "tools/b": "#!/bin/sh\n"}
 
     def setUp(self):
-        folder = tempfile.TemporaryDirectory(prefix="stmflash-")
-        self.addCleanup(folder.cleanup)
-        self.folder = folder.name
+        super().setUp()
         subprocess.run(["git", "init", "-q", self.folder], check=True)
         for path in (*self.FILES, *self.MADE):
             self.store(path, 3)
         self.assertEqual(self.weigh("--record").returncode, 0)
 
     def store(self, path, lines):
-        os.makedirs(os.path.dirname(os.path.join(self.folder, path)), exist_ok=True)
-        with open(os.path.join(self.folder, path), "w", encoding="utf-8") as file:
-            file.write(self.MADE.get(path, "") + self.FIRST.get(path, "") + "word\n" * lines)
+        self.put(path, self.MADE.get(path, "") + self.FIRST.get(path, "") + "word\n" * lines)
 
     def weigh(self, *words):
         return subprocess.run([sys.executable, os.path.join(TOP, "tools", "weight"), *words, self.folder], capture_output=True, text=True)
@@ -258,11 +279,8 @@ class Weight(unittest.TestCase):
         self.assertEqual(self.weigh("--check").returncode, 0)
 
     def test_the_record_falls_and_never_rises(self):
-        self.store("tests/a.py", 9)
-        self.weigh("--record")
-        self.assertEqual(self.weigh("--check").returncode, 1)
-        self.store("tests/a.py", 1)
-        self.weigh("--record")
-        self.assertEqual(self.weigh("--check").returncode, 0)
-        self.store("tests/a.py", 2)
-        self.assertEqual(self.weigh("--check").returncode, 1)
+        for lines, records, status in ((9, True, 1), (1, True, 0), (2, False, 1)):
+            self.store("tests/a.py", lines)
+            if records:
+                self.weigh("--record")
+            self.assertEqual(self.weigh("--check").returncode, status, lines)

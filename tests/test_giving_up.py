@@ -132,8 +132,7 @@ class GivingUp(Served):
                                 "journal": with_page(b"stmjournal 2 0412\nopen 1\npage 5 ", b"0", b"\nerase 5\n" + greeting)})
                 self.serve(1)
                 self.relay(lambda came: 0.5 if came == b"\x7f" else 0, f"slow{number}")
-                said = self.use("undo", "--wait", "900", "--give-up", give_up, device=f"slow{number}")
-                self.assertTold(said, "undone 1\n")
+                self.assertTold(self.use("undo", "--wait", "900", "--give-up", give_up, device=f"slow{number}"), "undone 1\n")
                 self.assertServed()
 
     def test_noise_is_no_answer(self):
@@ -184,8 +183,7 @@ class GivingUp(Served):
         waits = [6]
         self.serve(1)
         self.relay(lambda _: waits.pop() if waits else 0)
-        said = self.use("info", "--wait", "250", "--give-up", "0", device="slow")
-        self.assertEqual((said.status, said.err), (0, b""))
+        self.assertWell(self.use("info", "--wait", "250", "--give-up", "0", device="slow"))
         self.assertServed()
 
     def test_waits_as_long_as_is_said(self):
@@ -196,7 +194,7 @@ class GivingUp(Served):
             began = time.monotonic()
             said = self.use("info", "--wait", wait, device="board")
             seconds.append(time.monotonic() - began)
-            self.assertEqual((said.status, said.err), (0, b""))
+            self.assertWell(said)
         self.assertServed()
         self.assertGreater(seconds[1], 4.9, seconds)
 
@@ -213,8 +211,7 @@ class GivingUp(Served):
             return 0
 
         self.relay(delay)
-        said = self.use("erase", "5", "--wait", "1000", "--give-up", "2", device="slow")
-        self.assertTold(said, "segment 1: 1 pages erased\n")
+        self.assertTold(self.use("erase", "5", "--wait", "1000", "--give-up", "2", device="slow"), "segment 1: 1 pages erased\n")
         self.assertEqual(len(slow), 1)
         self.assertServed()
 
@@ -223,21 +220,17 @@ class GivingUp(Served):
         self.store("table", WIDE)
         zeros = b"\x00" * 256 * 2048
         self.store_all({"flash": zeros, "flash.line": b"rest 44BB\n"})
-        journal = b"stmjournal 2 0414\nopen 1\npage 12 " + b"0" * 4096 + b"\nerase 12\n"
-        self.store("journal", journal)
+        self.store("journal", b"stmjournal 2 0414\nopen 1\npage 12 " + b"0" * 4096 + b"\nerase 12\n")
         self.serve(1, number="0414")
         began = time.monotonic()
-        said = self.use("undo", "--wait", "250", "--give-up", "1", device="board")
-        self.assertTold(said, "undone 1\n")
+        self.assertTold(self.use("undo", "--wait", "250", "--give-up", "1", device="board"), "undone 1\n")
         self.assertGreater(time.monotonic() - began, 5)
-        self.assertServed()
-        self.assertHolds(zeros, b"idle\n")
+        self.assertServed(holds=(zeros, b"idle\n"))
 
 
 class SilentClient(Served):
     def test_is_left_for_the_next_one(self):
-        """A client of the simulator that says nothing for a minute has its line ended, and not before; the device stays as it
-        stood."""
+        """A client of the simulator that says nothing for a minute has its line ended, and not before; the device stays as it stood."""
         self.serve(2)
         silent, client = self.connect(), self.connect()
         silent.sendall(b"\x7f\x43")
@@ -248,6 +241,5 @@ class SilentClient(Served):
         self.assertEqual(client.recv(2), b"\x79")
         self.assertGreater(time.monotonic() - begun, 50)
         self.assertEqual(silent.recv(1), b"")
-        self.leave(client)
-        self.assertServed()
+        self.assertServed(client)
         self.assertFile("flash.line", b"rest 43BC\n")

@@ -26,6 +26,8 @@ SPEED = ("--baud", "115200")
 # a reply may be as late on a machine that is busy; and no undo may be given up while its batches go out
 LATE = ("--wait", "300", "--give-up", "5")
 AT_ONCE = 12
+# behind so many bytes an undo is in its own erase, or in a write
+OWN = (274, 279, 400, 540)
 
 
 class Stop(typing.NamedTuple):
@@ -39,8 +41,7 @@ class Stop(typing.NamedTuple):
         return ERASES[self.chip] if self.command == "erase" else write_to(PAGE * SIZE, DATA)
 
     def journal(self):
-        intents = b"erase 3\n" if self.command == "erase" else b"erase 3\nprogram 3\n"
-        return BEGUN % self.chip.encode() + intents
+        return BEGUN % self.chip.encode() + (b"erase 3\n" if self.command == "erase" else b"erase 3\nprogram 3\n")
 
     def stands(self):
         """What the board's files hold: its flash, and its line."""
@@ -63,18 +64,14 @@ def stops(chip, command, counts=None):
 # each byte of an erase, and those of a write that end or begin one of its parts
 ALL = [stop for chip in (NARROW, WIDE) for stop in stops(chip, "erase")]
 ALL += [stop for chip in (NARROW, WIDE) for stop in stops(chip, "write", (*range(9), 100, 264, 265))]
-
-
 # how many steps an undo takes at a simulator in the process
 STEPS = {Stop(NARROW, "erase", 2): 977, Stop(WIDE, "erase", 2): 2145, Stop(NARROW, "write", 7): 976}
 
 
-class Greeting(Served):
-    def setUp(self):
-        super().setUp()
-        self.store("table", TABLE)
+class Undoing(Served):
+    begins = {"table": TABLE}
 
-    def each(self, cases, does):
+    def each_apart(self, cases, does):
         """Does this for each case, some at once, in a folder of its own."""
         cases = list(cases)
         with concurrent.futures.ThreadPoolExecutor(AT_ONCE) as pool:
@@ -122,6 +119,8 @@ class Greeting(Served):
         self.ended(board)
         return said, b"".join(sent)
 
+
+class Greeting(Undoing):
     def assertUndone(self, room, said, stop, greetings):
         self.assertTold(said, "undone 1\n")
         self.assertFile(f"{room}/flash", FLASH)
@@ -144,15 +143,29 @@ class Greeting(Served):
             byte = b"\x03" if stop.command == "erase" else b"\x02"
             self.assertEqual(self.greeted(room, stop, True)[:257], b"\x7f" + 256 * byte)
 
-        self.each(((stop,) for stop in ALL), does)
+        self.each_apart(((stop,) for stop in ALL), does)
 
     def test_a_board_that_was_not_reset(self):
-        self.each(((stop, False) for stop in ALL), self.greeted)
+        self.each_apart(((stop, False) for stop in ALL), self.greeted)
 
     def test_a_board_that_takes_its_speed_from_the_first_byte(self):
         """It is deaf until the next reset where that isn't 7F."""
         few = [*stops(NARROW, "erase", (0, 2, 5)), *stops(WIDE, "erase", (2, 3)), *stops(NARROW, "write", (2, 100)), *stops(WIDE, "write", (7,))]
-        self.each(((stop, True, True) for stop in few), self.greeted)
+        self.each_apart(((stop, True, True) for stop in few), self.greeted)
+
+    def stopped_then_deaf(self, room, stop, cut):
+        """An undo that is stopped in a command of its own, and one behind a reset."""
+        self.begin(room, stop, True)
+        self.undo(room, stop.chip, *SPEED, cut=cut)
+        self.store(f"{room}/flash.line", b"fresh\n")
+        said, sent = self.undo(room, stop.chip, *SPEED, is_deaf=True)
+        self.assertTold(said, "undone 1\n")
+        self.assertEqual(sent[:1], b"\x7f")
+        self.assertFile(f"{room}/flash", FLASH)
+
+    def test_a_deaf_board_behind_an_undo_that_was_stopped(self):
+        few = (Stop(NARROW, "erase", 2), Stop(WIDE, "erase", 3), Stop(NARROW, "write", 100), Stop(WIDE, "write", 7))
+        self.each_apart(((stop, cut) for stop in few for cut in OWN), self.stopped_then_deaf)
 
     def silent_then_reset(self, room, stop, words):
         """An undo while the board is away, and one behind its reset."""
@@ -172,7 +185,7 @@ class Greeting(Served):
     def test_a_board_that_was_away_and_then_reset(self):
         """An undo that heard nothing to its end says so, and the next one greets again; also where the board is deaf."""
         few = (*stops(NARROW, "erase", (0, 2)), *stops(NARROW, "write", (7,)), *stops(WIDE, "write", (7,)))
-        self.each(((stop, words) for stop in few for words in ((), ("--fresh",))), self.silent_then_reset)
+        self.each_apart(((stop, words) for stop in few for words in ((), ("--fresh",))), self.silent_then_reset)
 
     def test_a_line_that_is_cut_is_no_silence(self):
         """The board may be there, in the midst of a frame: the journal says nothing more, and no second 7F comes."""
@@ -205,11 +218,9 @@ class Greeting(Served):
                 self.assertIn(before.split()[0], (b"erase", b"program"))
 
     def test_an_undo_that_is_stopped_twice(self):
-        cases = [(stop, is_reset, cuts)
-                 for stop in (Stop(NARROW, "erase", 2), Stop(NARROW, "write", 100), Stop(WIDE, "write", 7))
-                 for is_reset in (False, True)
-                 for cuts in ((1, 1), (1, 258), (2, 266), (268, 3), (275, 270))]
-        self.each(cases, self.stopped_twice)
+        cases = [(stop, is_reset, cuts) for stop in (Stop(NARROW, "erase", 2), Stop(NARROW, "write", 100), Stop(WIDE, "write", 7))
+                 for is_reset in (False, True) for cuts in ((1, 1), (1, 258), (2, 266), (268, 3), (275, 270))]
+        self.each_apart(cases, self.stopped_twice)
 
     def ungreeted(self, room, stop, first):
         self.begin(room, stop, False)
@@ -219,7 +230,7 @@ class Greeting(Served):
 
     def test_a_list_that_may_become_long_needs_a_speed(self):
         """Behind `44 BB` 7F makes a list of 65,000 bytes. Where no speed is said, an erase by `44` isn't greeted; all else is."""
-        self.each(((stop, b"\x03") for stop in stops(WIDE, "erase")), self.ungreeted)
+        self.each_apart(((stop, b"\x03") for stop in stops(WIDE, "erase")), self.ungreeted)
 
         def does(room, stop):
             self.begin(room, stop, True)

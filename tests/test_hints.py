@@ -1,8 +1,8 @@
 """What is told of a device that refuses, says nothing, something else, or just what it hears: the line behind the fault's own."""
 
 from place import BUSY, ECHO, NOISE, SILENT, TABLE, UNREAD, had
-from refusing import AT, BASE, DEVICE, IMAGE, NOT_ERASED, NOT_WRITTEN, SIZES, Guarded, OnBoard
-from test_giving_up import HASTY, be_silent, echo
+from refusing import AT, BASE, DEVICE, NOT_ERASED, NOT_WRITTEN, SIZES, Guarded, OnBoard
+from test_giving_up import HASTY, be_silent, echo, hiss
 
 from deviations import DEVIATIONS
 from planted_board import PlantedBoard
@@ -48,13 +48,6 @@ class Counted(Other):
 class Hints(OnBoard):
     """Each is the line behind the fault's own, and all else is as ever."""
 
-    def setUp(self):
-        super().setUp()
-        self.store("image", IMAGE)
-
-    def write(self, board):
-        return self.on(board, "write", "-S", f"{AT:#x}", "image")
-
     def assertGoesBack(self, board, before, note=None):
         """It is undone once nothing is refused any more."""
         board.refused.clear()
@@ -69,7 +62,7 @@ class Hints(OnBoard):
                 self.store("table", TABLE.replace(b"page\"", kind.encode() + b"\""))
                 board = Guarded("page", 5, code)
                 before = bytes(board.flash)
-                self.assertFault(self.write(board), DEVICE, hint=told)
+                self.assertFault(self.write_on(board), DEVICE, hint=told)
                 # an undo erases the page too; what is shown of it changes nothing
                 self.assertFault(self.on(board, "undo"), DEVICE, hint=told)
                 shown = self.on(board, "undo", "--progress").err.decode().splitlines()
@@ -82,7 +75,7 @@ class Hints(OnBoard):
             with self.subTest(step):
                 board = Guarded(step, 5)
                 before = bytes(board.flash)
-                self.assertFault(self.write(board), DEVICE, hint=told)
+                self.assertFault(self.write_on(board), DEVICE, hint=told)
                 self.assertGoesBack(board, before)
 
     def test_a_command_that_is_refused(self):
@@ -90,7 +83,7 @@ class Hints(OnBoard):
             with self.subTest(name):
                 board = Guarded("code", code)
                 before = bytes(board.flash)
-                self.assertFault(self.write(board), DEVICE, hint=f"the device refused to {name}: is its flash readout-protected?")
+                self.assertFault(self.write_on(board), DEVICE, hint=f"the device refused to {name}: is its flash readout-protected?")
                 # what isn't read isn't kept
                 self.assertGoesBack(board, before, had(1, left=0) if name == "read" else None)
 
@@ -100,8 +93,7 @@ class Hints(OnBoard):
         for step in ("read", "count"):
             for words in ((), ("-S", f"{place:#x}:50")):
                 with self.subTest(step, words=words):
-                    said = self.on(Guarded(step, 5), "read", *words, "OUT")
-                    self.assertFault(said, DEVICE, hint=UNREAD.format(place))
+                    self.assertFault(self.on(Guarded(step, 5), "read", *words, "OUT"), DEVICE, hint=UNREAD.format(place))
 
     def test_a_board_that_says_that_it_is_busy(self):
         """Before it acknowledges an erase: its undo is refused too, until it doesn't say so any more."""
@@ -120,8 +112,7 @@ class Hints(OnBoard):
                 board = Busy(first, 1)
                 before = bytes(board.flash)
                 self.assertFault(self.on(board, "read", "OUT"), DEVICE, hint=BUSY)
-                self.assertSilent(self.on(board, "read", "OUT"))
-                self.assertFile("OUT", before)
+                self.assertSilent(self.on(board, "read", "OUT"), OUT=before)
                 self.remove("OUT")
 
     def test_two_acks_for_7f(self):
@@ -150,10 +141,6 @@ class Hints(OnBoard):
         def print_on(line, ending):
             while not ending.is_set():
                 line.sendall(b"boot ok, temperature 23\r\n" * 8)
-
-        def hiss(line, ending):
-            while not ending.wait(0.01):
-                line.sendall(b"\x55")
 
         def reply(line, ending):
             while not ending.is_set():

@@ -30,12 +30,8 @@ START, SIZE = 5 * 1024, 1024
 PAGE = f"page 5 {FLASH[START:START + SIZE].hex().upper()}".encode()
 BEGUN = b"stmjournal 2 0412\nopen 1\n" + PAGE + b"\nerase 5\n"
 IMAGE = bytes(256)
-COMMANDS = {
-    "info": ("info",),
-    "read": ("read", "-S", f"{0x08000000 + START:#x}:{SIZE}", "OUT"),
-    "write": ("write", "-S", f"{0x08000000 + START:#x}", "image"),
-    "undo": ("undo",),
-}
+COMMANDS = {"info": ("info",), "read": ("read", "-S", f"{0x08000000 + START:#x}:{SIZE}", "OUT"),
+            "write": ("write", "-S", f"{0x08000000 + START:#x}", "image"), "undo": ("undo",)}
 # the lines that a session adds to a journal of page 5
 LINES = (b"stmjournal 2 0412", b"open 1", PAGE, b"connect!", b"silent!", b"erase 5", b"program 5", b"end 1", b"undone 1")
 
@@ -115,8 +111,7 @@ class Hostile(Place):
         with concurrent.futures.ThreadPoolExecutor(AT_ONCE) as pool:
             begun = [(kind, command, pool.submit(self.once, kind, command, 0, at_default)) for kind, command in met]
             all_came = [(kind, command, calling.result()) for kind, command, calling in begun]
-        late = [(kind, command) for kind, command, came in all_came
-                if command not in KINDS[kind].is_slow_at and came.seconds >= GIVE_UP + SPARE]
+        late = [(kind, command) for kind, command, came in all_came if command not in KINDS[kind].is_slow_at and came.seconds >= GIVE_UP + SPARE]
         for kind, command, came in all_came:
             with self.subTest(kind, command=command):
                 for again in range(1, AGAIN + 1):
@@ -129,8 +124,7 @@ class Hostile(Place):
                 self.assertGoesBack(came)
 
     def assertInTime(self, kind, command, came):
-        """Not before a board that falls silent may be given up, and `--give-up` and two seconds at most, but for erases and
-        writes."""
+        """Not before a board that falls silent may be given up, and `--give-up` and two seconds at most, but for erases and writes."""
         least, most = 0, GIVE_UP + SPARE
         if command in kind.is_slow_at:
             least, most = SLOWEST - 1, SLOWEST + SPARE + MARGIN

@@ -69,10 +69,8 @@ class Inside(Served):
         """What it prints, its journal, and each byte that the page tells, in the page's order."""
         said, exchange = self.session()
         self.assertTold(said, "segment 1: 1 pages written\nverified 5 bytes\n")
-        told = page().split("The journal is now\n\n")[1].split("\n\n")[0]
-        lines = [line.strip() for line in told.splitlines()]
-        journal = self.held("board.journal").decode().splitlines()
-        self.assertEqual([line[:14] if line.startswith("page") else line for line in journal],
+        lines = [line.strip() for line in page().split("The journal is now\n\n")[1].split("\n\n")[0].splitlines()]
+        self.assertEqual([line[:14] if line.startswith("page") else line for line in self.held("board.journal").decode().splitlines()],
                          [line[:14] if line.startswith("page") else line for line in lines])
         frame = re.search(r"^    > ([0-9A-F ]+?)  .*\n    < (79)", page(), re.M)
         due = []

@@ -1,7 +1,6 @@
 """What the program does with its journal's file where it adds nothing: it is read and checked."""
 
 import os
-import signal
 
 import syncs
 from place import Place
@@ -19,16 +18,6 @@ FOREIGN = b"stmjournal 1 0410\nopen 1\nend 1\n"
 MISFIT = b"stmjournal 1 0412\nopen 1\npage 5 FF0A\nend 1\n"
 
 
-def at_most(most):
-    """Ends a process at its call of this number that is held."""
-
-    def look(number, process):
-        if number == most:
-            os.kill(process, signal.SIGKILL)
-
-    return look
-
-
 class Journal(Place):
     def assertRefused(self, name, words, journal, text, line):
         """A use with this journal on a fresh device ends with this fault, the line stands so, and the journal is as it was."""
@@ -40,15 +29,13 @@ class Journal(Place):
     def test_leaves_the_journal_as_it_was(self):
         for journal in (None, ENDED, TORN):
             with self.subTest(journal=journal):
-                if journal is not None:
-                    self.store("journal", journal)
+                self.store("journal", journal)
                 self.assertSilent(self.use("read", "out"))
                 said = self.use("info")
                 self.assertEqual((said.status, said.out[:8], said.err), (0, b"id 0412\n", b""))
                 self.assertFile("journal", journal)
         self.assertSilent(self.use("protect", "write-unprotect"))
-        self.assertSilent(self.use("go", "0x08000000"))
-        self.assertFile("journal", TORN)
+        self.assertSilent(self.use("go", "0x08000000"), journal=TORN)
 
     def test_says_which_line_of_the_journal_is_bad(self):
         """Nothing is sent: the line stands as before."""
@@ -76,22 +63,19 @@ class Journal(Place):
         """The last line counts, past 1 MiB and past 2 MiB."""
         for size in (1 << 20, 2 << 20):
             with self.subTest(size=size):
-                void = b"stmjournal 2 0412\n" + (b"." * 1022 + b"!\n") * (size >> 10)
-                self.store("journal", void + b"open 1\n")
-                told = "id 0412\nsegment 1: open, 0 pages\nunfinished, undo first\n"
-                self.assertTold(self.call("log", "--journal", "journal"), told)
+                self.store("journal", b"stmjournal 2 0412\n" + (b"." * 1022 + b"!\n") * (size >> 10) + b"open 1\n")
+                self.assertTold(self.call("log", "--journal", "journal"), "id 0412\nsegment 1: open, 0 pages\nunfinished, undo first\n")
                 self.assertFault(self.use("info"), "unfinished command, undo first")
 
     def test_is_read_to_its_end_before_it_is_kept(self):
         journal = b"stmjournal 2 0412\n" + (b"." * 1022 + b"!\n") * (1 << 10) + b"open 1\n"
         self.store("journal", journal)
-        self.assertFault(self.call("keep", "--journal", "journal"), "unfinished command, undo first")
-        self.assertFile("journal", journal)
+        self.assertFault(self.call("keep", "--journal", "journal"), "unfinished command, undo first", journal=journal)
 
     def test_is_read_in_large_pieces(self):
         """A journal of 64 KiB by some hundred readings: one by one its bytes would take hours where it is large."""
         self.store("journal", b"stmjournal 2 0412\n" + (b"." * 1022 + b"!\n") * 64)
-        said, sought = syncs.call(self.folder, ("log", "--journal", "journal"), held=syncs.LSEEK, at=at_most(1000))
+        said, sought = syncs.call(self.folder, ("log", "--journal", "journal"), held=syncs.LSEEK, at=syncs.kill_at(1000))
         self.assertTold(said, "id 0412\n0 can be undone\n")
         self.assertGreater(sought.count("journal"), 0)
 

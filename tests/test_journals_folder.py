@@ -1,6 +1,5 @@
 """A folder of journals, in which each board has its own: which one a call takes, and that no board is settled by another's."""
 
-import fcntl
 import os
 
 from place import WAIT, lacks
@@ -14,7 +13,7 @@ COUNTING = bytes(i % 251 for i in range(SIZE))
 UNIQUE = {"a": "2B0035000A51363034393332", "b": "2B0035000A5136303439333F", "c": "2B0035000A51363034393340"}
 IMAGE = b"an image"
 NO_UNIQUE = "the board tells no unique id: --journal names its journal"
-UNFINISHED = "unfinished or bad: %s; say --board and the digits of its board, or reset the board and say --fresh"
+UNFINISHED = "unfinished or bad: %s; say --board and all digits of the board that is here"
 # after so many steps of its session, an erase of a board's first page has begun
 STOP = 3325
 
@@ -38,15 +37,11 @@ class JournalsFolder(Served):
         self.store_all({"table": telling.TABLE, "image": IMAGE})
         os.mkdir(self.path("journals"))
         for board, unique in UNIQUE.items():
-            self.store(board, COUNTING)
-            self.store(f"{board}.board", f"unique {unique}\n".encode())
-            self.store(f"{board}.line", b"idle\n")
+            self.store_all({board: COUNTING, f"{board}.board": f"unique {unique}\n".encode(), f"{board}.line": b"idle\n"})
 
     def at(self, board, name, *words, folder="journals", variables=None):
         """Uses a simulator as this board."""
-        device = f"sim:0410:{board}"
-        given = ("--table", "table", "--device", device, "--journals", folder)
-        return self.call(name, *given, *words, variables=variables)
+        return self.call(name, "--table", "table", "--device", f"sim:0410:{board}", "--journals", folder, *words, variables=variables)
 
     def journals(self):
         return sorted(os.listdir(self.path("journals")))
@@ -62,16 +57,14 @@ class JournalsFolder(Served):
 
     def assertUntouched(self, board):
         """The board is as it was, and has no journal."""
-        self.assertFile(board, COUNTING)
-        self.assertFile(name_of(board), None)
+        self.assertFiles({board: COUNTING, name_of(board): None})
 
     def test_each_board_gets_its_own(self):
         for board in UNIQUE:
             self.assertTold(self.at(board, "write", "image"), "segment 1: 1 pages written\n")
         self.assertEqual(self.journals(), sorted(f"{unique}.journal" for unique in UNIQUE.values()))
         for board, unique in UNIQUE.items():
-            head = f"stmjournal 3 0410 {unique}\nopen 1\n".encode()
-            self.assertTrue(self.held(name_of(board)).startswith(head))
+            self.assertTrue(self.held(name_of(board)).startswith(f"stmjournal 3 0410 {unique}\nopen 1\n".encode()))
             self.assertTold(self.at(board, "verify", "image"), "verified 8 bytes\n")
         for board in UNIQUE:
             self.assertTold(self.at(board, "undo"), "undone 1\n")
@@ -79,8 +72,7 @@ class JournalsFolder(Served):
 
     def test_a_journal_is_what_journal_names_too(self):
         self.assertTold(self.at("a", "write", "image"), "segment 1: 1 pages written\n")
-        self.assertTold(self.use("undo", device="sim:0410:a", journal=name_of("a")), "undone 1\n")
-        self.assertFile("a", COUNTING)
+        self.assertTold(self.use("undo", device="sim:0410:a", journal=name_of("a")), "undone 1\n", a=COUNTING)
         self.assertTold(self.at("a", "undo"), "undone 0\n")
 
     def test_what_only_reads_makes_no_journal(self):
@@ -100,16 +92,13 @@ class JournalsFolder(Served):
                                  ("protect", "write-unprotect")):
                 with self.subTest(board=board, name=name):
                     self.assertFault(self.at(board, name, *words), told)
-                    self.assertFile(board, flash)
-                    self.assertFile(f"{board}.line", line)
-                    self.assertFile(name_of("a"), journal)
+                    self.assertFiles({board: flash, f"{board}.line": line, name_of("a"): journal})
         self.assertUntouched("b")
         # one that is named goes on
         self.assertTold(self.at("b", "write", "--board", UNIQUE["b"], "image"), "segment 1: 1 pages written\n")
         self.assertTold(self.at("b", "undo", "--board", UNIQUE["b"]), "undone 1\n")
         self.assertFile(name_of("a"), journal)
-        self.assertTold(self.at("a", "undo", "--board", UNIQUE["a"].lower()), "undone 1\n")
-        self.assertFile("a", COUNTING)
+        self.assertTold(self.at("a", "undo", "--board", UNIQUE["a"].lower()), "undone 1\n", a=COUNTING)
         self.assertTold(self.at("b", "write", "image"), "segment 1: 1 pages written\n")
 
     def test_digits_at_the_end_are_not_enough(self):
@@ -130,8 +119,7 @@ class JournalsFolder(Served):
         for board in UNIQUE:
             self.store(f"{board}.line", b"fresh\n")
         self.assertTold(self.at("c", "write", "--fresh", "image"), "segment 1: 1 pages written\n")
-        self.assertTold(self.at("a", "undo", variables={"STMFLASH_FRESH": "1"}), "undone 1\n")
-        self.assertFile("a", COUNTING)
+        self.assertTold(self.at("a", "undo", variables={"STMFLASH_FRESH": "1"}), "undone 1\n", a=COUNTING)
         self.assertFile(name_of("b"), journal)
         self.assertFault(self.at("b", "write", "--fresh", "image"), "unfinished command, undo first")
 
@@ -210,21 +198,18 @@ class JournalsFolder(Served):
         for words in (("--fresh",), ("--board", UNIQUE["a"])):
             with self.subTest(text=text, words=words):
                 self.store("a.line", b"fresh\n")
-                self.assertFault(self.at("a", "write", *words, "image"), told)
-                self.assertFile("a", COUNTING)
+                self.assertFault(self.at("a", "write", *words, "image"), told, a=COUNTING)
         for words in (("--fresh",), ("--board", UNIQUE["b"])):
             with self.subTest(text=text, words=words):
                 self.store("b.line", b"fresh\n")
                 self.assertTold(self.at("b", "write", *words, "image"), "segment 1: 1 pages written\n")
-                self.assertTold(self.at("b", "undo", "--board", UNIQUE["b"]), "undone 1\n")
-                self.assertFile("b", COUNTING)
+                self.assertTold(self.at("b", "undo", "--board", UNIQUE["b"]), "undone 1\n", b=COUNTING)
         self.remove(name_of("b"))
 
     def test_a_journal_that_another_program_has(self):
         """That of the board isn't used, and others may be."""
         self.assertTold(self.at("a", "write", "image"), "segment 1: 1 pages written\n")
-        with open(self.path(name_of("a")), "rb") as file:
-            fcntl.flock(file, fcntl.LOCK_EX | fcntl.LOCK_NB)
+        with self.locked(name_of("a")):
             self.assertFault(self.at("a", "undo"), "journal is in use")
             self.assertTold(self.at("b", "write", "image"), "segment 1: 1 pages written\n")
         self.assertTold(self.at("a", "undo"), "undone 1\n")
@@ -304,8 +289,7 @@ class JournalsFolder(Served):
         self.assertTold(self.call("undo", *given), "undone 1\n")
         self.assertTold(self.call("write", *given, "image"), "segment 1: 1 pages written\n")
         self.assertTold(self.call("undo", *given), "undone 1\n")
-        self.assertServed()
-        self.assertFile("flash", COUNTING)
+        self.assertServed(flash=COUNTING)
         self.assertEqual(self.journals(), [f"{UNIQUE['a']}.journal"])
 
     def test_a_unique_id_that_comes_otherwise_names_no_journal(self):

@@ -24,8 +24,7 @@ class Json(Place):
     def assertFails(self, said, name, says, status=1, before=(), **more):
         """One object of a fault behind what was done before, and on standard error the same as without JSON."""
         self.assertEqual(self.lines(said, status), [*before, {"fault": name, "says": says, **more, "status": status}])
-        hint = f"hint: {more['hint']}\n" if more else ""
-        self.assertEqual(said.err.decode(), f"stmflash: {says}\n" + hint)
+        self.assertEqual(said.err.decode(), f"stmflash: {says}\n" + (f"hint: {more['hint']}\n" if more else ""))
 
     def test_answers(self):
         """Each kind of answer has its name, and the numbers that its text has."""
@@ -35,7 +34,8 @@ class Json(Place):
                             "codes": ["00", "02", "11", "21", "31", "43", "73", "82", "92"], "tried": 0})
         self.assertAnswers(self.use_image("write", IMAGE, "-v", "--json"),
                            {"answer": "written_and_verified", "segment": 1, "pages": 1, "bytes": 1024})
-        self.assertAnswers(self.use_image("write", IMAGE, "--json"), {"answer": "written", "segment": 2, "pages": 0}, note=new(2))
+        self.assertAnswers(self.use_image("write", IMAGE, "--json"), {"answer": "written", "segment": 2, "pages": 0, "bytes": 1024},
+                           note=new(2))
         self.assertAnswers(self.use_image("verify", IMAGE, "--json"), {"answer": "verified", "bytes": 1024})
         self.assertAnswers(self.use("erase", "5", "--json"), {"answer": "erased", "segment": 3, "pages": 0}, note=new(3))
         self.assertAnswers(self.use("crc", "-S", "0x08000000:4", "--json"), {"answer": "crc", "crc": "C704DD7B"})
@@ -45,9 +45,21 @@ class Json(Place):
                            {"answer": "log", "lines": ["id 0412", "segment 1: ended, 1 pages: 0", "segment 2: ended, 0 pages",
                                                        "segment 3: ended, 0 pages", "3 can be undone"]})
         self.assertAnswers(self.use("undo", "1", "--json"), {"answer": "undone", "count": 1, "unchanged": [3]}, note=had(3, left=2))
-        self.assertAnswers(self.call("keep", "--journal", "journal", "--last", "1", "--json"),
-                           {"answer": "kept", "count": 1, "left": 1})
+        self.assertAnswers(self.call("keep", "--journal", "journal", "--last", "1", "--json"), {"answer": "kept", "count": 1, "left": 1})
         self.assertAnswers(self.call("keep", "--journal", "journal", "--json"), {"answer": "kept", "count": 1})
+
+    def test_a_hint_names_the_place_of_bytes_that_are_like_an_erase(self):
+        """In the line of the write, also where one of what stays follows."""
+        like = "the image holds bytes that a device which loses power in the midst would take for an erase; use -v, and reset before an undo"
+        image = bytes(1024) + b"\x7f\x43\xbc"
+        self.assertAnswers(self.use_image("write", image, "--json", "--keep"),
+                           {"answer": "written", "segment": 1, "pages": 2, "bytes": 1027, "hint": f"at 400 of the flash {like}"},
+                           {"answer": "kept", "count": 1})
+        self.store("image", image)
+        self.assertAnswers(self.use("write", "-v", "-f", "-S", "0x08000100", "--json", "image"),
+                           {"answer": "written_and_verified", "segment": 1, "pages": 1, "bytes": 1027, "hint": f"at 08000500 {like}"})
+        # as text it is told on a terminal alone, before the write
+        self.assertWell(self.use("write", "-f", "-S", "0x08000800", "image"))
 
     def test_the_flash_is_printed_as_it_is(self):
         """What is read to standard output is there whole, and nothing else; a fault has its line."""
@@ -55,7 +67,7 @@ class Json(Place):
         for words in (("--json",), ("--json", "--hex")):
             with self.subTest(words=words):
                 told = self.use("read", *words, "-")
-                self.assertEqual((told.status, told.err), (0, b""))
+                self.assertWell(told)
                 self.assertEqual(told.out, self.use("read", *words[1:], "-").out)
                 self.assertGreaterEqual(len(told.out), len(ERASED))
         self.assertFails(self.use("read", "-S", "0x08008000", "--json", "-"), "out_of_flash", "address outside the flash")
@@ -65,21 +77,29 @@ class Json(Place):
         self.assertEqual((told["answer"], told["id"], told["table"]), ("identified", "0412", "table"))
 
     def test_a_board(self):
-        """Which board it is stands in what info tells."""
+        """Which board it is stands in each answer of a device that is asked, and in no answer of a journal alone."""
         self.store("table", b'[[chip]]\nid = 0x412\nbase = 0x08000000\npages = [[32, 1024]]\nerase = "page"\n'
                             b'unique = [0x1FFFF7E8, 12]\nsize_at = 0x1FFFF7E0\n')
         self.store("flash.board", b"unique 00112233445566778899AABB\nsize 16\n")
         told, = self.lines(self.use("info", "--json"))
         self.assertEqual((told["board"], told["flash_kib"], told["pages"]), ("00112233445566778899AABB", 16, 16))
+        self.store("image", IMAGE)
+        for words in (("info", "--raw"), ("read", "out"), ("crc",), ("write", "image"), ("write", "-v", "image"), ("verify", "image"),
+                      ("erase", "5"), ("undo", "1"), ("undo", "-v")):
+            with self.subTest(words=words):
+                told, = self.lines(self.use(*words, "--json"))
+                self.assertEqual((told["board"], told["flash_kib"]), ("00112233445566778899AABB", 16))
+        told, kept = self.lines(self.use("write", "image", "--keep", "--json"))
+        self.assertIn("board", told)
+        self.assertEqual(kept, {"answer": "kept", "count": 1})
 
     def test_each_step_has_a_line(self):
         """What is done behind a write is told behind it, and so is what failed there."""
         self.assertAnswers(self.use_image("write", IMAGE, "--keep", "--json"),
-                           {"answer": "written", "segment": 1, "pages": 1}, {"answer": "kept", "count": 1})
-        written = {"answer": "written", "segment": 1, "pages": 1}
+                           {"answer": "written", "segment": 1, "pages": 1, "bytes": 1024}, {"answer": "kept", "count": 1})
+        written = {"answer": "written", "segment": 1, "pages": 1, "bytes": 1}
         said = self.use_image("write", b"\x01", "--keep", "--go", "0x09000000", "--json")
-        self.assertFails(said, "no_protocol", "device does not follow the protocol",
-                         before=[written, {"answer": "kept", "count": 1}])
+        self.assertFails(said, "no_protocol", "device does not follow the protocol", before=[written, {"answer": "kept", "count": 1}])
 
     def test_faults(self):
         """A fault has its name, its text, what came, and the status; and is told on standard error as ever."""

@@ -1,26 +1,35 @@
 """How the way back is given up: `keep`, after which `go` and `protect` are free again."""
 
 import errno
-import fcntl
 import os
-import resource
 import signal
 
 import syncs
 from place import Place, ZEROS, new, with_page
+from test_disk import files_up_to
 
 IMAGE = b"\x00" * 1024
 WRITTEN = "segment 1: 1 pages written\n"
 OPEN = "journal is open, refused"
 UNFINISHED = "unfinished command, undo first"
 BAD = b"stmjournal 1 0412\nopen 2\n"
-# the call of the system that renames a file
-RENAME = syncs.RENAME
 
 
-class Keep(Place):
-    def keep(self, *words):
-        return self.call("keep", "--journal", "journal", *words)
+class Keeping(Place):
+    """A test that keeps a journal, with these words where one of the system's calls is held."""
+
+    words = ()
+
+    def keep(self, *words, **how):
+        return self.call("keep", "--journal", "journal", *words, **how)
+
+    def keep_held(self, fails=None, **how):
+        """What was said, and what was synced, where one of the system's calls was held."""
+        return syncs.call(self.folder, ("keep", "--journal", "journal", *self.words), fails, **how)
+
+
+class Keep(Keeping):
+    words = ("elsewhere",)
 
     def write(self):
         """Writes a page of zeros, and answers the journal."""
@@ -36,8 +45,7 @@ class Keep(Place):
         self.assertFalse(self.is_there("journal"))
         self.assertFile("flash", flash)
         for words in ((), ("elsewhere",)):
-            self.assertFault(self.keep(*words), "cannot read journal")
-            self.assertFile("elsewhere", None)
+            self.assertFault(self.keep(*words), "cannot read journal", elsewhere=None)
 
     def test_frees_go_and_protect(self):
         self.assertTold(self.use_image("write", IMAGE, "-v"), WRITTEN + "verified 1024 bytes\n")
@@ -60,17 +68,14 @@ class Keep(Place):
         self.assertFault(self.use("erase", "--stop", "3190", "5"), "stopped", 3)
         for words in ((), ("elsewhere",)):
             journal = self.held("journal")
-            self.assertFault(self.keep(*words), UNFINISHED)
-            self.assertFiles({"journal": journal, "elsewhere": None})
+            self.assertFault(self.keep(*words), UNFINISHED, journal=journal, elsewhere=None)
         self.assertTold(self.use("undo"), "undone 1\n")
-        self.assertTold(self.keep(), "kept 0\n")
-        self.assertFile("journal", None)
+        self.assertTold(self.keep(), "kept 0\n", journal=None)
 
     def test_refuses_a_bad_journal(self):
         for words in ((), ("elsewhere",)):
             self.store("journal", BAD)
-            self.assertFault(self.keep(*words), "bad journal line 2")
-            self.assertFiles({"journal": BAD, "elsewhere": None})
+            self.assertFault(self.keep(*words), "bad journal line 2", journal=BAD, elsewhere=None)
 
     def test_renames_the_journal(self):
         """The name may lie in another folder; what was there is never replaced."""
@@ -78,10 +83,8 @@ class Keep(Place):
         for name in ("elsewhere", "folder/elsewhere"):
             with self.subTest(name=name):
                 journal = self.write()
-                self.assertFault(self.keep("table"), "cannot write table")
-                self.assertFile("journal", journal)
-                self.assertTold(self.keep(name), "kept 1\n")
-                self.assertFile("journal", None)
+                self.assertFault(self.keep("table"), "cannot write table", journal=journal)
+                self.assertTold(self.keep(name), "kept 1\n", journal=None)
                 self.assertFile(name, journal)
                 self.assertTold(self.use("undo", journal=name), "undone 1\n")
 
@@ -92,8 +95,7 @@ class Keep(Place):
         os.symlink("nowhere", self.path("link"))
         for name in ("flash", "folder", "link", "journal", "missing/elsewhere"):
             with self.subTest(name=name):
-                self.assertFault(self.keep(name), f"cannot write {name}")
-                self.assertFile("journal", journal)
+                self.assertFault(self.keep(name), f"cannot write {name}", journal=journal)
                 self.assertFalse(self.is_there("nowhere"))
 
     def test_follows_a_link(self):
@@ -101,34 +103,27 @@ class Keep(Place):
         self.write()
         os.rename(self.path("journal"), self.path("real"))
         os.symlink("real", self.path("journal"))
-        self.assertTold(self.keep(), "kept 1\n")
-        self.assertFile("real", None)
-
-    def keep_held(self, fails=None, **how):
-        """Keeps the journal elsewhere, with one of the system's calls held, and answers what was said."""
-        return syncs.call(self.folder, ("keep", "--journal", "journal", "elsewhere"), fails, **how)[0]
+        self.assertTold(self.keep(), "kept 1\n", real=None)
 
     def test_a_file_made_meanwhile_stays(self):
         """One that gets the new name once it was seen to be free, and before the journal gets it."""
         journal = self.write()
-        said = self.keep_held(held=syncs.LINK, at=lambda number, process: self.store("elsewhere", b"mine"))
-        self.assertFault(said, "cannot write elsewhere")
-        self.assertFiles({"journal": journal, "elsewhere": b"mine"})
+        said, _ = self.keep_held(held=syncs.LINK, at=lambda number, process: self.store("elsewhere", b"mine"))
+        self.assertFault(said, "cannot write elsewhere", journal=journal, elsewhere=b"mine")
 
     def test_a_kill_leaves_one_name_or_both(self):
         """With both the journal is still there, and what was begun is ended by the same words."""
-        for fails, kill in ((None, True), (0, False)):
+        for fails, kill in ((None, 0), (0, None)):
             with self.subTest(kill=kill):
                 journal = self.write()
-                said = self.keep_held(fails, at=lambda number, process: kill and os.kill(process, signal.SIGKILL))
-                if kill:
+                said, _ = self.keep_held(fails, at=syncs.kill_at(kill))
+                if fails is None:
                     self.assertEqual((said.status, said.out, said.err), (-signal.SIGKILL, b"", b""))
                 else:
                     self.assertFault(said, "cannot write elsewhere")
                 self.assertFiles({"journal": journal, "elsewhere": journal})
                 self.assertFault(self.use("go", "0x08000000"), OPEN)
-                self.assertTold(self.keep("elsewhere"), "kept 1\n")
-                self.assertFiles({"journal": None, "elsewhere": journal})
+                self.assertTold(self.keep("elsewhere"), "kept 1\n", journal=None, elsewhere=journal)
                 self.assertTold(self.use("undo", journal="elsewhere"), "undone 1\n")
                 self.remove("elsewhere")
 
@@ -141,15 +136,12 @@ class Keep(Place):
         for name in ("./journal", "here/journal", self.path("journal"), "soft"):
             with self.subTest(name=name):
                 self.assertFault(self.keep(name), f"cannot write {name}")
-                self.assertFault(self.call("keep", "--journal", "here/journal", name), f"cannot write {name}")
-                self.assertFile("journal", journal)
-        self.assertTold(self.keep("second"), "kept 1\n")
-        self.assertFiles({"journal": None, "second": journal})
+                self.assertFault(self.call("keep", "--journal", "here/journal", name), f"cannot write {name}", journal=journal)
+        self.assertTold(self.keep("second"), "kept 1\n", journal=None, second=journal)
 
     def test_renames_where_there_are_no_links(self):
         journal = self.write()
-        self.assertTold(self.keep_held(0, held=syncs.LINK, error=errno.EPERM), "kept 1\n")
-        self.assertFiles({"journal": None, "elsewhere": journal})
+        self.assertTold(self.keep_held(0, held=syncs.LINK, error=errno.EPERM)[0], "kept 1\n", journal=None, elsewhere=journal)
 
     def test_says_so_where_its_folder_went_away(self):
         """A journal is kept only if it's gone then."""
@@ -164,8 +156,7 @@ class Keep(Place):
             with self.subTest(words=words):
                 said = self.call("keep", "--journal", "../journal", *words, before=leave)
                 if said.status == 0:
-                    self.assertTold(said, "kept 1\n")
-                    self.assertFile("journal", None)
+                    self.assertTold(said, "kept 1\n", journal=None)
                     self.store("journal", journal)
                 else:
                     self.assertIn(said.err, (b"stmflash: cannot write ../journal\n", b"stmflash: cannot write ../elsewhere\n"))
@@ -178,26 +169,25 @@ class Keep(Place):
         self.assertFault(self.keep(), "cannot read journal")
 
 
-class KeepLast(Place):
+class KeepLast(Keeping):
     """`keep --last`: all but the newest writes and erases are given up."""
 
-    def setUp(self):
-        super().setUp()
-        self.flashes = [ZEROS]
-        self.store("flash", ZEROS)
+    words = ("--last", "1")
+    begins = {"flash": ZEROS}
 
-    def keep(self, *words, **how):
-        return self.call("keep", "--journal", "journal", *words, **how)
-
-    def write(self, byte, pages=1):
-        """Writes pages of this byte, and keeps what the flash was before."""
-        said = self.use_image("write", bytes([byte]) * (1024 * pages), "--quiet")
-        self.assertEqual((said.status, said.err), (0, b""))
-        self.flashes.append(self.held("flash"))
+    def write(self, byte=1, pages=1):
+        """Writes pages of this byte, and answers the journal."""
+        self.assertWell(self.use_image("write", bytes([byte]) * (1024 * pages), "--quiet"))
+        return self.held("journal")
 
     def write_thrice(self):
+        """Writes three times, keeps what the flash was before and behind each in `flashes`, and answers the journal."""
+        self.store_all({"flash": ZEROS, "flash.line": None, "journal": None})
+        self.flashes = [ZEROS]
         for byte, pages in ((1, 1), (2, 3), (3, 2)):
-            self.write(byte, pages)
+            journal = self.write(byte, pages)
+            self.flashes.append(self.held("flash"))
+        return journal
 
     def log(self):
         return self.call("log", "--journal", "journal").out.decode().splitlines()
@@ -205,21 +195,15 @@ class KeepLast(Place):
     def test_the_newest_can_still_be_undone(self):
         for last in (1, 2):
             with self.subTest(last=last):
-                self.clear("flash.line", "journal")
-                self.flashes = [ZEROS]
-                self.store("flash", ZEROS)
                 self.write_thrice()
                 lines = self.log()
                 self.assertTold(self.keep("--last", str(last)), f"kept {3 - last}\n{last} can be undone\n")
-                renumbered = [line.replace(f"segment {k + 4 - last}:", f"segment {k + 1}:")
-                              for k, line in enumerate(lines[-1 - last:-1])]
+                renumbered = [line.replace(f"segment {k + 4 - last}:", f"segment {k + 1}:") for k, line in enumerate(lines[-1 - last:-1])]
                 self.assertEqual(self.log(), [lines[0], *renumbered, f"{last} can be undone"])
                 self.assertFile("flash", self.flashes[3])
                 for k in range(last):
-                    self.assertTold(self.use("undo", "1"), "undone 1\n")
-                    self.assertFile("flash", self.flashes[2 - k])
-                self.assertTold(self.use("undo"), "undone 0\n")
-                self.assertFile("flash", self.flashes[3 - last])
+                    self.assertTold(self.use("undo", "1"), "undone 1\n", flash=self.flashes[2 - k])
+                self.assertTold(self.use("undo"), "undone 0\n", flash=self.flashes[3 - last])
 
     def test_the_text(self):
         """The header, and of each segment that stays its number, its pages as they stood, and its end. What counts as nothing,
@@ -230,26 +214,21 @@ class KeepLast(Place):
         text += two + b"erase 4\nfoo!\nprogram 6\nend 2\n" + b"open 3\npage 9 FF\nerase 9\nundone 3\nopen 3\nend 3\nope"
         cut = head + b"open 1\n" + two + b"end 1\nopen 2\nend 2\n"
         self.store("journal", text)
-        self.assertTold(self.keep("--last", "2"), "kept 1\n2 can be undone\n")
-        self.assertFile("journal", cut)
-        self.assertTold(self.keep("--last", "2"), "kept 0\n2 can be undone\n")
-        self.assertFile("journal", cut)
-        self.assertTold(self.keep("--last", "1"), "kept 1\n1 can be undone\n")
-        self.assertFile("journal", head + b"open 1\nend 1\n")
+        self.assertTold(self.keep("--last", "2"), "kept 1\n2 can be undone\n", journal=cut)
+        self.assertTold(self.keep("--last", "2"), "kept 0\n2 can be undone\n", journal=cut)
+        self.assertTold(self.keep("--last", "1"), "kept 1\n1 can be undone\n", journal=head + b"open 1\nend 1\n")
         self.assertTold(self.keep("--last", "65535"), "kept 0\n1 can be undone\n")
 
     def test_a_board_stays_named(self):
         for head in (b"stmjournal 3 0412 00FF102030405060\n", b"stmjournal 2 0412\n", b"stmjournal 1 0412\n"):
             with self.subTest(head=head):
                 self.store("journal", b"gone!\n" + head + b"open 1\nend 1\nopen 2\nend 2\n")
-                self.assertTold(self.keep("--last", "1"), "kept 1\n1 can be undone\n")
-                self.assertFile("journal", head + b"open 1\nend 1\n")
+                self.assertTold(self.keep("--last", "1"), "kept 1\n1 can be undone\n", journal=head + b"open 1\nend 1\n")
 
     def test_one_that_names_its_board_still_does(self):
         head = b"stmjournal 3 0412 " + b"A1" * 12 + b"\n"
         self.store("journal", head + b"open 1\nend 1\nopen 2\nend 2\n")
-        self.assertTold(self.keep("--last", "1"), "kept 1\n1 can be undone\n")
-        self.assertFile("journal", head + b"open 1\nend 1\n")
+        self.assertTold(self.keep("--last", "1"), "kept 1\n1 can be undone\n", journal=head + b"open 1\nend 1\n")
 
     def test_a_journal_of_nothing(self):
         """Of no line, of a header alone, and of what was taken off."""
@@ -257,8 +236,7 @@ class KeepLast(Place):
                           (b"stmjournal 2 0412\nopen 1\npage 5 FF\nundone 1\n", b"stmjournal 2 0412\n")):
             with self.subTest(text=text):
                 self.store("journal", text)
-                self.assertTold(self.keep("--last", "1"), "kept 0\n0 can be undone\n")
-                self.assertFile("journal", cut)
+                self.assertTold(self.keep("--last", "1"), "kept 0\n0 can be undone\n", journal=cut)
 
     def test_pages_of_any_size(self):
         """Digits that come in several pieces."""
@@ -274,20 +252,16 @@ class KeepLast(Place):
         self.assertFault(self.keep("--last", "1"), "cannot read journal")
         self.assertFault(self.use("erase", "--stop", "3190", "5"), "stopped", 3)
         journal = self.held("journal")
-        self.assertFault(self.keep("--last", "1"), UNFINISHED)
-        self.assertFile("journal", journal)
+        self.assertFault(self.keep("--last", "1"), UNFINISHED, journal=journal)
         self.store("journal", BAD)
-        self.assertFault(self.keep("--last", "1"), "bad journal line 2")
-        self.assertFile("journal", BAD)
+        self.assertFault(self.keep("--last", "1"), "bad journal line 2", journal=BAD)
 
     def test_words_that_it_refuses(self):
-        self.write(1)
-        journal = self.held("journal")
+        journal = self.write()
         for words, text in ((("--last", "0"), "bad number 0"), (("--last", "65536"), "bad number 65536"),
                             (("--last", "x"), "bad number x"), (("--last", "1", "elsewhere"), "give TO or --last, not both")):
             with self.subTest(words=words):
-                self.assertFault(self.keep(*words), "usage: " + text, 2)
-                self.assertFiles({"journal": journal, "elsewhere": None})
+                self.assertFault(self.keep(*words), "usage: " + text, 2, journal=journal, elsewhere=None)
 
     def test_mode_and_link_stay(self):
         self.write_thrice()
@@ -297,79 +271,57 @@ class KeepLast(Place):
         self.assertTold(self.keep("--last", "1"), "kept 2\n1 can be undone\n")
         self.assertEqual(os.readlink(self.path("journal")), "real")
         self.assertEqual(os.stat(self.path("real")).st_mode & 0o777, 0o640)
-        self.assertTold(self.use("undo"), "undone 1\n")
-        self.assertFile("flash", self.flashes[2])
+        self.assertTold(self.use("undo"), "undone 1\n", flash=self.flashes[2])
 
     def test_another_program_has_it(self):
-        self.write_thrice()
-        journal = self.held("journal")
-        with open(self.path("journal"), "rb") as file:
-            fcntl.flock(file, fcntl.LOCK_EX)
+        journal = self.write_thrice()
+        with self.locked("journal"):
             self.assertFault(self.keep("--last", "1"), "journal is in use")
         self.assertFile("journal", journal)
 
-    def held_at(self, fails=None, **how):
-        """Cuts the journal, with one of the system's calls held, and answers what was said, and what was synced."""
-        return syncs.call(self.folder, ("keep", "--last", "1", "--journal", "journal"), fails, **how)
-
     def test_the_new_text_is_on_the_disk_before_it_takes_the_place(self):
         """And the folder is behind it; where the first sync fails, the old journal stands."""
-        self.write_thrice()
-        journal = self.held("journal")
-        said, _ = self.held_at(0)
-        self.assertFault(said, "cannot write journal")
-        self.assertFile("journal", journal)
-        said, synced = self.held_at()
+        journal = self.write_thrice()
+        self.assertFault(self.keep_held(0)[0], "cannot write journal", journal=journal)
+        said, synced = self.keep_held()
         self.assertTold(said, "kept 2\n1 can be undone\n")
         self.assertEqual(synced, ["journal.stmflash-0.new", "."])
 
     def test_the_old_journal_stands_where_it_cannot_be_renamed(self):
-        self.write_thrice()
-        journal = self.held("journal")
-        said, _ = self.held_at(0, held=RENAME)
-        self.assertFault(said, "cannot write journal")
-        self.assertFile("journal", journal)
-        self.assertTold(self.use("undo", "1"), "undone 1\n")
-        self.assertFile("flash", self.flashes[2])
+        journal = self.write_thrice()
+        self.assertFault(self.keep_held(0, held=syncs.RENAME)[0], "cannot write journal", journal=journal)
+        self.assertTold(self.use("undo", "1"), "undone 1\n", flash=self.flashes[2])
 
     def test_a_kill_leaves_the_old_or_the_new(self):
         """Before the renaming, with the text beside it, which the next call removes; in it; and behind it."""
-        self.write_thrice()
-        old = self.held("journal")
+        old = self.write_thrice()
         self.assertTold(self.keep("--last", "1"), "kept 2\n1 can be undone\n")
         new = self.held("journal")
-        for held, number, left in ((syncs.FSYNC, 0, (old,)), (RENAME, 0, (old, new)), (syncs.FSYNC, 1, (new,))):
+        for held, number, left in ((syncs.FSYNC, 0, (old,)), (syncs.RENAME, 0, (old, new)), (syncs.FSYNC, 1, (new,))):
             with self.subTest(held=held, number=number):
                 self.store("journal", old)
-                said, _ = self.held_at(held=held, at=lambda turn, process: turn == number and os.kill(process, signal.SIGKILL))
-                self.assertEqual(said.status, -signal.SIGKILL)
+                self.assertEqual(self.keep_held(held=held, at=syncs.kill_at(number))[0].status, -signal.SIGKILL)
                 journal = self.held("journal")
                 self.assertIn(journal, left)
                 self.assertEqual(self.is_there("journal.stmflash-0.new"), journal == old)
-                self.assertTold(self.keep("--last", "1"), f"kept {2 if journal == old else 0}\n1 can be undone\n")
-                self.assertFile("journal", new)
+                self.assertTold(self.keep("--last", "1"), f"kept {2 if journal == old else 0}\n1 can be undone\n", journal=new)
                 self.assertFalse(self.is_there("journal.stmflash-0.new"))
-        self.assertTold(self.use("undo"), "undone 1\n")
-        self.assertFile("flash", self.flashes[2])
+        self.assertTold(self.use("undo"), "undone 1\n", flash=self.flashes[2])
 
     def test_a_journal_that_changed_meanwhile_stands(self):
         """One that was added to by a program that asks for no lock."""
-        self.write_thrice()
-        journal = self.held("journal")
+        journal = self.write_thrice()
 
         def add(turn, process):
             if turn == 0:
                 with open(self.path("journal"), "ab") as file:
                     file.write(b"!\n")
 
-        said, _ = self.held_at(at=add)
-        self.assertFault(said, "journal failed", hint="it was moved, replaced, cut or added to")
-        self.assertFile("journal", journal + b"!\n")
+        self.assertFault(self.keep_held(at=add)[0], "journal failed", hint="it was moved, replaced, cut or added to", journal=journal + b"!\n")
 
     def test_a_text_that_does_not_read_back_takes_no_place(self):
         """A disk may give back another digit than it was handed."""
-        self.write_thrice()
-        journal, beside = self.held("journal"), self.path("journal.stmflash-0.new")
+        journal, beside = self.write_thrice(), self.path("journal.stmflash-0.new")
 
         def spoil(_, process):
             if os.path.exists(beside) and os.path.getsize(beside):
@@ -377,19 +329,11 @@ class KeepLast(Place):
                     file.seek(file.read().index(b"page 0 ") + 9)
                     file.write(b"A")
 
-        said, _ = self.held_at(at=spoil, held=syncs.OPEN)
-        self.assertFault(said, "cannot write journal")
-        self.assertFile("journal", journal)
+        self.assertFault(self.keep_held(at=spoil, held=syncs.OPEN)[0], "cannot write journal", journal=journal)
         self.assertFalse(os.path.exists(beside))
 
     def test_a_full_disk_leaves_the_old(self):
         """A file may have so many bytes, and no more."""
-        self.write_thrice()
-        journal = self.held("journal")
+        journal = self.write_thrice()
 
-        def narrow():
-            signal.signal(signal.SIGXFSZ, signal.SIG_IGN)
-            resource.setrlimit(resource.RLIMIT_FSIZE, (3000, 3000))
-
-        self.assertFault(self.keep("--last", "1", before=narrow), "cannot write journal")
-        self.assertFile("journal", journal)
+        self.assertFault(self.keep("--last", "1", before=files_up_to(3000)), "cannot write journal", journal=journal)

@@ -21,9 +21,7 @@ class Large(Place):
         """A simulator that was left one byte before the end of a list of 65,520 pages is read, settled, and left idle."""
         self.store_all({"table": b'[[chip]]\nid = 0x470\nbase = 0x08000000\npages = [[2, 256]]\nerase = "extended"\n',
                         "flash": b"\x5a" * 512, "flash.line": b"rest 44BBFFEF" + b"0000" * 65520 + b"\n"})
-        said = self.use("info", device="sim:0470:flash")
-        self.assertEqual((said.status, said.err), (0, b""))
-        self.assertFiles({"flash": b"\x5a" * 512, "flash.line": b"idle\n"})
+        self.assertWell(self.use("info", device="sim:0470:flash"), holds=(b"\x5a" * 512, b"idle\n"))
 
     def test_undoes_a_segment_of_all_pages(self):
         """A HEX text whose records fall, over a whole flash of 2 MiB (of 128 KiB by a slow program), in one segment; read
@@ -34,12 +32,9 @@ class Large(Place):
         table = f'[[chip]]\nid = 0x470\nbase = 0x08000000\npages = [[{PAGES}, {size // PAGES}]]\nerase = "extended"\n'
         self.store_all({"table": table.encode(), "flash": before, "image": text_of(image, BASE, range(0, len(image), 32)[::-1], 32)})
         said = self.use("write", "-v", "image", device="sim:0470:flash")
-        self.assertTold(said, f"segment 1: {PAGES} pages written\nverified {size} bytes\n")
-        self.assertFile("flash", image)
-        self.assertSilent(self.use("read", "out", device="sim:0470:flash"))
-        self.assertFile("out", image)
-        self.assertTold(self.use("undo", device="sim:0470:flash"), "undone 1\n")
-        self.assertFile("flash", before)
+        self.assertTold(said, f"segment 1: {PAGES} pages written\nverified {size} bytes\n", flash=image)
+        self.assertSilent(self.use("read", "out", device="sim:0470:flash"), out=image)
+        self.assertTold(self.use("undo", device="sim:0470:flash"), "undone 1\n", flash=before)
 
     def test_undoes_a_page_as_large_as_a_flash(self):
         """A flash that is one page of 2 MiB (of 128 KiB by a slow program), as large as a table may have it: kept, written, read
@@ -50,14 +45,12 @@ class Large(Place):
         self.store_all({"table": f'[[chip]]\nid = 0x470\nbase = 0x08000000\npages = [[1, {size}]]\nerase = "extended"\n'.encode(),
                         "flash": before, "image": image})
         said = self.use("write", "-v", "-S", "0x08000000", "image", device="sim:0470:flash")
-        self.assertTold(said, f"segment 1: 1 pages written\nverified {size} bytes\n")
-        self.assertFile("flash", image)
-        self.assertTold(self.use("undo", device="sim:0470:flash"), "undone 1\n")
-        self.assertFile("flash", before)
+        self.assertTold(said, f"segment 1: 1 pages written\nverified {size} bytes\n", flash=image)
+        self.assertTold(self.use("undo", device="sim:0470:flash"), "undone 1\n", flash=before)
 
     def test_finds_the_last_of_many_chips(self):
         chips = (f'[[chip]]\nid = {n}\nbase = 0x08000000\npages = [[{n}, 256]]\nerase = "page"\n' for n in range(1, CHIPS + 1))
         self.store("table", "".join(chips).encode())
         said = self.use("info", device=f"sim:{CHIPS:04X}:flash")
-        self.assertEqual((said.status, said.err), (0, b""))
+        self.assertWell(said)
         self.assertIn(b"id %04X\n" % CHIPS, said.out)

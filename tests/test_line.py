@@ -9,8 +9,8 @@ import stat
 import threading
 import time
 
-from boards import LinePlace, default_signals, end_with, kill
-from place import COUNTING, ERASED, PATIENCE, SILENT, SIZE, WAIT
+from boards import LinePlace, default_signals, end_with
+from place import COUNTING, ERASED, PATIENCE, SILENT, SIZE, WAIT, Said
 
 KILLS = int(os.environ.get("STMFLASH_LINE_KILLS", "6"))
 ENDING = (signal.SIGTERM, signal.SIGINT, signal.SIGHUP)
@@ -19,13 +19,11 @@ ENDING = (signal.SIGTERM, signal.SIGINT, signal.SIGHUP)
 class Sessions(LinePlace):
     def test_is_as_over_a_socket(self):
         """A write, a look at it and its undo, with what they say, and nothing left behind."""
-        self.store("ttyUSB0.flash", COUNTING)
-        board = self.board()
+        board = self.board(flash=COUNTING)
         # bytes that a port marks, and that a terminal would take for its own
         image = bytes(range(256)) * 9 + b"\xff" * 300 + b"\xff\x00" * 99 + b"\x03\x04\x11\x13\r\n"
         self.store("image", image)
-        said = self.through("write", "-v", "-S", "0x08000000", "-f", "image")
-        self.assertTold(said, f"segment 1: 3 pages written\nverified {len(image)} bytes\n")
+        self.assertTold(self.through("write", "-v", "-S", "0x08000000", "-f", "image"), f"segment 1: 3 pages written\nverified {len(image)} bytes\n")
         self.assertEqual(board.store(), image + COUNTING[len(image):])
         self.assertSilent(self.through("read", "-S", "0x08000000", "out"))
         self.assertFile("out", image + COUNTING[len(image):])
@@ -39,8 +37,7 @@ class Sessions(LinePlace):
 
     def test_a_silent_board_is_given_up(self):
         self.plain()
-        said = self.line("ttyUSB0", "--", *self.stmflash("info", "--give-up", "2"))
-        self.assertFault(said, "no answer from the device", hint=SILENT)
+        self.assertFault(self.line("ttyUSB0", "--", *self.stmflash("info", "--give-up", "2")), "no answer from the device", hint=SILENT)
 
     def test_eight_at_once(self):
         boards = [self.board(f"ttyUSB{number}") for number in range(8)]
@@ -69,34 +66,29 @@ class Commands(LinePlace):
     def test_hands_the_status_on(self):
         for script, status in (("exit 0", 0), ("exit 7", 7), ("kill -9 $$", 128 + 9)):
             with self.subTest(script=script):
-                said = self.line("ttyUSB0", "--", "sh", "-c", script)
-                self.assertEqual((said.status, said.out, said.err), (status, b"", b""))
+                self.assertEqual(self.line("ttyUSB0", "--", "sh", "-c", script), Said(status, b"", b""))
 
     def test_files_that_it_makes_are_as_open_as_without_us(self):
         """The socket is for few, and that is not handed on."""
         for mask in (0o022, 0o077):
-            said = self.line("ttyUSB0", "--", "sh", "-c", "umask", before=lambda: (default_signals(), os.umask(mask)))
-            self.assertEqual((said.status, said.out), (0, b"%04o\n" % mask))
+            self.assertTold(self.line("ttyUSB0", "--", "sh", "-c", "umask", before=lambda: (default_signals(), os.umask(mask))), f"{mask:04o}\n")
 
     def test_names_the_socket(self):
         """Every {} is the socket's path, also inside a word; it stands in a folder of ours alone."""
         script = 'echo "$0" "$1" "$STMFLASH_DEVICE" "$(stat -c %a "$0" "$(dirname "$0")" | xargs)" "${STMFLASH_FRESH-none}"'
-        said = self.line("ttyUSB0", "--", "sh", "-c", script, "{}", "is {}{}.")
-        path, _, rest = said.out.decode().partition(" ")
+        path, _, rest = self.line("ttyUSB0", "--", "sh", "-c", script, "{}", "is {}{}.").out.decode().partition(" ")
         self.assertTrue(path.startswith(self.path("temporary/")), path)
         self.assertEqual(rest, f"is {path}{path}. {path} 660 700 none\n")
 
     def test_a_command_that_is_not_there(self):
-        said = self.line("ttyUSB0", "--", "no-such-program")
-        self.assertLineFault(said, "no-such-program: no such command", 127)
+        self.assertLineFault(self.line("ttyUSB0", "--", "no-such-program"), "no-such-program: no such command", 127)
         self.store("bad", b"\x7fELF")
         os.chmod(self.path("bad"), 0o755)
         self.assertLineFault(self.line("ttyUSB0", "--", "./bad"), "./bad: Exec format error; COMMAND is the name of a program in PATH, or its path")
 
     def test_a_signal_ends_the_command_too(self):
         """It gets the same signal, and may answer it."""
-        script = "trap 'echo TERM; exit' TERM; trap 'echo INT; exit' INT; trap 'echo HUP; exit' HUP; echo $$; " \
-                 "while :; do sleep 0.1; done"
+        script = "trap 'echo TERM; exit' TERM; trap 'echo INT; exit' INT; trap 'echo HUP; exit' HUP; echo $$; while :; do sleep 0.1; done"
         for number in ENDING:
             with self.subTest(number=number):
                 started = self.start("ttyUSB0", "--", "sh", "-c", script)
@@ -110,8 +102,7 @@ class Commands(LinePlace):
         """Where COMMAND writes, erases or undoes, and had the line."""
         told = b"stmflash-line: ended by a signal: where stmflash log says unfinished, stmflash undo 1 undoes what was begun\n"
         connect = "import os, socket; s = socket.socket(socket.AF_UNIX); s.connect(os.environ['STMFLASH_DEVICE']); s.sendall(b'?')"
-        for word, connects, text in (("write", True, told), ("erase", True, told), ("undo", True, told), ("info", True, b""),
-                                     ("write", False, b"")):
+        for word, connects, text in (("write", True, told), ("erase", True, told), ("undo", True, told), ("info", True, b""), ("write", False, b"")):
             with self.subTest(word=word, connects=connects):
                 script = (f'python3 -c "{connect}"; ' if connects else "") + "echo; exec sleep 1000"
                 started = self.start("ttyUSB0", "--", "sh", "-c", script, word)
@@ -130,8 +121,7 @@ class Commands(LinePlace):
         started = self.start("ttyUSB0", "--", "sh", "-c", "echo; sleep 1; echo went", before=before)
         self.assertEqual(started.stdout.readline(), b"\n")
         started.send_signal(signal.SIGHUP)
-        said = self.ended(started)
-        self.assertEqual((said.status, said.out), (0, b"went\n"))
+        self.assertTold(self.ended(started), "went\n")
 
     def test_a_command_that_does_not_listen_is_killed(self):
         started = self.start("ttyUSB0", "--", "sh", "-c", "trap '' TERM; echo $$; while :; do sleep 1; done")
@@ -141,10 +131,8 @@ class Commands(LinePlace):
 
     def test_killed_it_ends_the_command(self):
         """What it has to leave behind, the next one removes."""
-        started = self.start("ttyUSB0", "--", "sh", "-c", "echo $$; exec sleep 1000")
-        child = int(started.stdout.readline())
-        self.assertEqual(end_with(started, signal.SIGKILL), -signal.SIGKILL)
-        self.until(lambda: not os.path.exists(f"/proc/{child}"), "the command goes on")
+        started, child = self.start_known("sleep", "1000")
+        self.assertEqual(self.kill_some("line", started, child), -signal.SIGKILL)
         self.assertEqual(len(os.listdir(self.path("temporary"))), 1)
         self.remove("ttyUSB0")
         self.plain()
@@ -166,8 +154,7 @@ class Serving(LinePlace):
         started = self.serve()
         self.assertEqual(stat.S_IMODE(os.stat(self.path("board")).st_mode), 0o660)
         for _ in range(2):
-            said = self.use("info", "--wait", WAIT, device="board")
-            self.assertEqual((said.status, said.out.split(b"\n")[0], said.err), (0, b"id 0412", b""))
+            self.assertInfo(self.use("info", "--wait", WAIT, device="board"))
         self.assertEqual(end_with(started, signal.SIGTERM), 0)
         self.assertEqual(self.ended(started).err, b"")
         self.assertFalse(self.is_there("board"))
@@ -184,21 +171,21 @@ class Serving(LinePlace):
 
     def test_places_that_are_taken(self):
         self.plain()
+        def assertTaken(name, text):
+            self.assertLineFault(self.line("ttyUSB0", "--socket", name), f"{name}: {text}; give --socket another name")
+
         for make in (lambda: self.store("board", b"kept"), lambda: os.symlink("nowhere", self.path("board"))):
             make()
             before = os.lstat(self.path("board"))
-            said = self.line("ttyUSB0", "--socket", "board")
-            self.assertLineFault(said, "board: something else stands there already; give --socket another name")
+            assertTaken("board", "something else stands there already")
             self.assertEqual(os.lstat(self.path("board")), before)
             self.remove("board")
         # a socket that nobody listens at any more is replaced, and one that somebody listens at is not
         with self.listen("board"):
-            said = self.line("ttyUSB0", "--socket", "board")
-            self.assertLineFault(said, "board: another program listens there already; give --socket another name")
+            assertTaken("board", "another program listens there already")
         self.assertEqual(end_with(self.serve(), signal.SIGTERM), 0)
-        self.assertLineFault(self.line("ttyUSB0", "--socket", "none/board"), "none/board: No such file or directory; give --socket another name")
-        long = "a" * 200
-        self.assertLineFault(self.line("ttyUSB0", "--socket", long), f"{long}: AF_UNIX path too long; give --socket another name")
+        assertTaken("none/board", "No such file or directory")
+        assertTaken("a" * 200, "AF_UNIX path too long")
 
     def test_what_waited_is_dropped(self):
         master = self.plain()
@@ -228,14 +215,10 @@ class Serving(LinePlace):
                 held.append(receive(70000))
 
         came_down, came_up = [], []
-        parts = [
-            threading.Thread(target=feed, args=(client.send, down)),
-            threading.Thread(target=feed, args=(lambda data: os.write(master, data), up)),
-            threading.Thread(target=take, args=(lambda most: os.read(master, most), came_down, len(down))),
-            threading.Thread(target=take, args=(client.recv, came_up, len(up))),
-        ]
+        parts = [threading.Thread(target=act, args=how, daemon=True) for act, *how in (
+            (feed, client.send, down), (feed, lambda data: os.write(master, data), up),
+            (take, lambda most: os.read(master, most), came_down, len(down)), (take, client.recv, came_up, len(up)))]
         for part in parts:
-            part.daemon = True
             part.start()
         for part in parts:
             part.join(PATIENCE)
@@ -248,28 +231,18 @@ class Kills(LinePlace):
 
     def test_what_was_killed_is_undone(self):
         """The companion, the program or both are killed at random moments of a write; `undo` gives the flash back."""
-        seed = time.time_ns()
+        seed, most = time.time_ns(), 3.0
         chance = random.Random(seed)
-        self.store("ttyUSB0.flash", COUNTING)
-        board = self.board()
-        most = 3.0
+        board = self.board(flash=COUNTING)
         for turn in range(KILLS):
             with self.subTest(turn=turn, seed=seed):
                 self.store("image", chance.randbytes(SIZE))
-                # the shell writes its process id, and becomes the program
-                words = self.stmflash("write", "-f", "-S", "0x08000000", "image", wait="100")
-                started = self.start("ttyUSB0", "--", "sh", "-c", 'echo $$; exec "$@"', "sh", *words)
-                child = int(started.stdout.readline())
+                started, child = self.start_known(*self.stmflash("write", "-f", "-S", "0x08000000", "image", wait="100"))
                 time.sleep(chance.uniform(0.3, most))
                 killed = chance.choice(("line", "client", "both"))
-                if killed != "line":
-                    kill(child)
-                if killed != "client":
-                    kill(started.pid)
-                most = max(0.5, most * (0.9 if started.wait(PATIENCE) == 0 else 1.02))
+                most = max(0.5, most * (0.9 if self.kill_some(killed, started, child) == 0 else 1.02))
                 started.stdout.close()
                 started.stderr.close()
-                self.until(lambda: not os.path.exists(f"/proc/{child}"), "the program goes on")
                 board.renew()
                 # where it was killed before the journal was made, there is none to undo by
                 # and where it was before a page was kept, nothing had changed

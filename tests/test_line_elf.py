@@ -1,6 +1,5 @@
 """ELF files in stmflash-line and stm32flash's words: written as what they load, by objcopy, and never as raw bytes unasked."""
 
-import os
 import shutil
 import struct
 import unittest
@@ -29,9 +28,7 @@ def elf(address=0x08000400, data=CODE):
 
 @unittest.skipIf(shutil.which("objcopy") is None, "binutils is not installed")
 class InTheLine(Unnamed):
-    def setUp(self):
-        super().setUp()
-        self.store("fw.elf", elf())
+    begins = {**Unnamed.begins, "fw.elf": elf()}
 
     def test_what_it_loads_is_written_and_compared(self):
         board = self.telling()
@@ -52,8 +49,7 @@ class InTheLine(Unnamed):
         said = self.line("ttyUSB0", "write", "fw.elf", line=(LINE,), **self.settings(PATH=self.path("bin")))
         self.assertLineFault(said, "fw.elf: is ELF, and there is no objcopy (sudo apt install binutils); where there is one: "
                                    "objcopy -O ihex fw.elf fw.hex")
-        os.set_blocking(end, False)
-        self.assertRaises(OSError, os.read, end, 1)
+        self.assertNothingSent(end)
 
     def test_one_that_loads_nothing_or_is_bad_is_refused(self):
         self.plain()
@@ -69,8 +65,6 @@ class InTheWords(Words):
     def test_what_it_loads_is_written(self):
         board = self.flash(COUNTING)
         self.store("fw.elf", elf())
-        said = self.well("-w", "fw.elf", "-v")
+        said = self.leaves(board, WRITTEN, "-w", "fw.elf", "-v")
         self.assertRegex(said.out.decode(), "\nUsing Parser : Intel HEX, by (arm-none-eabi-)?objcopy of ELF\nLocation     : 0x8000400\n")
-        self.assertEqual(board.store(), WRITTEN)
-        self.well("--undo")
-        self.assertEqual(board.store(), COUNTING)
+        self.leaves(board, COUNTING, "--undo")

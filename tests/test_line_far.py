@@ -13,10 +13,9 @@ import termios
 import time
 import unittest
 
-from boards import PYTHON, STAND_INS, LinePlace, kill
+from boards import PYTHON, STAND_INS, LinePlace, end_with
 from place import COUNTING, PATIENCE, SIZE, Said, first_of
 
-NO_RFC2217 = "speaks no RFC 2217; the bytes of a port alone are socket://HOST:PORT"
 UNKNOWN = "parity, speed and errors are the far end's: a byte that came with an error may be handed on"
 TELLS = "the far end tells of bytes that came with an error, but may hand them on before"
 SILENT = "the far end doesn't tell of bytes that came with an error, and may hand them on"
@@ -24,17 +23,24 @@ CLOSED = "the far end closed the line; where stmflash log says unfinished, stmfl
 
 
 class FarPlace(LinePlace):
-    def told(self, url, *texts):
-        """What the companion says, line by line."""
-        return "".join(f"stmflash-line: {url}: {text}\n" for text in texts).encode()
-
-    def serve_far(self, url, *words):
-        return self.until_served(self.start(url, "--socket", "board", *words))
+    def serve_far(self):
+        return self.until_served(self.start(self.url, "--socket", "board"))
 
     def exchange(self, client, sent, count):
         """So many bytes that come back for these."""
         client.sendall(sent)
         return first_of(client, count)
+
+    def assertTold(self, said, *texts, url=None, out=b"", status=0):
+        """The companion told this of a port, line by line, and ended so."""
+        self.assertEqual(said, Said(status, out, "".join(f"stmflash-line: {url or self.url}: {text}\n" for text in texts).encode()))
+
+    def listen_as(self, name, host="127.0.0.1", **more):
+        """An other end of ours, and its whole name with the number of its port."""
+        listener = socket.create_server((host, 0), **more)
+        self.addCleanup(listener.close)
+        listener.settimeout(PATIENCE)
+        return listener, f"{name}:{listener.getsockname()[1]}"
 
 
 class Plain(FarPlace):
@@ -42,10 +48,7 @@ class Plain(FarPlace):
 
     def setUp(self):
         super().setUp()
-        self.listener = socket.create_server(("127.0.0.1", 0))
-        self.addCleanup(self.listener.close)
-        self.listener.settimeout(PATIENCE)
-        self.url = f"socket://127.0.0.1:{self.listener.getsockname()[1]}"
+        self.listener, self.url = self.listen_as("socket://127.0.0.1")
 
     def taken(self):
         end, _ = self.listener.accept()
@@ -54,38 +57,34 @@ class Plain(FarPlace):
         return end
 
     def test_bytes_both_ways(self):
-        started = self.serve_far(self.url)
+        started = self.serve_far()
         end, client, data = self.taken(), self.connect(), bytes(range(256)) * 100
         client.sendall(data)
         self.assertEqual(end.recv(len(data), socket.MSG_WAITALL), data)
         end.sendall(data)
         self.assertEqual(client.recv(len(data), socket.MSG_WAITALL), data)
         started.terminate()
-        self.assertEqual(self.ended(started), Said(0, b"", self.told(self.url, UNKNOWN)))
+        self.assertTold(self.ended(started), UNKNOWN)
         self.assertEqual(end.recv(1), b"")
 
     def test_an_end_that_goes(self):
-        started = self.serve_far(self.url)
+        started = self.serve_far()
         end, client = self.taken(), self.connect()
         client.sendall(b"?")
         self.assertEqual(end.recv(1), b"?")
         end.close()
         self.assertEqual(client.recv(1), b"")
-        self.assertEqual(self.ended(started), Said(1, b"", self.told(self.url, UNKNOWN, CLOSED)))
+        self.assertTold(self.ended(started), UNKNOWN, CLOSED, status=1)
 
     def test_an_address_of_six_is_named_in_brackets(self):
-        with socket.create_server(("::1", 0), family=socket.AF_INET6) as self.listener:
-            self.listener.settimeout(PATIENCE)
-            url = f"socket://[::1]:{self.listener.getsockname()[1]}"
-            started = self.start(url, "--", "true")
-            self.taken()
-            self.assertEqual(self.ended(started), Said(0, b"", self.told(url, UNKNOWN)))
+        self.listener, self.url = self.listen_as("socket://[::1]", "::1", family=socket.AF_INET6)
+        started = self.start(self.url, "--", "true")
+        self.taken()
+        self.assertTold(self.ended(started), UNKNOWN)
 
     def test_moves_nothing(self):
         for words, name in ((("--wiring", "dtr-reset"), "DTR"), (("--boot", ",rts"), "RTS"), (("--after", "brk"), "BRK")):
-            said = self.line(self.url, *words, "--", "true")
-            text = f"has no {name}; leave --wiring, --boot and --after out"
-            self.assertEqual(said, Said(1, b"", self.told(self.url, UNKNOWN, text)))
+            self.assertTold(self.line(self.url, *words, "--", "true"), UNKNOWN, f"has no {name}; leave --wiring, --boot and --after out", status=1)
 
     def test_what_waits_to_go_out_at_that_speed(self):
         """The end is told only when the bytes had the time of a line: 60 of them at 300 baud take two seconds."""
@@ -94,8 +93,7 @@ class Plain(FarPlace):
         end = self.taken()
         self.assertEqual(end.recv(60, socket.MSG_WAITALL), bytes(60))
         end.settimeout(1)
-        with self.assertRaises(TimeoutError):
-            end.recv(1)
+        self.assertRaises(TimeoutError, end.recv, 1)
         self.assertEqual(self.ended(started).status, 0)
 
     def test_words_that_name_no_far_port(self):
@@ -105,9 +103,8 @@ class Plain(FarPlace):
             self.assertLineFault(self.line(url, "--", "true"), f"{url}: is no far port; give {kind}://HOST:PORT")
 
     def test_nobody_there(self):
-        port = self.listener.getsockname()[1]
         self.listener.close()
-        for url in (self.url, f"rfc2217://127.0.0.1:{port}"):
+        for url in (self.url, self.url.replace("socket", "rfc2217")):
             self.assertLineFault(self.line(url, "--", "true"), f"{url}: Connection refused; ser2net, or what else serves the port, has to run there")
 
 
@@ -115,30 +112,25 @@ class Rfc2217(FarPlace):
     """rfc2217://, whose other end is pyserial's (tests/stand_ins/far_end.py)."""
 
     def far_end(self, *words):
-        started = subprocess.Popen([PYTHON, "-W", "ignore", os.path.join(STAND_INS, "stand_ins", "far_end.py"), *words],
-                                   stdout=subprocess.PIPE, stderr=subprocess.PIPE)
+        call = [PYTHON, "-W", "ignore", os.path.join(STAND_INS, "stand_ins", "far_end.py"), *words]
+        started = subprocess.Popen(call, stdout=subprocess.PIPE, stderr=subprocess.PIPE)
         self.addCleanup(started.communicate, timeout=PATIENCE)
         self.addCleanup(started.kill)
         self.url = f"rfc2217://127.0.0.1:{started.stdout.readline().decode().strip()}"
         return started
 
-    def noted(self, end):
-        return end.communicate(timeout=PATIENCE)[0].decode().splitlines()
-
     def test_one_that_floods_it_with_questions(self):
         """Its answers are never taken: that ends the line, in one text."""
-        with socket.create_server(("127.0.0.1", 0)) as listener:
-            listener.settimeout(PATIENCE)
-            url = f"rfc2217://127.0.0.1:{listener.getsockname()[1]}"
-            started = self.start(url, "--", "sleep", "1000")
-            end, _ = listener.accept()
-            with end:
-                end.settimeout(0.5)
-                # IAC WILL, of an option that nobody has
-                while started.poll() is None:
-                    with contextlib.suppress(OSError):
-                        end.sendall(b"\xff\xfb\x63" * 20000)
-                said = self.ended(started)
+        listener, url = self.listen_as("rfc2217://127.0.0.1")
+        started = self.start(url, "--", "sleep", "1000")
+        end, _ = listener.accept()
+        with end:
+            end.settimeout(0.5)
+            # IAC WILL, of an option that nobody has
+            while started.poll() is None:
+                with contextlib.suppress(OSError):
+                    end.sendall(b"\xff\xfb\x63" * 20000)
+            said = self.ended(started)
         self.assertEqual((said.status, said.out), (1, b""))
         self.assertEqual(len(said.err.splitlines()), 1, said.err)
         self.assertTrue(said.err.startswith(f"stmflash-line: {url}: ".encode()), said.err)
@@ -146,28 +138,27 @@ class Rfc2217(FarPlace):
     def test_asks_for_the_mode_and_moves_the_signals(self):
         end = self.far_end()
         said = self.line(self.url, "--baud", "57600", "--wiring", "dtr-reset,rts-boot0", "--", "sh", "-c", "echo $STMFLASH_FRESH")
-        self.assertEqual(said, Said(0, b"1\n", self.told(self.url, TELLS)))
-        noted = self.noted(end)
+        self.assertTold(said, TELLS, out=b"\n")
+        noted = end.communicate(timeout=PATIENCE)[0].decode().splitlines()
         for setting in ("baudrate 57600", "parity E", "mask 30"):
             self.assertIn(setting, noted)
-        sizes = {line for line in noted if line.startswith(("bytesize", "stopbits"))}
-        self.assertEqual(sizes, {"bytesize 8", "stopbits 1"})
-        moves = [line for line in noted if line.startswith(("rts ", "dtr "))]
-        self.assertEqual(moves, ["rts True", "dtr True", "rts False", "dtr False", "rts True", "dtr True", "dtr False"])
+        self.assertEqual({line for line in noted if line.startswith(("bytesize", "stopbits"))}, {"bytesize 8", "stopbits 1"})
+        self.assertEqual([line for line in noted if line.startswith(("rts ", "dtr "))],
+                         ["rts True", "dtr True", "rts False", "dtr False", "rts True", "dtr True", "dtr False"])
 
     def test_bytes_both_ways(self):
         """Each of them, also the one that telnet takes for its own."""
         self.far_end()
-        started = self.serve_far(self.url)
+        started = self.serve_far()
         data = bytes(set(range(256)) - set(b"!.")) * 20
         with self.connect() as client:
             self.assertEqual(self.exchange(client, data, len(data)), data)
         started.terminate()
-        self.assertEqual(self.ended(started), Said(0, b"", self.told(self.url, TELLS)))
+        self.assertTold(self.ended(started), TELLS)
 
     def test_an_error_that_is_told_of_ends_the_line(self):
         self.far_end()
-        started = self.serve_far(self.url)
+        started = self.serve_far()
         with self.connect() as client:
             # a beginning of what came before it
             self.assertTrue(b"ab".startswith(self.exchange(client, b"!", 5)))
@@ -176,20 +167,19 @@ class Rfc2217(FarPlace):
             came = self.exchange(client, b"on", 2)
             self.assertEqual(self.exchange(client, b"", 2) if came == b"cd" else came, b"on")
         started.terminate()
-        bad = "1 bytes came with an error at 115200 baud: look at speed, wiring and ground"
-        self.assertEqual(self.ended(started), Said(0, b"", self.told(self.url, TELLS, bad)))
+        self.assertTold(self.ended(started), TELLS, "1 bytes came with an error at 115200 baud: look at speed, wiring and ground")
 
     def test_an_end_that_goes(self):
         self.far_end()
-        started = self.serve_far(self.url)
+        started = self.serve_far()
         with self.connect() as client:
             self.assertEqual(self.exchange(client, b"ab", 2), b"ab")
             self.assertEqual(self.exchange(client, b".", 1), b"")
-        self.assertEqual(self.ended(started), Said(1, b"", self.told(self.url, TELLS, CLOSED)))
+        self.assertTold(self.ended(started), TELLS, CLOSED, status=1)
 
     def test_an_end_that_tells_of_no_errors(self):
         self.far_end("silent")
-        self.assertEqual(self.line(self.url, "--", "true"), Said(0, b"", self.told(self.url, SILENT)))
+        self.assertTold(self.line(self.url, "--", "true"), SILENT)
 
 
 @unittest.skipIf(shutil.which("ser2net") is None, "ser2net is not installed")
@@ -200,12 +190,12 @@ class Ser2net(FarPlace):
         super().setUp()
         self.boards, urls, text = [], [], "%YAML 1.1\n---\n"
         for kind, name, accepter in (("rfc2217", "a", "telnet(rfc2217),tcp"), ("socket", "b", "tcp")):
-            self.store(name + ".flash", COUNTING)
-            self.boards.append(self.board(name))
-            port = free_port()
-            urls.append(f"{kind}://127.0.0.1:{port}")
-            text += f"connection: &{name}\n  accepter: {accepter},127.0.0.1,{port}\n" \
-                    f"  connector: serialdev,{self.path(name)},9600n81,local\n"
+            self.boards.append(self.board(name, flash=COUNTING))
+            listener, url = self.listen_as(f"{kind}://127.0.0.1")
+            listener.close()
+            urls.append(url)
+            port = url.rpartition(":")[2]
+            text += f"connection: &{name}\n  accepter: {accepter},127.0.0.1,{port}\n  connector: serialdev,{self.path(name)},9600n81,local\n"
         self.store("ser2net.yaml", text.encode())
         started = subprocess.Popen(["ser2net", "-n", "-c", self.path("ser2net.yaml"), "-P", self.path("ser2net.pid")],
                                    stdin=subprocess.DEVNULL, stdout=subprocess.DEVNULL, stderr=subprocess.DEVNULL)
@@ -229,8 +219,8 @@ class Ser2net(FarPlace):
             used = list(pool.map(use, self.boards, (self.rfc2217, self.socket)))
         for (written, flash, undone, back), url, text in zip(used, (self.rfc2217, self.socket), (SILENT, UNKNOWN)):
             with self.subTest(url=url):
-                self.assertEqual(written, Said(0, b"segment 1: 2 pages written\nverified 2000 bytes\n", self.told(url, text)))
-                self.assertEqual(undone, Said(0, b"undone 1\n", self.told(url, text)))
+                self.assertTold(written, text, url=url, out=b"segment 1: 2 pages written\nverified 2000 bytes\n")
+                self.assertTold(undone, text, url=url, out=b"undone 1\n")
                 self.assertTrue(flash == b"\xff\x00" * 1000 + COUNTING[2000:] and back == COUNTING)
 
     def test_what_was_killed_is_undone(self):
@@ -245,30 +235,21 @@ class Ser2net(FarPlace):
                 journal = f"{url[:3]}-{killed}"
                 started, child = self.begin_write(url, journal)
                 time.sleep(chance.uniform(0, 0.2))
-                if killed != "line":
-                    kill(child)
-                if killed != "client":
-                    kill(started.pid)
-                started.wait(PATIENCE)
-                self.until(lambda: not os.path.exists(f"/proc/{child}"), "the program goes on")
+                self.kill_some(killed, started, child)
                 cut += b"\nend 1" not in self.held(journal)
-                undone = self.once_free(url, "--", *self.stmflash("undo", journal=journal))
-                self.assertEqual(undone, Said(0, b"undone 1\n", self.told(url, text)))
+                self.assertTold(self.once_free(url, "--", *self.stmflash("undo", journal=journal)), text, url=url, out=b"undone 1\n")
                 self.assertTrue(board.store() == COUNTING, "the flash isn't what it was")
         self.assertGreater(cut, 1, "too few were stopped in the midst")
 
     def begin_write(self, url, journal):
         """A write over ser2net that has begun to erase, and the process of the program."""
-        # the shell writes its process id, and becomes the program
         write = self.stmflash("write", "-f", "-S", "0x08000000", "image", journal=journal, wait="100")
-        words = ["sh", "-c", 'echo $$; exec "$@"', "sh", *write]
         for _ in range(20):
-            started = self.start(url, "--", *words)
-            child = started.stdout.readline()
+            started, child = self.start_known(*write, words=(url,))
             self.until(lambda: started.poll() is not None or b"\nerase " in (self.held(journal) or b""), "nothing is written")
             if started.poll() is None:
                 break
-        return started, int(child)
+        return started, child
 
     def once_free(self, url, *words):
         """A call, again where ser2net hasn't yet let go of the client before."""
@@ -279,25 +260,17 @@ class Ser2net(FarPlace):
         return said
 
     def test_the_speed_is_set(self):
-        started = self.start(self.rfc2217, "--baud", "57600", "--", "sh", "-c", "echo; exec sleep 1000")
-        self.assertEqual(started.stdout.readline(), b"\n")
+        started, _ = self.start_known("sleep", "1000", words=(self.rfc2217, "--baud", "57600"))
         self.assertEqual(termios.tcgetattr(self.boards[0].master)[5], termios.B57600)
-        started.send_signal(signal.SIGTERM)
-        self.ended(started)
+        self.assertEqual(end_with(started, signal.SIGTERM), 128 + signal.SIGTERM)
 
     def test_a_port_without_signals(self):
         said = self.line(self.rfc2217, "--wiring", "dtr-reset,rts-boot0", "--", "true")
-        text = "has no RTS; leave --wiring, --boot and --after out"
-        self.assertEqual(said, Said(1, b"", self.told(self.rfc2217, SILENT, text)))
+        self.assertTold(said, SILENT, "has no RTS; leave --wiring, --boot and --after out", url=self.rfc2217, status=1)
 
     def test_one_that_speaks_no_rfc2217(self):
         url = self.socket.replace("socket", "rfc2217")
-        self.assertLineFault(self.line(url, "--", "true"), f"{url}: {NO_RFC2217}")
-
-
-def free_port():
-    with socket.create_server(("127.0.0.1", 0)) as listener:
-        return listener.getsockname()[1]
+        self.assertLineFault(self.line(url, "--", "true"), f"{url}: speaks no RFC 2217; the bytes of a port alone are socket://HOST:PORT")
 
 
 def is_listened_at(port):

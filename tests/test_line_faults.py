@@ -6,11 +6,11 @@ import grp
 import os
 import pwd
 import re
+import shlex
 import shutil
 import signal
 import subprocess
 import sys
-import termios
 import unittest
 
 from boards import LINE, REAL, LinePlace, default_signals, end_with
@@ -29,16 +29,15 @@ class Faults(LinePlace):
     def assertUnusable(self, port, text, *words, **more):
         self.assertLineFault(self.line(port, *(words or ("--", "true")), **more), text)
 
-    def assertBegins(self, said, text, status=1):
-        """One line was said, which begins so."""
-        line = "stmflash-line: " + text
-        self.assertEqual((said.status, said.out, said.err.decode()[:len(line)]), (status, b"", line))
+    def assertBegins(self, port, text):
+        """One line is said of a port, which begins so."""
+        said, line = self.line(port, "--", "true"), "stmflash-line: " + text
+        self.assertEqual((said.status, said.out, said.err.decode()[:len(line)]), (1, b"", line))
         self.assertEqual(said.err.count(b"\n"), 1)
 
     def test_no_such_port(self):
         for port in ("none", "no/folder", "table/none"):
-            said = self.line(port, "--", "true")
-            self.assertBegins(said, f"{port}: no such port; this machine has ")
+            self.assertBegins(port, f"{port}: no such port; this machine has ")
 
     def test_where_nobody_is_told_nothing_is(self):
         """Standard output is COMMAND's alone, and may have the flash of a read: no fault stands there where standard error is closed."""
@@ -53,19 +52,18 @@ class Faults(LinePlace):
         os.mkfifo(self.path("pipe"))
         with self.listen("socket"):
             self.assertUnusable("socket", "socket: is not a serial port but a socket: hand it to stmflash itself, as --device")
-        for port, kind in (("folder", "folder"), ("table", "file"), ("pipe", "file")):
-            self.assertBegins(self.line(port, "--", "true"), f"{port}: is not a serial port but a {kind}; this machine has ")
-        for port, of in (("/dev/null", ""), ("loop://", " of this machine"), ("none://here", " of this machine")):
-            self.assertBegins(self.line(port, "--", "true"), f"{port}: is not a serial port{of}; this machine has ")
+        for port, rest in (("folder", " but a folder"), ("table", " but a file"), ("pipe", " but a file"), ("/dev/null", ""),
+                           ("loop://", " of this machine"), ("none://here", " of this machine")):
+            self.assertBegins(port, f"{port}: is not a serial port{rest}; this machine has ")
 
     def test_held_by_another_line(self):
         """Who came first keeps the port, and its session isn't disturbed."""
         self.board()
         holder = self.serve()
         self.assertUnusable("ttyUSB0", f"ttyUSB0: busy: {name_of(holder.pid)} has it")
-        self.assertTrue(self.use("info", "--wait", WAIT, device="board").out.startswith(b"id 0412\n"))
+        self.assertInfo(self.use("info", "--wait", WAIT, device="board"))
         self.assertEqual(end_with(holder, signal.SIGTERM), 0)
-        self.assertTrue(self.through("info").out.startswith(b"id 0412\n"))
+        self.assertInfo(self.through("info"))
 
     def test_held_by_a_program_without_a_lock(self):
         self.plain()
@@ -114,23 +112,17 @@ class Faults(LinePlace):
     def test_no_signals(self):
         """A pseudo-terminal has neither RTS nor DTR."""
         self.plain()
-        for words, name in ((("--boot", "rts"), "RTS"), (("--boot=-dtr",), "DTR"), (("--after", "-rts"), "RTS"),
-                            (("--wiring", "dtr-reset"), "DTR")):
-            said = self.line("ttyUSB0", *words, "--", "true")
-            self.assertLineFault(said, f"ttyUSB0: has no {name}; leave --wiring, --boot and --after out")
+        for words, name in (("--boot rts", "RTS"), ("--boot=-dtr", "DTR"), ("--after -rts", "RTS"), ("--wiring dtr-reset", "DTR")):
+            self.assertUnusable("ttyUSB0", f"ttyUSB0: has no {name}; leave --wiring, --boot and --after out", *words.split(), "--", "true")
 
     def test_bad_words(self):
         self.plain()
-        for words in (("--",), ("ttyUSB0", "--"), ("ttyUSB0", "--socket", "board", "--", "true"), ("ttyUSB0", "--socket", "board", "info"),
-                      ("ttyUSB0", "--baud", "0", "--", "true"), ("ttyUSB0", "--socket", ""), ("ttyUSB0", "--baud", "fast", "--", "true"),
-                      ("ttyUSB0", "--baud", "4000001", "--", "true"), ("ttyUSB0", "--boot", "cts", "--", "true"),
-                      ("ttyUSB0", "--boot", "--rts", "--", "true"), ("ttyUSB0", "--after", "rts:dtr", "--", "true"),
-                      ("ttyUSB0", "--boot", "rts:dtr", "--after", "dtr", "--", "true"), ("ttyUSB0", "--boo", "rts", "--", "true"),
-                      ("ttyUSB0", "ttyUSB1", "--", "true"), ("ttyUSB0", "--boot")):
+        for words in ("--", "ttyUSB0 --", "ttyUSB0 --socket board -- true", "ttyUSB0 --socket board info", "ttyUSB0 --baud 0 -- true",
+                      "ttyUSB0 --socket ''", "ttyUSB0 --baud fast -- true", "ttyUSB0 --baud 4000001 -- true", "ttyUSB0 --boot cts -- true",
+                      "ttyUSB0 --boot --rts -- true", "ttyUSB0 --after rts:dtr -- true", "ttyUSB0 --boot rts:dtr --after dtr -- true",
+                      "ttyUSB0 --boo rts -- true", "ttyUSB0 ttyUSB1 -- true", "ttyUSB0 --boot"):
             with self.subTest(words=words):
-                said = self.line(*words)
-                self.assertEqual((said.status, said.out), (2, b""))
-                self.assertIn(b"stmflash-line: error: ", said.err)
+                self.assertBadWords(self.line(*shlex.split(words)))
         said = self.line("ttyUSB0", "--baud", "9600", "stmflash", "write", "-v", "my file")
         self.assertEqual(said.status, 2)
         self.assertTrue(said.err.endswith(b"error: COMMAND comes behind --, as in: stmflash-line ttyUSB0 -- stmflash write -v 'my file'\n"), said)
@@ -139,53 +131,40 @@ class Faults(LinePlace):
 
 
 class Pulled(LinePlace):
-    UNPLUGGED = "stmflash-line: ttyUSB0: unplugged; plug it in; where stmflash log says unfinished, stmflash undo 1 undoes what was " \
-                "begun\n"
-
-    def plain_to_pull(self):
-        master, slave = os.openpty()
-        os.symlink(os.ttyname(slave), self.path("ttyUSB0"))
-        mode = termios.tcgetattr(slave)
-        mode[3] &= ~(termios.ECHO | termios.ICANON)
-        termios.tcsetattr(slave, termios.TCSANOW, mode)
-        os.close(slave)
-        return master
+    UNPLUGGED = b"stmflash-line: ttyUSB0: unplugged; plug it in; where stmflash log says unfinished, stmflash undo 1 undoes what was begun\n"
 
     def test_in_the_midst(self):
         """The client sees its line closed, and then the port is told."""
-        master = self.plain_to_pull()
+        master = self.plain(closes=False)
         # as long as this is waited before the first byte, and behind it: not as long as a test may take
         started = self.start("ttyUSB0", "--", *self.stmflash("info", wait="10000"))
         self.assertEqual(self.read_from(master, 1), b"\x7f")
         os.close(master)
-        self.assertEqual(self.ended(started), Said(1, b"", b"stmflash: line failed\n" + self.UNPLUGGED.encode()))
+        self.assertEqual(self.ended(started), Said(1, b"", b"stmflash: line failed\n" + self.UNPLUGGED))
 
     def test_while_nobody_is_connected(self):
-        master = self.plain_to_pull()
+        master = self.plain(closes=False)
         started = self.serve()
         os.close(master)
-        self.assertEqual(self.ended(started), Said(1, b"", self.UNPLUGGED.encode()))
+        self.assertEqual(self.ended(started), Said(1, b"", self.UNPLUGGED))
         self.assertFalse(self.is_there("board"))
 
     def test_a_command_that_goes_on_is_ended(self):
-        master = self.plain_to_pull()
-        script = "trap 'echo TERM; exit' TERM; echo $$; while :; do sleep 0.1; done"
-        started = self.start("ttyUSB0", "--", "sh", "-c", script)
+        master = self.plain(closes=False)
+        started = self.start("ttyUSB0", "--", "sh", "-c", "trap 'echo TERM; exit' TERM; echo $$; while :; do sleep 0.1; done")
         child = int(started.stdout.readline())
         os.close(master)
-        self.assertEqual(self.ended(started), Said(1, b"TERM\n", self.UNPLUGGED.encode()))
+        self.assertEqual(self.ended(started), Said(1, b"TERM\n", self.UNPLUGGED))
         self.assertFalse(os.path.exists(f"/proc/{child}"))
 
     def test_a_write_is_undone(self):
         """A board is pulled in a write, and plugged in again."""
-        self.store("ttyUSB0.flash", b"\x55" * 32768)
-        board = self.board()
+        board = self.board(flash=b"\x55" * 32768)
         self.store("image", b"\xaa" * 32768)
         started = self.start("ttyUSB0", "--", *self.stmflash("write", "-f", "-S", "0x08000000", "image"))
         self.until(lambda: b"program 2" in (self.held("journal") or b"") or started.poll() is not None, "nothing is written")
         board.renew()
-        said = self.ended(started)
-        self.assertEqual(said, Said(1, b"", b"stmflash: line failed\n" + self.UNPLUGGED.encode()))
+        self.assertEqual(self.ended(started), Said(1, b"", b"stmflash: line failed\n" + self.UNPLUGGED))
         self.assertTold(self.through("undo"), "undone 1\n")
         self.assertEqual(board.store(), b"\x55" * 32768)
 

@@ -1,6 +1,7 @@
 """GPIO lines in the sequences of stmflash-line, over a stand-in for gpioset that takes the words of one version alone
 (tests/stand_ins/gpioset). A real gpioset, where one is installed, is asked for a chip that isn't there."""
 
+import contextlib
 import fcntl
 import os
 import shutil
@@ -19,61 +20,68 @@ LEAVE = ["18 free", "18=0", "23 free", "23=0", "23 free", "23=1"]
 FREE = ["18 free", "23 free"]
 
 
-class GpioPlace(LinePlace):
-    """A port, and the stand-in for gpioset first in PATH."""
+class Lines(LinePlace):
+    """The lines of a stand-in for gpioset."""
 
     version = "1"
 
     def setUp(self):
         super().setUp()
-        self.master = self.port()
         os.mkdir(self.path("lines"))
 
-    def port(self):
-        return self.plain()
-
-    def start(self, *words, **more):
-        return super().start(*words, **{**self.settings(), **more})
-
-    def settings(self):
-        return {"PATH": FOLDER + ":" + os.environ["PATH"], "GPIO_VERSION": self.version, "GPIO_PLACE": self.path("lines")}
+    def by_stand_in(self, path=os.environ["PATH"]):
+        """The variables that have it first in PATH."""
+        return {"PATH": FOLDER + ":" + path, "GPIO_VERSION": self.version, "GPIO_PLACE": self.path("lines")}
 
     def moves(self, name="lines/moves"):
         """What came to the lines, and when."""
         lines = [text.split(" ", 1) for text in (self.held(name) or b"").decode().splitlines()]
         return [move for _, move in lines], [float(when) for when, _ in lines]
 
-    def is_free(self, line, chip="gpiochip0"):
-        """Whether nobody has a line."""
-        held = os.open(self.path(f"lines/{chip}-{line}"), os.O_RDWR | os.O_CREAT, 0o600)
-        try:
-            fcntl.flock(held, fcntl.LOCK_EX | fcntl.LOCK_NB)
+    def assertLeft(self):
+        """The lines were moved into the bootloader and out of it, and let go of."""
+        moves = self.moves()[0]
+        self.assertEqual((moves[:len(ENTRY + LEAVE)], sorted(moves[len(ENTRY + LEAVE):])), (ENTRY + LEAVE, FREE))
+
+    def are_free(self):
+        """Whether nobody has either line."""
+        with contextlib.suppress(BlockingIOError), contextlib.ExitStack() as files:
+            for line in (18, 23):
+                fcntl.flock(files.enter_context(open(self.path(f"lines/gpiochip0-{line}"), "ab")), fcntl.LOCK_EX | fcntl.LOCK_NB)
             return True
-        except BlockingIOError:
-            return False
-        finally:
-            os.close(held)
+        return False
+
+
+class GpioPlace(Lines):
+    """A port beside them."""
+
+    def setUp(self):
+        super().setUp()
+        self.master = self.port()
+
+    def port(self):
+        return self.plain()
+
+    def start(self, *words, **more):
+        return super().start(*words, **{**self.by_stand_in(), **more})
 
 
 class Moved(GpioPlace):
     def test_what_is_moved_and_held(self):
         """Each line by itself, in this order, with these waits; both are held while COMMAND runs, and free behind it."""
-        said = self.line("ttyUSB0", "--boot", BOOT, "--", "cp", "lines/moves", "during")
-        self.assertSilent(said)
+        self.assertSilent(self.line("ttyUSB0", "--boot", BOOT, "--", "cp", "lines/moves", "during"))
         self.assertEqual(self.moves("during")[0], ENTRY)
-        moves, times = self.moves()
-        self.assertEqual(moves[:len(ENTRY + LEAVE)], ENTRY + LEAVE)
-        self.assertEqual(sorted(moves[len(ENTRY + LEAVE):]), FREE)
+        self.assertLeft()
+        times = self.moves()[1]
         # a reset is held for 100 ms, and the program begins 200 ms behind it at the soonest
         self.assertGreaterEqual(times[2] - times[1], 0.099)
         self.assertGreaterEqual(times[4] - times[3], 0.199)
-        self.assertTrue(self.is_free(18) and self.is_free(23))
+        self.assertTrue(self.are_free())
 
     def test_each_client_of_one_that_resets(self):
         """The line that stands already isn't let go of."""
         client = "import os, socket; s = socket.socket(socket.AF_UNIX); s.connect(os.environ['STMFLASH_DEVICE']); s.sendall(b'a')"
-        script = f'python3 -c "{client}"; python3 -c "{client}"'
-        started = self.start("ttyUSB0", "--boot", "18&-23,23,,", "--resets", "--", "sh", "-c", script)
+        started = self.start("ttyUSB0", "--boot", "18&-23,23,,", "--resets", "--", "sh", "-c", f'python3 -c "{client}"; python3 -c "{client}"')
         self.assertEqual(self.read_from(self.master, 2), b"aa")
         self.assertSilent(self.ended(started))
         moves = self.moves()[0]
@@ -103,11 +111,6 @@ class Ended(GpioPlace):
         self.until(lambda: self.moves()[0] == ENTRY, "the sequence isn't played")
         return started
 
-    def assertLeft(self):
-        moves = self.moves()[0]
-        self.assertEqual(moves[:len(ENTRY + LEAVE)], ENTRY + LEAVE)
-        self.assertEqual(sorted(moves[len(ENTRY + LEAVE):]), FREE)
-
     def test_by_a_signal(self):
         self.assertEqual(end_with(self.begin(), signal.SIGTERM), 128 + signal.SIGTERM)
         self.assertLeft()
@@ -127,14 +130,13 @@ class Ended(GpioPlace):
 
         started = self.begin(before=before)
         os.killpg(started.pid, signal.SIGINT)
-        self.ended(started)
-        self.assertEqual(started.returncode, 128 + signal.SIGINT)
+        self.assertEqual(self.ended(started).status, 128 + signal.SIGINT)
         self.assertLeft()
 
     def test_by_signal_9(self):
         started = self.begin()
         started.kill()
-        self.until(lambda: self.is_free(18) and self.is_free(23), "the lines aren't let go of")
+        self.until(self.are_free, "the lines aren't let go of")
         self.ended(started)
         # what the killed has left in the folder for what is temporary goes with the next call
         self.line("ttyUSB0", "--", "true")
@@ -147,7 +149,7 @@ class Refused(GpioPlace):
         said = self.line("ttyUSB0", *(words or ("--boot", BOOT)), "--", "sh", "-c", "echo went; echo > $TMPDIR/went", **more)
         self.assertLineFault(said, text, status)
         self.assertNothingSent(self.master)
-        self.assertTrue(self.is_free(18) and self.is_free(23))
+        self.assertTrue(self.are_free())
 
     def test_no_gpioset(self):
         os.mkdir(self.path("bin"))
@@ -168,16 +170,14 @@ class Refused(GpioPlace):
             with self.subTest(line=line), open(self.path(f"lines/gpiochip0-{line}"), "wb") as held:
                 fcntl.flock(held, fcntl.LOCK_EX)
                 text = f"GPIO line {line} of gpiochip0: busy: another program or a driver has it; gpioinfo tells which"
-                said = self.line("ttyUSB0", "--boot", BOOT, "--", "echo", "went")
-                self.assertLineFault(said, text)
+                self.assertLineFault(self.line("ttyUSB0", "--boot", BOOT, "--", "echo", "went"), text)
                 self.assertNothingSent(self.master)
                 self.assertEqual(self.moves()[0], before)
 
     def test_what_gpioset_says(self):
         at = "GPIO line 18 of gpiochip0: "
         for said, text in (
-                ("error setting the GPIO line values: Permission denied", "no permission"),
-                ("cannot find GPIO chip 'gpiochip0'", None),
+                ("error setting the GPIO line values: Permission denied", "no permission"), ("cannot find GPIO chip 'gpiochip0'", None),
                 ("error setting the GPIO line values: No such file or directory", None),
                 ("unable to request lines: Invalid argument", "unable to request lines: Invalid argument; gpioinfo tells its lines")):
             with self.subTest(said=said):
@@ -194,17 +194,13 @@ class Refused(GpioPlace):
     def test_words(self):
         """Those that can't be done are refused before anything is touched."""
         for words, text in (
-                (("--boot", "18:23"), "GPIO line 23 is moved in the end alone: name it in --boot too"),
-                (("--after", "4"), "GPIO line 4 is moved in the end alone"),
-                (("--boot", "rts", "--gpio-chip", "gpiochip1"), "--gpio-chip names the chip of GPIO lines, and --boot names none"),
-                (("--gpio-chip", "gpiochip1"), "--gpio-chip names the chip of GPIO lines, and --boot names none"),
-                (("--boot", "18", "--gpio-chip="), "'' is no chip"),
-                (("--boot", "18", "--gpio-chip=-1"), "'-1' is no chip"),
-                (("--boot", "018"), "'018' is no signal")):
+                ("--boot 18:23", "GPIO line 23 is moved in the end alone: name it in --boot too"),
+                ("--after 4", "GPIO line 4 is moved in the end alone"),
+                ("--boot rts --gpio-chip gpiochip1", "--gpio-chip names the chip of GPIO lines, and --boot names none"),
+                ("--gpio-chip gpiochip1", "--gpio-chip names the chip of GPIO lines, and --boot names none"),
+                ("--boot 18 --gpio-chip=", "'' is no chip"), ("--boot 18 --gpio-chip=-1", "'-1' is no chip"), ("--boot 018", "'018' is no signal")):
             with self.subTest(words=words):
-                said = self.line("ttyUSB0", *words, "--", "echo", "went")
-                self.assertEqual((said.status, said.out), (2, b""))
-                self.assertIn(b"stmflash-line: error: " + text.encode(), said.err)
+                self.assertBadWords(self.line("ttyUSB0", *words.split(), "--", "echo", "went"), text)
                 self.assertEqual(self.moves()[0], [])
 
     @unittest.skipIf(shutil.which("gpioset") is None, "gpiod is not installed")
@@ -215,15 +211,14 @@ class Refused(GpioPlace):
         self.assertRegex(said.err.decode(), r"\Astmflash-line: GPIO line 4 of gpiochip99: no such chip; this machine has .*\n\Z")
 
 
-class BesideSignals(WiredPlace):
+class BesideSignals(Lines, WiredPlace):
+    version = "2"
+
     def test_lines_and_signals_in_one_sequence(self):
-        os.mkdir(self.path("lines"))
-        more = {"PATH": FOLDER + ":" + os.environ["PATH"], "GPIO_VERSION": "2", "GPIO_PLACE": self.path("lines")}
-        self.assertSilent(self.play("--boot", "18&-rts,rts:-18", "--", "cp", "lines/moves", "during", **more))
+        self.assertSilent(self.play("--boot", "18&-rts,rts:-18", "--", "cp", "lines/moves", "during", **self.by_stand_in()))
         self.assertEqual(self.calls()[0], ["RTS inactive", "RTS active"])
         self.assertTrue(self.held("during").endswith(b" 18=1\n"))
-        moves = [text.split()[1] for text in self.held("lines/moves").decode().splitlines()]
-        self.assertEqual(moves, ["18=1", "18", "18=0", "18"])
+        self.assertEqual(self.moves()[0], ["18=1", "18 free", "18=0", "18 free"])
 
 
 class Sessions(GpioPlace):
@@ -233,31 +228,27 @@ class Sessions(GpioPlace):
     def test_a_board_that_was_reset(self):
         """The word --resets says it of lines too, and the session goes through."""
         self.assertEqual(self.made.store(), ERASED)
-        said = self.line("ttyUSB0", "--boot", BOOT, "--resets", "--", *self.stmflash("info"))
-        self.assertEqual((said.status, said.out.split(b"\n")[0], said.err), (0, b"id 0412", b""))
+        self.assertInfo(self.line("ttyUSB0", "--boot", BOOT, "--resets", "--", *self.stmflash("info")))
 
 
-class InWords(Words):
+class InWords(Lines, Words):
     """The same lines by -i of stm32flash's words."""
 
     def settings(self, **more):
-        held = super().settings(**more)
-        return {**held, "PATH": FOLDER + ":" + held["PATH"], "GPIO_VERSION": "1", "GPIO_PLACE": self.path("lines"), **more}
+        held = super().settings()
+        return {**held, **self.by_stand_in(held["PATH"]), **more}
 
     def test_a_board_is_brought_in_and_out(self):
-        os.mkdir(self.path("lines"))
         board = self.flash(ERASED)
         said = self.well("-i", BOOT, "-w", "image", STM32FLASH_GPIO_CHIP="gpiochip4")
         self.assertEqual(board.store()[:4], b"new\xff")
         self.assertIn(b"GPIO sequence start\n setting gpio 18 to 1... OK\n setting gpio 23 to 0... OK\n delay 100000 us\n", said.out)
-        moves = [line.split(" ", 1)[1] for line in self.held("lines/moves").decode().splitlines()]
-        self.assertEqual((moves[:len(ENTRY + LEAVE)], sorted(moves[len(ENTRY + LEAVE):])), (ENTRY + LEAVE, FREE))
+        self.assertLeft()
         self.assertEqual(sorted(os.listdir(self.path("lines"))), ["gpiochip4-18", "gpiochip4-23", "moves"])
 
     def test_a_chip_that_is_none_is_refused(self):
         self.plain()
-        said = self.words("-m", "8n1", "-i", "4", STM32FLASH_GPIO_CHIP="--help")
-        self.assertEqual((said.status, said.err), (1, b"ERROR: -i: '--help' is no chip: gpiodetect tells those that there are\n"))
+        self.fails(b"ERROR: -i: '--help' is no chip: gpiodetect tells those that there are\n", "-i", "4", STM32FLASH_GPIO_CHIP="--help")
 
     def test_a_line_that_cant_be_had_is_told(self):
         end = self.plain()

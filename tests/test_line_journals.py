@@ -7,14 +7,12 @@ import re
 import shutil
 import subprocess
 
-from boards import LINE, LinePlace
-from place import COUNTING, PATIENCE, SILENT, SIZE, TABLE, TOP, Said, program, text_in
+from boards import LINE, Named
+from place import COUNTING, PATIENCE, SILENT, SIZE, TOP, Said, text_in
 from stmflash_line import journals
+from test_stm32flash_words import BACK, STOPPED, TELLING, WORDS
 
 BOARD = 12 * "A1"
-# page 5 of a flash of 55 is to be erased, and was not yet
-STOPPED = "stmjournal 3 0412 {}\nopen 1\npage 5 " + 1024 * "55" + "\nerase 5\n"
-BACK = COUNTING[:5120] + b"\x55" * 1024 + COUNTING[6144:]
 # runs the companion on a machine that has these ports, each with what it is; those of USB have a number of their maker
 RUNNER = """
 import runpy, sys, types
@@ -32,35 +30,19 @@ ONE = [("ttyUSB0", "USB UART")]
 NAMED = "stmflash-line: ttyUSB0: USB UART\n"
 # a flash with an image in it
 HEX = b"\xde\xad\xbe\xef" + COUNTING[4:]
-SECTION = "### The shortest calls\n"
 
 
-class Unnamed(LinePlace):
+class Unnamed(Named):
+    begins = {"table": TELLING, "fw.bin": b"new"}
+
     def setUp(self):
         super().setUp()
-        # so that the journals that a test makes are its user's alone to write
-        self.addCleanup(os.umask, os.umask(0o022))
-        self.store("table", TABLE + b"unique = [0x1FFFF7E8, 12]\n")
-        os.mkdir(self.path("bin"))
-        os.symlink(program(), self.path("bin/stmflash"))
-        self.store("fw.bin", b"new")
         self.state = os.path.join(self.folder, ".local", "state", "stmflash")
-
-    def settings(self, **more):
-        return {"HOME": self.folder, "PATH": self.path("bin") + ":" + os.environ["PATH"], "STMFLASH_TABLE": self.path("table"),
-                "STMFLASH_WAIT": "500", **more}
 
     def short(self, *words, ports=None, **settings):
         """Runs the companion, which finds stmflash by its name; on a machine of these ports where they are given."""
         line = (LINE,) if ports is None else ("-c", RUNNER, repr(ports), LINE)
         return self.line(*words, line=line, **self.settings(**settings))
-
-    def telling(self, byte="A1", name="ttyUSB0", flash=COUNTING):
-        """A board that tells a unique id of this byte alone; None: none."""
-        if byte:
-            self.store(name + ".flash.board", b"unique " + 12 * byte.encode() + b"\n")
-        self.store(name + ".flash", flash)
-        return self.board(name)
 
     def journal(self, byte="A1"):
         return os.path.join(self.state, "journals", 12 * byte + ".journal")
@@ -71,14 +53,23 @@ class Unnamed(LinePlace):
     def told(self, path, rest="", name="ttyUSB0"):
         return f"stmflash-line: {name}: journal {path}{rest}\n"
 
-    def assertWell(self, said, out, path, rest=""):
+    def assertShort(self, said, out, path, rest=""):
         self.assertEqual(said, Said(0, out.encode(), self.told(path, rest).encode()))
+
+    def assertWritten(self, path, rest="", **settings):
+        """A write of the image goes through, and its journal is this."""
+        self.assertShort(self.short("ttyUSB0", "write", "fw.bin", **settings), "segment 1: 1 pages written\n", path, rest)
+
+    def again(self, board):
+        """The board as its reset leaves it, at the same port."""
+        board.stop()
+        self.clear("ttyUSB0.flash.line")
+        return self.board()
 
     def stop(self, byte="A1"):
         """What was stopped at a board."""
         os.makedirs(os.path.dirname(self.journal()), exist_ok=True)
-        with open(self.journal(byte), "w", encoding="ascii") as file:
-            file.write(STOPPED.format(12 * byte))
+        self.store(self.journal(byte), STOPPED.replace("2 0412", f"3 0412 {12 * byte}").encode())
 
 
 class Journals(Unnamed):
@@ -86,31 +77,30 @@ class Journals(Unnamed):
         board = self.telling()
         self.assertEqual(self.short("ttyUSB0").out.decode().splitlines()[-1], "board " + BOARD)
         self.assertEqual(os.listdir(os.path.join(self.state, "journals")), [])
-        self.assertWell(self.short("ttyUSB0", "--", "stmflash", "write", "-v", "fw.bin"),
+        self.assertShort(self.short("ttyUSB0", "--", "stmflash", "write", "-v", "fw.bin"),
                         "segment 1: 1 pages written\nverified 3 bytes\n", self.journal())
-        with open(self.journal(), encoding="ascii") as file:
-            self.assertEqual(file.readline(), f"stmjournal 3 0412 {BOARD}\n")
+        self.assertTrue(self.held(self.journal()).startswith(f"stmjournal 3 0412 {BOARD}\n".encode()))
         for folder in ("journals", os.path.dirname(self.nameless())):
             self.assertEqual(os.stat(os.path.join(self.state, folder)).st_mode & 0o777, 0o700)
         self.assertIn(b"1 can be undone\n", self.short("ttyUSB0", "log").out)
-        self.assertWell(self.short("ttyUSB0", "undo"), "undone 1\n", self.journal())
+        self.assertShort(self.short("ttyUSB0", "undo"), "undone 1\n", self.journal())
         self.assertEqual(board.store(), COUNTING)
 
     def test_boards_that_tell_none_have_the_ports(self):
         before = self.telling("B2")
-        self.assertWell(self.short("ttyUSB0", "write", "fw.bin"), "segment 1: 1 pages written\n", self.journal("B2"))
+        self.assertWritten(self.journal("B2"))
         before.stop()
         self.remove("ttyUSB0.flash.board")
         board = self.telling(None)
         rest = ", of this port: the board tells no unique id"
-        self.assertWell(self.short("ttyUSB0", "write", "fw.bin"), "segment 1: 1 pages written\n", self.nameless(), rest)
+        self.assertWritten(self.nameless(), rest)
         # the board that was there before is there no more, also for what asks none
         self.assertEqual(self.short("ttyUSB0", "log").err.decode(), self.told(self.nameless()))
-        self.assertWell(self.short("ttyUSB0", "undo"), "undone 1\n", self.nameless(), rest)
+        self.assertShort(self.short("ttyUSB0", "undo"), "undone 1\n", self.nameless(), rest)
         self.assertEqual(board.store(), COUNTING)
         # nor is one asked that isn't to be
         for words, settings in ((("--no-board",), {}), ((), {"STMFLASH_NO_BOARD": "1"})):
-            self.assertWell(self.short("ttyUSB0", "verify", *words, "-S", "0x08000000", "ttyUSB0.flash", **settings),
+            self.assertShort(self.short("ttyUSB0", "verify", *words, "-S", "0x08000000", "ttyUSB0.flash", **settings),
                             f"verified {SIZE} bytes\n", self.nameless())
 
     def test_what_a_user_names_is_taken_and_nothing_is_made(self):
@@ -128,13 +118,12 @@ class Journals(Unnamed):
     def test_xdg_says_where(self):
         self.telling()
         path = self.path(f"own/stmflash/journals/{BOARD}.journal")
-        self.assertWell(self.short("ttyUSB0", "write", "fw.bin", XDG_STATE_HOME=self.path("own")), "segment 1: 1 pages written\n", path)
+        self.assertWritten(path, XDG_STATE_HOME=self.path("own"))
         self.assertTrue(os.path.exists(path))
 
     def test_a_board_that_does_not_answer_ends_the_call(self):
         self.plain()
-        said = self.short("ttyUSB0", "write", "--give-up", "1", "fw.bin")
-        self.assertEqual(said, Said(1, b"", f"stmflash: no answer from the device\nhint: {SILENT}\n".encode()))
+        self.assertFault(self.short("ttyUSB0", "write", "--give-up", "1", "fw.bin"), "no answer from the device", hint=SILENT)
 
     def test_what_others_may_write_is_refused(self):
         self.telling()
@@ -142,18 +131,23 @@ class Journals(Unnamed):
         for path in (self.journal(), os.path.dirname(self.journal()), os.path.dirname(self.nameless())):
             before = os.stat(path).st_mode
             os.chmod(path, 0o777)
-            said = self.short("ttyUSB0", "undo")
-            self.assertEqual(said.status, 1)
-            self.assertIn(f"others may write {path}, ".encode(), said.err)
+            # the word that allows it to stmflash allows it here
+            for words, status, out, err in (((), 1, b"", f"others may write {path}, "), (("--trust-journal",), 0, b"undone 1\n", "")):
+                said = self.short("ttyUSB0", "undo", *words)
+                self.assertEqual((said.status, said.out), (status, out), said)
+                self.assertIn(err.encode(), said.err)
             os.chmod(path, before)
+            self.short("ttyUSB0", "write", "fw.bin")
 
     def test_stm32flash_and_it_share_them(self):
         for byte in ("A1", None):
             with self.subTest(byte=byte):
                 board = self.telling(byte)
+
                 def words(*given):
-                    return subprocess.run([os.path.join(TOP, "line", "stm32flash"), "-m", "8n1", *given, "ttyUSB0"], cwd=self.folder,
-                                          env=self.settings(), timeout=PATIENCE, capture_output=True, check=False).returncode
+                    return subprocess.run([WORDS, "-m", "8n1", *given, "ttyUSB0"], cwd=self.folder, env=self.settings(), timeout=PATIENCE,
+                                          capture_output=True, check=False).returncode
+
                 self.assertEqual(words("-w", "fw.bin"), 0)
                 self.assertEqual(self.short("ttyUSB0", "undo").out, b"undone 1\n")
                 self.assertEqual(board.store(), COUNTING)
@@ -173,29 +167,34 @@ class Tables(Unnamed):
         self.store("share/stmflash/chips.toml", self.held("table"))
         settings = self.settings()
         del settings["STMFLASH_TABLE"]
-        self.assertIn(BOARD.encode(), self.line("ttyUSB0", line=("bin/stmflash-line",), **settings).out)
+
+        def said(**more):
+            return self.line("ttyUSB0", line=("bin/stmflash-line",), **settings, **more)
+
+        self.assertIn(BOARD.encode(), said().out)
         os.makedirs(self.path(".config/stmflash"))
-        own = ".config/stmflash/chips.toml"
-        self.store(own, b"[[chip]]\n")
-        self.assertIn(b"table: chip 1: missing", self.line("ttyUSB0", line=("bin/stmflash-line",), **settings).err)
-        os.rename(self.path(own), self.path("named"))
-        self.assertIn(b"table: chip 1: missing", self.line("ttyUSB0", line=("bin/stmflash-line",), **settings, STMFLASH_TABLE=self.path("named")).err)
+        self.store(".config/stmflash/chips.toml", b"[[chip]]\n")
+        self.assertIn(b"table: chip 1: missing", said().err)
+        os.rename(self.path(".config/stmflash/chips.toml"), self.path("named"))
+        self.assertIn(b"table: chip 1: missing", said(STMFLASH_TABLE=self.path("named")).err)
 
 
 class Stopped(Unnamed):
     """Journals in which a command was stopped: their board may wait for the rest of it, and isn't asked."""
 
-    REST = ", in which a command was stopped; where its board isn't here, reset the one that is and say --fresh"
+    REST = ", in which a command was stopped; --journal names another, where its board isn't here"
+
+    def assertUnfinished(self, journal):
+        said = self.short("ttyUSB0", "write", "fw.bin")
+        self.assertEqual((said.status, said.out), (1, b""))
+        self.assertEqual(said.err.decode().splitlines()[:2], [self.told(journal, self.REST)[:-1], "stmflash: unfinished command, undo first"])
 
     def test_its_journal_is_taken_unasked_at_any_port(self):
         self.stop()
         board = self.telling(flash=COUNTING)
-        said = self.short("ttyUSB0", "write", "fw.bin")
-        self.assertEqual((said.status, said.out), (1, b""))
-        self.assertEqual(said.err.decode().splitlines()[:2],
-                         [self.told(self.journal(), self.REST)[:-1], "stmflash: unfinished command, undo first"])
+        self.assertUnfinished(self.journal())
         self.assertEqual(self.held("ttyUSB0.flash.line"), None)
-        self.assertWell(self.short("ttyUSB0", "undo", "1"), "undone 1\n", self.journal(), self.REST)
+        self.assertShort(self.short("ttyUSB0", "undo", "1"), "undone 1\n", self.journal(), self.REST)
         self.assertEqual(board.store(), BACK)
 
     def test_another_board_is_reset_and_asked(self):
@@ -206,20 +205,20 @@ class Stopped(Unnamed):
         self.assertEqual(board.store(), COUNTING)
         for words, settings in ((("--fresh",), {}), ((), {"STMFLASH_FRESH": "1"})):
             with self.subTest(words=words):
-                board.stop()
-                self.clear("ttyUSB0.flash.line")
-                board = self.board()
+                board = self.again(board)
                 said = self.short("ttyUSB0", "write", *words, "fw.bin", **settings)
                 self.assertEqual(said.status, 0, said)
         self.assertTrue(os.path.exists(self.journal("B2")))
 
-    def test_what_goes_on_in_its_session_asks_nothing(self):
-        """A protection that is taken off there wants a board that was just reset, and so does the undo behind it."""
+    def test_what_goes_on_in_its_session_asks_by_itself(self):
+        """A protection that is taken off there is of the board that was in it, reset or not."""
         self.stop()
         board = self.telling()
-        said = self.short("ttyUSB0", "protect", "write-unprotect", "--in-session", "--fresh")
-        self.assertEqual((said.status, said.err.decode().splitlines()), (0, [
-            self.told(self.journal(), self.REST)[:-1], "hint: the board resets itself; now: undo 1"]))
+        for words in ((), ("--fresh",)):
+            said = self.short("ttyUSB0", "protect", "write-unprotect", "--in-session", *words)
+            self.assertEqual((said.status, said.err.decode().splitlines()), (0, [
+                self.told(self.journal(), self.REST)[:-1], "hint: the board resets itself; now: undo 1"]))
+            board = self.again(board)
         self.assertEqual(board.store(), COUNTING)
 
     def test_the_ports_own_goes_before_others(self):
@@ -227,7 +226,7 @@ class Stopped(Unnamed):
         self.short("ttyUSB0", "write", "fw.bin")
         for byte in ("A1", "B2"):
             self.stop(byte)
-        self.assertWell(self.short("ttyUSB0", "undo", "1"), "undone 1\n", self.journal("B2"), self.REST)
+        self.assertShort(self.short("ttyUSB0", "undo", "1"), "undone 1\n", self.journal("B2"), self.REST)
         self.assertEqual(board.store(), b"new" + BACK[3:])
 
     def test_of_several_none_is_taken(self):
@@ -236,33 +235,29 @@ class Stopped(Unnamed):
         end = self.plain()
         said = self.short("ttyUSB0", "undo", "1")
         self.assertLineFault(said, f"ttyUSB0: a command was stopped in each of {self.journal('A1')}, {self.journal('B2')}: --journal names the "
-                                   "one of the board that is here; where none is, reset the board and say --fresh")
-        os.set_blocking(end, False)
-        self.assertRaises(OSError, os.read, end, 1)
+                                   "one of the board that is here")
+        self.assertNothingSent(end)
         # what uses no board needs to know none
         self.assertIn(self.told(self.nameless()).encode(), self.short("ttyUSB0", "log").err)
 
     def test_a_board_that_tells_no_id_may_be_back(self):
         self.telling()
         self.short("ttyUSB0", "info")
-        self.store(os.path.relpath(self.nameless(), self.folder), STOPPED.format("").replace("3 0412 ", "2 0412").encode())
-        said = self.short("ttyUSB0", "write", "fw.bin")
-        self.assertEqual(said.err.decode().splitlines()[:2],
-                         [self.told(self.nameless(), self.REST)[:-1], "stmflash: unfinished command, undo first"])
+        self.store(self.nameless(), STOPPED.encode())
+        self.assertUnfinished(self.nameless())
 
     def test_one_that_a_program_has_holds_up_no_other_board(self):
         self.stop()
         self.telling("B2")
         with open(self.journal(), "rb") as file:
             fcntl.flock(file, fcntl.LOCK_EX)
-            self.assertWell(self.short("ttyUSB0", "write", "fw.bin"), "segment 1: 1 pages written\n", self.journal("B2"))
+            self.assertWritten(self.journal("B2"))
 
     def test_which_are_stopped(self):
         """By the last line that is whole and isn't void."""
         for text, is_so in (("", False), ("stmjournal 2 0412\n", False), ("open 1\n", True), ("open 1\nend 1\n", False),
                             ("open 1\nend 1\nerase 5\n", True), ("end 1\nprogram 5\n", True), ("page 5 55\n", True),
-                            ("end 1\nundone 1\n", False), ("open 1\nend 1", True), ("open 1\nend 1!\n", True),
-                            ("end 1\nopen 2!\nopen", False)):
+                            ("end 1\nundone 1\n", False), ("open 1\nend 1", True), ("open 1\nend 1!\n", True), ("end 1\nopen 2!\nopen", False)):
             with self.subTest(text=text):
                 self.store("held", text.encode())
                 self.assertEqual(journals.is_stopped(self.path("held")), is_so)
@@ -278,14 +273,13 @@ class Ports(Unnamed):
                              * (ports != ONE))
 
     def test_of_several_none_is(self):
-        said = self.short(ports=[*ONE, ("ttyACM0", "STLink")])
-        self.assertLineFault(said, "which port? ttyACM0 (STLink), ttyUSB0 (USB UART)")
+        self.assertLineFault(self.short(ports=[*ONE, ("ttyACM0", "STLink")]), "which port? ttyACM0 (STLink), ttyUSB0 (USB UART)")
 
     def test_where_there_is_none(self):
         self.assertLineFault(self.short("undo", ports=[]), "no port: this machine has none: is the adapter plugged in?")
 
     def test_a_value_of_an_option_is_no_word(self):
-        self.telling()
+        self.plain()
         started = self.start("ttyUSB0", "--socket", "info", **self.settings())
         self.until(lambda: started.poll() is not None or self.is_there("info"), "the companion doesn't listen")
         self.assertIsNone(started.poll())
@@ -295,7 +289,7 @@ class Keystrokes(Unnamed):
     """The shortest calls of the page: each has as many keystrokes as it says, no more than the others', and does it."""
 
     def rows(self):
-        table = text_in("docs", "SWITCH.md").split(SECTION)[1].split("|---|---|---|---|---|\n")[1].split("\n\n")[0]
+        table = text_in("docs", "SWITCH.md").split("### The shortest calls\n")[1].split("|---|---|---|---|---|\n")[1].split("\n\n")[0]
         return [[re.findall("`([^`]*)` ([0-9]+)", cell) for cell in row.strip("|").split("|")[1:]] for row in table.splitlines()]
 
     def test_they_are_counted(self):

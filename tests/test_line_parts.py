@@ -11,7 +11,6 @@ import itertools
 import os
 import signal
 import socket
-import tempfile
 import termios
 import time
 import types
@@ -19,7 +18,7 @@ import unittest
 from unittest import mock
 
 from boards import LATENCY, WiredPlace
-from place import PATIENCE, first_of
+from place import PATIENCE, Place, first_of
 from stmflash_line import command, far, faults, opening, patience, session
 from stmflash_line.join import Join
 from stmflash_line.port import Port
@@ -35,18 +34,11 @@ class FarBytes(unittest.TestCase):
             self.addCleanup(os.close, descriptor)
         with socket.socket() as end:
             port = far.Rfc2217Port(types.SimpleNamespace(_socket=end), inbox, "a far port", 115200)
-            for byte in (b"a", b"b"):
-                inbox.put(byte)
-            self.assertEqual(port.read(), (b"ab", 0))
-            inbox.put(b"c")
-            inbox.put_error()
-            inbox.put(b"d")
-            self.assertEqual(port.read(), (b"", 1))
-            inbox.put(b"e")
-            self.assertEqual(port.read(), (b"e", 0))
-            inbox.put_error()
-            self.assertEqual(port.read(), (b"", 1))
-
+            # None is an error
+            for events, read in (((b"a", b"b"), (b"ab", 0)), ((b"c", None, b"d"), (b"", 1)), ((b"e",), (b"e", 0)), ((None,), (b"", 1))):
+                for byte in events:
+                    inbox.put(byte) if byte else inbox.put_error()
+                self.assertEqual(port.read(), read)
 
     def test_a_signal_ends_the_wait_for_what_goes_out_there(self):
         port, wake = far.FarPort("a far port", 1), mock.Mock(number=None)
@@ -78,12 +70,8 @@ class Sequences(unittest.TestCase):
     def test_notation(self):
         wait = ("wait", 0.1)
         for text, steps in (
-                ("", []),
-                ("rts", [("rts", True)]),
-                ("rts,-dtr,,", [("rts", True), wait, ("dtr", False), wait, wait]),
-                ("rts&-dtr", [("rts", True), ("dtr", False)]),
-                ("-rts,,,,dtr", [("rts", False), wait, wait, wait, wait, ("dtr", True)]),
-                (",,", [wait, wait]),
+                ("", []), ("rts", [("rts", True)]), ("rts,-dtr,,", [("rts", True), wait, ("dtr", False), wait, wait]), (",,", [wait, wait]),
+                ("rts&-dtr", [("rts", True), ("dtr", False)]), ("-rts,,,,dtr", [("rts", False), wait, wait, wait, wait, ("dtr", True)]),
                 ("brk,-brk&rts", [("brk", True), wait, ("rts", True)]),
                 ("18&-23,rts,0", [(18, True), (23, False), wait, ("rts", True), wait, (0, True)])):
             with self.subTest(text=text):
@@ -137,8 +125,7 @@ class Played(WiredPlace):
             self.assertEqual(mode[5], termios.B9600 if "--baud" in words else termios.B115200)
 
     def mode_during(self, *words):
-        started = self.begin_on(words[0], *words[1:], "--", "sh", "-c", "echo; exec sleep 1000")
-        self.assertEqual(started.stdout.readline(), b"\n")
+        started, _ = self.start_known("sleep", "1000", words=words, start=self.begin_on)
         mode = termios.tcgetattr(self.master)
         started.terminate()
         self.ended(started)
@@ -148,38 +135,34 @@ class Played(WiredPlace):
         """After a command that failed, and after a signal, also in the midst of --boot."""
         self.assertEqual(self.play("--after", "-rts", "--", "false").status, 1)
         self.assertEqual(self.calls()[0], ["RTS inactive"])
-        for boot, calls in (("dtr", ["DTR active", "RTS inactive"]), ("dtr" + 5000 * ",", ["DTR active", "RTS inactive"])):
+        for boot in ("dtr", "dtr" + 5000 * ","):
             self.remove("calls")
             started = self.begin("--boot", boot, "--after", "-rts", "--", "sleep", "1000")
             self.until(lambda: self.held("calls"), "nothing is played")
             started.send_signal(signal.SIGTERM)
             said = self.ended(started)
             self.assertEqual((said.status, said.err), (128 + signal.SIGTERM, b""))
-            self.assertEqual(self.calls()[0], calls)
+            self.assertEqual(self.calls()[0], ["DTR active", "RTS inactive"])
 
 
-class Waits(unittest.TestCase):
+class Waits(Place):
     """How long a reply may take at a port, which COMMAND is told."""
 
     def setUp(self):
-        made = tempfile.TemporaryDirectory()
-        self.addCleanup(made.cleanup)
-        self.folder = made.name
+        super().setUp()
         held = mock.patch.object(patience, "TTY", self.folder)
         held.start()
         self.addCleanup(held.stop)
 
     def adapter(self, name, timer=None):
-        os.makedirs(os.path.join(self.folder, name, "device"))
+        os.makedirs(self.path(f"{name}/device"))
         if timer is not None:
-            with open(os.path.join(self.folder, name, "device", "latency_timer"), "w", encoding="ascii") as file:
-                file.write(timer)
+            self.store(f"{name}/device/latency_timer", timer)
 
     def test_is_what_is_known_of_the_port(self):
-        self.adapter("ttyUSB0", "1\n")
+        self.adapter("ttyUSB0", b"1\n")
         self.adapter("ttyACM0")
-        self.assertEqual([patience.wait("/dev/ttyUSB0", baud, 0) for baud in (4000000, 115200, 57600, 9600, 1)],
-                         [250, 250, 250, 641, 60000])
+        self.assertEqual([patience.wait("/dev/ttyUSB0", baud, 0) for baud in (4000000, 115200, 57600, 9600, 1)], [250, 250, 250, 641, 60000])
         self.assertEqual(patience.wait("/dev/ttyACM0", 9600, 0), 701)
         self.assertIsNone(patience.wait("/dev/ttyUSB1", 115200, 0))
 
@@ -189,13 +172,13 @@ class Waits(unittest.TestCase):
 
     def test_a_port_that_usb_ip_brings(self):
         """It stands here, and what it hangs on is another machine."""
-        os.makedirs(os.path.join(self.folder, "vhci_hcd.0", "adapter"))
-        os.mkdir(os.path.join(self.folder, "ttyUSB0"))
-        os.symlink(os.path.join(self.folder, "vhci_hcd.0", "adapter"), os.path.join(self.folder, "ttyUSB0", "device"))
+        os.makedirs(self.path("vhci_hcd.0/adapter"))
+        os.mkdir(self.path("ttyUSB0"))
+        os.symlink(self.path("vhci_hcd.0/adapter"), self.path("ttyUSB0/device"))
         self.assertIsNone(patience.wait("/dev/ttyUSB0", 115200, 0))
 
     def test_a_client_whose_byte_waits_for_a_reset_waits_longer(self):
-        self.adapter("ttyUSB0", "1\n")
+        self.adapter("ttyUSB0", b"1\n")
         port = types.SimpleNamespace(name="/dev/ttyUSB0", baud=115200)
         boot = read_sequence("-rts&dtr,-dtr,,")
         for resets, wait in ((False, 250), (True, 550)):
@@ -207,43 +190,37 @@ class Waits(unittest.TestCase):
                 self.assertIsNone(session.wait_of(port, given, words))
 
     def told(self, names, wait, baud, **variables):
-        """What a command finds in these variables, where its user's are these."""
-        said = os.path.join(self.folder, "said")
+        """What a command finds in these variables, where its user's are these; None: there is none."""
         with mock.patch.dict(os.environ):
             for name in names.replace("$", "").split():
                 os.environ.pop(name, None)
-            os.environ.update(variables)
-            started = command.start(["sh", "-c", f'printf %s "{names}" > {said}'], "socket", False, wait, baud)
+            os.environ.update({name: value for name, value in variables.items() if value is not None})
+            started = command.start(["sh", "-c", f'printf %s "{names}" > {self.path("said")}'], "socket", wait, baud)
             self.assertEqual(started.wait(PATIENCE), 0)
-        with open(said, encoding="ascii") as file:
-            return file.read()
+        return self.held("said").decode()
 
     def test_what_another_line_has_said_is_not_handed_on(self):
         """It is of another board."""
-        for device, told in (("/tmp/stmflash-line-0123/socket", "  "), ("board.sock", "1 77 9600"),
-                             ("/tmp/stmflash-line-0123", "1 77 9600")):
+        for device, told in (("/tmp/stmflash-line-0123/socket", " "), ("board.sock", "77 9600"), ("/tmp/stmflash-line-0123", "77 9600")):
             with self.subTest(device=device):
-                self.assertEqual(self.told("$STMFLASH_FRESH $STMFLASH_WAIT $STMFLASH_BAUD", None, None, STMFLASH_DEVICE=device,
-                                           STMFLASH_FRESH="1", STMFLASH_WAIT="77", STMFLASH_BAUD="9600"), told)
+                given = {"STMFLASH_DEVICE": device, "STMFLASH_WAIT": "77", "STMFLASH_BAUD": "9600"}
+                self.assertEqual(self.told("$STMFLASH_WAIT $STMFLASH_BAUD", None, None, **given), told)
 
     def test_is_told_where_its_user_says_nothing(self):
         for given, wait, told in ((None, 103, "103"), (None, None, ""), ("", 103, "103"), ("77", 103, "77"), ("77", None, "77")):
             with self.subTest(given=given, wait=wait):
-                held = {} if given is None else {"STMFLASH_WAIT": given}
-                self.assertEqual(self.told("$STMFLASH_WAIT", wait, None, **held), told)
+                self.assertEqual(self.told("$STMFLASH_WAIT", wait, None, STMFLASH_WAIT=given), told)
 
     def test_the_speed_is_that_of_a_port_that_is_the_line(self):
         """A pseudo-terminal has none, and a far port's is the far end's."""
-        self.adapter("ttyUSB0", "1\n")
+        self.adapter("ttyUSB0", b"1\n")
         for name, baud in (("/dev/ttyUSB0", 57600), ("/dev/ttyUSB1", None), ("socket://bench:4000", None)):
             self.assertEqual(session.baud_of(types.SimpleNamespace(name=name, baud=57600)), baud)
 
     def test_the_speed_is_told_where_its_user_says_nothing(self):
-        for given, baud, told in ((None, 57600, "57600"), (None, None, ""), ("", 57600, "57600"), ("9600", 57600, "9600"),
-                                  ("9600", None, "9600")):
+        for given, baud, told in ((None, 57600, "57600"), (None, None, ""), ("", 57600, "57600"), ("9600", 57600, "9600"), ("9600", None, "9600")):
             with self.subTest(given=given, baud=baud):
-                held = {} if given is None else {"STMFLASH_BAUD": given}
-                self.assertEqual(self.told("$STMFLASH_BAUD", None, baud, **held), told)
+                self.assertEqual(self.told("$STMFLASH_BAUD", None, baud, STMFLASH_BAUD=given), told)
 
 
 class Ending(unittest.TestCase):
@@ -261,7 +238,7 @@ class Ending(unittest.TestCase):
         turn(None)
         join.turn, join.heard = turn, 0.0
         with mock.patch.object(command.time, "monotonic", lambda: self.now):
-            self.assertEqual(command.run(lambda _: child, "", False, None, None, join), 128 + signal.SIGTERM)
+            self.assertEqual(command.run(lambda _: child, "", None, None, join), 128 + signal.SIGTERM)
         child.send_signal.assert_called_once_with(signal.SIGTERM)
         child.kill.assert_called_once_with()
         return self.now - 1000
@@ -278,8 +255,7 @@ class Modes(unittest.TestCase):
         master, slave = os.openpty()
         self.addCleanup(os.close, master)
         self.addCleanup(os.close, slave)
-        with self.assertRaises(ValueError):
-            opening.set_mode(slave, is_pty=False)
+        self.assertRaises(ValueError, opening.set_mode, slave, is_pty=False)
         opening.set_mode(slave, is_pty=True)
 
 
@@ -296,15 +272,12 @@ class Closed(unittest.TestCase):
                 for error in (OSError(number, ""), nested):
                     self.assertTrue(opening.why_closed("PORT", place, 9600, error).startswith(text), (number, error))
 
-
     def test_who_undoes_is_told_to_a_command(self):
         """A program that uses these modules says it itself."""
-        port = mock.Mock(gone=Port.gone)
-        port.name = "ttyUSB0"
+        port = types.SimpleNamespace(gone=Port.gone, name="ttyUSB0", close=lambda: None)
         for given_command, text in ((["stmflash"], f"ttyUSB0: {Port.gone}"), (lambda _: None, "ttyUSB0: unplugged")):
             given = mock.Mock(command=given_command, watch=False, gpio_chip=None)
-            with mock.patch.object(session, "open_port", lambda *_: port), \
-                    mock.patch.object(session, "use_board", mock.Mock(side_effect=session.Gone)):
+            with mock.patch.object(session, "open_port", lambda *_: port), mock.patch.object(session, "use_board", side_effect=session.Gone):
                 self.assertRaisesRegex(session.Fault, f"^{text}$", session.use_port, given, None)
 
 
@@ -335,16 +308,6 @@ def partings(data):
             yield [data[a:b] for a, b in zip((0, *cuts), (*cuts, len(data)))]
 
 
-class Stub:
-    """What the companion needs of pyserial's port once it is open."""
-
-    def __init__(self, end):
-        self.end = end
-
-    def fileno(self):
-        return self.end.fileno()
-
-
 class BadBytes(unittest.TestCase):
     """A pair of sockets in place of a port, and one in place of that which a client has."""
 
@@ -356,7 +319,8 @@ class BadBytes(unittest.TestCase):
         (self.device, port), (self.client, ours) = pairs
         port.setblocking(False)
         ours.setblocking(False)
-        self.port = Port(Stub(port), "PORT", 9600)
+        # of pyserial's port it needs no more
+        self.port = Port(types.SimpleNamespace(fileno=port.fileno), "PORT", 9600)
         reader, writer = os.pipe()
         self.addCleanup(os.close, reader)
         self.addCleanup(os.close, writer)
@@ -373,8 +337,7 @@ class BadBytes(unittest.TestCase):
     def assertLeft(self, said, clean, bad):
         """The client has these bytes and then the end of the line, and one line tells how many were bad and at which speed."""
         told = f"stmflash-line: PORT: {bad} bytes came with an error at 9600 baud: look at speed, wiring and ground\n"
-        self.assertEqual(said, told)
-        self.assertEqual(first_of(self.client, 100), clean)
+        self.assertEqual((said, first_of(self.client, 100)), (told, clean))
         self.assertIsNone(self.join.client)
 
     def test_good_bytes(self):
@@ -463,8 +426,7 @@ class BadBytes(unittest.TestCase):
         self.assertEqual(self.client.recv(100), b"\xffc")
 
     def test_a_client_that_takes_nothing(self):
-        said = ""
-        end = time.monotonic() + PATIENCE
+        said, end = "", time.monotonic() + PATIENCE
         while not said and time.monotonic() < end:
             said = self.take(60000 * b"a")
         self.assertRegex(said, r"\Astmflash-line: PORT: [0-9]+ bytes came that nobody took\n\Z")

@@ -7,7 +7,6 @@ import io
 import os
 import signal
 import termios
-import threading
 import unittest
 from unittest import mock
 
@@ -18,8 +17,7 @@ from stmflash_line.faults import Fault, Gone
 from stmflash_line.moves import Moves
 
 GOOD, PARITY, FRAMING, BREAK, OVERRUN, FULL, UNPLUGGED, HUNG_UP = range(8)
-PULLED = "ttyUSB0: unplugged; plug it in; " \
-         "where stmflash log says unfinished, stmflash undo 1 undoes what was begun"
+PULLED = "unplugged; plug it in; where stmflash log says unfinished, stmflash undo 1 undoes what was begun"
 
 
 def came(data):
@@ -34,20 +32,15 @@ class RealPlace(WiredPlace):
 
     def noted(self, *kinds):
         """What the driver noted, of these kinds."""
-        lines = (self.held("calls") or b"").decode().splitlines()
-        return [line for line in lines if line.split(" ")[0] in kinds]
+        return [line for line in (self.held("calls") or b"").decode().splitlines() if line.split(" ")[0] in kinds]
 
     def serve_real(self, *words):
         return self.until_served(self.begin("--socket", "board", *words))
-
-    def named(self, text):
-        return text.replace("ttyUSB0", self.path("ttyUSB0"))
 
 
 class Ports(RealPlace):
     def test_parity_is_even_and_latency_low(self):
         self.assertSilent(self.play("--", "true"))
-        self.assertEqual(self.noted("parity")[-1], "parity even")
         self.assertEqual(set(self.noted("parity")), {"parity even"})
         self.assertEqual(self.noted("low", "as"), ["low latency"])
         self.assertEqual(self.noted("rts", "-rts", "dtr", "-dtr"), [])
@@ -87,21 +80,14 @@ class Ports(RealPlace):
                 client = self.taken(self.master)
                 os.write(self.master, came(b"ab") + bytes([how, 0]))
                 self.assertEqual(first_of(client, 1 << 20), b"ab")
-                self.assertLineFault(self.ended(started), self.named(PULLED))
+                self.assertLineFault(self.ended(started), f"{self.path('ttyUSB0')}: {PULLED}")
                 self.assertFalse(self.is_there("board"))
                 os.close(self.master)
                 self.remove("ttyUSB0")
-                self.master = self.renewed()
-
-    def renewed(self):
-        """A port of the same name, whose end the test closes by itself."""
-        master, slave = os.openpty()
-        os.symlink(os.ttyname(slave), self.path("ttyUSB0"))
-        os.close(slave)
-        return master
+                self.master = self.port()
 
     def port(self):
-        return self.renewed()
+        return self.plain(closes=False)
 
     def tearDown(self):
         with contextlib.suppress(OSError):
@@ -112,29 +98,25 @@ class Ports(RealPlace):
         """RTS and DTR are moved on the port, each reset behind all that went out before it."""
         started = self.serve_real("--wiring", "dtr-reset,rts-boot0", "--after", "rts")
         # the client that found out whether it listens has sent nothing
-        entry = ["-rts", "-dtr"]
-        self.assertEqual(self.noted("rts", "-rts", "dtr", "-dtr", "drain"), entry)
-        again = ["drain", "dtr", "-dtr"]
+        entry, again, kinds = ["-rts", "-dtr"], ["drain", "dtr", "-dtr"], ("rts", "-rts", "dtr", "-dtr", "drain")
+        self.assertEqual(self.noted(*kinds), entry)
         for count in (1, 2):
             with contextlib.closing(self.taken(self.master)):
-                self.assertEqual(self.noted("rts", "-rts", "dtr", "-dtr", "drain"), entry + count * again)
+                self.assertEqual(self.noted(*kinds), entry + count * again)
         self.stop(started)
-        self.assertEqual(self.noted("rts", "-rts", "dtr", "-dtr", "drain"), entry + 2 * again + ["rts"])
+        self.assertEqual(self.noted(*kinds), entry + 2 * again + ["rts"])
 
 
 class Calls(unittest.TestCase):
     """Each call of a port that is gone, was cut short, or can't be done."""
 
     def setUp(self):
-        self.serial = mock.Mock()
-        self.serial.fileno.return_value = 99
+        self.serial = mock.Mock(**{"fileno.return_value": 99})
         with mock.patch("fcntl.ioctl", side_effect=OSError(errno.ENOTTY, "")):
             self.port = port.Port(self.serial, "PORT", 9600)
 
-    GONE = (errno.EIO, errno.ENXIO, errno.ENODEV, errno.EBADF)
-
     def test_a_port_that_is_gone(self):
-        for number in self.GONE:
+        for number in (errno.EIO, errno.ENXIO, errno.ENODEV, errno.EBADF):
             plain, of_termios = OSError(number, ""), termios.error(number, "")
             for patched, fault, call in (("os.read", plain, self.port.read), ("os.write", plain, lambda: self.port.write(b"a")),
                                          ("termios.tcflush", of_termios, self.port.forget),
@@ -148,7 +130,7 @@ class Calls(unittest.TestCase):
             self.port.read()
 
     def play(self, name, fault):
-        """Plays a move that fails, and one that doesn't behind it."""
+        """Plays a move that fails, and a wait behind it; which waits there were."""
         class Failing:
             def __setattr__(self, moved, _):
                 if moved == name:
@@ -157,10 +139,9 @@ class Calls(unittest.TestCase):
             def send_break(self):
                 raise fault
 
-        self.port.serial = Failing()
-        Moves(self.port, None).play([(name, True), ("wait", 0.5)], self.waited.append)
-
-    waited = []
+        self.port.serial, waited = Failing(), []
+        Moves(self.port, None).play([(name, True), ("wait", 0.5)], waited.append)
+        return waited
 
     def test_a_signal_that_is_not_there(self):
         for number in (errno.ENOTTY, errno.EINVAL):
@@ -180,9 +161,7 @@ class Calls(unittest.TestCase):
             self.assertEqual(self.port.read(), (b"\x00b", 0))
 
     def test_what_a_signal_cuts_short_goes_on(self):
-        self.waited.clear()
-        self.play("brk", termios.error(errno.EINTR, ""))
-        self.assertEqual(self.waited, [0.5])
+        self.assertEqual(self.play("brk", termios.error(errno.EINTR, "")), [0.5])
         with mock.patch("termios.tcdrain", side_effect=[termios.error(errno.EINTR, ""), None]) as drain:
             self.port.drain(mock.Mock(number=None))
         self.assertEqual(drain.call_count, 2)
@@ -199,10 +178,8 @@ class Calls(unittest.TestCase):
             self.port.drain(wake)
 
     def test_a_port_that_is_full(self):
-        with mock.patch("os.write", side_effect=BlockingIOError):
-            self.assertEqual(self.port.write(b"a"), 0)
-        with mock.patch("os.read", side_effect=BlockingIOError):
-            self.assertEqual(self.port.read(), (b"", 0))
+        with mock.patch("os.write", side_effect=BlockingIOError), mock.patch("os.read", side_effect=BlockingIOError):
+            self.assertEqual((self.port.write(b"a"), self.port.read()), (0, (b"", 0)))
 
     def test_bytes_that_were_lost_before(self):
         """Before the port was opened they were another program's."""
@@ -227,9 +204,7 @@ class Latency(LinePlace):
     def hasten(self, *numbers):
         """What is said, and the timer behind it; `numbers` are what it tells, where it keeps what it will."""
         self.store("timer", b"16\n")
-        asked = mock.Mock()
-        real = opening.read_number
-        told = mock.Mock(side_effect=numbers or None, wraps=real)
+        asked, told = mock.Mock(), mock.Mock(side_effect=numbers or None, wraps=opening.read_number)
         with contextlib.redirect_stderr(io.StringIO()) as said, mock.patch.object(opening, "TIMER", self.path("timer")), \
                 mock.patch.object(opening, "read_number", told):
             opening.hasten(asked, "PORT")
@@ -248,8 +223,7 @@ class Latency(LinePlace):
 
     def test_a_port_without_one(self):
         for fault in (OSError(errno.ENOTTY, ""), ValueError(), NotImplementedError(), termios.error(errno.EINVAL, "")):
-            asked = mock.Mock()
-            asked.set_low_latency_mode.side_effect = fault
+            asked = mock.Mock(**{"set_low_latency_mode.side_effect": fault})
             with contextlib.redirect_stderr(io.StringIO()) as said, mock.patch.object(opening, "TIMER", self.path("none")):
                 opening.hasten(asked, "PORT")
             self.assertEqual(said.getvalue(), "")
@@ -258,26 +232,22 @@ class Latency(LinePlace):
 class Clients(LinePlace):
     """What becomes of the bytes to and from clients that are slow, or gone."""
 
-    def feed(self, master, data):
-        """Sends bytes as a board does that waits for nobody, and waits until the companion has taken them."""
-
-        def send():
-            at = 0
-            while at < len(data):
-                at += os.write(master, data[at:at + 4096])
-
-        feeding = threading.Thread(target=send, daemon=True)
-        feeding.start()
-        feeding.join(PATIENCE)
-        self.assertFalse(feeding.is_alive(), "the companion takes no bytes")
-
     def test_a_slow_client_gets_every_byte(self):
-        """More than its socket holds, before it takes any."""
+        """More than its socket holds, before it takes any, of a board that waits for nobody."""
         master = self.plain()
         self.serve()
         client = self.taken(master)
         data = bytes(i % 251 for i in range(700_000))
-        self.feed(master, data)
+        rest = bytearray(data)
+        os.set_blocking(master, False)
+
+        def send():
+            with contextlib.suppress(BlockingIOError):
+                while rest:
+                    del rest[:os.write(master, rest[:4096])]
+            return not rest
+
+        self.until(send, "the companion takes no bytes")
         self.assertTrue(first_of(client, len(data), most=9000) == data)
         os.write(master, b"on")
         self.assertEqual(client.recv(2), b"on")
@@ -286,8 +256,7 @@ class Clients(LinePlace):
         master = self.plain()
         script = "import os, socket, sys; s = socket.socket(socket.AF_UNIX); s.connect(sys.argv[1]); " \
                  "s.sendall(bytes(range(251)) * 400); print(flush=True); os.kill(os.getpid(), 9)"
-        words = ["python3", "-c", script, "{}"]
-        started = self.start("ttyUSB0", "--", "sh", "-c", '"$@"; echo; read word', "sh", *words, reads=True)
+        started = self.start("ttyUSB0", "--", "sh", "-c", '"$@"; echo; read word', "sh", "python3", "-c", script, "{}", reads=True)
         for _ in range(2):
             self.assertEqual(started.stdout.readline(), b"\n")
         os.write(master, b"nobody takes this")

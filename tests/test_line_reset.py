@@ -1,38 +1,31 @@
-"""Whether a board is fresh from reset, which stmflash-line says by an explicit word alone: wirings, --resets, and what both bring
-to clients; each wiring's moves beside those of stm32flash."""
+"""Wirings, --resets, and what both bring to clients; each wiring's moves beside those of stm32flash."""
 
 import concurrent.futures
+import itertools
 import os
 import random
 import re
 import shutil
 import signal
 import subprocess
-import tempfile
 import time
-import tty
 import unittest
 
 from boards import LINE, PYTHON, LinePlace, WiredPlace
-from place import COUNTING, ERASED, PATIENCE, TOP
+from place import COUNTING, ERASED, PATIENCE, TABLE, TOP
 from stmflash_line.sequences import DELAY, read_sequence, read_wiring
 
 STOPS = int(os.environ.get("STMFLASH_LINE_STOPS", "12"))
 # the sequences into the bootloader, and out of it
 WIRINGS = {
-    "dtr-reset,rts-boot0": ("-rts&dtr,-dtr,,", "rts&dtr,-dtr"),
-    "dtr-reset,inverted-rts-boot0": ("rts&dtr,-dtr,,", "-rts&dtr,-dtr"),
+    "dtr-reset,rts-boot0": ("-rts&dtr,-dtr,,", "rts&dtr,-dtr"), "dtr-reset,inverted-rts-boot0": ("rts&dtr,-dtr,,", "-rts&dtr,-dtr"),
     "inverted-dtr-reset,rts-boot0": ("-rts&-dtr,dtr,,", "rts&-dtr,dtr"),
     "inverted-dtr-reset,inverted-rts-boot0": ("rts&-dtr,dtr,,", "-rts&-dtr,dtr"),
-    "rts-reset,dtr-boot0": ("-dtr&rts,-rts,,", "dtr&rts,-rts"),
-    "rts-reset,inverted-dtr-boot0": ("dtr&rts,-rts,,", "-dtr&rts,-rts"),
+    "rts-reset,dtr-boot0": ("-dtr&rts,-rts,,", "dtr&rts,-rts"), "rts-reset,inverted-dtr-boot0": ("dtr&rts,-rts,,", "-dtr&rts,-rts"),
     "inverted-rts-reset,dtr-boot0": ("-dtr&-rts,rts,,", "dtr&-rts,rts"),
     "inverted-rts-reset,inverted-dtr-boot0": ("dtr&-rts,rts,,", "-dtr&-rts,rts"),
-    "dtr-reset": ("dtr,-dtr,,", ""),
-    "rts-reset": ("rts,-rts,,", ""),
-    "inverted-dtr-reset": ("-dtr,dtr,,", ""),
-    "inverted-rts-reset": ("-rts,rts,,", ""),
-}
+    "dtr-reset": ("dtr,-dtr,,", ""), "rts-reset": ("rts,-rts,,", ""),
+    "inverted-dtr-reset": ("-dtr,dtr,,", ""), "inverted-rts-reset": ("-rts,rts,,", "")}
 EXAMPLE = "dtr-reset,rts-boot0"
 # the calls of the stand-in port at the example's entry
 ENTRY = ["RTS inactive", "DTR active", "DTR inactive"]
@@ -64,8 +57,7 @@ class Pins:
             was_high = self.is_high("reset")
             self.raised[name] = value
             if self.is_high("reset") and not was_high:
-                is_boot = "boot0" in self.hangs and self.is_high("boot0")
-                self.began = ("bootloader" if is_boot else "program", held >= DELAY)
+                self.began = ("bootloader" if "boot0" in self.hangs and self.is_high("boot0") else "program", held >= DELAY)
             if self.is_high("reset") != was_high:
                 held = 0.0
 
@@ -96,8 +88,8 @@ class Wirings(unittest.TestCase):
                         self.assertTrue(pins.is_high("reset"))
 
     def test_no_wirings(self):
-        for text in ("", "dtr", "reset", "rts-boot0", "inverted-dtr-boot0", "dtr-reset,dtr-boot0", "dtr-reset,rts-reset",
-                     "brk-reset", "dtr-reset,rts-boot1", "dtr-reset,", ",dtr-reset", "dtr-reset rts-boot0", "-dtr-reset", "DTR-reset",
+        for text in ("", "dtr", "reset", "rts-boot0", "inverted-dtr-boot0", "dtr-reset,dtr-boot0", "dtr-reset,rts-reset", "brk-reset",
+                     "dtr-reset,rts-boot1", "dtr-reset,", ",dtr-reset", "dtr-reset rts-boot0", "-dtr-reset", "DTR-reset",
                      "dtr-reset,rts-boot0,rts-boot0", "inverted-inverted-dtr-reset"):
             with self.subTest(text=text), self.assertRaises(ValueError):
                 read_wiring(text)
@@ -115,15 +107,11 @@ class Words(WiredPlace):
                 for sequence in re.findall(r"--boot[ =]'?([-a-z&]+,[-a-z&,:]+)", text):
                     self.assertEqual(sequence, ":".join(WIRINGS[EXAMPLE]))
 
-    def test_who_says_that_the_board_is_fresh(self):
-        """--resets and --wiring alone: no move does. The caller's own word is handed on."""
-        for boot in ("rts,-dtr", "-rts&rts", "-rts&dtr,-dtr", "rts,dtr", ",", "brk"):
-            with self.subTest(boot=boot):
-                self.assertTold(self.play("--boot", boot, "--", *TELL), "no\n")
-        self.assertTold(self.play("--after", "-rts", "--", *TELL), "no\n")
-        for words in (("--boot", "-rts&dtr,-dtr", "--resets"), ("--boot", "dtr", "--resets"), ("--wiring", EXAMPLE)):
+    def test_nobody_says_that_the_board_is_fresh(self):
+        """No move does, and no wiring. The caller's own word is handed on."""
+        for words in (("--boot", "-rts&dtr,-dtr"), ("--after", "-rts"), ("--boot", "-rts&dtr,-dtr", "--resets"), ("--wiring", EXAMPLE)):
             with self.subTest(words=words):
-                self.assertTold(self.play(*words, "--", *TELL), "1\n")
+                self.assertTold(self.play(*words, "--", *TELL), "no\n")
         self.assertTold(self.play("--", *TELL, STMFLASH_FRESH="1"), "1\n")
 
     def test_what_a_wiring_plays(self):
@@ -142,9 +130,7 @@ class Words(WiredPlace):
         for words in (("--resets",), ("--wiring", EXAMPLE, "--resets"), ("--wiring", EXAMPLE, "--boot", "dtr"),
                       ("--wiring", "rts-boot0"), ("--wiring", ""), ("--wiring",)):
             with self.subTest(words=words):
-                said = self.play(*words, "--", "true")
-                self.assertEqual((said.status, said.out), (2, b""))
-                self.assertIn(b"stmflash-line: error: ", said.err)
+                self.assertBadWords(self.play(*words, "--", "true"))
                 self.assertEqual(self.calls()[0], [])
 
 
@@ -168,11 +154,14 @@ class Clients(WiredPlace):
         self.assertEqual(calls, ENTRY * (len(calls) // 3) + ENTRY[:len(calls) % 3])
         return -(-len(calls) // 3)
 
+    def with_clients(self, script, **more):
+        """COMMAND is this script, behind a wiring that resets."""
+        return self.begin("--wiring", EXAMPLE, "--after", "", "--", "sh", "-c", script, **more)
+
     def test_each_one_of_a_command_finds_the_board_fresh(self):
         """Behind the last byte of the one before it, and before its own first; one that says nothing resets nothing."""
         size = 200_000
-        script = f"{client('a', size)}; {client('-', 0)}; {client('b', 1)}"
-        started = self.begin("--wiring", EXAMPLE, "--after", "", "--", "sh", "-c", script)
+        started = self.with_clients(f"{client('a', size)}; {client('-', 0)}; {client('b', 1)}")
         self.read_from(self.master, size // 2)
         self.assertEqual(self.reset_count(), 1)
         self.assertEqual(set(self.read_from(self.master, size - size // 2)), {ord("a")})
@@ -183,8 +172,7 @@ class Clients(WiredPlace):
     def test_one_that_is_gone_before_its_turn_too(self):
         """Also where COMMAND has ended, and the port has not yet taken what the client before has sent."""
         size = 150_000
-        script = f"{client('a', size)}; {client('b', 1)}; echo"
-        started = self.begin("--wiring", EXAMPLE, "--after", "", "--", "sh", "-c", script)
+        started = self.with_clients(f"{client('a', size)}; {client('b', 1)}; echo")
         self.assertEqual(started.stdout.readline(), b"\n")
         self.read_from(self.master, size // 4)
         self.assertEqual(self.reset_count(), 1)
@@ -194,8 +182,7 @@ class Clients(WiredPlace):
         self.assertEqual(self.reset_count(), 2)
 
     def test_what_the_board_said_before_is_dropped(self):
-        script = f"{client('a', 1)}; echo next; read word; {client('b', 1, 3)}"
-        started = self.begin("--wiring", EXAMPLE, "--after", "", "--", "sh", "-c", script, reads=True)
+        started = self.with_clients(f"{client('a', 1)}; echo next; read word; {client('b', 1, 3)}", reads=True)
         self.assertEqual(self.read_from(self.master, 1), b"a")
         self.assertEqual(started.stdout.readline(), b"next\n")
         os.write(self.master, b"old")
@@ -226,8 +213,7 @@ class Clients(WiredPlace):
         self.stop(started)
         self.assertEqual(self.calls()[0], ["DTR active", "DTR inactive"])
         self.remove("calls")
-        script = f"{client('a', 1)}; {client('b', 1, 1)}"
-        started = self.begin("--boot", "dtr,-dtr" + 50 * ",", "--resets", "--", "sh", "-c", script)
+        started = self.begin("--boot", "dtr,-dtr" + 50 * ",", "--resets", "--", "sh", "-c", f"{client('a', 1)}; {client('b', 1, 1)}")
         self.until(lambda: len(self.calls()[0]) == 4, "the second client brings no reset")
         started.terminate()
         self.assertEqual(self.ended(started).status, 128 + signal.SIGTERM)
@@ -240,10 +226,9 @@ class Fresh(WiredPlace):
         self.made = self.board()
 
     def test_a_board_that_was_reset(self):
-        """The program takes the word that the board is fresh, and the session goes through."""
+        """The session goes through."""
         self.assertEqual(self.made.store(), ERASED)
-        said = self.play("--wiring", EXAMPLE, "--", *self.stmflash("info"))
-        self.assertEqual((said.status, said.out.split(b"\n")[0], said.err), (0, b"id 0412", b""))
+        self.assertInfo(self.play("--wiring", EXAMPLE, "--", *self.stmflash("info")))
 
 
 class Unwired(LinePlace):
@@ -262,30 +247,26 @@ class Unwired(LinePlace):
     def moved(self, name, *words):
         """Runs COMMAND on this port, which has RTS and DTR, behind a sequence that moves them."""
         port = f"wired://{self.path(name)}?file={self.path('calls-' + name)}"
-        return WiredPlace.begin_on(self, port, "--boot", "-rts&dtr,-dtr", "--", *words)
+        return WiredPlace.begin_on(self, port, "--boot", "-rts&dtr,-dtr", *words)
 
     def stop_and_undo(self, seed):
         """A write of which the board got so many bytes: what is wrong behind its undo."""
         chance = random.Random(seed)
         name, place, journal = (f"{kind}-{seed.replace(' ', '-')}" for kind in ("port", "image", "journal"))
-        self.store(name + ".flash", COUNTING)
         self.store(place, chance.randbytes(3000))
-        board = self.board(name)
+        board = self.board(name, flash=COUNTING)
         count = chance.randint(1, 4200)
         board.hear(count)
         write = self.stmflash("write", "-f", "-S", "0x08001000", place, journal=journal, wait="300")
-        started = self.moved(name, "sh", "-c", 'echo $$; exec "$@"', "sh", *write)
-        child = int(started.stdout.readline())
+        started, child = self.start_known(*write, words=(name,), start=self.moved)
         self.until(lambda: board.left == 0 or not os.path.exists(f"/proc/{child}"), "the write neither stops nor ends")
-        started.kill()
-        started.communicate(timeout=PATIENCE)
-        self.until(lambda: not os.path.exists(f"/proc/{child}"), "the program goes on")
+        self.kill_some("line", started, child)
         board.hear(None)
         board.renew()
         if self.is_there(journal):
             # an answer that a busy machine brings too late is a fault of the line
             for _ in range(5):
-                undo = self.ended(self.moved(name, *self.stmflash("undo", journal=journal, wait="300")))
+                undo = self.ended(self.moved(name, "--", *self.stmflash("undo", journal=journal, wait="300")))
                 if undo.status == 0:
                     break
             if undo.status != 0:
@@ -297,52 +278,35 @@ class Unwired(LinePlace):
     def test_page_127_stays(self):
         """A device that waits for the page of an erase would take 7F for it, and the next 7F for the check."""
         flash = bytes(i % 249 for i in range(128 * 1024))
-        self.store_all({"table": b'[[chip]]\nid = 0x410\nbase = 0x08000000\npages = [[128, 1024]]\nerase = "page"\n',
-                        "ttyUSB0.flash": flash, "ttyUSB0.flash.line": b"rest 43BC00\n"})
         kept = flash[5 * 1024:6 * 1024].hex().upper().encode()
-        self.store("journal", b"stmjournal 2 0410\nopen 1\npage 5 " + kept + b"\nerase 5\n")
-        board = self.board(chip="0410")
-        said = self.ended(self.moved("ttyUSB0", *self.stmflash("undo")))
-        self.assertTold(said, "undone 1\n")
+        self.store_all({"table": TABLE.replace(b"412", b"410").replace(b"[32,", b"[128,"), "ttyUSB0.flash.line": b"rest 43BC00\n",
+                        "journal": b"stmjournal 2 0410\nopen 1\npage 5 " + kept + b"\nerase 5\n"})
+        board = self.board(chip="0410", flash=flash)
+        self.assertTold(self.ended(self.moved("ttyUSB0", "--", *self.stmflash("undo"))), "undone 1\n")
         self.assertTrue(board.store() == flash)
-
-
-def find_recorder():
-    """Builds the recorder of signals, and answers its path."""
-    path = os.path.join(tempfile.mkdtemp(prefix="stmflash-signals-"), "signals.so")
-    source = os.path.join(TOP, "tests", "signals.c")
-    words = ["gcc", "-shared", "-fPIC", "-O1", source, "-o", path, "-ldl"]
-    ran = subprocess.run(words, stderr=subprocess.PIPE, timeout=PATIENCE)
-    if ran.returncode:
-        raise AssertionError(ran.stderr.decode())
-    return path
 
 
 @unittest.skipIf(shutil.which("stm32flash") is None, "stm32flash is not installed")
 @unittest.skipIf(shutil.which("gcc") is None or not os.path.exists("/usr/include/stdio.h"), "gcc or libc6-dev is not installed")
 class BesideStm32flash(LinePlace):
-    """The moves of a port, recorded below both programs: the same ones in the same order, each no earlier than the notation has
-    it."""
+    """The moves of a port, recorded below both programs: the same ones in the same order, each no earlier than the notation has it."""
 
     def setUp(self):
         super().setUp()
-        self.recorder = find_recorder()
-        self.addCleanup(shutil.rmtree, os.path.dirname(self.recorder))
+        self.recorder, self.numbers = self.path("signals.so"), itertools.count()
+        words = ["gcc", "-shared", "-fPIC", "-O1", os.path.join(TOP, "tests", "signals.c"), "-o", self.recorder, "-ldl"]
+        ran = subprocess.run(words, stderr=subprocess.PIPE, timeout=PATIENCE, check=False)
+        self.assertEqual(ran.returncode, 0, ran.stderr.decode())
 
     def recorded(self, *words):
         """The moves of a program on a port, with what it said, and when each was made."""
-        master, slave = os.openpty()
-        tty.setraw(slave)
-        port = os.ttyname(slave)
-        log = self.path("moves-" + os.path.basename(port))
-        os.close(slave)
+        name = f"port-{next(self.numbers)}"
+        self.plain(name)
+        log = self.path("moves-" + name)
         variables = {"PATH": os.environ["PATH"], "TMPDIR": self.path("temporary"), "LD_PRELOAD": self.recorder, "SIGNALS": log}
-        ran = subprocess.run([word.replace("PORT", port) for word in words], env=variables, stdin=subprocess.DEVNULL,
-                             capture_output=True, timeout=PATIENCE)
+        ran = subprocess.run([word.replace("PORT", os.path.realpath(self.path(name))) for word in words], env=variables,
+                             stdin=subprocess.DEVNULL, capture_output=True, timeout=PATIENCE)
         moves = [line.split() for line in (self.held(log) or b"").decode().splitlines()]
-        if moves:
-            os.remove(log)
-        os.close(master)
         return ran, [move for _, move in moves], [int(when) for when, _ in moves]
 
     def all_recorded(self, calls):
@@ -352,8 +316,7 @@ class BesideStm32flash(LinePlace):
     def test_moves(self):
         """Each wiring by its name and by its sequence, and others. stm32flash finds no device, and leaves it all the same."""
         named = [(f"{entry}:{leave}", ("--wiring", wiring)) for wiring, (entry, leave) in WIRINGS.items()]
-        others = ("rts,-dtr:-rts,dtr", "-rts,,,,dtr&rts:brk,-dtr", "brk&-brk,rts")
-        named += [(sequence, ("--boot", sequence)) for sequence in others]
+        named += [(sequence, ("--boot", sequence)) for sequence in ("rts,-dtr:-rts,dtr", "-rts,,,,dtr&rts:brk,-dtr", "brk&-brk,rts")]
         theirs = self.all_recorded([("stm32flash", "-m", "8n1", "-i", sequence, "PORT") for sequence, _ in named])
         by_boot = self.all_recorded([(PYTHON, LINE, "PORT", "--boot", sequence, "--", "true") for sequence, _ in named])
         by_name = self.all_recorded([(PYTHON, LINE, "PORT", *words, "--", "true") for _, words in named])

@@ -46,22 +46,19 @@ class Idle(LinePlace):
         for _ in range(6):
             client.sendall(b"?")
             self.assertEqual(self.read_from(master, 1), b"?")
-            with self.assertRaises(TimeoutError):
-                client.settimeout(0.5)
-                client.recv(1)
+            client.settimeout(0.5)
+            self.assertRaises(TimeoutError, client.recv, 1)
         client.settimeout(PATIENCE)
         client.sendall(b"a" * 150_000)
-        with self.assertRaises(TimeoutError):
-            client.settimeout(3)
-            client.recv(1)
+        client.settimeout(3)
+        self.assertRaises(TimeoutError, client.recv, 1)
         self.assertEqual(len(self.read_from(master, 150_000)), 150_000)
 
     def test_how_long(self):
         """A minute where a socket is served, and for ever behind --; 0 is for ever."""
         from stmflash_line.words import read_words
-        for words, idle in ((["P", "--socket", "s"], 60), (["P", "--", "c"], 0), (["P", "--socket", "s", "--idle", "0"], 0),
-                            (["P", "--idle", "7", "--", "c"], 7), (["P", "--socket", "s", "--idle", "9"], 9)):
-            self.assertEqual(read_words(words).idle, idle)
+        for words, idle in (("P --socket s", 60), ("P -- c", 0), ("P --socket s --idle 0", 0), ("P --idle 7 -- c", 7), ("P --socket s --idle 9", 9)):
+            self.assertEqual(read_words(words.split()).idle, idle)
         for idle in ("-1", "1.5", "x", ""):
             self.assertEqual(self.line("ttyUSB0", "--socket", "board", "--idle", idle).status, 2)
 
@@ -81,12 +78,10 @@ class Unit(LinePlace):
         for options in ("", "--baud 57600"):
             with self.subTest(options=options):
                 started = self.until_served(self.start(*self.words_of_call(options)))
-                said = self.use("info", "--wait", WAIT, device="board")
-                self.assertEqual((said.status, said.out[:8], said.err), (0, b"id 0412\n", b""))
+                self.assertInfo(self.use("info", "--wait", WAIT, device="board"))
                 self.stop(started)
         shown = re.search('LINE_OPTIONS=(--.*)"$', text_in(UNIT), re.M)[1]
-        said = self.line(*self.words_of_call(shown))
-        self.assertLineFault(said, f"{self.path('ttyUSB0')}: has no RTS; leave --wiring, --boot and --after out")
+        self.assertLineFault(self.line(*self.words_of_call(shown)), f"{self.path('ttyUSB0')}: has no RTS; leave --wiring, --boot and --after out")
 
 
 # what is on in the unit
@@ -111,15 +106,13 @@ class Confinement(Place):
             self.skipTest("systemd-analyze is not installed")
         unit = self.path("stmflash-line@ttyUSB0.service")
         shutil.copy(UNIT, unit)
-        ran = subprocess.run([tool, "security", "--offline=true", "--threshold=20", unit], capture_output=True, text=True,
-                             timeout=PATIENCE)
+        ran = subprocess.run([tool, "security", "--offline=true", "--threshold=20", unit], capture_output=True, text=True, timeout=PATIENCE)
         self.assertEqual(ran.returncode, 0, ran.stdout[-300:] + ran.stderr)
 
     def test_the_rule_is_for_tagged_adapters_alone(self):
         rules = [line for line in text_in(RULES).splitlines() if line and not line.startswith("#")]
         self.assertEqual(len(rules), 2)
         for rule in rules:
-            parts = rule.split(", ")
-            self.assertEqual(parts[:3], ['ACTION!="remove"', 'SUBSYSTEM=="tty"', 'TAG=="stmflash"'])
+            self.assertEqual(rule.split(", ")[:3], ['ACTION!="remove"', 'SUBSYSTEM=="tty"', 'TAG=="stmflash"'])
         # one port is hidden from ModemManager, and no device with all that it has
         self.assertNotIn("ID_MM_DEVICE_IGNORE", "".join(rules))

@@ -11,7 +11,7 @@ import time
 import unittest
 
 from boards import LinePlace
-from place import COUNTING, TOP, Said, program
+from place import COUNTING, TOP, Said
 from stmflash_line.watch import Watch
 
 import pty_boards
@@ -27,12 +27,10 @@ SUMMARY = r"stmflash-line: \S+: watched: [0-9]+ bytes of replies, each as a devi
 STOPS = int(os.environ.get("STMFLASH_LINE_STOPS", "3"))
 # what a write of 13 blocks with -v finds on boards that do otherwise
 FOUND = {
-    "76-before-an-ack": "76 came in Extended Erase, and 79 was due",
-    "read-protected": "1F came in Read Memory, and 79 was due",
+    "76-before-an-ack": "76 came in Extended Erase, and 79 was due", "read-protected": "1F came in Read Memory, and 79 was due",
     "lists-43-and-44": "it lists the codes ",
     "erases-the-page-before": "FF stands at 08001000, and 00 was read or written there before",
-    "writes-a-wrong-last-byte": "FE stands at 080010FF, and FF was read or written there before",
-}
+    "writes-a-wrong-last-byte": "FE stands at 080010FF, and FF was read or written there before"}
 
 
 def told(watch, came):
@@ -60,6 +58,10 @@ class Bytes(unittest.TestCase):
 
     def learn(self, codes=CODES):
         self.talk("00 FF", f"79 {len(codes):02X} 31 {codes.hex()} 79", "02 FD", "79 01 04 40 79")
+
+    def anew(self):
+        self.watch.begin()
+        self.learn()
 
     def assertOtherwise(self, came, clean, text):
         self.assertEqual(told(self.watch, came), (clean, text))
@@ -98,16 +100,14 @@ class Bytes(unittest.TestCase):
             with self.subTest(codes=codes):
                 self.watch.begin()
                 self.host("00 FF")
-                count = len(bytes.fromhex(codes))
-                clean = f"79 {count:02X} 31 {codes}"
+                clean = f"79 {len(bytes.fromhex(codes)):02X} 31 {codes}"
                 self.assertOtherwise(clean + " 79", clean, f"it lists the codes {codes}")
 
     def test_other_answers(self):
         for sent, came, clean, text in (
                 ("00 FF", "79 0B 32", "79 0B", "32 came in Get, and 31 was due"),
                 ("02 FD", "79 01 04 41", "79 01 04", "41 came in Get ID, and 40 was due"),
-                ("7F 7F", "79", "", "79 came in 7F, and 1F was due"),
-                ("7F", "1F", "", "1F came unasked"),
+                ("7F 7F", "79", "", "79 came in 7F, and 1F was due"), ("7F", "1F", "", "1F came unasked"),
                 ("11 EF", "79", "", "79 came in Read Memory, and 1F was due"),
                 ("31 CE 08 00 08 00 00", "79 79", "79", "79 came in Write Memory, and 1F was due"),
                 ("44 BB 00 00 00 02 02", "79 79", "79", "79 came in Extended Erase, and 1F was due"),
@@ -116,8 +116,7 @@ class Bytes(unittest.TestCase):
                 ("44 BB FF FF 01", "79 79", "79", "79 came in Extended Erase, and 1F was due"),
                 ("43 BC", "79", "", "79 came in Erase Memory, and 1F was due")):
             with self.subTest(sent=sent):
-                self.watch.begin()
-                self.learn()
+                self.anew()
                 self.host(sent)
                 self.assertOtherwise(came, clean, text)
 
@@ -127,13 +126,10 @@ class Bytes(unittest.TestCase):
         self.board(self.read("08000000", "11 22"))
         self.board(self.read("08000000", "11 22"))
         self.assertOtherwise(self.read("08000001", "23"), "79", "23 stands at 08000001, and 22 was read or written there before")
-        self.watch.begin()
-        self.learn()
+        self.anew()
         self.talk("44 BB 00 00 00 00 00", "79 79", "31 CE 08 00 00 00 08 03 01 02 03 04 07", "79 79 79")
-        self.assertOtherwise(self.read("08000000", "01 02 03 05"), "79 01 02 03",
-                             "05 stands at 08000003, and 04 was read or written there before")
-        self.watch.begin()
-        self.learn()
+        self.assertOtherwise(self.read("08000000", "01 02 03 05"), "79 01 02 03", "05 stands at 08000003, and 04 was read or written there before")
+        self.anew()
         # over bytes that aren't known: any may come to stand
         self.talk("31 CE 08 00 00 00 08 03 01 02 03 04 07", "79 79 79")
         self.board(self.read("08000000", "00 00 00 00"))
@@ -144,20 +140,17 @@ class Bytes(unittest.TestCase):
         self.watch = Watch([{**CHIP, "unique": [0x1FFFF7AC, 12], "size_at": 0x1FFFF7CC}])
         self.learn()
 
-    def ask(self, place, count):
-        """The question at a place, as far as it has to be acknowledged, and its last step."""
-        self.talk("11 EE", "79", place, "79", f"{count - 1:02X} {256 - count:02X}")
+    def ask(self, place, count, told=None):
+        """The question at a place, as far as it has to be acknowledged, and its last step; and what is told there."""
+        self.talk("11 EE", "79", place, "79", f"{count - 1:02X} {256 - count:02X}", *([f"79 {told}"] if told else []))
 
     def test_where_a_board_tells_which_it_is(self):
         """Outside the flash: what is told first may be anything, and is the same from then on, also behind other questions."""
         self.learn_with_places()
         for place, told in ((UNIQUE, HERE), (SIZE, "40 00")):
-            count = len(bytes.fromhex(told))
-            self.ask(place, count)
-            self.board("79 " + told)
+            self.ask(place, len(bytes.fromhex(told)), told)
             self.learn()
-            self.ask(place, count)
-            self.board("79 " + told)
+            self.ask(place, len(bytes.fromhex(told)), told)
         self.ask(UNIQUE, 12)
         self.assertOtherwise("79 " + THERE, "79 " + THERE[:-3], "3F stands at 1FFFF7B7, and 32 was told there before")
 
@@ -165,12 +158,8 @@ class Bytes(unittest.TestCase):
         for step in range(2):
             with self.subTest(step=step):
                 self.learn_with_places()
-                self.ask(UNIQUE, 12)
-                self.board("79 " + HERE)
-                self.talk("11 EE", "79", UNIQUE)
-                if step:
-                    self.board("79")
-                    self.host("0B F4")
+                self.ask(UNIQUE, 12, HERE)
+                self.talk("11 EE", "79", UNIQUE, *step * ["79", "0B F4"])
                 self.assertOtherwise("1F", "", "1F came in Read Memory, and 79 was due")
 
     def test_a_place_may_be_refused(self):
@@ -178,26 +167,17 @@ class Bytes(unittest.TestCase):
         for step in range(2):
             with self.subTest(step=step):
                 self.learn_with_places()
-                self.talk("11 EE", "79", UNIQUE)
-                if step:
-                    self.board("79")
-                    self.host("0B F4")
-                self.board("1F")
-                self.ask(SIZE, 2)
-                self.board("79 40 00")
+                self.talk("11 EE", "79", UNIQUE, *step * ["79", "0B F4"], "1F")
+                self.ask(SIZE, 2, "40 00")
                 self.talk("11 EE", "79", "1F FF F7 D0 C7")
                 self.assertOtherwise("79", "", "79 came in Read Memory, and 1F was due")
 
     def test_other_questions_which_board_it_is(self):
-        self.learn_with_places()
-        self.talk("11 EE", "79", UNIQUE)
-        self.assertOtherwise("76", "", "76 came in Read Memory, and 79 or 1F was due")
-        self.learn_with_places()
-        self.ask(UNIQUE, 12)
-        self.assertOtherwise("00", "", "00 came in Read Memory, and 79 or 1F was due")
-        self.learn_with_places()
-        self.talk("11 EE", "79", UNIQUE, "79", "0B F5")
-        self.assertOtherwise("79", "", "79 came in Read Memory, and 1F was due")
+        for turns, came, due in (((), "76", "79 or 1F"), (("79", "0B F4"), "00", "79 or 1F"), (("79", "0B F5"), "79", "1F")):
+            with self.subTest(turns=turns):
+                self.learn_with_places()
+                self.talk("11 EE", "79", UNIQUE, *turns)
+                self.assertOtherwise(came, "", f"{came} came in Read Memory, and {due} was due")
         # of another length, from a place inside, and on before an answer: all is open until codes and id are told again
         for place, count in ((UNIQUE, 11), ("1F FF F7 AD BA", 11)):
             self.learn_with_places()
@@ -218,19 +198,15 @@ class Bytes(unittest.TestCase):
         """Behind Go the program runs; of a protection, and of counts that mean something else, nothing is promised."""
         for sent in ("21 DE 08 00 00 00 08", "73 8C", "63 9C", "44 BB FF F0 00"):
             with self.subTest(sent=sent):
-                self.watch.begin()
-                self.learn()
+                self.anew()
                 self.talk(sent, "48 65 6C 6C 6F")
-        self.watch.begin()
-        self.learn()
+        self.anew()
         self.host("21 DE 07 00 00 00 07")
         self.assertOtherwise("79 79", "79", "79 came in Go, and 1F was due")
 
 
 class WatchedPlace(LinePlace):
-    def setUp(self):
-        super().setUp()
-        self.store("table", TABLE)
+    begins = {"table": TABLE, "image": COUNTING[:3328]}
 
     def planted(self, name):
         """A port with a planted board behind it."""
@@ -242,53 +218,56 @@ class WatchedPlace(LinePlace):
         self.addCleanup(made.stop)
         return made
 
-    def watched(self, name, *words, **more):
-        return self.line("ttyUSB0", "--watch", "--", *self.stmflash(name, *words), STMFLASH_TABLE=self.path("table"), **more)
+    def over(self, *command):
+        """What a command says over a line that watches."""
+        return self.line("ttyUSB0", "--watch", "--", *command, STMFLASH_TABLE=self.path("table"))
 
-    def assertWatched(self, said, out=None, status=0):
+    def watched(self, name, *words):
+        return self.over(*self.stmflash(name, *words))
+
+    def write(self):
+        return self.watched("write", "-f", "-v", "-S", "0x08001000", "image", "--quiet")
+
+    def assertWatched(self, said, out=None):
         self.assertRegex(said.err.decode(), rf"\A{SUMMARY}\Z")
-        self.assertEqual(said.status, status)
-        if out is not None:
-            self.assertEqual(said.out, out)
+        self.assertEqual((said.status, said.out), (0, said.out if out is None else out))
 
 
 class Boards(WatchedPlace):
     def test_sessions_with_a_board_of_the_model(self):
         """Each is as it is without a watch, and says that it was watched."""
         board = self.board(chip="0440")
-        self.store("image", COUNTING[:3328])
-        self.assertWatched(self.watched("write", "-f", "-v", "-S", "0x08001000", "image", "--quiet"))
+        self.assertWatched(self.write())
         flash = board.store()
         self.assertEqual(flash[4096:4096 + 3328], COUNTING[:3328])
         self.assertWatched(self.watched("read", "copy", "--quiet"))
-        self.assertEqual(self.held("copy"), flash)
+        self.assertFile("copy", flash)
         self.assertWatched(self.watched("erase", "4", "--quiet"))
         self.assertWatched(self.watched("undo", "2"), b"undone 2\n")
         self.assertEqual(board.store(), b"\xff" * 8192)
         # which asks for neither codes nor id
         said = self.watched("go", "0x08000000")
-        text = b"stmflash-line: ttyUSB0: watched: nothing, since no chip of the table has told its codes and id\n"
-        self.assertEqual((said.status, said.err), (0, text))
+        self.assertEqual(said, Said(0, b"", b"stmflash-line: ttyUSB0: watched: nothing, since no chip of the table has told its codes and id\n"))
 
     def test_two_sessions_on_one_line(self):
         """What each of them was told is counted by itself."""
         self.board(chip="0440")
-        said = self.line("ttyUSB0", "--watch", "--", "sh", "-c", '"$@" && "$@"', "sh", *self.stmflash("crc"), STMFLASH_TABLE=self.path("table"))
+        said = self.over("sh", "-c", '"$@" && "$@"', "sh", *self.stmflash("crc"))
         counts = re.findall(rb"watched: ([0-9]+) bytes", said.err)
-        self.assertEqual((said.status, counts), (0, 2 * counts[:1]), said.err)
+        self.assertEqual((said.status, len(counts), counts[:1]), (0, 2, counts[1:]), said.err)
 
     def test_a_board_that_tells_which_it_is(self):
         """It is asked before the session, and once more in it; what comes behind is watched too."""
+        here = HERE.replace(" ", "").encode()
         self.store("table", TABLE + b"unique = [0x1FFFF7AC, 12]\nsize_at = 0x1FFFF7CC\n")
-        self.store("ttyUSB0.flash.board", f"unique {HERE.replace(' ', '')}\nsize 8\n".encode())
+        self.store("ttyUSB0.flash.board", b"unique " + here + b"\nsize 8\n")
         board = self.board(chip="0440")
-        self.store("image", COUNTING[:3328])
-        said = self.watched("write", "-f", "-v", "-S", "0x08001000", "image", "--quiet")
+        said = self.write()
         self.assertWatched(said)
         # four pages are read, and then the image
         self.assertGreater(int(re.search(rb"watched: ([0-9]+) bytes", said.err)[1]), 4 * 1024 + 3328)
         self.assertEqual(board.store()[4096:4096 + 3328], COUNTING[:3328])
-        self.assertIn(HERE.replace(" ", "").encode(), self.held("journal"))
+        self.assertIn(here, self.held("journal"))
         self.assertWatched(self.watched("undo"), b"undone 1\n")
         self.assertEqual(board.store(), b"\xff" * 8192)
 
@@ -300,7 +279,7 @@ class Boards(WatchedPlace):
         self.store("image", chance.randbytes(3000))
         self.assertWatched(self.watched("write", "-f", "image", "--quiet"))
         flash = board.store()
-        os.remove(self.path("journal"))
+        self.remove("journal")
         for _ in range(STOPS):
             count = chance.randint(1, 5000)
             board.hear(count)
@@ -308,9 +287,8 @@ class Boards(WatchedPlace):
             self.watched("write", "-f", "-S", "0x08000400", "image", "--give-up", "1", "--quiet")
             board.hear(None)
             if self.is_there("journal"):
-                said = self.watched("undo")
-                self.assertWatched(said)
-                os.remove(self.path("journal"))
+                self.assertWatched(self.watched("undo"))
+                self.remove("journal")
             self.assertEqual(board.store(), flash, f"after {count} bytes of seed {seed}")
 
     def test_boards_that_do_otherwise(self):
@@ -319,22 +297,18 @@ class Boards(WatchedPlace):
         for name, text in FOUND.items():
             with self.subTest(board=name):
                 board = self.planted(name)
-                said = self.watched("write", "-f", "-v", "-S", "0x08001000", "image", "--quiet")
+                said = self.write()
                 board.stop()
                 self.assertEqual((said.status, said.out), (1, b""))
-                lines = said.err.decode().splitlines()
-                self.assertIn("stmflash: line failed", lines)
-                told_of = rf"ttyUSB0: the board does otherwise than the model: {text}.*; stmflash-trial tells more"
-                self.assertRegex("\n".join(lines), told_of)
-                self.assertEqual(len(lines), 2)
+                self.assertIn(b"stmflash: line failed\n", said.err)
+                self.assertRegex(said.err.decode(), rf"ttyUSB0: the board does otherwise than the model: {text}.*; stmflash-trial tells more")
+                self.assertEqual(said.err.count(b"\n"), 2)
                 self.clear("journal", "ttyUSB0", "ttyUSB0.flash")
 
     def test_a_command_that_passes_over_it(self):
         """The status isn't 0."""
         self.planted("read-protected")
-        words = [program(), "read", "--table", "table", "--device", "{}", "--journal", "journal", "--wait", "1000", "copy"]
-        said = self.line("ttyUSB0", "--watch", "--", "sh", "-c", '"$@" 2>/dev/null; true', "sh", *words,
-                         STMFLASH_TABLE=self.path("table"))
+        said = self.over("sh", "-c", '"$@" 2>/dev/null; true', "sh", *self.stmflash("read", "copy"))
         self.assertLineFault(said, "ttyUSB0: the board does otherwise than the model: 1F came in Read Memory, and 79 was due; "
                              "stmflash-trial tells more")
 
@@ -344,5 +318,4 @@ class Boards(WatchedPlace):
                               (b"[[chip", "is no chip table; STMFLASH_TABLE names one"), (b"[[chip]]\nid = 1\n", "is no chip table; STMFLASH_TABLE names one")):
             with self.subTest(text=text):
                 self.remove("table") if text is None else self.store("table", text)
-                said = self.line("ttyUSB0", "--watch", "--", "true", STMFLASH_TABLE=self.path("table"))
-                self.assertEqual(said, Said(1, b"", f"stmflash-line: {self.path('table')}: {told_of}\n".encode()))
+                self.assertLineFault(self.over("true"), f"{self.path('table')}: {told_of}")

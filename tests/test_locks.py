@@ -25,20 +25,6 @@ RACES = {
 WAITING = (b"stmflash: device does not follow the protocol\n", b"stmflash: no answer from the device\n")
 
 
-class Held:
-    """A file that this process has locked, and closes in the end."""
-
-    def __init__(self, path, how=fcntl.LOCK_EX):
-        self.path, self.how = path, how
-
-    def __enter__(self):
-        self.file = open(self.path, "rb")
-        fcntl.flock(self.file, self.how | fcntl.LOCK_NB)
-
-    def __exit__(self, *_):
-        self.file.close()
-
-
 class Locks(Served):
     def test_a_journal_that_another_has_is_not_used(self):
         """Whatever is asked for, nothing is sent and nothing written; once the other program is gone, all is as ever."""
@@ -49,18 +35,16 @@ class Locks(Served):
         for name, *words in (("info",), ("read", "out"), ("write", "image"), ("verify", "image"), ("erase", "5"), ("undo",),
                              ("go", "0x08000000"), ("protect", "write-unprotect")):
             for how in (fcntl.LOCK_EX, fcntl.LOCK_SH):
-                with self.subTest(name=name, how=how), Held(self.path("journal"), how):
+                with self.subTest(name=name, how=how), self.locked("journal", how):
                     self.assertFault(self.use(name, *words), "journal is in use")
-                    self.assertFault(self.use(name, *words, device="absent"), "journal is in use")
-                    self.assertHolds(flash, b"fresh\n")
+                    self.assertFault(self.use(name, *words, device="absent"), "journal is in use", holds=(flash, b"fresh\n"))
                     self.assertFiles({"journal": journal, "out": None})
-        self.assertTold(self.use("undo"), "undone 1\n")
-        self.assertHolds(COUNTING, b"idle\n")
+        self.assertTold(self.use("undo"), "undone 1\n", holds=(COUNTING, b"idle\n"))
 
     def test_a_journal_that_another_has_may_be_looked_at(self):
         self.assertTold(self.use("erase", "5"), "segment 1: 0 pages erased\n", new(1))
         for name, how, status in (("log", fcntl.LOCK_SH, 0), ("log", fcntl.LOCK_EX, 0), ("keep", fcntl.LOCK_SH, 1)):
-            with self.subTest(name=name, how=how), Held(self.path("journal"), how):
+            with self.subTest(name=name, how=how), self.locked("journal", how):
                 said = self.call(name, "--journal", "journal")
                 self.assertEqual((said.status, said.err), (status, BUSY[0] if status else b""))
 
@@ -84,7 +68,7 @@ class Locks(Served):
 
         def look(number, process):
             said = self.call("log", "--journal", "journal")
-            self.assertEqual((said.status, said.err), (0, b""))
+            self.assertWell(said)
             told.append(said.out)
 
         self.store("flash", COUNTING)
@@ -92,9 +76,8 @@ class Locks(Served):
         self.assertTold(said, "segment 1: 1 pages erased\n")
         opened = b"id 0412\nsegment 1: open, %d pages%s\nunfinished, undo first\n"
         kept = opened % (1, b": 5")
-        ended = b"id 0412\nsegment 1: ended, 1 pages: 5\n1 can be undone\n"
         self.assertEqual(told[:6], [b"0 can be undone\n", opened % (0, b""), opened % (0, b""), kept,
-                                    opened % (1, b": 5, erasing 5"), ended])
+                                    opened % (1, b": 5, erasing 5"), b"id 0412\nsegment 1: ended, 1 pages: 5\n1 can be undone\n"])
 
     def test_a_journal_that_was_just_made_is_locked(self):
         """Another program comes when the journal is there and has no line yet."""
@@ -112,16 +95,13 @@ class Locks(Served):
         self.assertEqual(len(came), 2)
         for other in came:
             self.assertFault(other, "journal is in use")
-        self.assertTold(self.use("undo"), "undone 1\n")
-        self.assertFile("flash", COUNTING)
+        self.assertTold(self.use("undo"), "undone 1\n", flash=COUNTING)
 
     def test_locks_are_asked_for_on_a_handle_that_writes(self):
         """NFS gives no other an exclusive one. Of a journal that is there, of one that is made, and of a simulator's file."""
         for journal in (None, b""):
             with self.subTest(journal=journal):
-                self.store("flash", COUNTING)
-                if journal is not None:
-                    self.store("journal", journal)
+                self.store_all({"flash": COUNTING, "journal": journal})
                 modes = []
 
                 def look(number, process):
@@ -146,8 +126,7 @@ class Locks(Served):
             # root may write all the same, but for a process that never gets CAP_DAC_OVERRIDE
             syncs.LIBC.prctl(24, 1, 0, 0, 0)
 
-        said = self.call(*self.words_on("info"), before=bind)
-        self.assertEqual((said.status, said.err), (0, b""))
+        self.assertWell(self.call(*self.words_on("info"), before=bind))
         self.assertFault(self.call(*self.words_on("erase", "5"), before=bind), "journal failed", hint="Permission denied")
 
     def test_without_locks_a_file_is_refused(self):
@@ -167,8 +146,7 @@ class Locks(Served):
                 self.assertFault(said, f"cannot lock flash: {text}; --no-lock if no other program has it")
                 self.remove("journal")
                 said, _ = self.hold(self.words_on("erase", "5"), fails=1, **how)
-                self.assertFault(said, f"cannot lock journal: {text}; --no-lock if no other program has it")
-                self.assertFiles({"flash": COUNTING, "journal": b""})
+                self.assertFault(said, f"cannot lock journal: {text}; --no-lock if no other program has it", flash=COUNTING, journal=b"")
                 self.remove("journal")
                 said, _ = self.hold(self.words_on("erase", "--no-lock", "5"), fails=every, **how)
                 self.assertTold(said, "segment 1: 1 pages erased\n")
@@ -204,16 +182,15 @@ class Locks(Served):
         os.mkdir(self.path("journals"))
         self.store_all({"table": telling.TABLE, "one": bytes(131072), "one.board": b"unique 2B0035000A51363034393332\n"})
         said, _ = self.hold(("crc", "--table", "table", "--device", "sim:0410:one", "--journals", "journals", "--no-lock"), **how)
-        self.assertEqual((said.status, said.err), (0, b""))
+        self.assertWell(said)
 
     def test_without_a_lock_another_program_is_still_seen(self):
         """Where there are locks, `--no-lock` is no leave to use what another has."""
         self.store_all({"flash": COUNTING, "journal": b""})
-        with Held(self.path("journal")):
+        with self.locked("journal"):
             self.assertFault(self.use("erase", "--no-lock", "5"), "journal is in use")
-            variables = {"STMFLASH_NO_LOCK": "1"}
-            self.assertFault(self.call(*self.words_on("erase", "5"), variables=variables), "journal is in use")
-        with Held(self.path("flash")):
+            self.assertFault(self.call(*self.words_on("erase", "5"), variables={"STMFLASH_NO_LOCK": "1"}), "journal is in use")
+        with self.locked("flash"):
             self.assertFault(self.use("erase", "--no-lock", "5"), "simulator file is in use")
 
     def test_a_journal_is_locked_by_whatever_name(self):
@@ -221,22 +198,20 @@ class Locks(Served):
         self.assertTold(self.use("erase", "5"), "segment 1: 1 pages erased\n")
         os.symlink("journal", self.path("soft"))
         os.link(self.path("journal"), self.path("hard"))
-        with Held(self.path("journal")):
+        with self.locked("journal"):
             for name in ("soft", "hard"):
                 self.assertFault(self.use("info", journal=name), "journal is in use")
 
     def test_a_simulator_that_another_has_is_not_used(self):
         self.store("flash", COUNTING)
-        with Held(self.path("flash")):
+        with self.locked("flash"):
             self.assertFault(self.use("erase", "5"), "simulator file is in use")
             self.assertFault(self.call(*served()), "simulator file is in use")
-        self.assertHolds(COUNTING, None)
-        self.assertFile("journal", None)
+        self.assertFiles({"flash": COUNTING, "flash.line": None, "journal": None})
         self.assertFalse(self.is_there("board"))
 
     def test_a_journal_made_meanwhile_is_not_used(self):
-        """The journal isn't there when the program begins, and is when it would make it: no erase is sent, and what the other
-        wrote stays."""
+        """The journal isn't there when the program begins, and is when it would make it: no erase is sent, and what the other wrote stays."""
         listener = self.listen("device")
         self.store("flash", COUNTING)
         self.serve(2)
@@ -252,14 +227,12 @@ class Locks(Served):
                 self.assertNotIn(b"\x43\xbc", sent)
                 self.assertFile("journal", made)
                 self.remove("journal")
-        self.assertServed()
-        self.assertFile("flash", COUNTING)
+        self.assertServed(flash=COUNTING)
 
     def test_a_flash_made_meanwhile_is_not_used(self):
         """The simulator's file isn't there when the program begins, and is when it would make it."""
         said, _ = self.hold(self.words_on("info"), held=syncs.LINK, at=lambda number, _: self.store("flash", COUNTING))
-        self.assertFault(said, "simulator file is in use")
-        self.assertHolds(COUNTING, None)
+        self.assertFault(said, "simulator file is in use", holds=(COUNTING, None))
 
     def words(self, words, device):
         name, *rest = words
@@ -287,10 +260,8 @@ class Locks(Served):
             if UNDO in pair:
                 self.assertTold(self.call(*self.words(("erase", "0", "2"), device)), "segment 1: 2 pages erased\n")
             self.assertTogether(*pair, device)
-            said = self.call(*self.words(UNDO, device))
-            self.assertEqual((said.status, said.err), (0, b""))
-            self.assertSilent(self.call(*self.words(("read", "out"), device)))
-            self.assertFile("out", COUNTING)
+            self.assertWell(self.call(*self.words(UNDO, device)))
+            self.assertSilent(self.call(*self.words(("read", "out"), device)), out=COUNTING)
             self.remove("journal")
 
     def race_on_simulator(self, pair):

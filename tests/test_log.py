@@ -2,11 +2,9 @@
 
 import os
 import re
-import shutil
-import subprocess
-import unittest
 
-from place import PATIENCE, Place, program
+import syncs
+from place import Place
 
 EMPTY = "0 can be undone\n"
 UNFINISHED = "unfinished, undo first\n"
@@ -27,18 +25,9 @@ FOLLOWED = (
     (b"undone 1", EMPTY),
 )
 # pages in the order of their lines, and how they are told
-PAGES = (
-    ((0, 1, 5), "0-1 5"),
-    ((1, 257, 2, 3), "1 257 2-3"),
-    ((5, 4, 3), "5 4 3"),
-    ((0, 65535), "0 65535"),
-    ((65533, 65534, 65535), "65533-65535"),
-    (tuple(range(512)), "0-511"),
-    ((9, 10, 12, 13, 14, 20), "9-10 12-14 20"),
-)
+PAGES = (((0, 1, 5), "0-1 5"), ((1, 257, 2, 3), "1 257 2-3"), ((5, 4, 3), "5 4 3"), ((0, 65535), "0 65535"),
+         ((65533, 65534, 65535), "65533-65535"), (tuple(range(512)), "0-511"), ((9, 10, 12, 13, 14, 20), "9-10 12-14 20"))
 MOST = 65535
-
-
 # so many bytes of a journal are asked for at a time
 PIECE = 4096
 
@@ -51,23 +40,15 @@ class Log(Place):
     def assertLog(self, journal, text):
         """This is all that is told of the journal, which stays as it is; no other file is made."""
         self.store("journal", journal)
-        self.assertTold(self.call("log", "--journal", "journal"), text)
-        self.assertFile("journal", journal)
+        self.assertTold(self.call("log", "--journal", "journal"), text, journal=journal)
         self.assertEqual(os.listdir(self.folder), ["journal"])
 
-    @unittest.skipIf(shutil.which("strace") is None, "strace is not installed")
     def test_a_journal_is_read_in_large_pieces(self):
         """Each but the last is whole, so that a journal of many pages takes few calls. One piece is read ahead, to see that it is one."""
         journal = b"stmjournal 2 0412\nopen 1\n" + b"page 5 " + b"00" * 32768 + b"\nerase 5\nprogram 5\nend 1\n"
         self.store("journal", journal)
-        ran = subprocess.run(["strace", "-f", "-o", self.path("record"), "-e", "trace=read", program(), "log", "--journal", "journal"],
-                             cwd=self.folder, env={}, stdin=subprocess.DEVNULL, capture_output=True, timeout=PATIENCE)
-        record = (self.held("record") or b"").decode()
-        if not record.strip():
-            self.skipTest("strace can't trace here")
-        self.assertEqual((ran.returncode, ran.stderr), (0, b""))
-        ahead, came = ([int(count) for count in re.findall(r"read\(.*, \d+\) += (\d+)", "read(" + it)]
-                       for it in record.split("stmjournal")[1:])
+        record = syncs.traced(self, "read", "log", "--journal", "journal")
+        ahead, came = ([int(count) for count in re.findall(r"read\(.*, \d+\) += (\d+)", "read(" + it)] for it in record.split("stmjournal")[1:])
         whole, rest = divmod(len(journal), PIECE)
         self.assertEqual((ahead, came), ([PIECE], [PIECE] * whole + [rest, 0]))
 
@@ -75,9 +56,7 @@ class Log(Place):
         """Cut at each byte, the journal says what its whole lines say."""
         text = b"".join(line + b"\n" for line, _ in FOLLOWED)
         told = [EMPTY] + ["id 0412\n" + after for _, after in FOLLOWED]
-        for count in range(len(text) + 1):
-            with self.subTest(count=count):
-                self.assertLog(text[:count], told[text[:count].count(b"\n")])
+        self.each(range(len(text) + 1), lambda count: self.assertLog(text[:count], told[text[:count].count(b"\n")]))
 
     def test_a_missing_journal_is_refused(self):
         """Its name may be mistyped."""
@@ -87,8 +66,7 @@ class Log(Place):
     def test_tells_the_pages(self):
         for pages, told in PAGES:
             with self.subTest(told=told):
-                lines = b"".join(b"page %d 00\n" % page for page in pages)
-                journal = b"stmjournal 2 0A02\nopen 1\n" + lines + b"end 1\n"
+                journal = b"stmjournal 2 0A02\nopen 1\n" + b"".join(b"page %d 00\n" % page for page in pages) + b"end 1\n"
                 self.assertLog(journal, f"id 0A02\nsegment 1: ended, {len(pages)} pages: {told}\n1 can be undone\n")
 
     def test_tells_as_many_segments_as_there_can_be(self):
@@ -99,8 +77,7 @@ class Log(Place):
 
     def test_refuses_a_bad_journal(self):
         self.store("journal", BAD)
-        self.assertFault(self.call("log", "--journal", "journal"), "bad journal line 2")
-        self.assertFile("journal", BAD)
+        self.assertFault(self.call("log", "--journal", "journal"), "bad journal line 2", journal=BAD)
 
     def test_says_which_journal_it_cannot_read(self):
         os.mkdir(self.path("journal"))

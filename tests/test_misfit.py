@@ -1,6 +1,6 @@
 """An undo by an unfinished journal that no board of its chip can have is refused before a byte, whatever the chip tells."""
 
-from place import Place
+from served import Served
 
 NARROW = b'[[chip]]\nid = 0x412\nbase = 0x08000000\npages = [[32, 1024]]\nerase = "page"\n'
 WIDE = b'\n[[chip]]\nid = 0xA02\nbase = 0x08000000\npages = [[512, 256]]\nerase = "extended"\n'
@@ -14,6 +14,7 @@ PAGE_300 = b"page 300 " + 512 * b"5"
 TOLD = (b"", UNIQUE, UNIQUE + SIZE_AT)
 # chips that don't tell how large they are
 WHOLE = TOLD[:2]
+SPEED = ("--baud", "115200")
 # a chip, the rest of a frame that its device was sent, a header, a segment's pages and their intent, what is said, and what such
 # a chip tells where it is said
 REFUSED = (
@@ -27,9 +28,10 @@ REFUSED = (
     ("0A02", b"44BB00", b"1 0A02", (PAGE_300, PAGE_1), b"erase 1", "bad journal line 1", TOLD),
     ("0A02", b"44BB00", b"2 0A02", (PAGE_300, PAGE_1), b"erase 1", "bad journal line 4", TOLD),
 )
+CASES = [(*row, tells) for *row, told in REFUSED for tells in told]
 
 
-class Misfit(Place):
+class Misfit(Served):
     def begin(self, told, rest, header, pages, intent, kib=None):
         """A table whose chips tell this, a board, and a journal."""
         self.store("table", NARROW + told + WIDE + told)
@@ -40,13 +42,21 @@ class Misfit(Place):
         self.store("journal", self.journal)
 
     def test_is_refused_before_a_byte(self):
-        for chip, rest, header, pages, intent, text, told in REFUSED:
-            for tells in told:
-                with self.subTest(header=header, text=text, tells=tells):
-                    self.begin(tells, rest, header, pages, intent, 32 if chip == "0412" else None)
-                    self.assertFault(self.use("undo", device=f"sim:{chip}:flash"), text)
-                    self.assertHolds(self.flash, b"rest " + rest + b"\n")
-                    self.assertFile("journal", self.journal)
+        for chip, rest, header, pages, intent, text, tells in CASES:
+            with self.subTest(header=header, text=text, tells=tells):
+                self.begin(tells, rest, header, pages, intent, 32 if chip == "0412" else None)
+                said = self.use("undo", device=f"sim:{chip}:flash")
+                self.assertFault(said, text, holds=(self.flash, b"rest " + rest + b"\n"), journal=self.journal)
+
+    def test_no_board_at_a_socket_is_greeted_then(self):
+        for _, rest, header, pages, intent, text, tells in CASES:
+            with self.subTest(header=header, text=text, tells=tells), self.listen("board") as listener:
+                self.begin(tells, rest, header, pages, intent)
+                self.assertFault(self.use("undo", *SPEED, device="board"), text, journal=self.journal)
+                line, _ = listener.accept()
+                with line:
+                    self.assertEqual(line.recv(1), b"")
+            self.remove("board")
 
     def test_one_of_a_smaller_board_is_undone(self):
         """256 pages may have a header of version 1, and page 1 without page 257, though the table's chip has 512."""
@@ -61,6 +71,15 @@ class Misfit(Place):
             with self.subTest(version=version):
                 self.begin(UNIQUE + SIZE_AT, b"", version + b" 0A02", (PAGE_1,), b"erase 1")
                 self.store("flash.line", b"idle\n")
-                self.assertFault(self.use("undo", device="sim:0A02:flash"), f"bad journal line {line}")
-                self.assertHolds(self.flash, b"idle\n")
+                self.assertFault(self.use("undo", device="sim:0A02:flash"), f"bad journal line {line}", holds=(self.flash, b"idle\n"))
                 self.assertFile("journal", self.journal)
+
+    def test_a_fresh_board_at_a_socket_loses_nothing_by_it(self):
+        """The one 7F connects it, so that it refuses each pair of the intent's byte behind that."""
+        for version, line in ((b"1", 1), (b"2", 3)):
+            with self.subTest(version=version):
+                self.begin(UNIQUE + SIZE_AT, b"", version + b" 0A02", (PAGE_1,), b"erase 1")
+                self.store("flash.line", b"fresh\n")
+                self.serve(1, number="0A02")
+                self.assertFault(self.use("undo", *SPEED, device="board"), f"bad journal line {line}")
+                self.assertServed(holds=(self.flash, b"idle\n"), journal=self.journal + b"connect!\n")

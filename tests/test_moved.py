@@ -22,21 +22,13 @@ class Moved(Served):
     def begin(self):
         for name in ("here", "there"):
             shutil.rmtree(self.path(name), ignore_errors=True)
-        if self.is_there("journal.rescued"):
-            self.remove("journal.rescued")
+        self.clear("journal.rescued")
         os.mkdir(self.path("here"))
         self.store_all({"table": SMALL_TABLE, "image": IMAGE, "flash": SMALL_FLASH})
 
     def replace(self):
         shutil.copy(self.path("here/journal"), self.path("here/copy"))
         os.rename(self.path("here/copy"), self.path("here/journal"))
-
-    def cut(self):
-        os.truncate(self.path("here/journal"), len(self.held("here/journal")) - 1)
-
-    def add(self):
-        with open(self.path("here/journal"), "ab") as file:
-            file.write(b"!\n")
 
     def write(self, at, *words, held=syncs.FSYNC):
         """Writes a page of a board, with `at` called before each sync of the journal, and answers what was said and synced."""
@@ -54,13 +46,11 @@ class Moved(Served):
                 self.assertFault(said, "journal failed", hint=rescued(name))
                 # behind it the file that has what was held, and its folder
                 self.assertEqual(len(synced), number + 3)
-                self.assertServed()
-                self.assertFile("flash", SMALL_FLASH if is_kept else WRITTEN)
+                self.assertServed(flash=SMALL_FLASH if is_kept else WRITTEN)
                 self.assertFile(name, KEPT if is_kept else ENDED)
                 self.serve(1)
                 self.assertTold(self.use("undo", "--wait", WAIT, device="board", journal=name), "undone 1\n")
-                self.assertServed()
-                self.assertFile("flash", SMALL_FLASH)
+                self.assertServed(flash=SMALL_FLASH)
 
     def test_removed(self):
         self.assertFails(lambda: os.remove(self.path("here/journal")))
@@ -71,17 +61,20 @@ class Moved(Served):
         self.assertFile("here/other", ENDED)
         self.serve(1)
         self.assertTold(self.use("undo", "--wait", WAIT, device="board", journal="here/other"), "undone 1\n")
-        self.assertServed()
-        self.assertFile("flash", SMALL_FLASH)
+        self.assertServed(flash=SMALL_FLASH)
 
     def test_replaced_by_a_copy(self):
         self.assertFails(self.replace)
 
     def test_cut(self):
-        self.assertFails(self.cut)
+        self.assertFails(lambda: os.truncate(self.path("here/journal"), len(self.held("here/journal")) - 1))
 
     def test_added_to(self):
-        self.assertFails(self.add)
+        def add():
+            with open(self.path("here/journal"), "ab") as file:
+                file.write(b"!\n")
+
+        self.assertFails(add)
 
     def test_what_took_its_name_is_not_removed(self):
         """By `write --keep`, once it has ended; by `keep`, at each place that it reads from."""

@@ -31,8 +31,7 @@ class Names(Place):
         """Each kind of name, in the faults that name it."""
         seen = told(name)
         self.store("image", b"\xaa")
-        self.assertTells("table", self.call("info", f"--table={name}", "--device=sim:0412:flash", "--journal=journal"),
-                         f"cannot read {seen}")
+        self.assertTells("table", self.call("info", f"--table={name}", "--device=sim:0412:flash", "--journal=journal"), f"cannot read {seen}")
         self.assertTells("table", self.sim(table=name), f"cannot read {seen}")
         self.assertTells("image", self.use("write", "--", name), f"cannot read {seen}")
         self.assertTells("device", self.use("info", device=name), f"cannot connect {seen}")
@@ -88,10 +87,7 @@ class Names(Place):
             ("to", lambda: self.call("keep", "--journal", "journal", name)),
             ("socket", lambda: self.sim(socket=name)),
         )
-        for kind, use in uses:
-            with self.subTest(kind=kind):
-                self.assertFault(use(), "usage: the words are not text", 2)
-        for variable in ("STMFLASH_TABLE", "STMFLASH_DEVICE", "STMFLASH_JOURNAL"):
-            with self.subTest(variable=variable):
-                self.assertFault(self.call("info", variables={variable: name}), f"usage: {variable} is not text", 2)
+        self.each(uses, lambda kind, use: self.assertFault(use(), "usage: the words are not text", 2))
+        self.each(("STMFLASH_TABLE", "STMFLASH_DEVICE", "STMFLASH_JOURNAL"),
+                  lambda variable: self.assertFault(self.call("info", variables={variable: name}), f"usage: {variable} is not text", 2))
         self.assertEqual(sorted(os.listdir(self.folder)), ["image", "table"])

@@ -1,5 +1,6 @@
 """A file that has bytes and isn't a journal: no command uses it as one, removes it, or adds to it."""
 
+import itertools
 import os
 import random
 
@@ -10,28 +11,10 @@ IMAGE = b"\x00" * 1024
 # headers of the three versions
 HEADERS = b"stmjournal 1 0412", b"stmjournal 2 0412", b"stmjournal 3 0412 " + b"0F" * 32
 NOISE = random.Random(1412).randbytes(65536)
-# what commands are called with, their journal's name ahead
-ON_A_DEVICE = {
-    "info": ("info",),
-    "read": ("read", "out"),
-    "verify": ("verify", "image"),
-    "write": ("write", "image"),
-    "write --keep": ("write", "--keep", "image"),
-    "erase": ("erase", "5"),
-    "erase --all": ("erase", "--all"),
-    "undo": ("undo",),
-    "undo 1": ("undo", "1"),
-    "go": ("go", "0x08000000"),
-    "protect": ("protect", "write-unprotect"),
-    "protect --in-session": ("protect", "write-unprotect", "--in-session", "--fresh"),
-}
-ALONE = {
-    "keep": ("keep",),
-    "keep TO": ("keep", "elsewhere"),
-    "keep --last": ("keep", "--last", "1"),
-    "log": ("log",),
-    "log --check": ("log", "--check"),
-}
+# the words of commands on a device, and of those on a journal alone
+ON_A_DEVICE = ("info", "read out", "verify image", "write image", "write --keep image", "erase 5", "erase --all", "undo", "undo 1",
+               "go 0x08000000", "protect write-unprotect", "protect write-unprotect --in-session")
+ALONE = ("keep", "keep elsewhere", "keep --last 1", "log", "log --check")
 # files that are none
 NONE = {
     "a text": b"precious",
@@ -64,24 +47,20 @@ BEGUN = {
 
 
 class NoJournal(Place):
-    def called(self, words, name="journal"):
-        self.store("image", IMAGE)
-        if words in ALONE.values():
-            return self.call(words[0], "--journal", name, *words[1:])
-        return self.use(*words, journal=name)
+    begins = {"image": IMAGE}
 
-    def assertNone(self, words, data):
+    def called(self, command):
+        name, *words = command.split()
+        return self.call(name, "--journal", "journal", *words) if command in ALONE else self.use(name, *words)
+
+    def assertNone(self, command, data):
         """The call ends with the file's name, and no file is made, removed or changed."""
         self.store("journal", data)
-        self.assertFault(self.called(words), REFUSED)
-        self.assertFile("journal", data)
+        self.assertFault(self.called(command), REFUSED, journal=data)
         self.assertEqual(sorted(os.listdir(self.folder)), ["image", "journal", "table"])
 
     def test_is_refused_by_every_command(self):
-        for row, words in {**ON_A_DEVICE, **ALONE}.items():
-            for name, data in NONE.items():
-                with self.subTest(command=row, file=name):
-                    self.assertNone(words, data)
+        self.each(itertools.product(ON_A_DEVICE + ALONE, NONE), lambda command, file: self.assertNone(command, NONE[file]))
 
     def test_is_refused_before_a_byte_is_sent(self):
         """Nobody is asked for a line to the device."""
@@ -95,13 +74,12 @@ class NoJournal(Place):
         os.mkdir(self.path("folder"))
         name = "folder/000102030405060708090A0B.journal"
         self.store(name, b"precious")
-        for words, text in (((), f"unfinished or bad: {name}; say --board and the digits of its board, or reset the board and say --fresh"),
+        for words, text in (((), f"unfinished or bad: {name}; say --board and all digits of the board that is here"),
                             (("--board", "000102030405060708090A0B"), f"{name} is no journal: name another, or move it away")):
             with self.subTest(words=words):
                 said = self.call("erase", "--table", "table", "--device", "sim:0412:flash", "--journals", "folder", *words, "5")
                 self.assertFault(said, text)
-                self.assertFile(name, b"precious")
-                self.assertFile("flash", None)
+                self.assertFiles({name: b"precious", "flash": None})
 
     def test_what_was_begun_is_a_journal(self):
         """It is kept as one without a segment, and goes on as one."""
@@ -109,17 +87,16 @@ class NoJournal(Place):
         for name, data in rows.items():
             with self.subTest(file=name):
                 self.store("journal", data)
-                self.assertTold(self.called(ALONE["keep"]), "kept 0\n")
-                self.assertFile("journal", None)
+                self.assertTold(self.called("keep"), "kept 0\n", journal=None)
 
     def test_what_was_begun_goes_on(self):
         for name, data in BEGUN.items():
             with self.subTest(file=name):
                 self.store("journal", data)
-                self.assertTold(self.called(("undo",)), "undone 0\n")
-                self.assertTold(self.called(ON_A_DEVICE["write"]), "segment 1: 1 pages written\n")
+                self.assertTold(self.called("undo"), "undone 0\n")
+                self.assertTold(self.called("write image"), "segment 1: 1 pages written\n")
                 self.assertTrue(self.held("journal").startswith(data))
-                self.assertTold(self.called(("undo",)), "undone 1\n")
+                self.assertTold(self.called("undo"), "undone 1\n")
                 self.remove("journal", "flash", "flash.line")
 
     def test_a_header_is_found_behind_void_lines(self):
@@ -127,7 +104,6 @@ class NoJournal(Place):
         ends = b"\nopen 1\nend 1\n"
         for ahead in (b"mind!\n", b"!\n" * 3000, b"x" * 5000 + b"!\n", b"stmj" + b"\0" * 8190 + b"!\n"):
             self.store("journal", ahead + HEADERS[0] + ends)
-            self.assertTold(self.called(ALONE["keep"]), "kept 1\n")
+            self.assertTold(self.called("keep"), "kept 1\n")
             self.store("journal", ahead + b"stmjournal 4 0412" + ends)
-            bad = ahead.count(b"\n") + 1
-            self.assertFault(self.called(ALONE["keep"]), f"bad journal line {bad}")
+            self.assertFault(self.called("keep"), "bad journal line %d" % (ahead.count(b"\n") + 1))

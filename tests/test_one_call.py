@@ -1,9 +1,9 @@
 """A write with what follows it in the same call: the journal kept, Go, and the write done again where its line failed."""
 
+import contextlib
 import fcntl
 import os
 import subprocess
-import time
 
 from place import PATIENCE, SIZE, WAIT, ZEROS, Place, Said, files
 from served import Served, relay
@@ -19,61 +19,46 @@ def full_pipe():
     """Both ends of a pipe that holds as much as it can: who writes to it waits until it is read."""
     told, into = os.pipe()
     os.set_blocking(into, False)
-    try:
+    with contextlib.suppress(BlockingIOError):
         while os.write(into, b"."):
             pass
-    except BlockingIOError:
-        os.set_blocking(into, True)
+    os.set_blocking(into, True)
     return told, into
 
 
 def is_free(name):
     """Whether no program has a file for itself."""
-    with open(name, "rb") as file:
-        try:
-            fcntl.flock(file, fcntl.LOCK_SH | fcntl.LOCK_NB)
-        except BlockingIOError:
-            return False
-    return True
+    with open(name, "rb") as file, contextlib.suppress(BlockingIOError):
+        fcntl.flock(file, fcntl.LOCK_SH | fcntl.LOCK_NB)
+        return True
+    return False
 
 
 class OneCall(Place):
-    def setUp(self):
-        super().setUp()
-        self.store("image", IMAGE)
+    begins = {"image": IMAGE}
 
     def write(self, *words, **more):
         return self.use("write", *words, "image", **more)
 
-    def assertStands(self, journal, line):
-        flash = self.held("flash")
-        self.assertEqual(flash[:len(IMAGE)], IMAGE)
-        self.assertFile("flash.line", line)
-        if journal is None:
-            self.assertFile("journal", None)
-        else:
-            self.assertIn(journal, self.held("journal"))
+    def assertStands(self, line, said, told, before=b"\xff" * SIZE):
+        """This was told, the image stands in the flash of before, the line is so, and the journal has gone."""
+        self.assertTold(said, told)
+        self.assertFiles({"flash": IMAGE + before[len(IMAGE):], "flash.line": line, "journal": None})
 
     def test_all_steps(self):
         self.store("flash", ZEROS)
-        self.assertTold(self.write("-v", "--keep", *GO), WRITTEN.decode() + "kept 1\n")
-        self.assertStands(None, b"gone\n")
-        self.assertEqual(self.held("flash")[len(IMAGE):], ZEROS[len(IMAGE):])
+        self.assertStands(b"gone\n", self.write("-v", "--keep", *GO), WRITTEN.decode() + "kept 1\n", ZEROS)
 
     def test_keep_alone(self):
-        self.assertTold(self.write("--keep"), "segment 1: 1 pages written\nkept 1\n")
-        self.assertStands(None, b"idle\n")
+        self.assertStands(b"idle\n", self.write("--keep"), "segment 1: 1 pages written\nkept 1\n")
 
     def test_keeps_what_was_there_too(self):
         self.use("erase", "9")
-        self.assertTold(self.write("--keep"), "segment 2: 1 pages written\nkept 2\n")
-        self.assertStands(None, b"idle\n")
+        self.assertStands(b"idle\n", self.write("--keep"), "segment 2: 1 pages written\nkept 2\n")
 
     def test_moves_the_journal(self):
-        self.assertTold(self.write("-v", "--keep-to", "kept", *GO), WRITTEN.decode() + "kept 1\n")
-        self.assertStands(None, b"gone\n")
-        said = self.call("log", "--journal", "kept")
-        self.assertIn(b"1 can be undone", said.out)
+        self.assertStands(b"gone\n", self.write("-v", "--keep-to", "kept", *GO), WRITTEN.decode() + "kept 1\n")
+        self.assertIn(b"1 can be undone", self.call("log", "--journal", "kept").out)
         # the way back stands under the other name
         self.store("flash.line", b"fresh\n")
         self.assertTold(self.use("undo", journal="kept"), "undone 1\n")
@@ -114,10 +99,7 @@ class OneCall(Place):
         while low < high:
             middle = (low + high) // 2
             self.begin(line)
-            if self.write(*words, "--stop", str(middle)).status == 3:
-                low = middle + 1
-            else:
-                high = middle
+            low, high = (middle + 1, high) if self.write(*words, "--stop", str(middle)).status == 3 else (low, middle)
         return low
 
     def begin(self, line=None):
@@ -156,9 +138,10 @@ class Lines(Served):
     """A line to a served simulator that is cut after so many bytes of the host, a number for each connection; those behind it are
     whole. What was sent over each is kept."""
 
+    begins = {"image": IMAGE, "flash": ZEROS}
+
     def setUp(self):
         super().setUp()
-        self.store_all({"image": IMAGE, "flash": ZEROS})
         self.sent = []
         self.simulator = None
 
@@ -170,27 +153,21 @@ class Lines(Served):
             for turn in range(clients):
                 host, _ = listener.accept()
                 with host, self.connect("board") as board:
-                    self.carry(host, board, cuts[turn] if turn < len(cuts) else None)
+                    self.sent.append(b"")
+                    relay(host, board, heard=self.hear, cut=cuts[turn] if turn < len(cuts) else None)
 
         self.beside(listener, carry)
+
+    def hear(self, came):
+        self.sent[-1] += came
 
     def tearDown(self):
         # the board's files are written once its client is gone
         if self.simulator is not None:
             self.simulator.kill()
             self.simulator.communicate()
-        for name in os.listdir(self.folder):
-            if name.endswith(".new"):
-                self.remove(name)
+        self.remove(*(name for name in os.listdir(self.folder) if name.endswith(".new")))
         super().tearDown()
-
-    def carry(self, host, board, cut):
-        self.sent.append(b"")
-
-        def heard(came):
-            self.sent[-1] += came
-
-        relay(host, board, heard=heard, cut=cut)
 
     def write(self, *words):
         return self.use("write", *words, "--wait", WAIT, "image", device="line")
@@ -212,24 +189,19 @@ class Lines(Served):
         self.lay([], 1)
         self.assertEqual(self.write("-v").status, 0)
         sent = self.sent.pop()
-        for name in ("line", "journal"):
-            self.remove(name)
+        self.remove("line", "journal")
         self.simulator.wait(PATIENCE)
         self.store_all({"flash": ZEROS, "flash.line": b"fresh\n"})
         return sent
 
     def test_again(self):
-        erase = self.whole().index(b"\x43\xbc")
-        self.lay([erase + 3], 3)
+        self.lay([self.whole().index(b"\x43\xbc") + 3], 3)
         said = self.write("-v", "--again", "2", "--keep", *GO)
         self.assertEqual((said.status, said.out), (0, WRITTEN + b"kept 1\n"))
         self.assertRegex(said.err.decode(), r"^again 1 of 2: [^;]*; undone\n$")
         self.assertEqual(len(self.sent), 3)
-        self.assertFile("journal", None)
         self.simulator.wait(PATIENCE)
-        self.assertEqual(self.held("flash")[:len(IMAGE)], IMAGE)
-        self.assertEqual(self.held("flash")[len(IMAGE):], ZEROS[len(IMAGE):])
-        self.assertFile("flash.line", b"gone\n")
+        self.assertFiles({"journal": None, "flash": IMAGE + ZEROS[len(IMAGE):], "flash.line": b"gone\n"})
 
     def test_again_where_nothing_was_begun(self):
         self.lay([1], 2)
@@ -238,30 +210,29 @@ class Lines(Served):
         self.assertRegex(said.err.decode(), r"^again 1 of 1: [^;]*; nothing was begun\n$")
 
     def test_again_in_vain(self):
-        sent = self.whole()
-        erase = sent.index(b"\x43\xbc")
         # the write is cut, and so is each undo of it
-        self.lay([erase + 3, 1, 1], 3)
+        self.lay([self.whole().index(b"\x43\xbc") + 3, 1, 1], 3)
         said = self.write("--again", "2")
-        self.assertEqual((said.status, said.out), (1, b""))
-        self.assertRegex(said.err.decode(), r"^again 1 of 2: [^;]*; not undone: .*\n"
-                         r"again 2 of 2: [^;]*; not undone: .*\n"
-                         r"stands: segment 1 is unfinished, undo first\nstmflash: [^\n]*\n$")
+        self.assertEqual(said.out, b"")
+        self.assertInVain(said, r".*\nstands: segment 1 is unfinished, undo first\nstmflash: [^\n]*")
         self.assertIn(b"erase 0", self.held("journal"))
 
-    def use_between(self, cuts, add, *words):
+    def assertInVain(self, said, rest):
+        """It was tried two times more, and ended so."""
+        self.assertEqual(said.status, 1)
+        self.assertRegex(said.err.decode(), rf"^again 1 of 2: [^;]*; not undone: .*\nagain 2 of 2: [^;]*; not undone: {rest}\n$")
+
+    def use_between(self, cuts, more, *words):
         """Writes over a line that is cut so, while what it tells has to wait. Behind the second connection, when the journal is
-        nobody's, `add` is called. Answers what was told."""
+        nobody's, more is put into it. Answers what was told."""
         self.lay(cuts, len(cuts))
         told, into = full_pipe()
         words = ("write", *files("line"), "--wait", WAIT, *words, "image")
         with self.start(*words, stdout=subprocess.DEVNULL, stderr=into) as writing, open(told, "rb") as told:
             os.close(into)
-            end = time.monotonic() + PATIENCE
-            while len(self.sent) < 2 or not is_free(self.path("journal")):
-                self.assertLess(time.monotonic(), end, "the journal stays in use")
-                time.sleep(0.02)
-            add()
+            self.until(lambda: len(self.sent) >= 2 and is_free(self.path("journal")), "the journal stays in use")
+            with open(self.path("journal"), "ab") as journal:
+                journal.write(more)
             err = told.read().lstrip(b".")
         return Said(writing.returncode, b"", err)
 
@@ -271,15 +242,7 @@ class Lines(Served):
         for more, stands in ((b"", "segment 1, which can be undone"), (b"open 2\nend 2\n", "segments 1-2, which can be undone"),
                              (b"open 2\nend 2\nopen 3\n", "segments 1-3, of which 3 is unfinished, undo first")):
             with self.subTest(more=more):
-
-                def add(more=more):
-                    with open(self.path("journal"), "ab") as journal:
-                        journal.write(more)
-
-                said = self.use_between([len(sent) - 3, 1, 1], add, "-v", "--again", "2")
-                self.assertEqual(said.status, 1)
-                self.assertRegex(said.err.decode(), r"^again 1 of 2: [^;]*; not undone: .*\nagain 2 of 2: [^;]*; "
-                                 rf"not undone: .*\nstands: {stands}\nstmflash: [^\n]*\n$")
+                self.assertInVain(self.use_between([len(sent) - 3, 1, 1], more, "-v", "--again", "2"), rf".*\nstands: {stands}\nstmflash: [^\n]*")
                 self.assertTrue(self.held("journal").endswith(b"end 1\n" + more))
                 self.assertServed()
                 self.remove("line", "journal", "flash.line")
@@ -288,23 +251,14 @@ class Lines(Served):
 
     def test_nothing_is_tried_beside_a_journal_that_cannot_be_read(self):
         """Meanwhile another program puts into it what no journal has: it stays, and is told."""
-        sent = self.whole()
-
-        def spoil():
-            with open(self.path("journal"), "ab") as journal:
-                journal.write(b"what no journal has\n")
-
-        said = self.use_between([len(sent) - 3, 1], spoil, "-v", "--again", "2")
-        self.assertEqual(said.status, 1)
-        self.assertRegex(said.err.decode(), r"^again 1 of 2: [^;]*; not undone: .*\nagain 2 of 2: [^;]*; not undone: bad journal line 7\n"
-                         r"stmflash: bad journal line 7\n$")
+        said = self.use_between([len(self.whole()) - 3, 1], b"what no journal has\n", "-v", "--again", "2")
+        self.assertInVain(said, "bad journal line 7\nstmflash: bad journal line 7")
         self.assertTrue(self.held("journal").endswith(b"end 1\nwhat no journal has\n"))
 
     def test_no_other_fault_is_tried_again(self):
         self.store("journal", b"stmjournal 1 0412\nopen 1\n")
-        self.assertEqual(self.use("write", "--again", "3", "image"),
-                         Said(1, b"", b"stands: segment 1 is unfinished, undo first\n"
-                                      b"stmflash: unfinished command, undo first\n"))
+        err = b"stands: segment 1 is unfinished, undo first\nstmflash: unfinished command, undo first\n"
+        self.assertEqual(self.use("write", "--again", "3", "image"), Said(1, b"", err))
 
     def test_what_was_there_is_left(self):
         self.store("journal", b"stmjournal 1 0412\nopen 1\nend 1\n")

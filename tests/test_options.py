@@ -16,33 +16,20 @@ LAST_TABLE = b'[[chip]]\nid = 0x412\nbase = 0xFFFF8000\npages = [[32, 1024]]\ner
 # words that are no numbers
 NO_NUMBERS = ("", "08", "00", "4294967296", "10000000000", "0x", "0x123456789", "0X10", "-1", "+1", "0xG")
 # subcommands with further words, of which the one named decides; options come before further words
-BAD_NUMBERS = (
-    ("go", ("--wait=0", "--stop=x", "08"), "0"),
-    ("go", ("--wait=60001", "--stop=x", "08"), "60001"),
-    ("go", ("--wait=1", "--stop=x", "08"), "x"),
-    ("go", ("--wait=1", "--stop=4294967296", "08"), "4294967296"),
-    ("go", ("--wait=60000", "--stop=1", "08"), "08"),
-    ("read", ("-S", "08", "OUT"), "08"),
-    ("read", ("-S", "1:", "OUT"), "1:"),
-    ("read", ("-S", "1:2:3", "OUT"), "1:2:3"),
-)
+BAD_NUMBERS = (("go", ("--wait=0", "--stop=x", "08"), "0"), ("go", ("--wait=60001", "--stop=x", "08"), "60001"),
+               ("go", ("--wait=1", "--stop=x", "08"), "x"), ("go", ("--wait=1", "--stop=4294967296", "08"), "4294967296"),
+               ("go", ("--wait=60000", "--stop=1", "08"), "08"), *(("read", ("-S", it, "OUT"), it) for it in ("08", "1:", "1:2:3")))
 # chips and clients of `sim`, and the word that decides
 BAD_SIM_NUMBERS = (("412", "1", "412"), ("0412", "0", "0"), ("0412", "1000001", "1000001"))
 # parts of a flash, and from where to where they go
-PARTS = (
-    ("0x08000001:4", 1, 5),
-    ("0x080000FF:2", 255, 257),
-    ("134225919", 8191, 32768),
-    ("0x08007FFF", 32767, 32768),
-    ("0:0", 0, 0),
-)
+PARTS = (("0x08000001:4", 1, 5), ("0x080000FF:2", 255, 257), ("134225919", 8191, 32768), ("0x08007FFF", 32767, 32768), ("0:0", 0, 0))
 NO_PARTS = ("0x08008000", "0x07FFFFFF", "0x08007FFF:2", "0xFFFFFFFF:4294967295")
 
 
 class Options(Place):
     def test_says_help_and_usage(self):
         told = self.call("--help")
-        self.assertEqual((told.status, told.err), (0, b""))
+        self.assertWell(told)
         self.assertGreater(len(told.out), 100)
         for name in SUBCOMMANDS:
             self.assertIn(f"\n  {name} ".encode(), told.out)
@@ -56,21 +43,18 @@ class Options(Place):
         for name in SUBCOMMANDS:
             with self.subTest(name=name):
                 told = self.call(name, "--help")
-                self.assertEqual((told.status, told.err), (0, b""))
+                self.assertWell(told)
                 self.assertGreater(len(told.out), 200)
                 self.assertIn(f"Usage: stmflash {name} ".encode(), told.out)
 
     def test_words_are_text(self):
-        for words in ((b"\xff",), (b"info", b"--table", b"table\xff"), (b"\xff", b"--help")):
-            with self.subTest(words=words):
-                said = self.call(*(os.fsdecode(word) for word in words))
-                self.assertFault(said, "usage: the words are not text", 2)
+        self.each(((b"\xff",), (b"info", b"--table", b"table\xff"), (b"\xff", b"--help")),
+                  lambda *words: self.assertFault(self.call(*(os.fsdecode(word) for word in words)), "usage: the words are not text", 2))
 
     def test_a_standard_output_that_is_full_is_told(self):
         """Whatever is printed, and though all else was done."""
-        for words in (("--help",), ("--version",), ("erase", "--help"), ("info", *files()), ("info", *files(), "--raw"),
-                      ("read", *files(), "-"), ("erase", *files(), "5"), ("undo", *files()), ("log", "--journal", "journal"),
-                      ("keep", "--journal", "journal")):
+        for words in (("--help",), ("--version",), ("erase", "--help"), ("info", *files()), ("info", *files(), "--raw"), ("read", *files(), "-"),
+                      ("erase", *files(), "5"), ("undo", *files()), ("log", "--journal", "journal"), ("keep", "--journal", "journal")):
             with self.subTest(words=words), open("/dev/full", "wb") as out:
                 said = self.call(*words, stdout=out)
                 self.assertEqual((said.status, said.err), (1, CANNOT))
@@ -107,58 +91,40 @@ class Options(Place):
                 self.assertEqual((said.status, said.err), (1 if text else 0, text))
 
     def test_the_table_comes_before_the_image(self):
-        self.remove("table")
-        for name in ("write", "verify"):
-            self.assertFault(self.use(name, "image", device="board"), "cannot read table")
-        self.store("table", TABLE)
-        for name in ("write", "verify"):
-            self.assertFault(self.use(name, "image", device="board"), "cannot read image")
+        for table, text in ((None, "cannot read table"), (TABLE, "cannot read image")):
+            self.store("table", table)
+            for name in ("write", "verify"):
+                self.assertFault(self.use(name, "image", device="board"), text)
 
     def test_reads_numbers(self):
         """What number a word is shows as the length of what is read, and as the address that a verify tells."""
-        for word, number in LENGTHS:
-            with self.subTest(word=word):
-                self.assertSilent(self.use("read", "-S", "0x08000000:" + word, "out"))
-                self.assertFile("out", ERASED[:number])
+        self.each(LENGTHS, lambda word, number: self.assertSilent(self.use("read", "-S", "0x08000000:" + word, "out"), out=ERASED[:number]))
         for word in NO_NUMBERS:
-            for name, words, bad in (
-                ("go", ("--", word), word),
-                ("info", ("--stop=" + word,), word),
-                ("info", ("--wait=" + word,), word),
-                ("undo", ("--", word), word),
-                ("read", ("-S", "0:" + word, "out"), "0:" + word),
-            ):
+            for name, words, bad in (("go", ("--", word), word), ("info", ("--stop=" + word,), word), ("info", ("--wait=" + word,), word),
+                                     ("undo", ("--", word), word), ("read", ("-S", "0:" + word, "out"), "0:" + word)):
                 with self.subTest(word=word, words=words):
                     self.assertFault(self.use(name, *words), f"usage: bad number {bad}", 2)
         self.remove("flash", "flash.line")
         self.store("table", LAST_TABLE)
-        for word in LAST:
-            with self.subTest(word=word):
-                self.assertFault(self.use_image("verify", b"\x00", "-S", word), "differs at FFFFFFFF")
+        self.each(LAST, lambda word: self.assertFault(self.use_image("verify", b"\x00", "-S", word), "differs at FFFFFFFF"))
         # from 0 to the end of this flash there are more bytes than a number of 32 bits says
         self.assertFault(self.use("read", "-S", "0", "out"), "address outside the flash")
 
     def test_says_which_number_is_bad(self):
-        for name, words, bad in BAD_NUMBERS:
-            with self.subTest(words=words):
-                self.assertFault(self.use(name, *words), f"usage: bad number {bad}", 2)
+        self.each(BAD_NUMBERS, lambda name, words, bad: self.assertFault(self.use(name, *words), f"usage: bad number {bad}", 2))
         for chip, clients, bad in BAD_SIM_NUMBERS:
             with self.subTest(chip=chip, clients=clients):
                 self.assertFault(self.call(*served(chip, "F", "S"), "--clients", clients), f"usage: bad number {bad}", 2)
-        for mode in ("8", "608", "0600", "", "rw"):
-            with self.subTest(mode=mode):
-                self.assertFault(self.call(*served("0412", "F", "S"), "--mode", mode), f"usage: bad number {mode}", 2)
+        self.each(("8", "608", "0600", "", "rw"),
+                  lambda mode: self.assertFault(self.call(*served("0412", "F", "S"), "--mode", mode), f"usage: bad number {mode}", 2))
         self.assertEqual(os.listdir(self.folder), ["table"])
 
     def test_stops_a_simulator_alone(self):
         """The words come before the table, and the table before the device."""
-        said = self.use("read", "--stop", "0", "OUT", device="socket")
-        self.assertFault(said, "usage: --stop needs a simulator", 2)
-        self.assertFault(self.use("info", "--wait", "1", device="socket"), "cannot connect socket")
-        self.remove("table")
-        said = self.use("read", "--stop", "0", "OUT", device="socket")
-        self.assertFault(said, "usage: --stop needs a simulator", 2)
-        self.assertFault(self.use("info", "--wait", "1", device="socket"), "cannot read table")
+        for table, text in ((TABLE, "cannot connect socket"), (None, "cannot read table")):
+            self.store("table", table)
+            self.assertFault(self.use("read", "--stop", "0", "OUT", device="socket"), "usage: --stop needs a simulator", 2)
+            self.assertFault(self.use("info", "--wait", "1", device="socket"), text)
 
     def test_a_serial_port_is_no_socket(self):
         """It is told how the line to one is joined, and nothing is opened or written."""
@@ -170,58 +136,40 @@ class Options(Place):
             with self.subTest(name=name):
                 port = f"serial ports want stmflash-line {name} -- stmflash .. (no --device)"
                 self.assertFault(self.use("erase", "5", device=name), f"cannot connect {name}", hint=port)
-        for name in (".", "table", "absent"):
-            with self.subTest(name=name):
-                self.assertFault(self.use("erase", "5", device=name), f"cannot connect {name}")
+        self.each((".", "table", "absent"), lambda name: self.assertFault(self.use("erase", "5", device=name), f"cannot connect {name}"))
         self.assertEqual(sorted(os.listdir(self.folder)), ["port", "table"])
 
     def test_reads_a_part(self):
         self.store("flash", COUNTING)
-        for part, start, end in PARTS:
-            with self.subTest(part=part):
-                self.assertSilent(self.use("read", "-S", part, "out"))
-                self.assertFile("out", COUNTING[start:end])
+        self.each(PARTS, lambda part, start, end: self.assertSilent(self.use("read", "-S", part, "out"), out=COUNTING[start:end]))
         self.remove("out")
-        for part in NO_PARTS:
-            with self.subTest(part=part):
-                self.assertFault(self.use("read", "-S", part, "out"), "address outside the flash")
-                self.assertFile("out", None)
+        self.each(NO_PARTS, lambda part: self.assertFault(self.use("read", "-S", part, "out"), "address outside the flash", out=None))
 
     def test_stops_after_steps(self):
         """A contact with a fresh device is 27 steps, with a settled one 25, and a read of a block 268."""
-        for name, words, steps, status in (
-            ("info", (), "0", 3),
-            ("info", (), "26", 3),
-            ("info", (), "27", 0),
-            ("info", (), "34355", 0),
-            ("read", ("out",), "51", 3),
-            ("read", ("out",), "34355", 3),
-            ("read", ("out",), "34356", 0),
-        ):
+        for name, words, steps, status in (("info", (), "0", 3), ("info", (), "26", 3), ("info", (), "27", 0), ("info", (), "34355", 0),
+                                           ("read", ("out",), "51", 3), ("read", ("out",), "34355", 3), ("read", ("out",), "34356", 0)):
             with self.subTest(name=name, steps=steps):
                 self.clear("flash.line")
                 said = self.use(name, "--stop", steps, *words)
                 if status == 3:
                     self.assertFault(said, "stopped", 3)
                 else:
-                    self.assertEqual((said.status, said.err), (0, b""))
+                    self.assertWell(said)
                 self.assertFile("out", ERASED if name == "read" and status == 0 else None)
 
     def test_a_rest_is_no_step(self):
         """The bytes that bring a device to where it stood are no steps."""
         self.store("flash.line", b"rest 11EE0800\n")
-        self.assertFault(self.use("info", "--stop", "0"), "stopped", 3)
-        self.assertHolds(ERASED, b"rest 11EE0800\n")
-        self.assertFault(self.use("info", "--stop", "1"), "stopped", 3)
-        self.assertHolds(ERASED, b"rest 11EE08007F\n")
+        self.assertFault(self.use("info", "--stop", "0"), "stopped", 3, holds=(ERASED, b"rest 11EE0800\n"))
+        self.assertFault(self.use("info", "--stop", "1"), "stopped", 3, holds=(ERASED, b"rest 11EE08007F\n"))
 
     def test_keeps_its_own_files(self):
         """Nothing is written where the bytes would stand in place of what a run needs."""
         journal = b"stmjournal 1 0412\n"
         self.store("journal", journal)
         os.symlink(self.path("journal"), self.path("link"))
-        for name in ("journal", "table", "flash", "flash.line", "link", "./journal", self.path("table")):
-            with self.subTest(name=name):
-                self.assertFault(self.use("read", name), f"cannot write {name}")
+        self.each(("journal", "table", "flash", "flash.line", "link", "./journal", self.path("table")),
+                  lambda name: self.assertFault(self.use("read", name), f"cannot write {name}"))
         self.assertFile("journal", journal)
         self.assertHolds(None, None)

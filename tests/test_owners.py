@@ -1,5 +1,6 @@
 """Whose a journal or an OUT is: what others put there is what an undo flashes, and what is written there they read."""
 
+import itertools
 import os
 import shutil
 import typing
@@ -31,9 +32,8 @@ class Planted(typing.NamedTuple):
 
 
 # each with why it isn't used. A group that has the number of its user, as Debian makes them, is that user's alone
-FILES = (None, Planted(OURS, OURS, 0o600), Planted(OURS, OURS, 0o664), Planted(OURS, OTHER, 0o640),
-         Planted(OURS, OTHER, 0o660, WRITABLE), Planted(OURS, OURS, 0o602, WRITABLE), Planted(OTHER, OTHER, 0o600, OWNER),
-         Planted(OTHER, OURS, 0o666, OWNER))
+FILES = (None, Planted(OURS, OURS, 0o600), Planted(OURS, OURS, 0o664), Planted(OURS, OTHER, 0o640), Planted(OURS, OTHER, 0o660, WRITABLE),
+         Planted(OURS, OURS, 0o602, WRITABLE), Planted(OTHER, OTHER, 0o600, OWNER), Planted(OTHER, OURS, 0o666, OWNER))
 FOLDERS = (Planted(OURS, OURS, 0o775), Planted(OURS, OURS, 0o1777), Planted(OURS, OTHER, 0o1770), Planted(OTHER, OTHER, 0o775),
            Planted(OURS, OURS, 0o777, REPLACEABLE), Planted(OURS, OTHER, 0o770, REPLACEABLE), Planted(OTHER, OURS, 0o707, REPLACEABLE))
 OWN_FOLDER = Planted(OURS, OURS, 0o700)
@@ -82,22 +82,19 @@ class Owners(Served):
     def assertPlanted(self, data, call, is_used, names=NAMES):
         """Each of these planted names is used, or refused in one line, in which nothing was sent or changed; and used where the word
         allows it."""
-        for row in names:
-            for words in ((), (WORD,)):
-                with self.subTest(row=row, words=words):
-                    file, folder, link = row
-                    name = self.plant(*row, data)
-                    self.begin()
-                    said = call(name, *words)
-                    why = why_not(*row)
-                    if why and not words:
-                        self.assertFault(said, f"{name} {why}")
-                        self.assertHolds(COUNTING, b"fresh\n")
-                        self.assertFile("folder/file", data if file else None)
-                        self.assertEqual(os.listdir(self.path("folder")), ["file"] if file else [])
-                    else:
-                        self.assertEqual(said.status, 0, said)
-                        is_used()
+        for row, words in itertools.product(names, ((), (WORD,))):
+            with self.subTest(row=row, words=words):
+                name = self.plant(*row, data)
+                self.begin()
+                said = call(name, *words)
+                why = why_not(*row)
+                if why and not words:
+                    self.assertFault(said, f"{name} {why}", holds=(COUNTING, b"fresh\n"))
+                    self.assertFile("folder/file", data if row[0] else None)
+                    self.assertEqual(os.listdir(self.path("folder")), ["file"] if row[0] else [])
+                else:
+                    self.assertEqual(said.status, 0, said)
+                    is_used()
 
     def test_journals(self):
         def is_used():
@@ -132,19 +129,15 @@ class Owners(Served):
         self.begin()
         self.store("image", b"\xaa")
         self.make("journal", Planted(OTHER, OTHER, 0o644), JOURNAL)
-        for words in (("info",), ("crc",), ("verify", "image"), ("write", "image"), ("erase", "5"), ("undo",), ("go", "0x08000000"),
-                      ("protect", "write-unprotect")):
-            for device in ("sim:0412:flash", "absent-board"):
-                with self.subTest(words=words, device=device):
-                    self.assertFault(self.use(*words, device=device), f"journal {OWNER}")
+        calls = (("info",), ("crc",), ("verify", "image"), ("write", "image"), ("erase", "5"), ("undo",), ("go", "0x08000000"),
+                 ("protect", "write-unprotect"))
+        self.each(itertools.product(calls, ("sim:0412:flash", "absent-board")),
+                  lambda words, device: self.assertFault(self.use(*words, device=device), f"journal {OWNER}"))
         for words in (("keep",), ("keep", "kept"), ("keep", "--last", "1")):
             self.assertFault(self.call(words[0], "--journal", "journal", *words[1:]), f"journal {OWNER}")
-        self.assertHolds(COUNTING, b"fresh\n")
-        self.assertFiles({"journal": JOURNAL, "kept": None})
-        said = self.call("log", "--journal", "journal")
-        self.assertTold(said, "id 0412\nsegment 1: ended, 0 pages\n1 can be undone\n")
-        said = self.use("info", "--json")
-        self.assertEqual(said.out.split(b",")[0], b'{"fault":"not_trusted"')
+        self.assertFiles({"flash": COUNTING, "flash.line": b"fresh\n", "journal": JOURNAL, "kept": None})
+        self.assertTold(self.call("log", "--journal", "journal"), "id 0412\nsegment 1: ended, 0 pages\n1 can be undone\n")
+        self.assertEqual(self.use("info", "--json").out.split(b",")[0], b'{"fault":"not_trusted"')
         self.assertEqual(self.call("keep", "--journal", "journal", WORD).status, 0)
         # nor is what a crash left there cut off
         self.make("journal", Planted(OTHER, OTHER, 0o644), LEFT)
@@ -153,19 +146,17 @@ class Owners(Served):
 
     def test_root_trusts_who_called_sudo(self):
         """A number that isn't one is nobody's."""
-        for caller, trusted in ((OTHER, True), (OTHER + 1, False), ("", False), ("x4242", False), (1 << 32, False)):
-            for kind, call in (("journal", lambda name, **how: self.use("erase", "5", journal=name, **how)),
-                               ("out", lambda name, **how: self.use("read", name, **how))):
-                with self.subTest(caller=caller, kind=kind):
-                    self.begin()
-                    self.clear("file")
-                    self.make("file", Planted(OTHER, OTHER, 0o660), JOURNAL)
-                    said = call("file", variables={"SUDO_UID": str(caller)})
-                    if trusted:
-                        self.assertEqual((said.status, said.err), (0, b""))
-                    else:
-                        self.assertFault(said, f"file {OWNER}")
-                        self.assertFile("file", JOURNAL)
+        for caller, (words, journal) in itertools.product((OTHER, OTHER + 1, "", "x4242", 1 << 32),
+                                                          ((("erase", "5"), "file"), (("read", "file"), "journal"))):
+            with self.subTest(caller=caller, words=words):
+                self.begin()
+                self.clear("file")
+                self.make("file", Planted(OTHER, OTHER, 0o660), JOURNAL)
+                said = self.use(*words, journal=journal, variables={"SUDO_UID": str(caller)})
+                if caller == OTHER:
+                    self.assertWell(said)
+                else:
+                    self.assertFault(said, f"file {OWNER}", file=JOURNAL)
 
     def test_a_user_trusts_root_and_no_variable(self):
         """What sudo says counts for root alone."""
@@ -190,8 +181,7 @@ class Owners(Served):
                 with unittest.mock.patch.dict(os.environ, STMFLASH=program):
                     said = self.call("erase", *files(), "5", before=become, variables={"SUDO_UID": str(OTHER + 1)})
                 if why:
-                    self.assertFault(said, f"journal {why}")
-                    self.assertHolds(ZEROS, b"fresh\n")
+                    self.assertFault(said, f"journal {why}", holds=(ZEROS, b"fresh\n"))
                 else:
                     self.assertEqual(said.status, 0, said)
                 self.remove("journal")
@@ -222,17 +212,15 @@ class Owners(Served):
     def test_a_folder_of_journals(self):
         """Where others may put journals, no board is asked which it is."""
         self.store_all({"table": telling.TABLE, "a": bytes(131072), "a.board": f"unique {UNIQUE}\n".encode()})
-        for folder in (OWN_FOLDER, *FOLDERS):
-            for words in ((), (WORD,)):
-                with self.subTest(folder=folder, words=words):
-                    shutil.rmtree(self.path("journals"), ignore_errors=True)
-                    self.make("journals", folder)
-                    self.store("a.line", b"idle\n")
-                    said = self.call("erase", "--table", "table", "--device", "sim:0410:a", "--journals", "journals", *words, "5")
-                    if folder.why and not words:
-                        self.assertFault(said, f"journals {WRITABLE}")
-                        self.assertFile("a.line", b"idle\n")
-                        self.assertEqual(os.listdir(self.path("journals")), [])
-                    else:
-                        self.assertEqual(said.status, 0, said)
-                        self.assertEqual(os.listdir(self.path("journals")), [f"{UNIQUE}.journal"])
+        for folder, words in itertools.product((OWN_FOLDER, *FOLDERS), ((), (WORD,))):
+            with self.subTest(folder=folder, words=words):
+                shutil.rmtree(self.path("journals"), ignore_errors=True)
+                self.make("journals", folder)
+                self.store("a.line", b"idle\n")
+                said = self.call("erase", "--table", "table", "--device", "sim:0410:a", "--journals", "journals", *words, "5")
+                if folder.why and not words:
+                    self.assertFault(said, f"journals {WRITABLE}")
+                    self.assertFile("a.line", b"idle\n")
+                else:
+                    self.assertEqual(said.status, 0, said)
+                self.assertEqual(os.listdir(self.path("journals")), [] if folder.why and not words else [f"{UNIQUE}.journal"])

@@ -26,6 +26,23 @@ def sum_of(path):
 
 
 class Packaging(unittest.TestCase):
+    def folder(self):
+        """A folder for this test."""
+        made = tempfile.TemporaryDirectory()
+        self.addCleanup(made.cleanup)
+        return made.name
+
+    def refused(self, path, folder, *words):
+        """What is said where no package is made of this program; its folder has that one file then."""
+        ran = subprocess.run([os.path.join(TOP, "packaging", "deb"), *words, path, folder], capture_output=True, text=True, timeout=60)
+        self.assertEqual((ran.returncode, ran.stdout, os.listdir(folder)), (1, "", ["one"]))
+        return ran.stderr
+
+    def make(self, path, said, more=""):
+        """Makes a program that says this."""
+        text = f'#include <stdio.h>\n{more}int main(void) {{ return puts("{said}") < 0; }}\n'
+        subprocess.run(["gcc", "-x", "c", "-", "-o", path], input=text, text=True, check=True)
+
     def needs(self, **packages):
         """Leaves the test out where one of these tools isn't there, with the name of its package."""
         for tool, package in packages.items():
@@ -34,53 +51,41 @@ class Packaging(unittest.TestCase):
 
     def test_no_package_of_a_program_that_is_not_proved(self):
         self.needs(readelf="binutils")
-        with tempfile.TemporaryDirectory() as folder:
-            # a program that isn't of the kit, and a file that is none, with the kit's word in it
-            other, text = os.path.realpath(shutil.which("readelf")), os.path.join(folder, "text")
-            with open(text, "w", encoding="utf-8") as file:
-                file.write("rattle logic=dac8208d\n")
-            for path in (other, text, *[program().removesuffix("-under-qemu")] * is_unproved()):
-                ran = subprocess.run([os.path.join(TOP, "packaging", "deb"), path, folder], capture_output=True, text=True, timeout=60)
-                self.assertEqual((ran.returncode, ran.stdout), (1, ""))
-                self.assertEqual(ran.stderr, f"packaging/deb: {path} isn't proved, and no package is made of it\n")
-            self.assertEqual(os.listdir(folder), ["text"])
+        folder = self.folder()
+        # a program that isn't of the kit, and a file that is none, with the kit's word in it
+        other, text = os.path.realpath(shutil.which("readelf")), os.path.join(folder, "one")
+        with open(text, "w", encoding="utf-8") as file:
+            file.write("rattle logic=dac8208d\n")
+        for path in (other, text, *[program().removesuffix("-under-qemu")] * is_unproved()):
+            self.assertEqual(self.refused(path, folder), f"packaging/deb: {path} isn't proved, and no package is made of it\n")
 
     def test_what_a_program_says_of_its_proof(self):
         """A program that says that it is proved has no package of one that isn't, and one that says nothing has none."""
         self.needs(readelf="binutils", gcc="gcc")
         version = text_in("packaging", "changelog")[len("stmflash ("):].split("-")[0]
-        with tempfile.TemporaryDirectory() as folder:
-            path = os.path.join(folder, "one")
-            for said in (f"stmflash {version}, proved by rattle logic dac8208d650f15bf", f"stmflash {version}"):
-                text = f'#include <stdio.h>\nint main(void) {{ return puts("{said}") < 0; }}\n'
-                subprocess.run(["gcc", "-x", "c", "-", "-o", path], input=text, text=True, check=True)
-                words = [os.path.join(TOP, "packaging", "deb"), "--unproved", path, folder]
-                ran = subprocess.run(words, capture_output=True, text=True, timeout=60)
-                self.assertEqual((ran.returncode, ran.stdout), (1, ""))
-                self.assertEqual(ran.stderr, f"packaging/deb: the program says `{said}`, and not `stmflash {version}, not proved`\n")
-                self.assertEqual(os.listdir(folder), ["one"])
+        folder = self.folder()
+        path = os.path.join(folder, "one")
+        for said in (f"stmflash {version}, proved by rattle logic dac8208d650f15bf", f"stmflash {version}"):
+            self.make(path, said)
+            self.assertEqual(self.refused(path, folder, "--unproved"),
+                             f"packaging/deb: the program says `{said}`, and not `stmflash {version}, not proved`\n")
 
     def test_a_proof_in_another_logic(self):
         """A program into which the compiler wrote another logic than the code names has no package."""
         self.needs(readelf="binutils", gcc="gcc")
-        with tempfile.TemporaryDirectory() as folder:
-            path = os.path.join(folder, "one")
-            for logic, fault in (("0123456789abcdef", "is proved in another logic than the code names"),
-                                 ("dac8208d650f15bf3e2d", "the program says `stmflash`")):
-                text = f'#include <stdio.h>\n__asm__(".ident \\"rattle logic={logic}\\"");\nint main(void) {{ return puts("stmflash") < 0; }}\n'
-                subprocess.run(["gcc", "-x", "c", "-", "-o", path], input=text, text=True, check=True)
-                ran = subprocess.run([os.path.join(TOP, "packaging", "deb"), path, folder], capture_output=True, text=True, timeout=60)
-                self.assertEqual((ran.returncode, ran.stdout), (1, ""))
-                self.assertIn(fault, ran.stderr)
-                self.assertEqual(os.listdir(folder), ["one"])
+        folder = self.folder()
+        path = os.path.join(folder, "one")
+        for logic, fault in (("0123456789abcdef", "is proved in another logic than the code names"),
+                             ("dac8208d650f15bf3e2d", "the program says `stmflash`")):
+            self.make(path, "stmflash", f'__asm__(".ident \\"rattle logic={logic}\\"");\n')
+            self.assertIn(fault, self.refused(path, folder))
 
     def installed(self, *parts):
         """What `make install` leaves below a folder of ours, which is told as /opt/ours."""
-        made = tempfile.TemporaryDirectory()
-        self.addCleanup(made.cleanup)
-        subprocess.run(["make", "--no-print-directory", "install", "PREFIX=/opt/ours", f"DESTDIR={made.name}", f"BINARY={program()}"],
+        folder = self.folder()
+        subprocess.run(["make", "--no-print-directory", "install", "PREFIX=/opt/ours", f"DESTDIR={folder}", f"BINARY={program()}"],
                        cwd=TOP, check=True, capture_output=True, timeout=60)
-        return os.path.join(made.name, "opt", "ours", *parts)
+        return os.path.join(folder, "opt", "ours", *parts)
 
     def test_what_is_installed_knows_where_it_is(self):
         """Each program is on the path with its page and its completions, and says its words; the unit calls the one beside it."""
@@ -118,9 +123,7 @@ class Packaging(unittest.TestCase):
     def packed(self, *words):
         """What a script packs, whoever calls it: the fields of its control file, and the folder of its files. Each has its sum, and may be read by all."""
         self.needs(**{"dpkg-deb": "dpkg-dev"})
-        held = tempfile.TemporaryDirectory()
-        self.addCleanup(held.cleanup)
-        room = held.name
+        room = self.folder()
         made = subprocess.run([os.path.join(TOP, "packaging", words[0]), *words[1:], room], capture_output=True, text=True, timeout=PATIENCE,
                               check=True, umask=0o077).stdout.strip()
         subprocess.run(["dpkg-deb", "--raw-extract", made, f"{room}/tree"], check=True)
@@ -161,8 +164,7 @@ class Packaging(unittest.TestCase):
         self.assertEqual(os.listdir(f"{tree}/usr/share/man/man1"), ["stmflash-as-stm32flash.1.gz"])
 
     def release(self, clone, folder, *programs):
-        words = [os.path.join(clone, "packaging", "release"), folder, *programs]
-        ran = subprocess.run(words, capture_output=True, text=True, timeout=60)
+        ran = subprocess.run([os.path.join(clone, "packaging", "release"), folder, *programs], capture_output=True, text=True, timeout=60)
         return ran.returncode, ran.stderr, ran.stdout
 
     def test_a_release(self):

@@ -142,8 +142,7 @@ class Pages(Place):
             self.assertIn("- **`undo`** (`undoing.rt`): *half* `result ≡ count`\n", text_in(folder, "docs", "PROVED.md"))
 
     def test_the_map_names_each_file(self):
-        """Each file of code, definitions and lemmas in the section of its folder, with words; of tests, tools and the rest it or its
-        folder."""
+        """Each file of code, definitions and lemmas in the section of its folder, with words; of tests, tools and the rest it or its folder."""
         head, page = text_in("docs", "heads", "MAP.md"), text_in("docs", "MAP.md")
         rooms = {it.partition("\n")[0]: it for it in page.split("\n## ")}
         for path in subprocess.run(["git", "ls-files"], cwd=TOP, capture_output=True, text=True, check=True).stdout.splitlines():
@@ -245,15 +244,12 @@ class Pages(Place):
         for page in ("CONTRIBUTING.md", "README.md"):
             commands = re.findall(r"^    (.+)$|`([^`]+)`", re.sub(r"\n(?=\S)", " ", text_in(page)), re.M)
             commands = [it for pair in commands for it in pair if it]
-            for target in {word for it in commands for word in re.findall(r"(?:^|&& |sudo )make ([a-z][\w-]*)", it)}:
-                with self.subTest(page=page, target=target):
-                    self.assertIn(target, targets)
-            for tool in {word for it in commands for word in re.findall(r"\bpython3 ((?:tools|tests)/[\w/-]+)", it)}:
-                with self.subTest(page=page, tool=tool):
-                    self.assertTrue(os.path.exists(os.path.join(TOP, tool)))
-            for module in {word for it in commands for word in re.findall(r"unittest (test_\w+)", it)}:
-                with self.subTest(page=page, module=module):
-                    self.assertTrue(os.path.exists(os.path.join(TOP, "tests", module + ".py")))
+            for named, is_there in ((r"(?:^|&& |sudo )make ([a-z][\w-]*)", lambda it: it in targets),
+                                    (r"\bpython3 ((?:tools|tests)/[\w/-]+)", lambda it: os.path.exists(os.path.join(TOP, it))),
+                                    (r"unittest (test_\w+)", lambda it: os.path.exists(os.path.join(TOP, "tests", it + ".py")))):
+                for word in {word for it in commands for word in re.findall(named, it)}:
+                    with self.subTest(page=page, word=word):
+                        self.assertTrue(is_there(word))
 
     def test_each_row_is_played(self):
         """Each file of rows is in what `rt ci` or tools/rows compares, as often as its loops have it played."""

@@ -24,9 +24,8 @@ JOURNAL = b"open 1\npage 2 %s\nend 1\n" % (b"AA" * 256)
 PLACE, FOLDER = "journal", f"journals/{UNIQUE}.journal"
 ON = ("--table", "table", "--device", "sim:0410:flash")
 # each subcommand: what it is called with, and what stands behind the flags
-CALLS = {"info": (ON, ()), "read": (ON, ("out",)), "crc": (ON, ()), "write": (ON, ("image",)), "verify": (ON, ("image",)),
-         "erase": (ON, ("1",)), "undo": (ON, ()), "go": (ON, ("0x08000000",)), "protect": (ON, ("write-unprotect",)),
-         "log": ((), ()), "keep": ((), ())}
+CALLS = {"info": (ON, ()), "read": (ON, ("out",)), "crc": (ON, ()), "write": (ON, ("image",)), "verify": (ON, ("image",)), "erase": (ON, ("1",)),
+         "undo": (ON, ()), "go": (ON, ("0x08000000",)), "protect": (ON, ("write-unprotect",)), "log": ((), ()), "keep": ((), ())}
 # each flag: the words that ask for it. One that asks for more is no flag without that
 FLAGS = {"--table": (), "--device": (), "--journal": (), "--journals": ("--journals", "journals"), "--no-lock": ("--no-lock",),
          "--trust-journal": ("--trust-journal",),
@@ -35,7 +34,7 @@ FLAGS = {"--table": (), "--device": (), "--journal": (), "--journals": ("--journ
          "--stop": ("--stop", "1000000"), "--board": ("--board", UNIQUE), "--no-board": ("--no-board",), "--raw": ("--raw",),
          "-S": ("-S", "0x08000010:768"), "--hex": ("--hex",), "--skip-blank": ("--hex", "--skip-blank"), "-f": ("-f",), "-v": ("-v",),
          "--keep": ("--keep",), "--keep-to": ("--keep-to", "kept"), "--go": ("--keep", "--go", "0x08000000"), "--again": ("--again", "2"),
-         "--to-change": ("--to-change",), "--recover": ("--recover",), "--all": ("--all",), "--yes": ("--yes",), "--in-session": ("--fresh", "--in-session"),
+         "--to-change": ("--to-change",), "--recover": ("--recover",), "--all": ("--all",), "--yes": ("--yes",), "--in-session": ("--in-session",),
          "--check": ("--check",), "--last": ("--last", "1"), "a socket": ()}
 # words by which a call is refused, or stopped, whatever stands beside them: nothing is changed
 REFUSED = {"another board": ("--board", "0" * 24), "a stop": ("--stop", "3"), "a bad wait": ("--wait", "0")}
@@ -64,9 +63,9 @@ class Pairs(Served):
             self.store(file, data)
 
     def flags(self, name):
-        """The flags of a subcommand, as its help names them."""
+        """The flags of a subcommand, as its help names them, and the one that it leaves out."""
         found = re.findall(r"^ +(-\w|--[\w-]+)(?=[ ,])", self.call(name, "--help").out.decode(), re.M)
-        return [it for it in found if it != "-h"] + ["a socket"] * ("--device" in found)
+        return [it for it in found if it != "-h"] + ["--fresh", "a socket"] * ("--device" in found)
 
     def came(self, name, *flags, by=None):
         """What comes of a call with these flags, part by part; for one of them its variable may stand."""
@@ -167,38 +166,16 @@ class Pairs(Served):
                     said = self.call(name, *before, "--journal", PLACE, *FLAGS[flag], *behind)
                     self.assertEqual((said.status, bool(said.out), self.held("flash.line")), (2, flag == "--json", b"fresh\n"))
 
-    def test_of_info(self):
-        self.assertPairs("info")
-
-    def test_of_read(self):
-        self.assertPairs("read")
-
-    def test_of_crc(self):
-        self.assertPairs("crc")
-
+    # (tools/mutants looks for these two in the file; the others are made below)
     def test_of_write(self):
         self.assertPairs("write")
-
-    def test_of_verify(self):
-        self.assertPairs("verify")
 
     def test_of_erase(self):
         self.assertPairs("erase")
 
-    def test_of_undo(self):
-        self.assertPairs("undo")
 
-    def test_of_go(self):
-        self.assertPairs("go")
-
-    def test_of_protect(self):
-        self.assertPairs("protect")
-
-    def test_of_log(self):
-        self.assertPairs("log")
-
-    def test_of_keep(self):
-        self.assertPairs("keep")
+for name in CALLS.keys() - {"write", "erase"}:
+    setattr(Pairs, f"test_of_{name}", lambda self, name=name: self.assertPairs(name))
 
 
 def memory(text):

@@ -41,10 +41,7 @@ FONTS = {"B": " ", "I": " ", "SM": " ", "SB": " ", "BI": "", "IB": "", "BR": "",
 BREAKS = ("SH", "SS", "PP", "P", "LP", "TP", "TQ", "IP", "HP", "RS", "RE", "nf", "fi", "EX", "EE", "sp")
 # the sections of a manual page that have no sentences
 NO_SENTENCES = ("SYNOPSIS", "SEE ALSO")
-
-
-# A piece is what is read by itself: a paragraph, an item of a list, a cell of a table, a term. It is a list of its lines, each with
-# its number.
+# A piece is what is read by itself: a paragraph, an item of a list, a cell of a table, a term. It is a list of its lines, each with its number.
 
 def pieces_of_page(text):
     """The pieces of a page in Markdown: all but blocks of code, and the lines that rule a table."""
@@ -123,8 +120,7 @@ def sentences(name, text):
         said = "".join(line + " " for _, line in piece)
         begins = list(itertools.accumulate((len(line) + 1 for _, line in piece), initial=0))
         read = as_words(said) if is_page else said
-        ends = [it.end() for it in END.finditer(read)]
-        for begin, end in itertools.pairwise([0, *ends, len(read)]):
+        for begin, end in itertools.pairwise([0, *[it.end() for it in END.finditer(read)], len(read)]):
             words = [it for it in read[begin:end].split() if re.search(r"[^\W_]", it)]
             if words:
                 begin += len(read[begin:end]) - len(read[begin:end].lstrip())
@@ -175,8 +171,7 @@ class Plain(unittest.TestCase):
             planted = text[:cut] + parted.join((*worse, *well)) + parted + text[cut:]
             before = [said for _, _, _, said in unsettled(name, text)]
             with self.subTest(name=name):
-                self.assertEqual([(said, better) for _, _, better, said in unsettled(name, planted) if said not in before],
-                                 list(worse.items()))
+                self.assertEqual([(said, better) for _, _, better, said in unsettled(name, planted) if said not in before], list(worse.items()))
 
     def test_what_is_printed_is_still_printed(self):
         """Each text that may have such a word is in the code of a program, and in a page."""
@@ -191,8 +186,7 @@ class Plain(unittest.TestCase):
         """One word too many in each kind of place of each file; nothing at one word less."""
         page = ("{}\n", "- {}\n", "1. One. {}\n   more.\n", "- one\n\n  {}\n", "- one\n  - {}\n", "> {}\n", "| one | {} |\n",
                 "## {}\n", "![{}](a.svg)\n", "`one two`.\n{}\n")
-        manual = (".PP\n{}\n", ".TP\n.B one\n{}\n", ".TP\n{}\nOne.\n", ".PP\nOne.\n{}\n", ".PP\n.I {}\n", ".IP one\n{}\n",
-                  ".nf\none\n.fi\n{}\n")
+        manual = (".PP\n{}\n", ".TP\n.B one\n{}\n", ".TP\n{}\nOne.\n", ".PP\nOne.\n{}\n", ".PP\n.I {}\n", ".IP one\n{}\n", ".nf\none\n.fi\n{}\n")
         for name in PAGES + MANUALS:
             text, forms = text_in(name), page if name in PAGES else manual
             before = len(too_long(name, text))
@@ -210,8 +204,7 @@ class Plain(unittest.TestCase):
         self.assertEqual([(number, len(words)) for number, words, _ in sentences("a.md", page)],
                          [(1, 2), (3, 5), (3, 6), (5, 1), (5, 1), (9, 1), (9, 1), (11, 1), (11, 1), (16, 4), (19, 2)])
         manual = ('.TH A 1\n.SH NAME\na \\- b\n.SH SYNOPSIS\n.B a\nb\n.SH OPTIONS\n.TP\n.BI \\-a " B"\nSays\n'
-                  '.BI "one " N " two" \\fR.\n.\\" no sentence\nAlso\n.BR a (1):\n.br\nb.\n.PP\n.nf\nno sentence\n.fi\n'
-                  'Last \\(aqone\\(aq.\n')
+                  '.BI "one " N " two" \\fR.\n.\\" no sentence\nAlso\n.BR a (1):\n.br\nb.\n.PP\n.nf\nno sentence\n.fi\n' 'Last \\(aqone\\(aq.\n')
         self.assertEqual([(number, len(words), said) for number, words, said in sentences("a.1", manual)],
                          [(3, 2, "a - b"), (9, 2, "-a B"), (10, 4, "Says one N two."), (13, 3, "Also a(1): b."),
                           (21, 2, "Last 'one'.")])

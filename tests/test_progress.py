@@ -1,5 +1,6 @@
 """What is shown while a session runs, where it is shown, and that it changes nothing else."""
 
+import itertools
 import os
 import pty
 import re
@@ -11,7 +12,7 @@ import threading
 import time
 
 import telling
-from place import SILENT, Place, all_from, files, with_page
+from place import SILENT, Place, all_from, files, read_some, with_page
 from served import Served, relay
 from test_giving_up import Peer, be_silent
 
@@ -23,14 +24,16 @@ IMAGE = bytes(range(1, 251)) * (SIZE // 250) + bytes(SIZE % 250)
 CLEAR = b"\r\x1b[K"
 # what keeps a terminal from wrapping a line of progress that is wider, and lets it wrap again
 CUT, WRAP = b"\x1b[?7l", b"\x1b[?7h"
-# what a terminal shows before an image is written that has bytes of an erase
-NOTE = (b"note: the image holds bytes that a device which loses power in the midst would take for an erase; "
+# what a terminal shows before an image is written that has bytes of an erase, in the block at this place
+NOTE = (b"note: at %s the image holds bytes that a device which loses power in the midst would take for an erase; "
         b"use -v, and reset before an undo\r\n")
 # and before a journal is begun
 NEW = b"note: journal journal is new\r\n"
 # and behind what began one at a board that told no unique id
 NAMELESS = b"note: this board told no unique id: use journal journal at no other\r\n"
 ERASES = (b"\x43\xbc", b"\x44\xbb")
+# the words that say where an image is to be
+AT = ("-f", "-S", "0x08000000")
 # what a line of a terminal says while pages are changed
 STOPPED = "; if stopped: undo 1"
 
@@ -56,10 +59,7 @@ def read_meanwhile(here, there, use):
 
 class Progress(Place):
     device = "sim:0410:flash"
-
-    def setUp(self):
-        super().setUp()
-        self.store_all({"table": TABLE, "image": IMAGE})
+    begins = {"table": TABLE, "image": IMAGE}
 
     def run_shown(self, err, name, *words, before=None):
         """What a subcommand on the simulator answers, and says on standard output; standard error goes where it is told to."""
@@ -97,6 +97,13 @@ class Progress(Place):
         self.assertEqual((came[0], shown), ((0, b"segment 1: 64 pages written\n"), b""))
         return came
 
+    def assertEachShown(self, shown, *doings):
+        """Of each page each of these is shown, with its number of all."""
+        lines = shown.split(b"\x1b[K\r")
+        for page, doing in itertools.product(range(64), doings):
+            text = b"%s page %d, %d of 64 pages" % (doing, page, page + 1)
+            self.assertTrue(any(text in line for line in lines), text)
+
     def test_a_terminal_has_one_line(self):
         """It is written again and again, names each page with what is done, and is cleared in the end."""
         plain = self.plain()
@@ -107,11 +114,7 @@ class Progress(Place):
         shown = shown.removeprefix(NEW).removesuffix(NAMELESS)
         self.assertNotIn(b"\n", shown)
         self.assertTrue(shown.endswith(CLEAR))
-        lines = shown.split(b"\x1b[K\r")
-        for page in range(64):
-            for doing in (b"reading", b"erasing", b"writing"):
-                text = b"%s page %d, %d of 64 pages" % (doing, page, page + 1)
-                self.assertTrue(any(text in line for line in lines), text)
+        self.assertEachShown(shown, b"reading", b"erasing", b"writing")
         self.assertEqual(self.on_terminal(lambda err: self.write(err, "--quiet")), (plain, b""))
 
     def test_what_is_read_says_nothing_of_a_stop(self):
@@ -126,32 +129,27 @@ class Progress(Place):
 
     def shows_note(self, image, *words):
         """Whether the note stands before all else that a terminal shows of a write of this image."""
-        self.store("image", image)
         self.clear("flash", "flash.line")
-        self.store("journal", b"")
+        self.store_all({"image": image, "journal": b""})
         came, shown = self.on_terminal(lambda err: self.run_shown(err, "write", *words, "image"))
         self.assertEqual(came, (0, b"segment 1: %d pages written\n" % (len(image) + 1023 >> 10)))
-        self.assertEqual(shown.count(b"note:"), shown.startswith(NOTE))
-        return shown.startswith(NOTE)
+        block = 256 * (len(image) > 256)
+        note = NOTE % (b"%08X" % (0x08000000 + block) if "-S" in words else b"%X of the flash" % block)
+        self.assertEqual(shown.count(b"note:"), shown.startswith(note))
+        return shown.startswith(note)
 
     def test_bytes_of_an_erase_are_told_before_a_write(self):
         """A 7F, and the code and its complement behind it in the same block, with bytes between or without."""
-        place = ("-f", "-S", "0x08000000")
-        for erase in ERASES:
-            for image in (b"\x7f" + erase, b"\x7f\x00\x7f\x43" + erase + b"\x00", bytes(256) + b"\x7f" + bytes(253) + erase):
-                for words in (place, (*place, "--progress"), ("-f",)):
-                    with self.subTest(image=image[-8:], words=words):
-                        self.assertTrue(self.shows_note(image, *words))
-        self.assertFalse(self.shows_note(b"\x7f\x43\xbc", *place, "--quiet"))
+        images = [image for it in ERASES for image in (b"\x7f" + it, b"\x7f\x00\x7f\x43" + it + b"\x00", bytes(256) + b"\x7f" + bytes(253) + it)]
+        self.each(itertools.product(images, (AT, (*AT, "--progress"), ("-f",))),
+                  lambda image, words: self.assertTrue(self.shows_note(image, *words)))
+        self.assertFalse(self.shows_note(b"\x7f\x43\xbc", *AT, "--quiet"))
 
     def test_other_bytes_are_not_told(self):
         """No 7F, or one behind them or in another block; another complement; a pair that lies in two blocks."""
-        for erase in ERASES:
-            for image in (erase, b"\x00" + erase, erase + b"\x7f", bytes(255) + b"\x7f" + erase, b"\x7f" + bytes(254) + erase,
-                          b"\x7f" + erase[:1] + b"\x00" + erase[1:], b"\x7f" + erase[::-1]):
-                for words in (("-f", "-S", "0x08000000"), ("-f",)):
-                    with self.subTest(image=image[-8:], words=words):
-                        self.assertFalse(self.shows_note(image, *words))
+        images = [image for it in ERASES for image in (it, b"\x00" + it, it + b"\x7f", bytes(255) + b"\x7f" + it, b"\x7f" + bytes(254) + it,
+                                                       b"\x7f" + it[:1] + b"\x00" + it[1:], b"\x7f" + it[::-1])]
+        self.each(itertools.product(images, (AT, ("-f",))), lambda image, words: self.assertFalse(self.shows_note(image, *words)))
 
     def test_only_a_write_on_a_terminal_tells_of_bytes_of_an_erase(self):
         self.store("image", b"\x7f\x43\xbc")
@@ -170,8 +168,7 @@ class Progress(Place):
 
     def test_a_new_journal_is_told_before_a_change(self):
         """On a terminal alone, before the note about the image, and not once it is there, also where it is empty."""
-        place = ("-f", "-S", "0x08000000")
-        for words in (("write", *place, "image"), ("write", "-v", "--progress", *place, "image"), ("erase", "5"),
+        for words in (("write", *AT, "image"), ("write", "-v", "--progress", *AT, "image"), ("erase", "5"),
                       ("erase", "--all"), ("erase", "--stop", "0", "5"), ("erase", "500")):
             with self.subTest(words=words):
                 shown = self.shown_at(*words)
@@ -180,7 +177,7 @@ class Progress(Place):
                 self.store("journal", b"")
                 self.assertNotIn(b"is new", self.on_terminal(lambda err: self.run_shown(err, *words))[1])
         self.store("image", b"\x7f\x43\xbc")
-        self.assertTrue(self.shown_at("write", *place, "image").startswith(NEW + NOTE))
+        self.assertTrue(self.shown_at("write", *AT, "image").startswith(NEW + NOTE % b"08000000"))
         self.assertNotIn(b"is new", self.on_terminal(lambda err: self.run_shown(err, "erase", "5"))[1])
 
     def test_a_board_without_a_name_is_told_once(self):
@@ -203,10 +200,8 @@ class Progress(Place):
                 self.assertEqual(b"note:" in shown, words == ("undo",))
                 self.assertNotIn(b" is new", shown)
                 self.assertTrue(self.is_there("flash.line"))
-        for words in (("-f", "-S", "0x08000000", "image"), ("--progress", "-f", "-S", "0x08000000", "image")):
-            self.clear("flash", "flash.line", "journal")
-            _, shown = self.in_file(lambda err: self.run_shown(err, "write", *words))
-            self.assertNotIn(b"note:", shown)
+        for words in ((), ("--progress",)):
+            self.assertNotIn(b"note:", self.in_file(lambda err: self.write(err, *words))[1])
 
     def test_a_new_journal_is_told_within_one_line(self):
         here, there = pty.openpty()
@@ -277,8 +272,7 @@ class Progress(Place):
         first = with_page(b"open 1\npage 3 ", b"0", b"\npage 6 FF!\nopen 7!\n!\nerase 3\nend 1\n")
         self.assertEqual(self.shown_of_undo(gone + first + b"ope"), ["page 3 written, 1 of 1"])
         second = with_page(b"open 2\npage 4 ", b"0", b"\nerase 4\nprogram 4\n")
-        torn = with_page(b"", b"0", b"")
-        self.assertEqual(self.shown_of_undo(gone + first + second + b"page 5 " + torn),
+        self.assertEqual(self.shown_of_undo(gone + first + second + b"page 5 " + with_page(b"", b"0", b"")),
                          ["page 4 written, 1 of 3", "page 4 read, 2 of 3", "page 3 written, 3 of 3"])
         self.assertEqual(self.shown_of_undo(gone + first + second + b"undone 2\n"), ["page 3 written, 1 of 1"])
 
@@ -298,29 +292,22 @@ class Progress(Place):
                 self.assertEqual(self.shown_of_undo(journal + b"\n" + lines + b"\n", "--fresh"), told)
 
     def test_a_terminal_tells_an_undo_from_its_first_page_to_its_last(self):
-        plain = self.plain()
-        held = plain[1], plain[2], plain[3]
+        _, *held = self.plain()
 
         def undo(err):
-            for name, text in zip(("flash", "flash.line", "journal"), held):
-                self.store(name, text)
+            self.store_all(dict(zip(("flash", "flash.line", "journal"), held)))
             return self.run_shown(err, "undo"), self.held("flash"), self.held("journal")
 
         came, shown = self.on_terminal(undo)
         self.assertEqual((came, b""), self.in_file(undo))
         self.assertEqual(came[0], (0, b"undone 1\n"))
-        lines = shown.split(b"\x1b[K\r")
-        for page in range(64):
-            for doing in (b"reading", b"erasing"):
-                text = b"%s page %d, %d of 64 pages" % (doing, page, page + 1)
-                self.assertTrue(any(text in line for line in lines), text)
+        self.assertEachShown(shown, b"reading", b"erasing")
 
     def test_a_closed_standard_error_is_left_alone(self):
         """A file that is opened later has its number."""
         plain = self.plain()
-        for words in ((), ("--progress",), ("--quiet",)):
-            with self.subTest(words=words):
-                self.assertEqual(self.write(None, *words, before=lambda: os.close(2)), plain)
+        self.each(((), ("--progress",), ("--quiet",)),
+                  lambda *words: self.assertEqual(self.write(None, *words, before=lambda: os.close(2)), plain))
 
     def test_the_journal_is_no_standard_error(self):
         """Nothing is shown where standard error is the journal."""
@@ -343,9 +330,7 @@ class Progress(Place):
 class Small(Place):
     """All that is shown, on a chip of four pages."""
 
-    def setUp(self):
-        super().setUp()
-        self.store_all({"table": TABLE.replace(b"[128, 1024]", b"[4, 256]"), "image": bytes(600)})
+    begins = {"table": TABLE.replace(b"[128, 1024]", b"[4, 256]"), "image": bytes(600)}
 
     def shown(self, name, *words, terminal=False):
         """What a subcommand shows, with its status: in a file, or on a terminal, there but for what is shown while it settles."""
@@ -391,25 +376,10 @@ class Small(Place):
         self.assertEqual((status, told.replace(CLEAR.decode(), "")), (0, ""))
 
 
-def read_some(here):
-    """The next that was shown; nothing where a terminal was closed."""
-    try:
-        return os.read(here, 4096)
-    except OSError:
-        return b""
-
-
-def hear_signals():
-    """A shell's job in the background ignores SIGINT, and hands that on."""
-    signal.signal(signal.SIGINT, signal.SIG_DFL)
-
-
 class Waiting(Served):
     """What is shown of a board that answers late, or nothing."""
 
-    def setUp(self):
-        super().setUp()
-        self.store("table", TABLE)
+    begins = {"table": TABLE}
 
     def words(self, name, *words):
         return [name, *files("late"), *words]
@@ -497,8 +467,9 @@ class Waiting(Served):
         self.serve(2, number="0410")
         Peer(self, "late", self.stall_at_an_erase)
         here, there = pty.openpty()
-        words = self.words("write", "-f", "-S", "0x08000000", "image")
-        with self.start(*words, stdout=subprocess.DEVNULL, stderr=there, before=hear_signals) as writing:
+        # a shell's job in the background ignores SIGINT, and hands that on
+        with self.start(*self.words("write", *AT, "image"), stdout=subprocess.DEVNULL, stderr=there,
+                        before=lambda: signal.signal(signal.SIGINT, signal.SIG_DFL)) as writing:
             os.close(there)
             shown = b""
             while b"erasing page 2," not in shown:
@@ -510,8 +481,7 @@ class Waiting(Served):
         shown = shown.replace(CUT, b"").replace(WRAP, b"")
         self.assertTrue(shown.endswith(STOPPED.encode() + b"\x1b[K"), shown[-80:])
         self.assertTold(self.use(*STOPPED.split(": ")[1].split(), "--wait", "200", device="board"), "undone 1\n")
-        self.assertServed()
-        self.assertFile("flash", flash)
+        self.assertServed(flash=flash)
 
     def stall_at_an_erase(self, line, ending):
         """Hands on what comes on either, until the third page is to be erased: from then on nothing."""

@@ -12,10 +12,10 @@ PAGE = 1024
 # over the pages 4 to 6
 IMAGE = bytes(range(256)) * 12
 AT = BASE + 4 * PAGE
-THEN = "If so: reset, protect write-unprotect --in-session --fresh, undo 1"
+THEN = "If so: protect write-unprotect --in-session, undo 1"
 NOT_ERASED = f"page 4: the device refused to erase it: is it write-protected? {THEN}"
 NOW_UNDO = "the board resets itself; now: undo 1"
-IN_SESSION = "to undo what a write-protected page refuses: reset, protect write-unprotect --in-session --fresh, undo 1"
+IN_SESSION = "to undo what a write-protected page refuses: protect write-unprotect --in-session, undo 1"
 WIDE_TABLE = b'[[chip]]\nid = 0x412\nbase = 0x08000000\npages = [[32, 1024]]\nerase = "extended"\n'
 
 
@@ -36,8 +36,7 @@ def write_to(at, data, more=0):
 
 def erase(*pages, width=1, more=0):
     """An Erase Memory of pages, or an Extended Erase Memory."""
-    count = (len(pages) - 1).to_bytes(width, "big")
-    body = count + b"".join(page.to_bytes(width, "big") for page in pages)
+    body = (len(pages) - 1).to_bytes(width, "big") + b"".join(page.to_bytes(width, "big") for page in pages)
     return (b"\x43\xbc" if width == 1 else b"\x44\xbb") + body + bytes([check(body) ^ more])
 
 
@@ -102,7 +101,7 @@ class Protected(Served):
         """Serves a simulator whose pages of these are protected."""
         self.serve(clients, table=table, more=[word for page in pages for word in ("--protected", page)])
 
-    def each(self, rows, table):
+    def assertRows(self, rows, table):
         """Each of these frames, and the flash behind it; then the protection taken off, and a frame that was refused."""
         self.store_all({"flash": COUNTING, "table": table})
         self.protect(1, "4-7", "9")
@@ -120,23 +119,19 @@ class Protected(Served):
                 at = (max(erased, default=4) * PAGE if written is None else written) & ~0xFF
                 for place in (at, 4 * PAGE, 9 * PAGE):
                     address = (BASE + place).to_bytes(4, "big")
-                    self.assertReplies(client, b"\x11\xee" + address + bytes([check(address)]) + b"\xff\x00",
-                                       3 * ACK + flash[place:place + 256])
-        width = 1 if table is TABLE else 2
-        self.assertReplies(client, b"\x73\x8c" + b"\x7f" + erase(4, 9, width=width), 2 * ACK + ACK + DONE)
+                    self.assertReplies(client, b"\x11\xee" + address + bytes([check(address)]) + b"\xff\x00", 3 * ACK + flash[place:place + 256])
+        self.assertReplies(client, b"\x73\x8c" + b"\x7f" + erase(4, 9, width=1 if table is TABLE else 2), 2 * ACK + ACK + DONE)
         for page in (4, 9):
             flash[page * PAGE:(page + 1) * PAGE] = PAGE * b"\xff"
         self.assertReplies(client, write_to(5 * PAGE, b"\x00"), WRITTEN)
         flash[5 * PAGE] = 0
-        self.leave(client)
-        self.assertServed()
-        self.assertHolds(bytes(flash), b"idle\n")
+        self.assertServed(client, holds=(bytes(flash), b"idle\n"))
 
     def test_each_frame(self):
-        self.each(ROWS, TABLE)
+        self.assertRows(ROWS, TABLE)
 
     def test_each_frame_of_a_chip_with_long_numbers(self):
-        self.each(WIDE_ROWS, WIDE_TABLE)
+        self.assertRows(WIDE_ROWS, WIDE_TABLE)
 
     def test_a_frame_that_was_begun_before(self):
         """Where a client goes within a frame, or the simulator is served anew, the frame is refused all the same."""
@@ -152,9 +147,7 @@ class Protected(Served):
                         more = client.recv(4096)
                         self.assertNotEqual(more, b"")
                         came += more
-                    self.leave(client)
-                    self.assertServed()
-                    self.assertHolds(COUNTING, b"idle\n")
+                    self.assertServed(client, holds=(COUNTING, b"idle\n"))
 
     def test_a_refused_write_is_undone(self):
         """Each step's text names the next, up to the flash as it was before; a write that was done before stays. A protected page is
@@ -181,14 +174,12 @@ class Protected(Served):
         # reset
         self.store("flash.line", b"fresh\n")
         self.protect(2, protected)
-        unprotect, undo = (words.split() for words in THEN.split(", ")[1:])
+        unprotect, undo = (words.split() for words in THEN.removeprefix("If so: ").split(", "))
         said = self.use(*unprotect[:1], *wait, *unprotect[1:], device="board")
         self.assertEqual((said.status, said.out, said.err.decode()), (0, b"", f"hint: {NOW_UNDO}\n"))
         self.assertTold(self.use(*undo[:1], *wait, *undo[1:], device="board"), "undone 1\n")
-        self.assertServed()
-        self.assertFile("flash", before)
-        self.assertTold(self.use("undo"), "undone 1\n")
-        self.assertFile("flash", COUNTING)
+        self.assertServed(flash=before)
+        self.assertTold(self.use("undo"), "undone 1\n", flash=COUNTING)
 
     def test_as_json(self):
         """The hint is a part of the fault's line."""
@@ -196,27 +187,23 @@ class Protected(Served):
         self.protect(1, "5", "4", "6-7")
         said = self.use("write", "--wait", WAIT, "--json", "-S", f"{AT:#x}", "image", device="board")
         self.assertEqual((said.status, json.loads(said.out)["hint"]), (1, NOT_ERASED))
-        self.assertServed()
-        self.assertFile("flash", ERASED)
+        self.assertServed(flash=ERASED)
 
     def test_other_pages_as_ever(self):
         self.store_all({"flash": COUNTING, "image": IMAGE})
         self.protect(2, "3", "7-31")
         self.assertTold(self.use("write", "--wait", WAIT, "-S", f"{AT:#x}", "image", device="board"), "segment 1: 3 pages written\n")
         self.assertTold(self.use("undo", "--wait", WAIT, device="board"), "undone 1\n")
-        self.assertServed()
-        self.assertFile("flash", COUNTING)
+        self.assertServed(flash=COUNTING)
 
     def test_what_is_refused(self):
         """Each in one line, and no file is made. No socket could be made there."""
         words = served(at="nowhere/board")
         for pages, text in ((("32",), "usage: chip 0412 has no page 32"), (("31-32",), "usage: chip 0412 has no page 32"),
-                            (("4", "65535"), "usage: chip 0412 has no page 65535"), (("7-4",), "usage: bad number 7-4"),
-                            (("4", "65536"), "usage: bad number 65536"), (("",), "usage: bad number "), (("x",), "usage: bad number x"),
-                            (("4,5",), "usage: bad number 4,5")):
+                            (("4", "65535"), "usage: chip 0412 has no page 65535"), (("4", "65536"), "usage: bad number 65536"),
+                            *(((it,), f"usage: bad number {it}") for it in ("7-4", "", "x", "4,5"))):
             with self.subTest(pages):
-                given = [word for page in pages for word in ("--protected", page)]
-                self.assertFault(self.call(*words, *given), text, 2)
+                self.assertFault(self.call(*words, *[word for page in pages for word in ("--protected", page)]), text, 2)
                 self.assertFalse(self.is_there("flash"))
         self.assertUsage(self.call(*words, "--protected"))
         for name in (("info",), ("erase", "4"), ("undo",)):

@@ -147,9 +147,7 @@ class Manuals(Place):
         """Of 80 columns, of which man takes seven at the left and one at the right."""
         for name in MANUALS:
             for block in re.findall(r"^\.nf\n(.*?)^\.fi$", page(name), re.M | re.S):
-                for line in block.splitlines():
-                    with self.subTest(name=name, line=line):
-                        self.assertLessEqual(len(plain(line)), 72)
+                self.each(block.splitlines(), lambda line: self.assertLessEqual(len(plain(line)), 72))
 
     def test_the_pages_that_they_name_are_installed(self):
         named = {it for name in MANUALS for it in re.findall(r"\b(?:[A-Z]+\.md|\w+\.schema\.json)\b", page(name))}
@@ -196,8 +194,7 @@ class Fleet(Place):
     def test_a_board_that_was_not_done_is_listed(self):
         """One failed, and of another all was killed; an earlier call had done both."""
         for number in range(3):
-            self.store(f"dev/ttyUSB{number}", b"")
-            self.store(f"ttyUSB{number}.status", b"0\n")
+            self.store_all({f"dev/ttyUSB{number}": b"", f"ttyUSB{number}.status": b"0\n"})
         # xargs ends at a child that is killed, and waits for no other: so the first board is done by then
         self.line('case $1 in *1) exit 1;; *2) until grep -q "^0$" ttyUSB0.status; do sleep 0.02; done; kill -9 $PPID;; esac')
         self.assertEqual(self.run_recipe(self.recipe("| xargs")).stdout.split(), ["ttyUSB1.status", "ttyUSB2.status"])

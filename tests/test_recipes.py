@@ -26,8 +26,7 @@ def recipe(first):
 class Recipes(Unnamed):
     def setUp(self):
         super().setUp()
-        self.store("firmware.elf", elf())
-        self.store("runner", RUNNER.encode())
+        self.store_all({"firmware.elf": elf(), "runner": RUNNER.encode()})
         port = [(self.path("ttyUSB0"), "USB UART")]
         self.script("stmflash-line", f'exec {PYTHON} -c "$(cat {self.path("runner")})" {shlex.quote(repr(port))} {LINE} "$@"')
         self.given = self.telling()

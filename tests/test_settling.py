@@ -1,7 +1,6 @@
 """Devices that were stopped in the midst of a frame, or reset, settled over a socket."""
 
 import time
-import unittest
 
 import syncs
 from place import files
@@ -33,9 +32,7 @@ class Settling(Served):
                 self.store_all({"table": TABLE, "flash": FLASH, "flash.line": b"rest " + rest + b"\n", "journal": BEFORE})
                 self.serve(1, number="0410")
                 self.assertTold(self.use("undo", *WORDS, device="board"), "undone 1\n")
-                self.assertServed()
-                self.assertHolds(FLASH, b"idle\n")
-                self.assertFile("journal", AFTER)
+                self.assertServed(holds=(FLASH, b"idle\n"), journal=AFTER)
 
     def undo(self, stands, *words, page=3, variables=None, greeted=b"", greets=b""):
         """Undoes at a board with a wide chip that stands so, and answers the times that the program sets for its line, one
@@ -45,19 +42,14 @@ class Settling(Served):
         self.store("journal", before)
         self.serve(1, number="0A01")
         times, began = [], time.monotonic()
-        try:
-            said, _ = syncs.call(self.folder, ("undo", *files("board"), *words), held=SETSOCKOPT, at=lambda _, process: times.append(time_of(process)),
-                                 env=variables)
-        except syncs.CannotHold as why:
-            raise unittest.SkipTest(str(why)) from None
+        said, _ = syncs.call(self.folder, ("undo", *files("board"), *words), held=SETSOCKOPT, at=lambda _, process: times.append(time_of(process)),
+                             env=variables)
         self.assertTold(said, "undone 1\n")
-        self.assertServed()
-        self.assertFile("journal", before + greets + b"erase %d\nprogram %d\nundone 1\n" % (page, page))
+        self.assertServed(journal=before + greets + b"erase %d\nprogram %d\nundone 1\n" % (page, page))
         return [at for at in times if at is not None], time.monotonic() - began
 
     def test_a_line_of_unknown_speed_has_a_wait_for_each_256_bytes(self):
-        """The byte 0B makes a list of 2,828 pages, of 5,659 bytes: batches of 256 bytes, of 1,024, of 4,126
-        and of 254."""
+        """The byte 0B makes a list of 2,828 pages, of 5,659 bytes: batches of 256 bytes, of 1,024, of 4,126 and of 254."""
         waits, _ = self.undo(b"rest 44BB", "--wait", "100", page=11)
         self.assertEqual(waits[:5], [100, 400, 1700, 100, 20000])
 
@@ -111,8 +103,7 @@ class Settling(Served):
             with self.subTest(text):
                 self.assertFault(self.use("undo", device="board", variables={"STMFLASH_WAIT": text}), f"usage: bad number {text}", 2)
         for variables, more, wait in (({"STMFLASH_WAIT": "430"}, (), 430), ({"STMFLASH_WAIT": "long"}, ("--wait", "110"), 110),
-                                      ({"STMFLASH_WAIT": "399"}, (), 400), ({"STMFLASH_WAIT": "1"}, (), 400),
-                                      ({"STMFLASH_WAIT": ""}, (), 400)):
+                                      ({"STMFLASH_WAIT": "399"}, (), 400), ({"STMFLASH_WAIT": "1"}, (), 400), ({"STMFLASH_WAIT": ""}, (), 400)):
             with self.subTest(variables):
                 waits, _ = self.undo(b"rest 44BB", *more, page=0, variables=variables)
                 self.assertEqual(waits[0], wait)

@@ -2,15 +2,12 @@
 is due. No clock is read here: each time that the program sets for its line is looked at, by tests/syncs.py."""
 
 import re
-import shutil
 import struct
-import subprocess
 import time
-import unittest
 
 import syncs
 import telling
-from place import PATIENCE, files, program
+from place import files
 from served import Served
 
 # setsockopt, and its words for how long a read and a write wait: as many seconds, and as many millionths
@@ -34,8 +31,7 @@ GREETED = BEFORE + b"connect!\n"
 
 def time_of(process, kind=RECEIVE_TIME):
     """How long a read, or a write, is to wait, in ms, by the call that a process is held in; None where that is another one."""
-    with open(f"/proc/{process}/syscall", encoding="ascii") as file:
-        _, _, _, option, place, *_ = (int(word, 0) for word in file.read().split())
+    _, _, _, option, place, *_ = syncs.call_of(process)
     if option != kind:
         return None
     with open(f"/proc/{process}/mem", "rb") as memory:
@@ -45,9 +41,7 @@ def time_of(process, kind=RECEIVE_TIME):
 
 
 class Silence(Served):
-    def setUp(self):
-        super().setUp()
-        self.store_all({"table": telling.TABLE, "flash": FLASH, "flash.board": BOARD})
+    begins = {"table": telling.TABLE, "flash": FLASH, "flash.board": BOARD}
 
     def waits(self, *words, whole=WHOLE, device="board"):
         """The times that the program sets, one behind another that differs from it: what is between a look and a whole wait is
@@ -56,27 +50,20 @@ class Silence(Served):
 
     def times(self, *words, whole=WHOLE, device="board"):
         """The same, none of them told by a word."""
-        times = []
-        given = (*words, *files(device), "--wait", str(whole))
-        try:
-            said, _ = syncs.call(self.folder, given, held=SETSOCKOPT, at=lambda _, process: times.append(time_of(process)))
-        except syncs.CannotHold as why:
-            raise unittest.SkipTest(str(why)) from None
-        self.assertEqual((said.status, said.err), (0, b""))
+        times, given = [], (*words, *files(device), "--wait", str(whole))
+        said, _ = syncs.call(self.folder, given, held=SETSOCKOPT, at=lambda _, process: times.append(time_of(process)))
+        self.assertWell(said)
         return [at for at in times if at is not None]
 
     def limits(self, *words, name="info"):
         """How long the first read and each write wait, by the times that the program sets where these words are given; None
         where there is no end."""
         times = []
-        def look(_, process):
-            times.append((time_of(process), time_of(process, SEND_TIME)))
-
-        try:
-            said, _ = syncs.call(self.folder, (name, *files("board"), *words), held=SETSOCKOPT, at=look)
-        except syncs.CannotHold as why:
-            raise unittest.SkipTest(str(why)) from None
-        self.assertEqual((said.status, said.err), (0, b""))
+        self.serve(1, number="0410")
+        said, _ = syncs.call(self.folder, (name, *files("board"), *words), held=SETSOCKOPT,
+                             at=lambda _, process: times.append((time_of(process), time_of(process, SEND_TIME))))
+        self.assertWell(said)
+        self.assertServed()
         return next(read for read, _ in times if read is not None), [write or None for _, write in times if write is not None]
 
     def at(self, stands, *words):
@@ -99,55 +86,38 @@ class Silence(Served):
         cases = (("info", (), 400, 4000), ("info", ("--wait", "700"), 700, 7000), ("info", ("--wait", "3000"), 3000, 20000),
                  ("info", ("--wait", "50"), 50, 4000), ("info", ("--give-up", "300"), 400, 300000), ("info", ("--give-up", "1"), 400, 1000),
                  ("info", ("--give-up", "0"), 400, None), ("undo", (), 400, 20000), ("undo", ("--give-up", "5"), 400, 5000))
-        self.serve(len(cases), number="0410")
         for name, words, wait, silence in cases:
             with self.subTest(name=name, words=words):
                 self.store("journal", BEFORE if name == "undo" else b"")
                 self.assertEqual(self.limits(*words, name=name), (wait, [silence]))
-        self.assertServed()
 
-    @unittest.skipIf(shutil.which("strace") is None, "strace is not installed")
     def test_contact_is_two_whole_waits_and_less_than_a_second(self):
-        """Of `info` and `read`, where a device answers: in vain is waited whole twice at most, and by the default that is under a
-        second."""
-        self.serve(1, number="0410")
+        """Of `info` and `read`, where a device answers: in vain is waited whole twice at most, and by the default that is under a second."""
         whole, _ = self.limits("--give-up", "2")
-        self.assertServed()
         read = ("read", "-S", "0x08000000:256", "out")
         for stands, words, most in ((b"idle", ("info",), 2), (b"idle", read, 2), (FRESH, ("info",), 1)):
             with self.subTest(stands=stands, words=words):
                 self.store("flash.line", stands + b"\n")
-                self.serve(1, number="0410")
                 waited = self.waited_in_vain(*words, whole=2 * WHOLE)
-                self.assertServed()
                 self.assertEqual(waited.count(2 * WHOLE), most, waited)
                 self.assertLess(max(waited), LONG)
                 self.assertLess(most * whole, 1000)
 
-    @unittest.skipIf(shutil.which("strace") is None, "strace is not installed")
     def test_an_undo_at_a_device_that_was_reset_is_five_seconds(self):
         """Of a chip erased by 43, reset behind a greeting, without a word of it: of all that is waited in vain, by the default."""
-        self.serve(1, number="0410")
         whole, _ = self.limits("--give-up", "2")
-        self.assertServed()
         self.store_all({"flash.line": FRESH + b"\n", "journal": GREETED})
-        self.serve(1, number="0410")
         waited = self.waited_in_vain("undo", whole=LATE)
-        self.assertServed()
         self.assertLess(max(waited), LONG)
         self.assertLessEqual(waited.count(LATE) * whole, 5000, waited)
 
-    def waited_in_vain(self, *words, whole=WHOLE):
+    def waited_in_vain(self, *words, whole=WHOLE, number="0410"):
         """How long the program waits for a byte that doesn't come, each time that none came, by the times that it sets."""
-        record = self.path("record")
-        given = (words[0], *files("board"), "--wait", str(whole), *words[1:])
-        ran = subprocess.run(["strace", "-f", "-xx", "-o", record, "-e", "trace=setsockopt,recvfrom", program(), *given],
-                             cwd=self.folder, env={}, stdin=subprocess.DEVNULL, capture_output=True, timeout=PATIENCE)
-        if not (self.held("record") or b"").strip():
-            self.skipTest("strace can't trace here")
-        self.assertEqual((ran.returncode, ran.stderr), (0, b""))
+        self.serve(1, number=number)
+        told = syncs.traced(self, "setsockopt,recvfrom", words[0], *files("board"), "--wait", str(whole), *words[1:], as_hex=True)
+        self.assertServed()
         waits, now = [], None
-        for line in self.held("record").decode().splitlines():
+        for line in told.splitlines():
             if told := re.search(r'SO_RCVTIMEO\w*, "([^"]*)"', line):
                 seconds, millionths = TIME.unpack(bytes.fromhex(told[1].replace("\\x", "")))
                 now = 1000 * seconds + millionths // 1000
@@ -169,8 +139,52 @@ class Silence(Served):
         """Its replies may come late, and an erase may still run: until a command was answered no wait is short."""
         self.store("journal", BEFORE)
         waits = self.at(b"rest 43BC", "undo")
-        self.assertEqual(waits[:3], [WHOLE, LONG, LOOK])
-        self.assertNotIn("short", waits)
+        # behind 7F, to which no reply came for a whole wait, is just looked
+        self.assertEqual(waits[:4], [WHOLE, LOOK, WHOLE, LONG])
+        self.assertNotIn("short", waits[:waits.index(LONG)])
+
+    def test_an_undo_at_a_device_that_was_reset_waits_whole_once(self):
+        """Before its first byte, which is 7F. Each two bytes of a batch are refused then, behind the last of which nothing is due."""
+        wide = b'[[chip]]\nid = 0xA02\nbase = 0x08000000\npages = [[512, 256]]\nerase = "extended"\n'
+        page = b"page %d " + 2 * 256 * b"0" + b"\n"
+        begun = b"stmjournal 2 0A02\nopen 1\n"
+        cases = [("0410", BEFORE), ("0410", BEFORE + b"program 5\n")]
+        cases += [("0A02", begun + page % number + b"erase %d\n" % number + more)
+                  for number, more in ((3, b""), (3, b"program 3\n"), (255, b""), (511, b""))]
+        for number, journal in cases:
+            with self.subTest(journal=journal[-20:]):
+                self.store_all({"table": telling.TABLE + wide, "flash": FLASH, "flash.line": FRESH + b"\n", "journal": journal})
+                waited = self.waited_in_vain("undo", "--baud", "115200", number=number)
+                self.assertEqual([at for at in waited if at >= WHOLE], [WHOLE], waited)
+                self.assertEqual(waited[0], WHOLE)
+
+    def test_an_undo_at_a_device_that_was_not_reset_waits_whole_for_what_ends_the_command_alone(self):
+        """Before its first byte, behind 7F, behind the one batch or two that ended it, and behind two bytes that made sure of it. The
+        session that follows waits whole no more."""
+        for journal, stands, most in ((BEFORE, b"rest 43BC", 4), (BEFORE + b"program 5\n", b"rest 31CE0800", 5)):
+            with self.subTest(stands=stands):
+                self.store_all({"flash": FLASH, "flash.line": stands + b"\n", "journal": journal})
+                waited = self.waited_in_vain("undo")
+                self.assertEqual(waited.count(WHOLE), most, waited)
+                self.assertLess(max(waited), LONG)
+
+    def test_behind_a_batch_that_is_not_refused_whole_each_wait_is_whole(self):
+        """A board that drops the last 1F of a batch, or sends one more: its replies may come late."""
+        for drop in (True, False):
+            with self.subTest(drop=drop):
+                self.store_all({"flash": FLASH, "flash.line": FRESH + b"\n", "journal": BEFORE})
+                came = []
+
+                def change(replies, came=came, drop=drop):
+                    count = sum(map(len, came)) + len(replies)
+                    came.append(replies)
+                    if replies != ACK and count == 1 + 128:
+                        return replies[:-1] if drop else replies + NACK
+                    return replies
+
+                times = self.behind(change, WHOLE, "undo", "--baud", "115200")
+                # before 7F; behind the batch, and behind each of the two bytes that follow
+                self.assertGreaterEqual(len([at for at in times[:times.index(LONG)] if at >= WHOLE]), 4, times)
 
     def test_a_late_board_is_waited_for(self):
         """Where an answer took a third of the wait, no wait is shorter where silence is due."""
@@ -184,10 +198,9 @@ class Silence(Served):
 
     def test_a_device_said_to_be_fresh_is_in_contact_without_a_whole_wait(self):
         """It owes nothing, and is greeted by one 7F. So the silence behind its 79 is waited for as long as that took. The session that
-        follows settles the device, by a batch."""
+        follows settles the device, by a batch: each time that is set whole a byte comes."""
         self.store("journal", BEFORE)
-        waits = self.at(FRESH, "undo", "--fresh")
-        self.assertEqual(waits[:5], [WHOLE, "short", LOOK, WHOLE, LONG])
+        self.assertEqual(self.at(FRESH, "undo", "--fresh")[:6], [LOOK, WHOLE, "short", LOOK, WHOLE, "short"])
 
     def test_where_a_reset_is_not_said_the_79_is_measured_too(self):
         """Behind a greeting the line was quiet for a whole wait behind each batch and byte before that 7F. Then the silence of the byte behind it is
@@ -223,9 +236,10 @@ class Silence(Served):
             return replies
 
         times = self.behind(first, WHOLE, "undo", "--fresh")
-        self.assertEqual((times[0], times[2]), (WHOLE, LOOK))
-        self.assertGreaterEqual(times[1], 4 * SLOW + 20)
-        self.assertLess(times[1], WHOLE)
+        # what is there is looked at, and 79 is waited for whole
+        self.assertEqual((times[:2], times[3]), ([LOOK, WHOLE], LOOK))
+        self.assertGreaterEqual(times[2], 4 * SLOW + 20)
+        self.assertLess(times[2], WHOLE)
 
     def test_a_second_acknowledgement_may_come_late(self):
         """Some bootloaders acknowledge 7F twice. The second 79 comes behind the short wait, and is no answer to what is sent then:
@@ -233,16 +247,14 @@ class Silence(Served):
         for pause in (0.0, 0.08, 0.15, 0.3):
             with self.subTest(pause=pause):
                 self.store("flash.line", FRESH + b"\n")
-                said = self.once(self.twice(pause), "info", "--wait", "1000")
-                self.assertEqual((said.status, said.err), (0, b""))
+                self.assertWell(self.once(self.twice(pause), "info", "--wait", "1000"))
 
     def test_a_second_acknowledgement_of_a_device_said_to_be_fresh(self):
         """It is taken where it follows the first within the short wait, and one that comes later as settling goes on."""
         for pause in (0.0, 0.9):
             with self.subTest(pause=pause):
                 self.store_all({"flash": FLASH, "flash.line": FRESH + b"\n", "journal": BEFORE})
-                said = self.once(self.twice(pause), "undo", "--fresh", "--wait", "600", "--give-up", "3")
-                self.assertEqual((said.status, said.err), (0, b""))
+                self.assertWell(self.once(self.twice(pause), "undo", "--fresh", "--wait", "600", "--give-up", "3"))
 
     def twice(self, pause):
         """A board that acknowledges its first byte twice, a pause between."""

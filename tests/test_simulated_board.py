@@ -5,7 +5,6 @@ import tomllib
 
 import telling
 from place import WAIT, Place, served, text_in
-from served import Served
 
 HEAD = "[[chip]]\n"
 NAME = "2B0035000A51363034393332"
@@ -24,17 +23,14 @@ def entry(number):
 
 
 class SimulatedBoard(telling.Told):
-    def setUp(self):
-        super().setUp()
-        self.store("image", b"an image")
+    begins = {"table": telling.TABLE, "image": b"an image"}
 
     def at(self, *words, **more):
         return self.use(*words, device="sim:0410:flash", **more)
 
     def test_a_part_of_64_kib_has_64_pages(self):
         self.store("flash.board", f"unique {NAME}\nsize 64\n".encode())
-        told = INFO % (64, 65536) + f"board {NAME}\nflash 64 KiB\n"
-        self.assertTold(self.at("info"), told)
+        self.assertTold(self.at("info"), INFO % (64, 65536) + f"board {NAME}\nflash 64 KiB\n")
         self.store("flash", COUNTING)
         self.assertFault(self.at("erase", "64"), "address outside the flash")
         self.assertTold(self.at("erase", "63"), "segment 1: 1 pages erased\n")
@@ -48,14 +44,12 @@ class SimulatedBoard(telling.Told):
         written, journal = self.held("flash"), self.held("journal")
         self.store("flash.board", f"unique {OTHER}".encode())
         for words in (("undo",), ("erase", "1"), ("info",)):
-            self.assertFault(self.at(*words), "journal is of another board")
-            self.assertFiles({"flash": written, "journal": journal})
+            self.assertFault(self.at(*words), "journal is of another board", flash=written, journal=journal)
         self.store("flash.board", f"unique {NAME.lower()}".encode())
         self.assertFault(self.at("undo", "--board", OTHER[-4:]), "device is another board")
         self.assertTold(self.at("undo", "--board", NAME[-4:]), "undone 1\n")
         # of what goes into a file nothing is told
-        self.assertTold(self.at("read", "out"), "")
-        self.assertFiles({"flash": COUNTING + COUNTING, "out": COUNTING + COUNTING})
+        self.assertTold(self.at("read", "out"), "", flash=COUNTING + COUNTING, out=COUNTING + COUNTING)
 
     def test_a_size_alone_is_told(self):
         self.store("flash.board", b"size 16\n")
@@ -65,34 +59,24 @@ class SimulatedBoard(telling.Told):
         self.assertTold(self.at("info"), INFO % (128, 131072) + "flash 128 KiB\n")
 
     def test_what_no_board_is(self):
-        for text in (b"unique 12\n", b"unique\n", b"size\n", b"size x\n", b"size 123456\n", b"size -1\n", b"board 1\n", b"\xff",
-                     f"unique {NAME}0\n".encode(), f" unique {NAME}\n".encode(), b"unique " + 66 * b"1"):
-            with self.subTest(text=text):
-                self.store("flash.board", text)
-                self.assertNoBoard()
+        self.each((b"unique 12\n", b"unique\n", b"size\n", b"size x\n", b"size 123456\n", b"size -1\n", b"board 1\n", b"\xff",
+                   f"unique {NAME}0\n".encode(), f" unique {NAME}\n".encode(), b"unique " + 66 * b"1"), self.assertNoBoard)
 
-    def assertNoBoard(self):
-        self.assertFault(self.at("info"), "bad simulator file flash.board")
-        self.assertFiles({"flash": None, "journal": None})
+    def assertNoBoard(self, text):
+        self.store("flash.board", text)
+        self.assertFault(self.at("info"), "bad simulator file flash.board", flash=None, journal=None)
 
     def test_a_text_that_is_too_long(self):
         """Up to 256 bytes are read whole. Of each longer text they say a board too: another size, a shorter unique id, none."""
         size, unique = b"size 16\n", f"unique {NAME}\n".encode()
-        for text in (size + 249 * b"\n", size + 248 * b"\n" + b"size 64\n", 233 * b"\n" + unique, 257 * b"\n", 255 * b"\n" + size,
-                     4096 * b"\n"):
-            with self.subTest(text=text):
-                self.store("flash.board", text)
-                self.assertNoBoard()
+        self.each((size + 249 * b"\n", size + 248 * b"\n" + b"size 64\n", 233 * b"\n" + unique, 257 * b"\n", 255 * b"\n" + size, 4096 * b"\n"),
+                  self.assertNoBoard)
         self.store("flash.board", size + 248 * b"\n")
         self.assertTold(self.at("info"), INFO % (16, 16384) + "flash 16 KiB\n")
 
 
-class GivenBoard(Served):
+class GivenBoard(telling.Told):
     """What `sim --unique --size` makes of a simulator, also for the one in the process afterwards."""
-
-    def setUp(self):
-        super().setUp()
-        self.store("table", telling.TABLE)
 
     def words(self, *more):
         return (*served("0410"), *more)
@@ -153,19 +137,12 @@ class GivenBoard(Served):
         self.assertFile("flash", COUNTING)
 
     def test_names_that_are_another_file(self):
-        os.symlink("table", self.path("flash.board"))
-        self.refused("cannot write flash.board", "--size", "64", status=1)
-        self.remove("flash.board")
-        os.symlink("nowhere/board", self.path("flash.board"))
-        self.refused("cannot write flash.board", "--size", "64", status=1)
-        self.remove("flash.board")
+        for leads in ("table", "nowhere/board"):
+            os.symlink(leads, self.path("flash.board"))
+            self.refused("cannot write flash.board", "--size", "64", status=1)
+            self.remove("flash.board")
         os.mkdir(self.path("flash.board"))
-        self.refused_folder()
-
-    def refused_folder(self):
-        said = self.call(*self.words("--size", "64"))
-        self.assertEqual((said.status, said.err), (1, b"stmflash: cannot read flash.board\n"))
-        self.assertFile("flash", None)
+        self.assertFault(self.call(*self.words("--size", "64")), "cannot read flash.board", flash=None)
 
     def test_what_a_killed_program_left_is_removed(self):
         self.store("flash.board.stmflash-0.new", b"unique")
@@ -174,18 +151,9 @@ class GivenBoard(Served):
 
 
 # how many pages each part of ten families has, by the KiB with which it is sold
-PARTS = {
-    "0410": {64: 64, 128: 128},
-    "0411": {128: 5, 256: 6, 512: 8, 768: 10, 1024: 12},
-    "0412": {16: 16, 32: 32},
-    "0414": {256: 128, 384: 192, 512: 256},
-    "0416": {32: 128, 64: 256, 128: 512},
-    "0418": {64: 32, 128: 64, 256: 128},
-    "0420": {16: 16, 32: 32, 64: 64, 128: 128},
-    "0423": {128: 5, 256: 6},
-    "0435": {128: 64, 256: 128},
-    "0458": {64: 4, 128: 5},
-}
+PARTS = {"0410": {64: 64, 128: 128}, "0411": {128: 5, 256: 6, 512: 8, 768: 10, 1024: 12}, "0412": {16: 16, 32: 32},
+         "0414": {256: 128, 384: 192, 512: 256}, "0416": {32: 128, 64: 256, 128: 512}, "0418": {64: 32, 128: 64, 256: 128},
+         "0420": {16: 16, 32: 32, 64: 64, 128: 128}, "0423": {128: 5, 256: 6}, "0435": {128: 64, 256: 128}, "0458": {64: 4, 128: 5}}
 
 
 class EverySize(Place):
@@ -202,30 +170,21 @@ class EverySize(Place):
             return self.use(*words, device=f"sim:{number}:flash")
 
         told = at("info")
-        self.assertEqual((told.status, told.err), (0, b""))
+        self.assertWell(told)
         lines = told.out.decode().splitlines()
         self.assertEqual(lines[:4], [f"id {number}", "base 08000000", f"pages {pages}", f"size {len(flash)}"])
         self.assertEqual(lines[-2:], [f"board {name}", f"flash {kib} KiB"])
         for words in (("write", "-S", hex(end - 7), "image"), ("erase", str(pages))):
-            self.assertFault(at(*words), "address outside the flash")
-            self.assertFiles({"flash": flash, "journal": None})
-        self.assertTold(at("write", "-S", hex(end - 8), "image"), "segment 1: 1 pages written\n")
-        self.assertFile("flash", flash[:-8] + b"an image")
-        self.assertTold(at("undo"), "undone 1\n")
-        self.assertFile("flash", flash)
+            self.assertFault(at(*words), "address outside the flash", flash=flash, journal=None)
+        self.assertTold(at("write", "-S", hex(end - 8), "image"), "segment 1: 1 pages written\n", flash=flash[:-8] + b"an image")
+        self.assertTold(at("undo"), "undone 1\n", flash=flash)
         self.remove("flash", "flash.line", "journal")
 
     def family(self, number):
         table, length = entry(number)
         self.store_all({"table": table, "image": b"an image"})
-        for kib, pages in PARTS[number].items():
-            with self.subTest(number=number, kib=kib):
-                self.part(number, length, kib, pages)
-
-
-def add_test(number):
-    setattr(EverySize, f"test_{number}", lambda self: self.family(number))
+        self.each(PARTS[number].items(), lambda kib, pages: self.part(number, length, kib, pages))
 
 
 for one in PARTS:
-    add_test(one)
+    setattr(EverySize, f"test_{one}", lambda self, number=one: self.family(number))

@@ -32,9 +32,7 @@ class Socket(Served):
         for sent, replies in ((b"\x7f", b"\x79"), (b"\x02", b""), (b"\xfd", ID)):
             self.assertReplies(client, sent, replies)
             self.assertQuiet(client)
-        self.leave(client)
-        self.assertServed()
-        self.assertHolds(ERASED, b"idle\n")
+        self.assertServed(client, holds=(ERASED, b"idle\n"))
 
     def test_a_client_that_goes_ends_serving(self):
         self.serve(1)
@@ -42,21 +40,16 @@ class Socket(Served):
         for sent, replies in ((b"\x7f", b"\x79"), (b"\x43", b""), (b"\xbc", b"\x79")):
             self.assertReplies(client, sent, replies)
         client.close()
-        self.assertServed()
-        self.assertHolds(ERASED, b"rest 43BC\n")
+        self.assertServed(holds=(ERASED, b"rest 43BC\n"))
 
     def test_keeps_its_journal_over_a_socket(self):
         """What the line answered and what the journal keeps come together: a page is erased, and given back from there."""
         self.store("flash", ZEROS)
         self.serve(2)
         erased = with_page(HEAD, b"0", b"\nerase 5\nend 1\n")
-        said = self.use("erase", "5", "--wait", WAIT, device="board")
-        self.assertTold(said, "segment 1: 1 pages erased\n")
-        self.assertFile("journal", erased)
-        self.assertTold(self.use("undo", "--wait", WAIT, device="board"), "undone 1\n")
-        self.assertFile("journal", erased + b"erase 5\nprogram 5\nundone 1\n")
-        self.assertServed()
-        self.assertHolds(ZEROS, b"idle\n")
+        self.assertTold(self.use("erase", "5", "--wait", WAIT, device="board"), "segment 1: 1 pages erased\n", journal=erased)
+        self.assertTold(self.use("undo", "--wait", WAIT, device="board"), "undone 1\n", journal=erased + b"erase 5\nprogram 5\nundone 1\n")
+        self.assertServed(holds=(ZEROS, b"idle\n"))
 
     def test_a_page_that_is_lost_under_the_program_ends_it(self):
         """Behind the first byte of an undo, which has read the journal by then, blanks stand in place of a page's digits: nothing
@@ -80,8 +73,7 @@ class Socket(Served):
         self.assertFile("journal", lost)
         self.store("journal", journal)
         self.assertTold(self.use("undo", "--wait", WAIT, device="board"), "undone 1\n")
-        self.assertServed()
-        self.assertHolds(ZEROS, b"idle\n")
+        self.assertServed(holds=(ZEROS, b"idle\n"))
 
     def test_tells_what_a_device_says_that_no_table_has(self):
         self.serve(2)
@@ -92,10 +84,8 @@ class Socket(Served):
         self.assertServed()
 
     def test_has_get_version(self):
-        """It is listed, in its order and counted, and answered where a command may begin, however its two bytes come; the version
-        is Get's."""
-        tables = {"22": (TABLE, b"\x43"), "31": (TABLE.replace(b'"page"', b'"extended"'), b"\x44")}
-        for version, (table, erase) in tables.items():
+        """It is listed, in its order and counted, and answered where a command may begin, however its two bytes come; the version is Get's."""
+        for version, (table, erase) in {"22": (TABLE, b"\x43"), "31": (TABLE.replace(b'"page"', b'"extended"'), b"\x44")}.items():
             with self.subTest(version=version):
                 self.store("table", table)
                 self.serve(2)
@@ -122,8 +112,7 @@ class Socket(Served):
                 self.assertFile("flash.line", b"rest 01\n")
                 client = self.connect()
                 self.assertReplies(client, b"\xfe\x01\xfe", told * 2)
-                self.leave(client)
-                self.assertServed()
+                self.assertServed(client)
                 self.assertFile("flash.line", b"idle\n")
                 self.remove("flash", "flash.line")
 
@@ -139,7 +128,7 @@ class Socket(Served):
         with line, self.connect() as board:
             relay(line, board, lambda replies: replies.replace(b"\x22\x00\x01", b"\x05\x00\x01"))
         said = self.ended(host)
-        self.assertEqual((said.status, said.err), (0, b""))
+        self.assertWell(said)
         self.assertIn(b"\nversion 05\n", said.out)
         self.assertServed()
 
@@ -157,8 +146,7 @@ class Socket(Served):
         self.assertTrue(first_of(client, len(ID) * count) == ID * count)
         sender.join(PATIENCE)
         self.assertQuiet(client)
-        self.leave(client)
-        self.assertServed()
+        self.assertServed(client)
 
     def test_a_signal_while_a_client_is_waited_for_is_no_end(self):
         """The first call that waits for a client ends by a signal, and the client comes while the second does."""
@@ -191,8 +179,7 @@ class Socket(Served):
             for _ in range(200):
                 self.assertReplies(client, b"\x02\xfd" * 256, ID * 256)
             taken.append(self.memory(self.simulator))
-        self.leave(client)
-        self.assertServed()
+        self.assertServed(client)
         self.assertLess(taken[-1] - taken[1], 512, taken)
 
     def test_a_client_that_takes_nothing_is_left(self):
@@ -210,8 +197,7 @@ class Socket(Served):
         self.assertEqual(len(client.recv(1)), 1)
         sender.join(PATIENCE)
         self.assertFalse(sender.is_alive())
-        self.leave(client)
-        self.assertServed()
+        self.assertServed(client)
 
     def test_serves_as_many_clients_as_were_asked_for(self):
         self.store("table", SMALL_TABLE)
@@ -220,12 +206,10 @@ class Socket(Served):
             self.leave(self.connect())
         client = self.connect()
         self.assertReplies(client, b"\x7f", b"\x79")
-        self.leave(client)
-        self.assertServed()
+        self.assertServed(client)
 
     def test_a_line_that_ends_is_told(self):
-        """A device that hangs up, or sends nothing more and still takes what is sent: at once, after a byte, and after it has
-        answered."""
+        """A device that hangs up, or sends nothing more and still takes what is sent: at once, after a byte, and after it has answered."""
         listener = self.listen("board")
         for turns in range(3):
             for end in (socket.SHUT_RDWR, socket.SHUT_WR):
@@ -253,23 +237,19 @@ class Socket(Served):
         self.assertFault(self.call(*served(flash="other")), "cannot connect board")
         self.assertReplies(client, b"\x7f", b"\x79")
         # the one that was refused had asked whether somebody listens, which took the second turn
-        self.leave(client)
-        self.assertServed()
-        self.assertFile("other", None)
+        self.assertServed(client, other=None)
 
     def test_a_socket_is_its_makers_alone(self):
         self.serve(1)
         self.assertEqual(os.stat(self.path("board")).st_mode & 0o777, 0o600)
-        self.leave(self.connect())
-        self.assertServed()
+        self.assertServed(self.connect())
 
     def test_who_may_connect_is_as_it_was_said(self):
         for mode in ("600", "660", "666"):
             with self.subTest(mode=mode):
                 self.serve(1, more=("--mode", mode))
                 self.assertEqual(os.stat(self.path("board")).st_mode & 0o777, int(mode, 8))
-                self.leave(self.connect())
-                self.assertServed()
+                self.assertServed(self.connect())
 
     def test_a_store_that_fails_is_told(self):
         """The flash's file can't be made where another one stands in its place."""
@@ -291,8 +271,7 @@ class Socket(Served):
         os.remove(self.path("board"))
         self.store("board", b"another")
         self.leave(client)
-        self.assertSilent(self.ended(self.simulator))
-        self.assertFile("board", b"another")
+        self.assertSilent(self.ended(self.simulator), board=b"another")
 
     def test_a_simulator_in_use_is_not_used_again(self):
         """Two that serve one simulator, or one that serves it beside one in the process."""
@@ -300,10 +279,8 @@ class Socket(Served):
         self.assertFault(self.call(*served(at="second")), "simulator file is in use")
         self.assertFalse(self.is_there("second"))
         self.assertFault(self.use("info"), "simulator file is in use")
-        self.leave(self.connect())
-        self.assertServed()
-        said = self.use("info")
-        self.assertEqual((said.status, said.err), (0, b""))
+        self.assertServed(self.connect())
+        self.assertWell(self.use("info"))
 
     def test_a_stop_by_a_signal_is_no_end(self):
         """SIGSTOP and SIGCONT while a client is waited for, while a byte of one is, and while the program waits for a reply."""
@@ -342,8 +319,7 @@ class Socket(Served):
         self.assertFile("flash.line", b"rest 43BD\n")
         self.remove("flash.line")
         self.assertUnserved("0412", "cannot connect table")
-        self.assertHolds(None, None)
-        self.assertFile("table", table)
+        self.assertFiles({"flash": None, "flash.line": None, "table": table})
 
     def test_a_socket_of_another_kind_stays(self):
         """One of datagrams, which somebody has: only one on which nobody listens is removed."""

@@ -42,18 +42,14 @@ def bytes_of(told):
 
 def cases():
     """Each case: its title, and its lines as their sign and what is behind it."""
-    blocks = re.sub(r"(?m)^#.*\n", "", text_in("tests", "stated.rows")).strip().split("\n\n")
-    for block in blocks:
+    for block in re.sub(r"(?m)^#.*\n", "", text_in("tests", "stated.rows")).strip().split("\n\n"):
         title, *lines = block.split("\n")
         yield title, [line.split(" ", 1) for line in lines]
 
 
 class Stated(Served):
     simulator = None
-
-    def setUp(self):
-        super().setUp()
-        self.chips = text_in("tests", "stated.toml").encode()
+    chips = text_in("tests", "stated.toml").encode()
 
     def begin(self):
         """An empty folder, but for the chips; the simulator of the case before is ended."""
@@ -62,8 +58,7 @@ class Stated(Served):
             self.simulator.communicate()
         for name in os.listdir(self.folder):
             self.remove(name)
-        self.store("table", self.chips)
-        self.store("chips", self.chips)
+        self.store_all({"table": self.chips, "chips": self.chips})
         self.simulator, self.memory = None, None
 
     def answer(self, replies):

@@ -2,24 +2,17 @@
 of a port stand."""
 
 import os
-import subprocess
 import tomllib
-import unittest.mock
+from unittest import mock
 
 from boards import pty_boards
-from place import COUNTING, ERASED, PATIENCE, TABLE, TOP, program, text_in
-from test_stm32flash_words import WORDS, Words, module, places
+from place import COUNTING, ERASED, TABLE, TOP, program, text_in
+from test_stm32flash_words import NEW, Words, places
+from as_stm32flash import chip, tools
 
 
 class Handed(Words):
     """Files by names as /dev/stdin and /dev/fd/3, which are other ones, or none, in a process below."""
-
-    def handed(self, *words, **files):
-        """Runs stm32flash on these words, with these files of the test in the place of its own, which ends well."""
-        ran = subprocess.run([WORDS, "-m", "8n1", *words, "ttyUSB0"], cwd=self.folder, env=self.settings(), timeout=PATIENCE,
-                             check=False, **{"stdin": subprocess.DEVNULL, "stdout": subprocess.PIPE, "stderr": subprocess.PIPE, **files})
-        self.assertEqual(ran.returncode, 0, ran)
-        return ran
 
     def test_what_is_written(self):
         board = self.flash(COUNTING)
@@ -27,10 +20,8 @@ class Handed(Words):
         with open(self.path("image"), "rb") as image:
             for name in ("/dev/stdin", "/dev/fd/0", f"/dev/fd/{image.fileno()}", f"/proc/self/fd/{image.fileno()}", "linked"):
                 with self.subTest(name=name):
-                    self.handed("-w", name, "-v", stdin=image, pass_fds=[image.fileno()])
-                    self.assertEqual(board.store(), b"new" + COUNTING[3:])
-                    self.well("--undo")
-                    self.assertEqual(board.store(), COUNTING)
+                    self.leaves(board, NEW, "-w", name, "-v", stdin=image, pass_fds=[image.fileno()])
+                    self.leaves(board, COUNTING, "--undo")
 
     def test_a_form_that_is_refused_of_a_file(self):
         """Also where its bytes come by a pipe, or a part of them is to be written; standard input as - is raw bytes, whatever they are."""
@@ -40,38 +31,33 @@ class Handed(Words):
         part = ("-S", "0x08000000:16")
         for words in (("-w", "/dev/stdin"), ("-w", "elf"), ("-w", "elf", *part), ("-w", "/dev/stdin", *part)):
             with self.subTest(words=words):
-                said = self.words("-m", "8n1", *words, given=elf)
-                self.assertEqual(said.status, 1)
                 # objcopy takes files alone, and not this one
-                self.assertIn(b"ERROR: elf: is ELF, and " if words[1] == "elf" else b"image is not raw: ELF\n", said.err)
+                self.refused(b"ERROR: elf: is ELF, and " if words[1] == "elf" else b"image is not raw: ELF\n", words=words, given=elf)
         self.assertEqual(board.store(), COUNTING)
-        self.well("-w", "-", given=elf)
-        self.assertEqual(board.store(), elf + COUNTING[64:])
-        self.well("-w", "/dev/stdin", "-f", "-S", "0x08000400", given=elf)
-        self.assertEqual(board.store(), elf + COUNTING[64:1024] + elf + COUNTING[1088:])
+        self.leaves(board, elf + COUNTING[64:], "-w", "-", given=elf)
+        self.leaves(board, elf + COUNTING[64:1024] + elf + COUNTING[1088:], "-w", "/dev/stdin", "-f", "-S", "0x08000400", given=elf)
 
     def test_what_is_read(self):
         self.flash(COUNTING)
         part = ("-S", "0x08000000:1000")
-        self.assertEqual(self.handed("-r", "/dev/stdout", *part).stdout, COUNTING[:1000])
-        self.assertEqual(self.handed("-r", "/dev/stderr", *part).stderr, COUNTING[:1000])
+        self.assertEqual(self.well("-r", "/dev/stdout", *part).out, COUNTING[:1000])
+        self.assertEqual(self.well("-r", "/dev/stderr", *part).err, COUNTING[:1000])
         with open(self.path("out"), "wb") as out:
             out.write(b"\x00" * 2000)
             out.flush()
-            ran = self.handed("-r", f"/dev/fd/{out.fileno()}", *part, pass_fds=[out.fileno()])
+            said = self.well("-r", f"/dev/fd/{out.fileno()}", *part, pass_fds=[out.fileno()])
         self.assertFile("out", COUNTING[:1000])
-        self.assertIn(b"Memory read\n", ran.stdout)
+        self.assertIn(b"Memory read\n", said.out)
         # what stands there already is another's
         self.store("all", b"before")
         with open(self.path("all"), "ab") as out:
-            self.handed("-r", "/dev/stdout", *part, stdout=out)
+            self.well("-r", "/dev/stdout", *part, stdout=out)
         self.assertFile("all", b"before" + COUNTING[:1000])
 
     def test_one_that_is_not_there(self):
         end = self.plain()
-        for words, text in ((("-w", "/dev/fd/9"), b"Intel HEX"), (("-r", "/dev/fd/9"), b"Raw BINARY")):
-            said = self.words("-m", "8n1", *words)
-            self.assertEqual((said.status, said.err), (1, text + b" ERROR: System Error\n/dev/fd/9: No such file or directory\n"))
+        for word, text in (("-w", b"Intel HEX"), ("-r", b"Raw BINARY")):
+            self.fails(text + b" ERROR: System Error\n/dev/fd/9: No such file or directory\n", word, "/dev/fd/9")
         self.assertNothingSent(end)
 
 
@@ -111,11 +97,9 @@ class Tables(Words):
         # what the board is
         self.store("table", self.OWN)
         board = self.flash(COUNTING)
-        said = self.well("-o", "-s", "1", "-e", "1", STMFLASH_TABLE="")
+        said = self.leaves(board, COUNTING[:2048] + ERASED[:2048] + COUNTING[4096:], "-o", "-s", "1", "-e", "1", STMFLASH_TABLE="")
         self.assertIn(b"Device ID    : 0x0412 ()\n- Flash      : Up to 32KiB (size first sector: 1x2048)\n", said.out)
-        self.assertEqual(board.store(), COUNTING[:2048] + ERASED[:2048] + COUNTING[4096:])
-        self.well("--undo", STMFLASH_TABLE="")
-        self.assertEqual(board.store(), COUNTING)
+        self.leaves(board, COUNTING, "--undo", STMFLASH_TABLE="")
         self.store(".config/stmflash/chips.toml", b"[[chip]]\n")
         said = self.words("-m", "8n1", STMFLASH_TABLE="")
         self.assertEqual((said.status, said.err.split(b",")[0]), (1, b"ERROR: the table of chips"))
@@ -126,31 +110,26 @@ class Tables(Words):
         self.store_all({"ttyUSB0.flash": COUNTING * 2, "ttyUSB0.flash.board": b"unique " + 12 * b"A1" + b"\nsize 64\n"})
         board = pty_boards.PtyBoard(program(), self.path("ttyUSB0"), "0410", os.path.join(TOP, "chips.toml"))
         self.addCleanup(board.stop)
-        self.well("-o", "-s", "63", "-e", "1", STMFLASH_TABLE="")
-        self.assertEqual(board.store(), (COUNTING * 2)[:-1024] + ERASED[:1024])
-        with open(self.path(self.journal_of("A1")), "rb") as journal:
-            self.assertEqual(journal.readline(), b"stmjournal 3 0410 " + 12 * b"A1" + b"\n")
+        self.leaves(board, (COUNTING * 2)[:-1024] + ERASED[:1024], "-o", "-s", "63", "-e", "1", STMFLASH_TABLE="")
+        self.assertTrue(self.held(self.journal_of("A1")).startswith(b"stmjournal 3 0410 " + 12 * b"A1" + b"\n"))
 
     def test_which_there_are(self):
-        tools, none = module("tools"), {"STMFLASH_TABLE": "", "XDG_CONFIG_HOME": "", "HOME": self.folder}
+        none = {"STMFLASH_TABLE": "", "XDG_CONFIG_HOME": "", "HOME": self.folder}
         self.addCleanup(os.chdir, os.getcwd())
         os.chdir(self.folder)
         self.store("chips.toml", TABLE)
         self.own(b"")
         self.own(b"", "other/stmflash")
-        users, beside = self.path(".config/stmflash/chips.toml"), self.path("chips.toml")
-        other = self.path("other")
+        users, beside, other = map(self.path, (".config/stmflash/chips.toml", "chips.toml", "other"))
         for settings, found in (({}, [users, beside]), ({"XDG_CONFIG_HOME": other}, [other + "/stmflash/chips.toml", beside]),
-                                ({"XDG_CONFIG_HOME": "other"}, [users, beside]), ({"HOME": "."}, [beside]),
-                                ({"STMFLASH_TABLE": "named"}, ["named"])):
-            with unittest.mock.patch.dict(os.environ, {**none, **settings}), \
-                    unittest.mock.patch.object(tools, "MACHINES", self.path("none")):
+                                ({"XDG_CONFIG_HOME": "other"}, [users, beside]), ({"HOME": "."}, [beside]), ({"STMFLASH_TABLE": "named"}, ["named"])):
+            with self.subTest(settings=settings), mock.patch.dict(os.environ, {**none, **settings}), \
+                    mock.patch.object(tools, "MACHINES", self.path("none")):
                 self.assertEqual(tools.find_tables(self.path("bin")), found)
-        with unittest.mock.patch.dict(os.environ, none), unittest.mock.patch.object(tools, "MACHINES", self.path("table")):
+        with mock.patch.dict(os.environ, none), mock.patch.object(tools, "MACHINES", self.path("table")):
             self.assertEqual(tools.find_tables(self.path("bin")), [users, self.path("table"), beside])
 
     def test_what_is_handed_on_is_the_same(self):
-        chip = module("chip")
         entries = {entry["id"]: entry for entry in tomllib.loads(text_in("chips.toml"))["chip"]}
         text = chip.table_text(chip.read_table([os.path.join(TOP, "chips.toml")]))
         made = {entry["id"]: entry for entry in tomllib.loads(text)["chip"]}
@@ -161,8 +140,7 @@ class Standing(Words):
     """Where the journals of a port stand."""
 
     def test_a_far_port_has_its_own_from_every_folder(self):
-        name_of = places.name_of
-        names, here = set(), os.getcwd()
+        name_of, names, here = places.name_of, set(), os.getcwd()
         self.addCleanup(os.chdir, here)
         for folder in (here, self.folder):
             os.chdir(folder)
@@ -174,11 +152,10 @@ class Standing(Words):
 
     def test_nobodys_home_is_none(self):
         """Else each folder would have journals of its own, and what was stopped in one would be seen in no other."""
-        with unittest.mock.patch.object(places.os.path, "expanduser", lambda path: path):
-            with unittest.mock.patch.dict(os.environ, {"XDG_STATE_HOME": ""}):
-                self.assertRaisesRegex(places.Fault, "HOME names no folder", places.state_folder)
-            with unittest.mock.patch.dict(os.environ, {"XDG_STATE_HOME": "/state"}):
-                self.assertEqual(places.state_folder(), "/state/stmflash")
+        with mock.patch.object(places.os.path, "expanduser", lambda path: path), mock.patch.dict(os.environ, XDG_STATE_HOME=""):
+            self.assertRaisesRegex(places.Fault, "HOME names no folder", places.state_folder)
+            os.environ["XDG_STATE_HOME"] = "/state"
+            self.assertEqual(places.state_folder(), "/state/stmflash")
 
     def test_a_name_that_is_no_text_is_told(self):
         self.flash(COUNTING)

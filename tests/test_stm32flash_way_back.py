@@ -3,48 +3,32 @@ the port."""
 
 import contextlib
 import os
-import subprocess
-import unittest.mock
+from unittest import mock
 
-from place import COUNTING, ERASED, PATIENCE, TABLE
-from test_stm32flash_words import KEPT, NOTHING, STOPPED, WORDS, Words, module, places
+from place import COUNTING, ERASED, TABLE
+from test_stm32flash_words import BACK, FOUND, KEPT, NEW, NOTHING, STOPPED, TELLING, Words, places
+from as_stm32flash import segments
 
-NEW = b"new" + COUNTING[3:]
 # a write of what was there already
 UNCHANGED = b"stmjournal 2 0412\nopen 1\nend 1\n"
 
 
-class Place(Words):
-    def folder_of_port(self):
-        """Also while no board is there."""
-        return os.path.join(".local", "state", "stmflash", "ports", places.named_by("ttyUSB0", self.path("ttyUSB0")))
-
-    def put_aside(self, number, text):
-        """A journal that was put aside."""
-        self.keep(f"kept-{number:06d}", text)
-
-
-class Unchanged(Place):
+class Unchanged(Words):
     """Writes and erases of what is there already."""
 
     def test_they_are_never_put_aside(self):
-        board = self.flash(COUNTING)
-        self.well("-w", "image", "-g", "0")
+        board = self.written(self.flash(COUNTING), "-g", "0")
         for words in (("-g", "0"), ("-R",)):
             board = self.reset(board)
             self.assertEqual(self.well("-w", "image", *words).err.count(b"removed"), 0)
             self.assertEqual(self.journals(), ["kept-000001"])
-        board = self.reset(board)
-        self.well("-w", "image")
+        board = self.written(self.reset(board))
         self.well("-u")
         self.assertEqual(self.journals(), ["kept-000001"])
-        board = self.reset(board)
-        self.well("--undo")
-        self.assertEqual(board.store(), COUNTING)
+        self.leaves(self.reset(board), COUNTING, "--undo")
 
     def test_what_was_undone_counts_as_nothing_either(self):
-        self.flash(COUNTING)
-        self.well("-w", "image")
+        self.written(self.flash(COUNTING))
         self.well("--undo")
         self.well("-w", "-", "-g", "0", given=COUNTING[:3])
         self.assertEqual(self.journals(), [])
@@ -75,59 +59,46 @@ class Unchanged(Place):
         board = self.flash(COUNTING)
         for _ in range(3):
             self.well("-w", "image")
-        said = self.well("--undo")
-        self.assertEqual(said.out, b"Undone: the newest write or erase at this port that changed something, and 2 behind it that changed "
-                                   b"nothing.\n")
-        self.assertEqual(board.store(), COUNTING)
-        self.assertEqual(self.words("--undo").err, NOTHING)
+        said = self.leaves(board, COUNTING, "--undo")
+        self.assertEqual(said.out, b"Undone: the newest write or erase at this port that changed something, and 2 behind it that changed nothing.\n")
+        self.fails(NOTHING, "--undo")
 
     def test_an_undo_passes_over_journals_of_them(self):
-        board = self.flash(COUNTING)
-        self.well("-w", "image", "-g", "0")
+        board = self.written(self.flash(COUNTING), "-g", "0")
         self.put_aside(2, UNCHANGED)
-        board = self.reset(board)
-        self.well("-w", "image")
-        said = self.well("--undo")
-        self.assertEqual(said.out, b"Undone: the newest write or erase at this port.\n")
-        self.assertEqual(board.store(), COUNTING)
+        board = self.written(self.reset(board))
+        self.assertEqual(self.leaves(board, COUNTING, "--undo").out, b"Undone: the newest write or erase at this port.\n")
         self.assertIn("journal", self.journals())
 
     def test_where_nothing_else_was_done_an_undo_says_so(self):
-        self.flash(NEW)
-        self.well("-w", "image")
+        self.written(self.flash(NEW))
         before = self.held(self.name("journal"))
         said = self.words("-m", "8n1", "--undo")
         self.assertEqual((said.status, said.out, said.err), (1, b"", NOTHING.replace(b"; ", b", since it changed nothing; ")))
         self.assertFile(self.name("journal"), before)
 
     def test_what_was_stopped_before_it_changed_anything_is_undone_alone(self):
-        board = self.flash(COUNTING)
-        self.well("-w", "image")
+        board = self.written(self.flash(COUNTING))
         with open(self.path(self.name("journal")), "ab") as journal:
             journal.write(b"open 2\n")
-        said = self.well("--undo")
+        said = self.leaves(board, NEW, "--undo")
         self.assertEqual(said.out, b"Undone: a write or an erase at this port that was stopped before it changed anything.\n")
-        self.assertEqual(board.store(), NEW)
-        self.well("--undo")
-        self.assertEqual(board.store(), COUNTING)
+        self.leaves(board, COUNTING, "--undo")
 
     def test_which_pages_are_kept(self):
         """Those of what wasn't undone; a void line and a torn one count as nothing."""
         text = b"stmjournal 2 0412\nopen 1\npage 5 5!\npage 5 55\nerase 5\nend 1\nopen 2\npage 6 55\npage 7 55\nend 2\nundone 2\n"
         self.store("held", text + b"open 2\nend 2\nopen 3\npage 8 5")
-        self.assertEqual(module("segments").kept_pages(self.path("held")), [1, 0, 0])
-        self.assertEqual(module("segments").kept_pages(self.path("missing")), [])
+        self.assertEqual(segments.kept_pages(self.path("held")), [1, 0, 0])
+        self.assertEqual(segments.kept_pages(self.path("missing")), [])
 
 
-class Dead(Place):
+class Dead(Words):
     """A board was stopped in the midst of a write and taken away, and another one comes to its port."""
-
-    BACK = COUNTING[:5120] + b"\x55" * 1024 + COUNTING[6144:]
-    FOUND = b"stm32flash: an earlier call was stopped in the midst of a write, an erase or an undo: that is undone first\n"
 
     def setUp(self):
         super().setUp()
-        self.store("table", TABLE + b"unique = [0x1FFFF7E8, 12]\n" + TABLE.replace(b"412", b"410"))
+        self.store("table", TELLING + TABLE.replace(b"412", b"410"))
         self.first = self.journal_of("A1")
         for folder in (self.folder_of_port(), os.path.dirname(self.first)):
             os.makedirs(self.path(folder))
@@ -136,55 +107,49 @@ class Dead(Place):
     def leave(self, kind="0412", was_last=True):
         """What was stopped at the first board, which is of this kind; whether the port had it last."""
         self.store(self.first, STOPPED.replace("2 0412", f"3 {kind} " + 12 * "A1").encode())
-        with contextlib.suppress(FileNotFoundError):
-            self.remove(self.name("last"))
+        self.clear(self.name("last"))
         if was_last:
             os.symlink(self.path(self.first), self.path(self.name("last")))
 
     def told(self):
         """What a call says that leaves it."""
-        return b"stm32flash: that was another board: what was stopped is undone first when it is back at any port; its journal is " \
-            + self.path(self.first).encode() + b"\n"
+        rest = f"what was stopped is undone first when it is back at any port; its journal is {self.path(self.first)}"
+        return f"stm32flash: that was another board: {rest}\n".encode()
 
     def test_the_next_board_goes_on_and_it_is_undone_when_it_is_back(self):
-        there = self.telling(ERASED, "B2")
-        self.assertEqual(self.well("-w", "image").err, self.FOUND + self.told())
+        there = self.telling("B2", ERASED)
+        self.assertEqual(self.well("-w", "image").err, FOUND + self.told())
         self.assertIn(b"unfinished", self.call("log", "--journal", self.first).out)
         second = self.unplugged(there)
-        here = self.telling(COUNTING, "A1")
-        self.assertEqual(self.well().err, self.FOUND)
-        self.assertEqual(self.unplugged(here), self.BACK)
-        there = self.telling(second, "B2")
-        self.well("--undo")
-        self.assertEqual(there.store(), ERASED)
+        here = self.telling("A1")
+        self.assertEqual(self.well().err, FOUND)
+        self.assertEqual(self.unplugged(here), BACK)
+        self.leaves(self.telling("B2", second), ERASED, "--undo")
 
     def test_an_undo_is_of_the_board_that_is_there(self):
         self.put_aside(1, b"stmjournal 3 0412 " + 12 * b"B2" + b"\n" + KEPT)
-        there = self.telling(ERASED, "B2")
+        there = self.telling("B2", ERASED)
         self.assertEqual(self.well("--undo").err, self.told())
         self.assertEqual(self.unplugged(there), ERASED[:5120] + b"\x55" * 1024 + ERASED[6144:])
         # the first one is back, at this port and at another
-        here = self.telling(COUNTING, "A1")
+        here = self.telling("A1")
         self.well("--undo")
-        self.assertEqual(self.unplugged(here), self.BACK)
+        self.assertEqual(self.unplugged(here), BACK)
         self.leave(was_last=False)
-        here = self.telling(COUNTING, "A1", "ttyUSB1")
+        here = self.telling("A1", name="ttyUSB1")
         self.assertEqual(self.well("--undo", port="ttyUSB1").out, b"Undone: the newest write or erase at this port.\n")
-        self.assertEqual(self.unplugged(here, "ttyUSB1"), self.BACK)
+        self.assertEqual(self.unplugged(here, "ttyUSB1"), BACK)
 
     def test_a_chip_of_another_kind_is_another_board(self):
         self.leave("0410")
-        board = self.flash(COUNTING)
-        self.assertEqual(self.well("-w", "image").err, self.FOUND + self.told())
-        self.assertEqual(board.store(), NEW)
+        self.assertEqual(self.leaves(self.flash(COUNTING), NEW, "-w", "image").err, FOUND + self.told())
 
     def test_what_may_be_its_board_does_not_go_on(self):
         """One that tells no unique id."""
         there = self.flash(COUNTING)
         before = self.held(self.first)
-        said = self.words("-m", "8n1", "-w", "image")
-        self.assertEqual(said.status, 1)
-        self.assertIn(b"journal is of another board\nERROR: what an earlier call has begun can't be undone now; its journal is ", said.err)
+        self.refused(b"journal is of another board\nERROR: what an earlier call has begun can't be undone now; its journal is ",
+                     words=("-w", "image"))
         self.assertEqual(self.words("-m", "8n1", "--undo").status, 1)
         self.assertEqual(self.unplugged(there), COUNTING)
         # which board it is shows behind the greeting
@@ -194,15 +159,15 @@ class Dead(Place):
         self.instead(f'echo "$*" >> {self.path("called")}')
         for words in ((), ("--undo",)):
             self.leave(was_last=False)
-            here = self.telling(COUNTING, "A1")
+            here = self.telling("A1")
             self.well("-i", "brk", *words, STM32FLASH_RESETS="1", STMFLASH_WAIT="1000")
-            self.assertEqual(self.unplugged(here), self.BACK)
+            self.assertEqual(self.unplugged(here), BACK)
         called = self.held("called").decode().splitlines()
         self.assertEqual([line.split()[0] for line in called if "undo" in line or "--fresh" in line], ["undo", "undo"])
         self.assertNotIn("--fresh", self.held("called").decode())
 
 
-class Nameless(Place):
+class Nameless(Words):
     """What was stopped at a board that doesn't tell which it is."""
 
     def test_what_only_reads_refuses_and_leaves_all_as_it_was(self):
@@ -213,10 +178,9 @@ class Nameless(Place):
         with open(self.path("held"), "ab") as held:
             for words in ((), ("-g", "0"), ("-R",), ("-C",), ("-r", "out"), ("-r", "-"), ("-r", f"/dev/fd/{held.fileno()}")):
                 with self.subTest(words=words):
-                    ran = subprocess.run([WORDS, "-m", "8n1", *words, "ttyUSB0"], cwd=self.folder, env=self.settings(), timeout=PATIENCE,
-                                         stdin=subprocess.DEVNULL, capture_output=True, pass_fds=[held.fileno()], check=False)
-                    told = ran.stderr.decode().splitlines()[4 if words == ("-r", "-") else 0:]
-                    self.assertEqual((ran.returncode, told[-1:]), (1, [
+                    said = self.words("-m", "8n1", *words, pass_fds=[held.fileno()])
+                    told = said.err.decode().splitlines()[4 if words == ("-r", "-") else 0:]
+                    self.assertEqual((said.status, told[-1:]), (1, [
                         "ERROR: an earlier call was stopped in the midst of a write, an erase or an undo at a board that doesn't tell which it "
                         "is; if it is the one that is there, stm32flash --undo ttyUSB0 undoes that"]))
         self.assertFile("held", b"before")
@@ -225,12 +189,11 @@ class Nameless(Place):
         self.assertEqual(self.journals(), ["journal"])
         self.assertEqual(board.store(), COUNTING)
         self.assertEqual((self.held("ttyUSB0.flash.line") or b"fresh\n"), b"fresh\n")
-        self.well("--undo")
-        self.assertEqual(board.store(), COUNTING[:5120] + b"\x55" * 1024 + COUNTING[6144:])
+        self.leaves(board, BACK, "--undo")
         self.well("-r", "out")
 
 
-class Others(Place):
+class Others(Words):
     """What another user has put into a journal would be flashed by an undo."""
 
     def setUp(self):
@@ -255,16 +218,16 @@ class Others(Place):
 
     def test_what_is_anothers_is_refused(self):
         """Its user's is taken by root too, who was called by sudo."""
-        held = unittest.mock.Mock(st_uid=1000, st_mode=0o100600)
+        held = mock.Mock(st_uid=1000, st_mode=0o100600)
         for user, called, is_taken in ((1000, "", True), (1001, "1000", False), (0, "1000", True), (0, "1001", False), (0, "", False)):
-            with self.subTest(user=user, called=called), unittest.mock.patch.object(os, "geteuid", lambda: user), \
-                    unittest.mock.patch.object(os, "stat", lambda _: held), unittest.mock.patch.dict(os.environ, SUDO_UID=called):
+            with self.subTest(user=user, called=called), mock.patch.object(os, "geteuid", lambda: user), \
+                    mock.patch.object(os, "stat", lambda _: held), mock.patch.dict(os.environ, SUDO_UID=called):
                 with contextlib.nullcontext() if is_taken else self.assertRaisesRegex(places.Fault, "is another user's"):
                     places.refuse_others("journal")
 
     def test_a_boards_own_is_looked_at_too(self):
-        self.store("table", TABLE + b"unique = [0x1FFFF7E8, 12]\n")
-        self.telling(COUNTING, "A1")
+        self.store("table", TELLING)
+        self.telling("A1")
         self.well()
         path = self.path(self.journal_of("A1"))
         self.store(self.journal_of("A1"), STOPPED.replace("2 0412", "3 0412 " + 12 * "A1").encode())
@@ -274,9 +237,7 @@ class Others(Place):
             for has_last in (True, False):
                 if not has_last:
                     self.remove(self.name("last"))
-                said = self.words("-m", "8n1", "-w", "image")
-                self.assertEqual(said.status, 1)
-                self.assertIn(f"others may write {name}, ".encode(), said.err)
+                self.refused(f"others may write {name}, ".encode(), words=("-w", "image"))
                 os.path.islink(self.path(self.name("last"))) or os.symlink(path, self.path(self.name("last")))
             os.chmod(name, before)
         self.well("--log")

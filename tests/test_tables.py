@@ -66,8 +66,7 @@ class Tables(Place):
 
     def test_the_boards_of_the_chip_that_is_taken(self):
         board = 'part = "a", version = "22", who = "b", when = "c", verdict = "d", file = "e"'
-        tried = ENTRY.format(0x412, 0x8000000) + f"tried = [{{ {board} }}, {{ {board} }}]\n"
-        self.place(INSTALLED, text=tried)
+        self.place(INSTALLED, text=ENTRY.format(0x412, 0x8000000) + f"tried = [{{ {board} }}, {{ {board} }}]\n")
         self.assertTold(self.info(), INFO + "tried on 2 boards\n")
         self.place(MACHINES, (0x410, 0x8000000))
         self.assertTold(self.info(), INFO + "tried on 2 boards\n")
@@ -84,9 +83,7 @@ class Tables(Place):
         self.place(MACHINES, (0x414, 0x2000000), (0x412, 0x2000000), (0x411, 0x2000000))
         self.place(self.home, (0x412, 0x3000000), (0x413, 0x3000000), (0x415, 0x3000000))
         bases = {"0410": 0x1000000, "0411": 0x2000000, "0412": 0x3000000, "0413": 0x3000000, "0414": 0x2000000, "0415": 0x3000000}
-        for number, base in bases.items():
-            with self.subTest(number=number):
-                self.assertBase(base, number=number)
+        self.each(bases.items(), lambda number, base: self.assertBase(base, number=number))
         self.assertFault(self.info(number="0416"), "unknown chip 0416")
         # the simulator has that chip too
         said = self.see("read", "--device", "sim:0412:flash", "--journal", "journal", "-S", "0x03000000:1", "-")
@@ -112,9 +109,7 @@ class Tables(Place):
         self.place(self.home, (0x412, 0x3000000))
         self.place(self.settings, (0x412, 0x4000000))
         self.assertBase(0x4000000, XDG_CONFIG_HOME=self.path("settings"))
-        for settings in ("", "settings"):
-            with self.subTest(settings=settings):
-                self.assertBase(0x3000000, XDG_CONFIG_HOME=settings)
+        self.each(("", "settings"), lambda settings: self.assertBase(0x3000000, XDG_CONFIG_HOME=settings))
         for home in ("", "home", "/nowhere", "/dev/null", os.fsdecode(os.fsencode(self.folder) + b"/\xff")):
             with self.subTest(home=home):
                 self.assertBase(0x1000000, HOME=home)

@@ -36,12 +36,9 @@ class ToChange(Served):
     def test_an_undo_of_what_changed_nothing(self):
         """It gives nothing back, and says so; the next one does."""
         self.write()
-        self.assertTold(self.use("undo", "1", "-v"), "undone 1, 0 bytes verified\n", had(3, left=2))
-        self.assertHolds(OF_B, b"idle\n")
-        self.assertTold(self.use("undo", "1", "-v"), "undone 1, 3072 bytes verified\n")
-        self.assertHolds(OF_A, b"idle\n")
-        self.assertTold(self.use("undo"), "undone 1\n")
-        self.assertHolds(ERASED, b"idle\n")
+        self.assertTold(self.use("undo", "1", "-v"), "undone 1, 0 bytes verified\n", had(3, left=2), holds=(OF_B, b"idle\n"))
+        self.assertTold(self.use("undo", "1", "-v"), "undone 1, 3072 bytes verified\n", holds=(OF_A, b"idle\n"))
+        self.assertTold(self.use("undo"), "undone 1\n", holds=(ERASED, b"idle\n"))
 
     def test_to_the_newest_change(self):
         for times, words, text in ((0, ("-v",), "undone 1, 3072 bytes verified\n"), (1, ("-v",), "undone 2, 3072 bytes verified\n"),
@@ -50,10 +47,8 @@ class ToChange(Served):
                 self.store("flash", ERASED)
                 self.write(times)
                 note = had(*range(3, 3 + times), left=1) if times else None
-                self.assertTold(self.use("undo", "--to-change", *words), text, note)
-                self.assertHolds(OF_A, b"idle\n")
-                self.assertTold(self.use("undo", "--to-change"), "undone 1\n")
-                self.assertHolds(ERASED, b"idle\n")
+                self.assertTold(self.use("undo", "--to-change", *words), text, note, holds=(OF_A, b"idle\n"))
+                self.assertTold(self.use("undo", "--to-change"), "undone 1\n", holds=(ERASED, b"idle\n"))
                 self.assertTold(self.use("undo", "--to-change"), "undone 0\n")
                 self.remove("journal")
 
@@ -71,11 +66,9 @@ class ToChange(Served):
     def test_an_unfinished_newest(self):
         """One that has kept a page may have changed it, and one without a page hasn't."""
         self.store("journal", CHANGED + b"open 3\n")
-        self.assertTold(self.use("undo", "--to-change"), "undone 3\n", had(2, 3, left=0))
-        self.assertHolds(BACK, b"idle\n")
+        self.assertTold(self.use("undo", "--to-change"), "undone 3\n", had(2, 3, left=0), holds=(BACK, b"idle\n"))
         self.store_all({"flash": ERASED, "journal": with_page(CHANGED + b"open 3\npage 6 ", b"0", b"\n")})
-        self.assertTold(self.use("undo", "--to-change"), "undone 1\n")
-        self.assertHolds(ERASED[:6144] + bytes(1024) + ERASED[7168:], b"idle\n")
+        self.assertTold(self.use("undo", "--to-change"), "undone 1\n", holds=(ERASED[:6144] + bytes(1024) + ERASED[7168:], b"idle\n"))
         self.assertTold(self.use("undo", "--to-change"), "undone 2\n", had(2, left=0))
 
     def test_where_nothing_was_changed(self):
@@ -100,15 +93,14 @@ class ToChange(Served):
 
     def test_of_a_bad_journal(self):
         self.store("journal", CHANGED + b"open 4\n")
-        self.assertFault(self.use("undo", "--to-change"), "bad journal line 8")
-        self.assertHolds(ERASED, b"fresh\n")
+        self.assertFault(self.use("undo", "--to-change"), "bad journal line 8", holds=(ERASED, b"fresh\n"))
 
     def test_as_json(self):
         self.write()
         said = self.use("undo", "1", "--json")
         self.assertEqual(json.loads(said.out), {"answer": "undone", "count": 1, "unchanged": [3]})
         self.assertEqual(said.err.decode(), f"note: {had(3, left=2)}\n")
-        self.assertTold(self.use("write", "b", "--json"), '{"answer":"written","segment":3,"pages":0}\n', new(3))
+        self.assertTold(self.use("write", "b", "--json"), '{"answer":"written","segment":3,"pages":0,"bytes":3000}\n', new(3))
         self.assertEqual(self.use("write", "b").status, 0)
         said = self.use("undo", "--to-change", "-v", "--json")
         self.assertEqual(said.out, b'{"answer":"undone_and_verified","count":3,"bytes":3072,"unchanged":[3,4]}\n')
@@ -124,10 +116,8 @@ class ToChange(Served):
     def test_over_a_socket(self):
         self.serve(4)
         self.write(device="board", more=("--wait", WAIT))
-        self.assertTold(self.use("undo", "--to-change", "-v", "--wait", WAIT, device="board"), "undone 2, 3072 bytes verified\n",
-                        had(3, left=1))
-        self.assertServed()
-        self.assertHolds(OF_A, b"idle\n")
+        self.assertTold(self.use("undo", "--to-change", "-v", "--wait", WAIT, device="board"), "undone 2, 3072 bytes verified\n", had(3, left=1))
+        self.assertServed(holds=(OF_A, b"idle\n"))
 
     def test_in_a_folder(self):
         """And on a device that is said to be fresh from reset."""

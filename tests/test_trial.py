@@ -7,12 +7,10 @@ STMFLASH_PLANTED names the planted boards that are tried, with commas between; a
 
 import concurrent.futures
 import contextlib
-import functools
 import os
 import pty
 import random
 import re
-import select
 import signal
 import subprocess
 import sys
@@ -20,11 +18,10 @@ import termios
 import threading
 import time
 import tomllib
-import tty
 import unittest
 
 from boards import LINE, PYTHON, LinePlace, default_signals
-from place import PATIENCE, TOP, Place, Said, text_in
+from place import PATIENCE, TOP, Place, Said, readable, text_in
 from served import Served
 
 PLANTED = os.path.join(TOP, "tests", "planted")
@@ -41,6 +38,7 @@ KILLS = 40 if IS_LONG else 5
 # boards mostly wait: so many are tried at once
 AT_ONCE = 10
 # short waits where nothing is due: a late reply is waited for all the same
+SAVED = ("--table", "table", "--save", "saved")
 QUICK = ("--yes", "--wait", "20", "--pause", "0.2", "--baud", "4000000")
 PAGES, SIZE = 8, 1024
 # of the system's numbers of speeds
@@ -88,17 +86,57 @@ def planted(folder, name, *words):
 
 
 def program_rows():
-    said = run(TOP, "--rows")
-    return said.out.decode()
+    return run(TOP, "--rows").out.decode()
 
 
 def row_names():
     return [line.split("|")[1].strip() for line in program_rows().splitlines()[2:]]
 
 
+def at_terminal(folder, answers, *call, **settings):
+    """Runs a call of Python on a terminal at which each of these texts of it is answered by a text, and what is done before it; its
+    status, what it said, and what is left of the answers."""
+    process, terminal = pty.fork()
+    if process == 0:
+        default_signals()
+        os.chdir(folder)
+        os.execve(call[0], call, {"PATH": os.environ["PATH"], **settings})
+    said, left, until = b"", list(answers), time.monotonic() + PATIENCE
+    # when all of them have ended a read is a fault
+    with contextlib.suppress(OSError):
+        while time.monotonic() < until and readable([terminal], PATIENCE) and (came := os.read(terminal, 65536)):
+            said += came
+            if left and left[0][0] in said:
+                question, act, text = left.pop(0)
+                said = said.replace(question, b"?", 1)
+                act()
+                os.write(terminal, text)
+    os.close(terminal)
+    return os.waitstatus_to_exitcode(os.waitpid(process, 0)[1]), said.decode(), left
+
+
+def until_told(test, started, text, on="stderr"):
+    """Reads on until a trial that was started has told this."""
+    while text not in getattr(started, on).readline():
+        test.assertIsNone(started.poll())
+
+
 class TrialPlace(Served):
-    def trial(self, *words):
-        return run(self.folder, "--table", "table", "--save", "saved", *words)
+    def trial(self, *words, **settings):
+        return run(self.folder, *SAVED, *words, **settings)
+
+    def planted(self, name="none"):
+        """A planted board of the table."""
+        self.store("table", table("44"))
+        self.clear("board")
+        return planted(self.folder, name, "--pages", str(PAGES))
+
+    def tried(self, name, *words, **settings):
+        """What a trial says of a planted board, to which nothing was sent that may not be."""
+        with self.planted(name) as board:
+            said = self.trial("--device", "board", *words, **settings)
+            self.assertEqual(board.wait(PATIENCE), 0)
+        return said
 
     def assertStatus(self, said, status):
         self.assertEqual((said.status, said.err), (status, b""), said.out.decode())
@@ -107,7 +145,7 @@ class TrialPlace(Served):
 class Simulators(TrialPlace):
     def holds_on(self, number, size, erased=b"\xff"):
         """Each row that needs no hand holds on a chip of the table, and its flash is as it was."""
-        self.store("table", self.chips())
+        self.store("table", text_in("chips.toml").encode())
         before = random.Random(number).randbytes(size // 3 * 2).ljust(size, erased)
         self.store("flash", before)
         self.serve(1, number=number)
@@ -119,9 +157,6 @@ class Simulators(TrialPlace):
         self.assertEqual(names_of(found, "not tried"), {"size-register", "map", "reset-in-frame", "fresh-other", "power"})
         self.assertTrue(verdict.startswith(f"{FOLLOWS}: "), verdict)
         self.assertTrue(self.held("flash") == self.held("saved") == before, "the flash isn't what it was")
-
-    def chips(self):
-        return text_in("chips.toml").encode()
 
     def test_0412(self):
         self.holds_on("0412", 32768)
@@ -142,21 +177,16 @@ class Boards(Place):
     def try_board(self, name, code):
         """What is wrong with the trial of a planted board; nothing where all is right."""
         deviation = DEVIATIONS[name]
-        folder = self.path(f"{name}-{code}")
-        os.mkdir(folder)
+        folder = f"{name}-{code}"
+        os.mkdir(self.path(folder))
         # a board that answers late has few blocks
         pages, size = (4, 256) if deviation.is_long else (PAGES, SIZE)
-        with open(os.path.join(folder, "table"), "wb") as file:
-            file.write(table(code, pages, size))
-        with planted(folder, name, "--pages", str(pages), "--size", str(size), "--erase", code) as board:
-            with open(os.path.join(folder, "flash"), "rb") as file:
-                before = file.read()
-            said = run(folder, "--device", "board", "--table", "table", "--save", "saved", *QUICK,
-                       "--reset", f"kill -USR1 {board.pid}", *deviation.words)
+        self.store(f"{folder}/table", table(code, pages, size))
+        with planted(self.path(folder), name, "--pages", str(pages), "--size", str(size), "--erase", code) as board:
+            before = self.held(f"{folder}/flash")
+            said = run(self.path(folder), "--device", "board", *SAVED, *QUICK, "--reset", f"kill -USR1 {board.pid}", *deviation.words)
             status = board.wait(PATIENCE)
-        with open(os.path.join(folder, "flash"), "rb") as file:
-            after = file.read()
-        return [f"{name}, erased by {code}: {fault}" for fault in faults(deviation, said, status, before, after)]
+        return [f"{name}, erased by {code}: {fault}" for fault in faults(deviation, said, status, before, self.held(f"{folder}/flash"))]
 
     def try_all(self, boards):
         boards = [board for board in boards if not SOME or board[0] in SOME]
@@ -168,10 +198,7 @@ class Boards(Place):
         # what needs a hand is in a test of its own
         names = [name for name, deviation in DEVIATIONS.items() if "power" not in deviation.rows]
         self.assertGreater(len(names), 43)
-        if IS_LONG:
-            self.try_all([(name, "44") for name in names])
-        else:
-            self.try_all([(name, "44") for name in names if not DEVIATIONS[name].is_long])
+        self.try_all([(name, "44") for name in names if IS_LONG or not DEVIATIONS[name].is_long])
 
     def test_erased_by_43(self):
         names = [name for name, deviation in DEVIATIONS.items() if not {"power", "settle-erase"} & set(deviation.rows)]
@@ -182,81 +209,50 @@ class Boards(Place):
 def faults(deviation, said, board_status, before, after):
     found, verdict = rows_of(said)
     differ = names_of(found, "differs")
-    if said.err:
-        yield f"it said {said.err.decode()}"
-    if board_status != 0:
-        yield f"the board ended with {board_status}: what is never sent was sent"
-    if deviation.rows and not differ & set(deviation.rows):
-        yield f"not found: {sorted(differ)} differ"
-    if not deviation.rows and differ:
-        yield f"{sorted(differ)} differ"
-    if not verdict.startswith(deviation.verdict):
-        yield f"its verdict is {verdict!r}"
-    if said.status != (0 if deviation.verdict == FOLLOWS else 1):
-        yield f"the status is {said.status}"
-    if before != after and not deviation.is_lasting:
-        yield "its flash isn't what it was"
+    return [fault for is_so, fault in (
+        (said.err, f"it said {said.err.decode()}"),
+        (board_status != 0, f"the board ended with {board_status}: what is never sent was sent"),
+        (deviation.rows and not differ & set(deviation.rows), f"not found: {sorted(differ)} differ"),
+        (not deviation.rows and differ, f"{sorted(differ)} differ"),
+        (not verdict.startswith(deviation.verdict), f"its verdict is {verdict!r}"),
+        (said.status != (0 if deviation.verdict == FOLLOWS else 1), f"the status is {said.status}"),
+        (before != after and not deviation.is_lasting, "its flash isn't what it was")) if is_so]
 
 
 class Terminal(TrialPlace):
     """Trials that may ask: on a pseudo-terminal."""
 
-    def answer(self, words, answers):
-        """Runs a trial whose questions are answered, each by a text and what is done before it; its status, and what it said."""
-        process, terminal = pty.fork()
-        if process == 0:
-            os.chdir(self.folder)
-            os.execv(sys.executable, [sys.executable, TRIAL, "--table", "table", "--save", "saved", *words])
-        said, left, until = b"", list(answers), time.monotonic() + PATIENCE
-        while time.monotonic() < until:
-            if not select.select([terminal], [], [], 1)[0]:
-                continue
-            try:
-                came = os.read(terminal, 65536)
-            except OSError:
-                came = b""
-            if not came:
-                break
-            said += came
-            if left and left[0][0] in said:
-                question, act, text = left.pop(0)
-                said = said.replace(question, b"?", 1)
-                act()
-                os.write(terminal, text)
-        os.close(terminal)
-        _, status = os.waitpid(process, 0)
+    def answer(self, skipped, *answers):
+        """Runs a trial whose questions are answered; its status, and what it said."""
+        call = (sys.executable, TRIAL, *SAVED, "--device", "board", "--skip", skipped, *QUICK[1:])
+        status, said, left = at_terminal(self.folder, answers, *call)
         self.assertEqual(left, [], said)
-        return os.waitstatus_to_exitcode(status), said.decode()
+        return status, said
 
     def test_it_asks_once_and_no_changes_nothing(self):
-        self.store("table", table("44"))
         for text, due in ((b"no\n", 2), (b"\n", 2), (b"yes\n", 0)):
-            with self.subTest(text=text), planted(self.folder, "none", "--pages", str(PAGES)) as board:
-                skipped = "--skip=power,reset-in-frame,fresh-other"
-                status, said = self.answer(["--device", "board", skipped, *QUICK[1:]], [(b"yes or no:", lambda: None, text)])
+            with self.subTest(text=text), self.planted() as board:
+                status, said = self.answer("power,reset-in-frame,fresh-other", (b"yes or no:", lambda: None, text))
                 self.assertEqual((status, board.wait(PATIENCE)), (due, 0), said)
                 self.assertEqual(self.is_there("saved"), due == 0)
                 self.assertEqual(self.is_there("trial.toml"), due == 0)
-            self.remove("board")
 
     def test_power_is_taken_by_hand(self):
         for name, due in (("none", 0), ("power-spoils-all", 1)):
-            self.store("table", table("44"))
-            with self.subTest(name=name), planted(self.folder, name, "--pages", str(PAGES)) as board:
+            with self.subTest(name=name), self.planted(name) as board:
                 def lose(board=board):
                     # it has to have heard what was sent
                     time.sleep(0.5)
                     board.send_signal(signal.SIGUSR2)
                     time.sleep(0.2)
 
-                answers = [(b"yes or no:", lambda: None, b"yes\n"), (b"power now", lose, b"\n")]
-                status, said = self.answer(["--device", "board", "--skip=reset-in-frame,fresh-other", *QUICK[1:]], answers)
+                status, said = self.answer("reset-in-frame,fresh-other", (b"yes or no:", lambda: None, b"yes\n"), (b"power now", lose, b"\n"))
                 self.assertEqual((status, board.wait(PATIENCE)), (due, 0), said)
                 self.assertRegex(said, r"power +" + ("differs" if due else "holds"))
                 if due:
                     self.assertIn("don't use, because power: a way back doesn't lead back", said)
                 self.assertTrue(self.held("flash") == self.held("saved"))
-            self.remove("board", "saved", "flash", "trial.toml")
+            self.remove("saved", "flash", "trial.toml")
 
 
 class Words(TrialPlace):
@@ -268,42 +264,34 @@ class Words(TrialPlace):
     def test_words_that_cannot_be_done(self):
         self.store_all({"table": table("44"), "here": b"kept", "bad": b"[[chip]]\nid = 1\n"})
         os.symlink("saved", self.path("linked"))
+        other = "give --out another name\n"
         for words, text in (
-            ((), "no board"),
-            (("--device", "none", "--yes"), "stmflash-trial: none: No such file or directory; --device names a socket that is served\n"),
-            (("--device", "none"), "--yes, where nobody can be asked"),
-            (("--device", "none", "--port", "none"), "either --device or --port"),
-            (("--device", "none", "--wiring", "dtr-reset"), "--wiring is for --port"),
-            (("--device", "none", "--yes", "--skip", "erase,nothing"), "no row is named nothing"),
-            (("--device", "none", "--yes", "--skip", "pause,put-back"), "put-back can't be left out"),
-            (("--device", "none", "--yes", "--out", "saved"), "saved: is --save too; give --out another name\n"),
-            (("--device", "none", "--yes", "--out", "linked"), "linked: is --save too; give --out another name\n"),
-            (("--device", "none", "--yes", "--out", "./table"), "./table: is the chip table too; give --out another name\n"),
-            (("--device", "none", "--yes", "--pages", "1,-2"), "--pages"),
-            (("--device", "none", "--yes", "--wait", "0"), "--wait is 1 to 60000"),
-            (("--device", "none", "--yes", "--save", "here"), "here: is there already; give --save another name\n"),
-            (("--device", "none", "--yes", "--table", "bad"), "bad: is no chip table; --table names another\n"),
-            (("--device", "none", "--yes", "--table", "gone"), "gone: No such file or directory; --table names another\n"),
-        ):
+            ("", "no board"), ("--device none", "--yes, where nobody can be asked"), ("--device none --port none", "either --device or --port"),
+            ("--device none --yes", "stmflash-trial: none: No such file or directory; --device names a socket that is served\n"),
+            ("--device none --wiring dtr-reset", "--wiring is for --port"), ("--device none --yes --pages 1,-2", "--pages"),
+            ("--device none --yes --skip erase,nothing", "no row is named nothing"),
+            ("--device none --yes --skip pause,put-back", "put-back can't be left out"),
+            ("--device none --yes --out saved", f"saved: is --save too; {other}"), ("--device none --yes --wait 0", "--wait is 1 to 60000"),
+            ("--device none --yes --out linked", f"linked: is --save too; {other}"),
+            ("--device none --yes --out ./table", f"./table: is the chip table too; {other}"),
+            ("--device none --yes --save here", "here: is there already; give --save another name\n"),
+            ("--device none --yes --table bad", "bad: is no chip table; --table names another\n"),
+            ("--device none --yes --table gone", "gone: No such file or directory; --table names another\n")):
             with self.subTest(words=words):
-                self.assertRefused(self.trial(*words), text)
+                self.assertRefused(self.trial(*words.split()), text)
         self.assertFile("here", b"kept")
 
     def test_what_is_found_replaces_no_other_file(self):
         """A link and a pipe stay, and so does whatever has a name of that kind; a name that is no text is told as far as it is one."""
-        self.store_all({"table": table("44"), "real.new": b"mine"})
+        self.store("real.new", b"mine")
         os.symlink("real", self.path("link"))
         os.mkfifo(self.path("pipe"))
         reader = os.open(self.path("pipe"), os.O_RDONLY | os.O_NONBLOCK)
         self.addCleanup(os.close, reader)
         for name, held in (("link", lambda: self.held("real")), ("pipe", lambda: os.read(reader, 1 << 16))):
-            with planted(self.folder, "none", "--pages", str(PAGES)) as board:
-                words = ("--only-read", "--part", b"a\xffb", "--out", name, "--save", b"saved\xff" + name.encode(), *QUICK[1:])
-                said = run(self.folder, "--device", "board", "--table", "table", *words, PYTHONIOENCODING="utf-8:strict")
-                self.assertEqual(board.wait(PATIENCE), 0)
+            words = ("--only-read", "--part", b"a\xffb", "--out", name, "--save", b"saved\xff" + name.encode(), *QUICK[1:])
+            said = self.tried("none", *words, PYTHONIOENCODING="utf-8:strict")
             self.assertStatus(said, 0)
-            # the next board has a socket of its own
-            self.clear("board")
             self.assertEqual(tomllib.loads(held().decode())["part"], "a\ufffdb")
             self.assertIn(f"saved in saved\\udcff{name}: ", said.out.decode())
         self.assertTrue(os.path.islink(self.path("link")))
@@ -312,51 +300,40 @@ class Words(TrialPlace):
 
     def test_a_part_of_the_flash_is_no_file(self):
         """A disk that has no room for all of it."""
-        text = "import resource, sys; sys.path[:0] = sys.argv[1:]; resource.setrlimit(resource.RLIMIT_FSIZE, (4096, 4096)); " \
-               "import faults, saved\ntry:\n    saved.store('part', bytes(8192))\nexcept faults.Ended as ended:\n    print(ended)"
-        ran = subprocess.run([sys.executable, "-B", "-c", text, FOLDER, os.path.dirname(FOLDER)], cwd=self.folder, capture_output=True,
-                             timeout=PATIENCE, check=True)
-        self.assertEqual(ran.stdout, b"the flash couldn't be saved: File too large\n")
+        text = "import resource, faults, saved; resource.setrlimit(resource.RLIMIT_FSIZE, (4096, 4096))\n" \
+               "try:\n    saved.store(sys.argv[1], bytes(8192))\nexcept faults.Ended as ended:\n    print(ended)"
+        self.assertEqual(of_modules(text, self.path("part")), "the flash couldn't be saved: File too large\n")
         self.assertFalse(self.is_there("part"))
 
     def test_a_page_that_is_not_there(self):
-        self.store("table", table("44"))
-        with planted(self.folder, "none", "--pages", str(PAGES)) as board:
-            said = self.trial("--device", "board", "--pages", "8", *QUICK)
-            self.assertEqual((said.status, board.wait(PATIENCE)), (2, 0))
-        self.assertEqual(said.err, b"stmflash-trial: --pages: this chip has no such page; give 0 to 7, but for 255\n")
+        said = self.tried("none", "--pages", "8", *QUICK)
+        self.assertEqual((said.status, said.err), (2, b"stmflash-trial: --pages: this chip has no such page; give 0 to 7, but for 255\n"))
         self.assertFalse(self.is_there("saved"))
 
     def test_only_reads(self):
-        self.store("table", table("44"))
-        with planted(self.folder, "none", "--pages", str(PAGES)) as board:
-            said = self.trial("--device", "board", "--only-read", *QUICK[1:])
-            self.assertEqual(board.wait(PATIENCE), 0)
+        said = self.tried("none", "--only-read", *QUICK[1:])
         self.assertStatus(said, 0)
         found, verdict = rows_of(said)
         self.assertLessEqual({"erase", "write", "settle-erase", "put-back"}, names_of(found, "not tried"))
         self.assertIn("; not tried: ", verdict)
 
     def test_named_rows_are_left_out(self):
-        self.store("table", table("44"))
-        with planted(self.folder, "erases-before-check", "--pages", str(PAGES)):
-            said = self.trial("--device", "board", "--skip", "refuse-erase,pause,reset-in-frame", *QUICK)
+        said = self.tried("erases-before-check", "--skip", "refuse-erase,pause,reset-in-frame", *QUICK)
         self.assertStatus(said, 0)
         self.assertIn("refuse-erase      not tried  left out\n", said.out.decode())
         self.assertIn("not tried: pause, refuse-erase, reset-in-frame", said.out.decode())
 
     def test_progress(self):
-        self.store("table", table("44"))
-        with planted(self.folder, "silent", "--pages", str(PAGES)):
-            said = self.trial("--device", "board", "--progress", *QUICK)
-        count = len(row_names())
+        said, count = self.tried("silent", "--progress", *QUICK), len(row_names())
         self.assertEqual(said.err.decode().splitlines(), [f"row {n + 1} of {count}: {name}" for n, name in enumerate(row_names())])
 
 
 class Ports(LinePlace):
     """Through stmflash-line, on a pseudo-terminal with a simulated board behind it."""
 
-    WORDS = ("--table", "table", "--save", "saved", *QUICK)
+    WORDS = (*SAVED, *QUICK)
+    before = random.Random(5).randbytes(32768)
+    begins = {"ttyUSB0.flash": before}
     # rows before the first change that take their time
     BEFORE = "loss-up,read-again,refuse-pair,settle-ask,pause"
 
@@ -364,11 +341,6 @@ class Ports(LinePlace):
         self.assertEqual((said.status, said.err), (0, b""), said.out)
         self.assertEqual(names_of(rows_of(said)[0], "differs"), set())
         self.assertTrue(self.held("saved") == board.store() == self.before)
-
-    def setUp(self):
-        super().setUp()
-        self.before = random.Random(5).randbytes(32768)
-        self.store("ttyUSB0.flash", self.before)
 
     def test_under_the_line(self):
         """As the line's command; the board's way stands in STMFLASH_DEVICE, and its status is handed on."""
@@ -384,36 +356,23 @@ class Ports(LinePlace):
         self.assertEqual((said.status, said.out), (2, b""))
         self.assertTrue(said.err.endswith(b"stmflash-trial: stmflash-line didn't open the port; it tells why and what to do above\n"), said.err)
 
-    def at_terminal(self, *call):
+    def interrupted(self, *call):
         """Runs a trial on a terminal at which Ctrl-C is pressed in the midst of its changes; its status, and what it said. One that had
         ended before is begun anew."""
         for _ in range(5):
-            process, terminal = pty.fork()
-            if process == 0:
-                default_signals()
-                os.chdir(self.folder)
-                os.execve(PYTHON, [PYTHON, *call, *self.WORDS, "--skip", self.BEFORE],
-                          {"PATH": os.environ["PATH"], "TMPDIR": self.path("temporary")})
-            said, is_pressed = b"", False
-            # what is still to be read when all of them have ended is a fault
-            with contextlib.suppress(OSError):
-                while came := os.read(terminal, 65536):
-                    said += came
-                    if b": write-4" in said and not is_pressed:
-                        is_pressed = os.write(terminal, b"\x03")
-            os.close(terminal)
-            status = os.waitstatus_to_exitcode(os.waitpid(process, 0)[1])
+            pressed = (b": write-4", lambda: None, b"\x03")
+            status, said, _ = at_terminal(self.folder, [pressed], PYTHON, *call, *self.WORDS, "--skip", self.BEFORE, TMPDIR=self.path("temporary"))
             if status:
                 break
             self.remove("saved")
-        return status, said.decode()
+        return status, said
 
     def test_a_ctrl_c_puts_back(self):
         """The terminal sends it to each program there, and stmflash-line hands it on."""
         board = self.board()
         for call, due in (((LINE, "ttyUSB0", "--", sys.executable, TRIAL), 130), ((TRIAL, "--port", "ttyUSB0"), 1)):
             with self.subTest(call=call):
-                status, said = self.at_terminal(*call)
+                status, said = self.interrupted(*call)
                 self.assertEqual(status, due, said)
                 self.assertRegex(said, r"put-back +holds")
                 self.assertIn("don't use, because the trial wasn't ended: signal SIGINT", said)
@@ -423,8 +382,7 @@ class Ports(LinePlace):
     def test_killed_it_gives_the_port_back(self):
         self.board()
         started = self.start("--port", "ttyUSB0", *self.WORDS, line=(TRIAL,))
-        while b"saved in " not in started.stdout.readline():
-            self.assertIsNone(started.poll())
+        until_told(self, started, b"saved in ", "stdout")
         started.kill()
         started.wait()
         for folder in os.listdir(self.path("temporary")):
@@ -438,15 +396,11 @@ class FastBoard:
     connected anew where the file `reset` has come."""
 
     def __init__(self, test, fastest, right):
-        self.master, slave = os.openpty()
-        tty.setraw(slave)
-        os.symlink(os.ttyname(slave), test.path("ttyUSB0"))
-        os.close(slave)
+        self.master = test.plain()
         self.test, self.fastest, self.right, self.speed, self.asked = test, fastest, right, None, b""
         self.is_over = threading.Event()
         serving = threading.Thread(target=self.serve)
         serving.start()
-        test.addCleanup(os.close, self.master)
         test.addCleanup(serving.join)
         test.addCleanup(self.is_over.set)
 
@@ -454,7 +408,7 @@ class FastBoard:
         while not self.is_over.is_set():
             # while nobody has the port open a read fails
             with contextlib.suppress(OSError):
-                if select.select([self.master], [], [], 0.05)[0]:
+                if readable([self.master], 0.05):
                     for byte in os.read(self.master, 4096):
                         os.write(self.master, self.reply(byte))
 
@@ -497,8 +451,7 @@ class Speeds(LinePlace):
         self.assertEqual((status, lines), (0, [
             *(f"{baud:<9}taken: 16384 bytes read" for baud in (57600, 115200, 230400, 460800)),
             *(f"{baud:<9}not taken: other bytes were read than at a lower speed" for baud in (921600, 1000000)),
-            *(f"{baud:<9}not taken: no answer" for baud in (1500000, 2000000)),
-            "the highest that this board takes on this line: --baud 460800"]))
+            *(f"{baud:<9}not taken: no answer" for baud in (1500000, 2000000)), "the highest that this board takes on this line: --baud 460800"]))
 
     def test_a_board_that_takes_none(self):
         status, lines = self.speeds(0, 0, "--reset", "touch reset")
@@ -518,28 +471,24 @@ class Speeds(LinePlace):
 class Told(TrialPlace):
     def test_the_file(self):
         """What it has, and that no byte of the flash, no path and no name of a file is in it, also where reads went wrong."""
-        self.store("table", table("44"))
         # a byte that no code, address, count or number has
         self.store("flash", b"\xd7" * PAGES * SIZE)
         for name in ("none", "flips-a-bit-now-and-then", "any-count", "loses-each-10000th-down", "read-protected"):
-            with self.subTest(name=name), planted(self.folder, name, "--pages", str(PAGES)) as board:
-                words = ("--device", "board", "--part", 'an "F0"', *QUICK, "--reset", f"kill -USR1 {board.pid}")
-                run(self.folder, "--table", "table", "--save", "kept-here", "--out", "found.toml", *words)
+            with self.subTest(name=name), self.planted(name) as board:
+                words = ("--save", "kept-here", "--out", "found.toml", "--part", 'an "F0"', "--reset", f"kill -USR1 {board.pid}")
+                self.trial("--device", "board", *words, *QUICK)
                 self.assertEqual(board.wait(PATIENCE), 0)
             text = self.held("found.toml").decode()
             found = tomllib.loads(text)
-            self.assertEqual((found["trial"], found["part"], found["id"], found["version"], found["baud"]),
-                             (1, 'an "F0"', 0x440, 0x31, 4000000))
+            self.assertEqual((found["trial"], found["part"], found["id"], found["version"], found["baud"]), (1, 'an "F0"', 0x440, 0x31, 4000000))
             self.assertEqual([row["name"] for row in found["row"]], row_names())
             self.assertLessEqual({row["result"] for row in found["row"]}, {"holds", "differs", "not tried"})
             for word in ("D7", "d7", "215", "/", "kept-here", "found.toml", "kill"):
                 self.assertNotIn(word, text)
-            self.clear("board", "kept-here")
+            self.clear("kept-here")
 
     def test_the_file_that_cannot_be_written(self):
-        self.store("table", table("44"))
-        with planted(self.folder, "none", "--pages", str(PAGES)):
-            said = self.trial("--device", "board", "--out", "none/found.toml", "--only-read", *QUICK)
+        said = self.tried("none", "--out", "none/found.toml", "--only-read", *QUICK)
         self.assertEqual(said.status, 1)
         self.assertIn("couldn't be written to none/found.toml: No such file or directory\n", said.out.decode())
 
@@ -551,8 +500,7 @@ class Told(TrialPlace):
 
     def test_the_boards_of_the_page(self):
         """Each planted board, in the list of its verdict; and how many they are."""
-        part = text_in("docs", "TRIAL.md").split("\n## Boards that do otherwise\n")[1].split("\n## ")[0]
-        told = {}
+        part, told = part_of("TRIAL.md", "Boards that do otherwise"), {}
         for verdict, names in re.findall(r"^The verdict is `([^`]+)` on:\n\n((?:- .*\n)+)", part, re.M):
             told.update((name, (verdict, does)) for name, does in re.findall(r"^- `([^`]+)`: (.*)$", names, re.M))
         self.assertEqual(told, {name: (deviation.verdict, deviation.does) for name, deviation in DEVIATIONS.items()})
@@ -563,10 +511,12 @@ class Told(TrialPlace):
         self.assertEqual({row for deviation in DEVIATIONS.values() for row in deviation.rows}, set(row_names()))
 
 
-def of_modules(text, *words):
-    """What a text of Python prints that uses modules of the trial."""
-    text = f"import sys; sys.dont_write_bytecode = True; sys.path[:0] = [{FOLDER!r}, {os.path.dirname(FOLDER)!r}]; {text}"
-    return subprocess.run([sys.executable, "-c", text, *words], capture_output=True, check=True, text=True).stdout
+def of_modules(text, *words, status=0):
+    """What a text of Python prints that uses modules of the trial, and ends so."""
+    text = f"import sys; sys.dont_write_bytecode = True; sys.path[:0] = [{FOLDER!r}, {os.path.dirname(FOLDER)!r}]\n{text}"
+    ran = subprocess.run([sys.executable, "-c", text, *words], capture_output=True, text=True, preexec_fn=default_signals, check=False)
+    assert (ran.returncode, ran.stderr) == (status, ""), ran
+    return ran.stdout
 
 
 class Pages(unittest.TestCase):
@@ -576,7 +526,7 @@ class Pages(unittest.TestCase):
                "for named, count in (([], 32), ([], 1), ([], 256), ([], 257), ([3, 7], 32), ([255], 300), ([256], 300), ([32], 32)):\n" \
                "    try: print(choose(named, count))\n" \
                "    except Exception as error: print(error)"
-        self.assertEqual(of_modules(text.replace("from", "\nfrom", 1)).splitlines(), [
+        self.assertEqual(of_modules(text).splitlines(), [
             "[30, 31]", "[0]", "[253, 254]", "[254, 256]", "[3, 7]", "--pages: this chip has no such page; give 0 to 299, but for 255", "[256]",
             "--pages: this chip has no such page; give 0 to 31, but for 255"])
 
@@ -621,24 +571,21 @@ class Companion(Place):
         text = "from types import SimpleNamespace as Words\nfrom line import start_companion\n" \
                "for wiring in ('', 'dtr-reset'):\n" \
                "    start_companion(Words(folder=sys.argv[1], port='P', baud=57600, wiring=wiring), 'S').wait()"
-        self.assertEqual(of_modules("\n" + text, self.folder).splitlines(),
-                         ["P --baud 57600 --socket S", "P --baud 57600 --socket S --wiring=dtr-reset"])
+        self.assertEqual(of_modules(text, self.folder).splitlines(), ["P --baud 57600 --socket S", "P --baud 57600 --socket S --wiring=dtr-reset"])
 
 
 class Premises(unittest.TestCase):
-    """Each premise of HEADLINE and each rule of MODEL is in the list of docs/TRIAL.md, with rows that there are, or with what a
-    hand has to do."""
+    """Each premise of HEADLINE and each rule of MODEL is in the list of docs/TRIAL.md, with rows that there are, or with what a hand has to do."""
 
     def setUp(self):
         self.listed = {}
-        part = page("TRIAL.md").split("## What each premise and each rule has")[1].split("\n## ")[0]
-        for line in part.splitlines():
+        for line in part_of("TRIAL.md", "What each premise and each rule has").splitlines():
             cells = [cell.strip() for cell in line.strip("|").split("|")]
             if len(cells) == 2 and not cells[0].startswith(("---", "Premise")):
                 self.listed[cells[0]] = cells[1]
 
     def test_each_is_listed(self):
-        due = premises() | rules()
+        due = {opening(cell) for cell in cells_of(part_of("HEADLINE.md", "Premises"))} | rules()
         self.assertGreater(len(due), 40)
         self.assertEqual(set(self.listed), due)
 
@@ -653,12 +600,8 @@ class Premises(unittest.TestCase):
         self.assertEqual(names - named, {"get-version"})
 
 
-def page(name):
-    return text_in("docs", name)
-
-
-def part_of(text, title):
-    return text.split(f"\n## {title}\n")[1].split("\n## ")[0]
+def part_of(page, title):
+    return text_in("docs", page).split(f"\n## {title}\n")[1].split("\n## ")[0]
 
 
 def cells_of(text):
@@ -680,17 +623,11 @@ def opening(sentence):
     return " ".join(sentence.split()[:8]).rstrip(".,:;")
 
 
-def premises():
-    """The first words of each premise of HEADLINE."""
-    return {opening(cell) for cell in cells_of(part_of(page("HEADLINE.md"), "Premises"))}
-
-
 def rules():
     """The first words of each rule of MODEL: rows of the tables of phases and verdicts, and sentences about what a device is and does."""
-    text = page("MODEL.md")
     found = set()
     for title in ("What a device has", "Verdicts", "Effects", "What a stop leaves", "What a loss of power leaves"):
-        part = part_of(text, title)
+        part = part_of("MODEL.md", title)
         found |= {opening(cell) for cell in cells_of(part)} | {opening(sentence) for sentence in sentences_of(part)}
     return found
 
@@ -698,16 +635,22 @@ def rules():
 class Ends(TrialPlace):
     """Signals and kills: what was changed is put back, by the trial or by what it saved."""
 
-    def start_trial(self, pause="0.2", *more):
-        words = ["--device", "board", "--table", "table", "--save", "saved", "--yes", "--wait", "20", "--pause", pause, *more]
-        # a shell that runs the tests behind it has its children ignore this one
-        heard = functools.partial(signal.signal, signal.SIGINT, signal.SIG_DFL)
-        started = subprocess.Popen([sys.executable, TRIAL, *words], cwd=self.folder, env={}, stdin=subprocess.DEVNULL,
-                                   stdout=subprocess.PIPE, stderr=subprocess.PIPE, preexec_fn=heard)
+    before = random.Random(3).randbytes(32768)
+
+    def started(self, *words):
+        call = [sys.executable, TRIAL, "--device", "board", *SAVED, "--yes", "--wait", "20", *words]
+        started = subprocess.Popen(call, cwd=self.folder, env={}, stdin=subprocess.DEVNULL,
+                                   stdout=subprocess.PIPE, stderr=subprocess.PIPE, preexec_fn=default_signals)
         self.addCleanup(started.communicate)
         self.addCleanup(started.kill)
-        while b"saved in " not in started.stdout.readline():
-            self.assertIsNone(started.poll())
+        return started
+
+    def start_trial(self, pause="0.2", *more):
+        """A trial of a simulator whose flash is `before`, once it has saved that."""
+        self.store("flash", self.before)
+        self.serve(1)
+        started = self.started("--pause", pause, *more)
+        until_told(self, started, b"saved in ", "stdout")
         # it is on the disk before anything is changed
         self.assertTrue(self.held("saved") == self.before)
         return started
@@ -715,12 +658,9 @@ class Ends(TrialPlace):
     def signalled(self, number):
         """A trial to which a signal came in its midst. One that had ended before it came, as on a busy machine, is begun anew."""
         for _ in range(5):
-            self.store("flash", self.before)
-            self.serve(1)
             started = self.start_trial("0", "--progress")
             # the row behind those that have changed something
-            while b"write-4" not in started.stderr.readline():
-                self.assertIsNone(started.poll())
+            until_told(self, started, b"write-4")
             started.send_signal(number)
             out, err = started.communicate(timeout=PATIENCE)
             self.assertServed()
@@ -730,7 +670,6 @@ class Ends(TrialPlace):
         return started.returncode, out, err
 
     def test_a_signal_puts_back(self):
-        self.before = random.Random(3).randbytes(32768)
         for number in (signal.SIGTERM, signal.SIGINT):
             status, out, err = self.signalled(number)
             self.assertEqual(status, 1)
@@ -742,25 +681,18 @@ class Ends(TrialPlace):
 
     def test_a_later_signal_ends_everything(self):
         """One that comes at once is taken for the same."""
-        self.store("table", table("44"))
         text = "import os, signal, time\nfrom types import SimpleNamespace as Words\nimport trial\n" \
                "signal.signal(signal.SIGHUP, signal.SIG_IGN)\nheld = object.__new__(trial.Trial)\nheld.signalled, held.may_end = None, False\n" \
                "with trial.signals(held.stop):\n" \
                "    for _ in range(3): os.kill(os.getpid(), signal.SIGINT)\n" \
                "    print(held.ended, flush=True)\n    held.signalled -= 1\n    os.kill(os.getpid(), signal.SIGINT)\n    print('goes on')"
-        path = f"import sys; sys.dont_write_bytecode = True; sys.path[:0] = [{FOLDER!r}, {os.path.dirname(FOLDER)!r}]\n"
-        ran = subprocess.run([sys.executable, "-c", path + text], capture_output=True, preexec_fn=default_signals, check=False)
-        self.assertEqual((ran.returncode, ran.stdout, ran.stderr), (-signal.SIGINT, b"signal SIGINT\n", b""))
+        self.assertEqual(of_modules(text, status=-signal.SIGINT), "signal SIGINT\n")
 
     def test_a_reader_that_goes_away_ends_nothing(self):
         """What was changed is put back though nobody reads what is said, on either stream."""
-        self.before = random.Random(4).randbytes(32768)
-        self.store("flash", self.before)
-        self.serve(1)
         started = self.start_trial("0", "--progress")
         started.stdout.close()
-        while b"write-4" not in started.stderr.readline():
-            self.assertIsNone(started.poll())
+        until_told(self, started, b"write-4")
         started.stderr.close()
         self.assertEqual(started.wait(PATIENCE), 0)
         self.assertServed()
@@ -769,15 +701,9 @@ class Ends(TrialPlace):
         self.assertTrue(self.held("flash") == self.before)
 
     def test_a_signal_ends_a_row_in_its_midst(self):
-        self.store("table", table("44"))
-        words = ("--table", "table", "--save", "saved", "--device", "board", *QUICK, "--only-read", "--progress", "--pause", "60")
-        with planted(self.folder, "none", "--pages", str(PAGES)):
-            started = subprocess.Popen([sys.executable, TRIAL, *words], cwd=self.folder, stdin=subprocess.DEVNULL,
-                                       stdout=subprocess.PIPE, stderr=subprocess.PIPE, preexec_fn=default_signals)
-            self.addCleanup(started.communicate)
-            self.addCleanup(started.kill)
-            while not started.stderr.readline().endswith(b": pause\n"):
-                self.assertIsNone(started.poll())
+        with self.planted():
+            started = self.started(*QUICK[3:], "--only-read", "--progress", "--pause", "60")
+            until_told(self, started, b": pause\n")
             self.until_it_waits(started)
             started.send_signal(signal.SIGTERM)
             out, _ = started.communicate(timeout=min(PATIENCE, 50))
@@ -792,8 +718,6 @@ class Ends(TrialPlace):
         changed = 0
         for turn in range(KILLS):
             with self.subTest(turn=turn, seed=seed):
-                self.store("flash", self.before)
-                self.serve(1)
                 started = self.start_trial()
                 time.sleep(chance.uniform(0.2, 6.5))
                 started.kill()

@@ -7,16 +7,14 @@ import subprocess
 import sys
 import unittest
 
-from place import PATIENCE, TOP, Place, Said
+from place import PATIENCE, TABLE, TOP, Place, Said, text_in
 
 TRIALS = os.path.join(TOP, "tools", "trials")
-SENT = os.path.join(TOP, "trials", "0412-22-simulator-1.toml")
 NAME = "0412-22-part-1.toml"
-TABLE = '[[chip]]\nid = 0x412\nbase = 0x08000000\npages = [[32, 1024]]\nerase = "page"\n'
 # a page whose part is to be made
 PAGE = b"# Trials\n\nOnes.\n\n## Boards that were tried\n\nNone.\n\n## More\n"
 HOLDS = 'name = "{}"\nresult = "holds"'
-DIFFERS = 'name = "{}"\nresult = "differs"'
+DONE = Said(0, b"", b"")
 
 
 def run(*words):
@@ -26,27 +24,28 @@ def run(*words):
 
 class Page(unittest.TestCase):
     def test_it_is_current(self):
-        self.assertEqual(run("--check"), Said(0, b"", b""))
+        self.assertEqual(run("--check"), DONE)
 
 
 class Sent(Place):
     def setUp(self):
         super().setUp()
         os.mkdir(self.path("trials"))
-        self.store_all({"table": TABLE.encode(), "page": PAGE})
-        with open(SENT, encoding="utf-8") as held:
-            self.text = held.read()
+        self.store("page", PAGE)
+        self.text = text_in("trials", "0412-22-simulator-1.toml")
 
     def put(self, text, name=NAME):
         self.store("trials/" + name, text.encode())
+
+    def tried(self, text):
+        """The table says this of its chip's trials."""
+        self.store("table", TABLE + f"tried = {text}\n".encode())
 
     def trials(self, *words):
         return run("--folder", self.path("trials"), "--table", self.path("table"), "--page", self.path("page"), *words)
 
     def assertRefused(self, text, at=NAME):
-        said = self.trials()
-        self.assertEqual((said.status, said.out), (1, b""))
-        self.assertEqual(said.err.decode(), f"{at}: {text}\n")
+        self.assertEqual(self.trials(), Said(1, b"", f"{at}: {text}\n".encode()))
         self.assertFile("page", PAGE)
 
     def changed(self, old, new):
@@ -55,25 +54,22 @@ class Sent(Place):
 
     def test_a_page(self):
         self.put(self.text)
-        self.assertEqual(self.trials(), Said(0, b"", b""))
+        self.assertEqual(self.trials(), DONE)
         page = self.held("page").decode()
         self.assertIn("Real boards: 0, of 0 of the 1 chips in the table. Simulated ones: 1, which say nothing of a chip.", page)
         self.assertIn("| 0412 | 22 | simulator (simulated) | follows the model | - |", page)
         self.assertTrue(page.startswith("# Trials\n\nOnes.\n\n## Boards that were tried\n\nMade by ") and page.endswith(" |\n\n## More\n"), page)
-        self.assertEqual(self.trials("--check"), Said(0, b"", b""))
+        self.assertEqual(self.trials("--check"), DONE)
         self.store("page", page.replace("0412", "0413").encode())
-        said = self.trials("--check")
-        self.assertEqual((said.status, said.err), (1, b"trials: docs/TRIAL.md isn't current: python3 tools/trials\n"))
+        self.assertEqual(self.trials("--check"), Said(1, b"", b"trials: docs/TRIAL.md isn't current: python3 tools/trials\n"))
         self.store("page", b"# Trials\n")
-        said = self.trials()
-        self.assertEqual((said.status, said.err), (1, b"trials: the page has no part '## Boards that were tried'\n"))
+        self.assertEqual(self.trials(), Said(1, b"", b"trials: the page has no part '## Boards that were tried'\n"))
         self.assertFile("page", b"# Trials\n")
 
     def test_files(self):
         row = HOLDS.format("quiet")
         for old, new, text in (
-                ("trial = 1", "trial = 2", "is of form 2, and 1 is known"),
-                ('date = "20', 'date = "1st of 20', None),
+                ("trial = 1", "trial = 2", "is of form 2, and 1 is known"), ('date = "20', 'date = "1st of 20', None),
                 ('who = "the stmflash authors"\n', "", 'who isn\'t there: add a line who = ".." of who tried it'),
                 ('who = "the stmflash authors"', 'who = "/home/me"', "who is one short text, without a path"),
                 ('part = "simulator"', 'part = " "', "part is one short text, without a path"),
@@ -87,7 +83,7 @@ class Sent(Place):
                 ("[[row]]\n" + row + '\nfound = ""\n', "", "not each row is there once: quiet"),
                 ("[[row]]\n" + row, "[[row]]\n" + row + "\n[[row]]\n" + row, "not each row is there once: one stands twice"),
                 (row, row.replace("holds", "held"), "quiet: 'held' is no result"),
-                (row, DIFFERS.format("quiet"), "it follows the model, and its reason doesn't name quiet"),
+                (row, row.replace("holds", "differs"), "it follows the model, and its reason doesn't name quiet"),
                 ("not tried: reset-in-frame, ", "not tried: ", "it follows the model, and its reason doesn't name reset-in-frame"),
                 ('verdict = "follows the model"', 'verdict = "use with these options"', "it needs an option, and no row differs"),
                 ('verdict = "follows the model"', 'verdict = "fine"', "'fine' is no verdict")):
@@ -104,7 +100,7 @@ class Sent(Place):
         said = self.trials()
         self.assertEqual(said.status, 1)
         self.assertTrue(said.err.startswith(f"{NAME}: can't be read: ".encode()))
-        self.store("table", TABLE.replace("0x412", "0x413").encode())
+        self.store("table", TABLE.replace(b"0x412", b"0x413"))
         self.put(self.text)
         self.assertRefused("no chip of the table has the id 0412")
 
@@ -124,19 +120,20 @@ class Sent(Place):
         board = f'{{ "part" = "simulator", "version" = "22", "who" = "the stmflash authors", "when" = "{day}", ' \
                 f'"verdict" = "follows the model", "file" = "trials/{NAME}" }}'
         self.assertRefused(f"tried of 0412 lacks {board}", at="table")
-        self.store("table", (TABLE + f"tried = [{board}]\n").encode())
-        self.assertEqual(self.trials(), Said(0, b"", b""))
+        self.tried(f"[{board}]")
+        self.assertEqual(self.trials(), DONE)
         self.assertIn("Real boards: 1, of 1 of the 1 chips in the table.", self.held("page").decode())
-        self.store_all({"page": PAGE, "table": (TABLE + f"tried = [{board}, {board}]\n").encode()})
+        self.store("page", PAGE)
+        self.tried(f"[{board}, {board}]")
         self.assertRefused(f'tried of 0412 has "trials/{NAME}" more than once', at="table")
         other = board.replace('"22"', '"31"').replace(" }", ', "simulated" = true }')
-        self.store("table", (TABLE + f"tried = [{other}]\n").encode())
+        self.tried(f"[{other}]")
         self.assertRefused(f'tried of 0412 says of "trials/{NAME}" version = "31", and the file version = "22"\n'
                            f'table: tried of 0412 says of "trials/{NAME}" simulated = true, and the file no simulated', at="table")
         shutil.rmtree(self.path("trials"))
         os.mkdir(self.path("trials"))
         self.assertRefused(f'tried of 0412 has "trials/{NAME}", which is no trial of a real board of this id', at="table")
-        self.store("table", (TABLE + "tried = 1\n").encode())
+        self.tried("1")
         self.assertRefused("tried of 0412 is no array of tables", at="table")
 
     def test_a_long_name(self):

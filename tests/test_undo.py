@@ -1,7 +1,6 @@
 """What `undo` makes of a flash, from journals that were left by others."""
 
-
-from place import ERASED, SILENT, TABLE, ZEROS, Place, had, lacks, with_page
+from place import ERASED, TABLE, ZEROS, Place, had, lacks, with_page
 
 HEAD = b"stmjournal 2 0412\nopen 1\npage 5 "
 # a journal that was left in the midst of a page's line, and the same after its segment was undone
@@ -18,8 +17,7 @@ WIDE_CHIP = "sim:0A01:flash"
 COMPANIONS = b'[[chip]]\nid = 0xA02\nbase = 0x08000000\npages = [[512, 256]]\nerase = "extended"\n'
 PAIRED = b"stmjournal 2 0A02\nopen 1\npage 257 " + 512 * b"0" + b"\npage 1 " + 512 * b"0" + b"\nerase 1\n"
 OTHER_CHIP = b'[[chip]]\nid = 0x410\nbase = 0x08000000\npages = [[128, 1024]]\nerase = "page"\n'
-# journals that aren't undone, what is said of each, and how the line stands then: nothing is sent where the journal
-# alone tells
+# journals that aren't undone, what is said of each, and how the line stands then: nothing is sent where the journal alone tells
 REFUSED = (
     (b"stmjournal 1 0412\nopen 2\n", "bad journal line 2", b"fresh\n"),
     (b"stmjournal 1 0412\nopen 1\npage 0 FF\n", "bad journal line 3", b"fresh\n"),
@@ -34,12 +32,8 @@ class Undo(Place):
         before = with_page(HEAD, b"0", b"\nerase 5\n")
         after = with_page(HEAD, b"0", b"\nerase 5\nerase 5\nprogram 5\nundone 1\n")
         self.store_all({"flash": ZEROS, "flash.line": b"rest 43BC\n", "journal": before})
-        self.assertTold(self.use("undo"), "undone 1\n")
-        self.assertHolds(ZEROS, b"idle\n")
-        self.assertFile("journal", after)
-        self.assertTold(self.use("undo"), "undone 0\n")
-        self.assertHolds(ZEROS, b"idle\n")
-        self.assertFile("journal", after)
+        self.assertTold(self.use("undo"), "undone 1\n", holds=(ZEROS, b"idle\n"), journal=after)
+        self.assertTold(self.use("undo"), "undone 0\n", holds=(ZEROS, b"idle\n"), journal=after)
 
     def test_believes_neither_page_1_nor_page_257(self):
         """An erase of page 1 was stopped behind its complement and a 00. Byte 01 completes one of page 257, in which power goes:
@@ -56,45 +50,34 @@ class Undo(Place):
                 self.store_all({"flash": paired, "flash.line": b"fresh\n"})
                 behind = b"".join(lines[:gone])
                 self.store("journal", PAIRED + behind)
-                self.assertTold(self.use("undo", "--fresh", device="sim:0A02:flash"), "undone 1\n")
-                self.assertHolds(paired, b"idle\n")
+                self.assertTold(self.use("undo", "--fresh", device="sim:0A02:flash"), "undone 1\n", holds=(paired, b"idle\n"))
                 due = lines if gone < 3 else lines[2:]
                 self.assertFile("journal", PAIRED + behind + b"".join(due) + b"undone 1\n")
 
     def test_gives_a_kept_page_back(self):
         """The page that was kept is given back, and every other byte stays."""
         self.store("journal", with_page(b"stmjournal 2 0412\nopen 1\npage 0 ", b"0", b"\nerase 0\nend 1\n"))
-        self.assertTold(self.use("undo", "1"), "undone 1\n")
-        self.assertHolds(ZEROS[:1024] + ERASED[1024:], b"idle\n")
+        self.assertTold(self.use("undo", "1"), "undone 1\n", holds=(ZEROS[:1024] + ERASED[1024:], b"idle\n"))
 
     def test_undoes_a_torn_line(self):
         self.store("journal", TORN)
-        self.assertTold(self.use("undo"), "undone 1\n", had(1, left=0))
-        self.assertHolds(ERASED, b"idle\n")
-        self.assertFile("journal", MENDED)
+        self.assertTold(self.use("undo"), "undone 1\n", had(1, left=0), holds=(ERASED, b"idle\n"), journal=MENDED)
 
     def test_undoes_as_many_as_there_are(self):
         self.store("journal", THREE)
-        self.assertTold(self.use("undo", "2"), "undone 2\n", had(2, 3, left=1))
-        self.assertFile("journal", TAKEN_TWO)
-        self.assertTold(self.use("undo", "5"), "undone 1\n", had(1, left=0))
-        self.assertFile("journal", TAKEN)
+        self.assertTold(self.use("undo", "2"), "undone 2\n", had(2, 3, left=1), journal=TAKEN_TWO)
+        self.assertTold(self.use("undo", "5"), "undone 1\n", had(1, left=0), journal=TAKEN)
         # all, unless it is said how many
         self.store("journal", THREE)
-        self.assertTold(self.use("undo"), "undone 3\n", had(1, 2, 3, left=0))
-        self.assertFile("journal", TAKEN)
+        self.assertTold(self.use("undo"), "undone 3\n", had(1, 2, 3, left=0), journal=TAKEN)
 
     def test_undoes_nothing(self):
         """No byte is sent: the line stands as before. One that isn't there is as an empty one, and isn't made; a note says
         so, since its name may have been mistyped."""
         for words in ((), ("--fresh",), ("--to-change",), ("3",)):
-            self.assertTold(self.use("undo", *words), "undone 0\n", lacks("journal"))
-            self.assertHolds(ERASED, b"fresh\n")
-            self.assertFile("journal", None)
+            self.assertTold(self.use("undo", *words), "undone 0\n", lacks("journal"), holds=(ERASED, b"fresh\n"), journal=None)
         self.store("journal", b"")
-        self.assertTold(self.use("undo"), "undone 0\n")
-        self.assertHolds(ERASED, b"fresh\n")
-        self.assertFile("journal", b"")
+        self.assertTold(self.use("undo"), "undone 0\n", holds=(ERASED, b"fresh\n"), journal=b"")
         self.assertFault(self.use("undo", "4294967296"), "usage: bad number 4294967296", 2)
 
     def test_refuses_to_undo(self):
@@ -102,21 +85,16 @@ class Undo(Place):
         for journal, text, line in REFUSED:
             with self.subTest(text=text):
                 self.store_all({"journal": journal, "flash.line": b"fresh\n"})
-                self.assertFault(self.use("undo"), text)
-                self.assertHolds(ERASED, line)
-                self.assertFile("journal", journal)
+                self.assertFault(self.use("undo"), text, holds=(ERASED, line), journal=journal)
 
     def test_stops_in_the_midst_of_taking_back(self):
         """Steps are counted from the first byte: settling, Get, Get ID, and a page that is read, erased and written."""
         before = with_page(HEAD, b"0", b"\nerase 5\nend 1\n")
         self.store("journal", before)
-        self.assertFault(self.use("undo", "--stop", "1108"), "stopped", 3)
-        self.assertFile("journal", before + b"erase 5\n")
-        self.assertFault(self.use("read", "out"), "unfinished command, undo first")
-        self.assertFile("out", None)
+        self.assertFault(self.use("undo", "--stop", "1108"), "stopped", 3, journal=before + b"erase 5\n")
+        self.assertFault(self.use("read", "out"), "unfinished command, undo first", out=None)
         self.assertTold(self.use("undo"), "undone 1\n")
-        self.assertSilent(self.use("read", "-S", "0x08001400:1024", "out"))
-        self.assertFile("out", ZEROS[:1024])
+        self.assertSilent(self.use("read", "-S", "0x08001400:1024", "out"), out=ZEROS[:1024])
 
     def test_undoes_on_a_fresh_device(self):
         """A simulator in the process that was reset is connected behind 512 settling bytes, whatever is said of it."""
@@ -126,14 +104,11 @@ class Undo(Place):
             with self.subTest(words):
                 # settling, Get, Get ID
                 self.lay(before)
-                self.assertFault(self.use("undo", *words, "--stop", "539"), "stopped", 3)
-                self.assertHolds(ERASED, b"idle\n")
-                self.assertFile("journal", before)
+                self.assertFault(self.use("undo", *words, "--stop", "539"), "stopped", 3, holds=(ERASED, b"idle\n"), journal=before)
                 self.lay(before)
                 self.assertFault(self.use("undo", *words, "--stop", "2716"), "stopped", 3)
                 self.lay(before)
-                self.assertTold(self.use("undo", *words, "--stop", "2717"), "undone 1\n")
-                self.assertFile("journal", mended)
+                self.assertTold(self.use("undo", *words, "--stop", "2717"), "undone 1\n", journal=mended)
 
     def lay(self, journal):
         """A device fresh from reset, whose flash is erased, and this journal."""

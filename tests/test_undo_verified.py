@@ -44,9 +44,7 @@ class Unwilling(PlantedBoard):
 
 
 class UndoVerified(OnBoard):
-    def setUp(self):
-        super().setUp()
-        self.store_all({"image": IMAGE, "flash": COUNTING})
+    begins = {"image": IMAGE, "flash": COUNTING}
 
     def write(self):
         """A write over the pages 4 to 6 of the simulator."""
@@ -54,21 +52,19 @@ class UndoVerified(OnBoard):
 
     def written(self, board):
         """The same on a board."""
-        self.assertEqual(self.on(board, "write", "-S", f"{AT:#x}", "image").status, 0)
+        self.assertEqual(self.write_on(board).status, 0)
         return board
 
     def test_tells_how_many_bytes_were_read_again(self):
         """Those of each page that a segment keeps, in each segment that keeps it."""
         self.write()
-        self.assertTold(self.use("undo", "-v"), "undone 1, 3072 bytes verified\n")
-        self.assertFile("flash", COUNTING)
+        self.assertTold(self.use("undo", "-v"), "undone 1, 3072 bytes verified\n", flash=COUNTING)
         self.assertTrue(self.held("journal").endswith(b"\nundone 1\n"))
         self.write()
         self.assertEqual(self.use("erase", "5-7").status, 0)
         self.assertEqual(self.use("erase", "9").status, 0)
         self.assertTold(self.use("undo", "-v", "1"), "undone 1, 1024 bytes verified\n")
-        self.assertTold(self.use("undo", "-v", "5"), "undone 2, 6144 bytes verified\n")
-        self.assertFile("flash", COUNTING)
+        self.assertTold(self.use("undo", "-v", "5"), "undone 2, 6144 bytes verified\n", flash=COUNTING)
 
     def test_nothing_to_undo(self):
         self.assertTold(self.use("undo", "-v"), "undone 0, 0 bytes verified\n", lacks("journal"))
@@ -86,7 +82,7 @@ class UndoVerified(OnBoard):
                 if line:
                     self.store("flash.line", line)
                 said = self.use("undo", *words)
-                self.assertEqual((said.status, said.err), (0, b""))
+                self.assertWell(said)
                 self.assertRegex(said.out.decode(), "^undone 1, [1-3]072|2048|1024 bytes verified\n$")
                 self.assertFile("flash", COUNTING)
                 self.remove("journal")
@@ -95,8 +91,7 @@ class UndoVerified(OnBoard):
         """No segment is undone: a second undo undoes it. Without -v nobody looks."""
         board = self.written(Wavering(0))
         board.reading, board.seen = 2, 0
-        said = self.on(board, "undo", "-v")
-        self.assertFault(said, NOT_HELD, hint=AGAIN)
+        self.assertFault(self.on(board, "undo", "-v"), NOT_HELD, hint=AGAIN)
         self.assertNotIn(b"undone", self.held("journal"))
         self.assertTold(self.on(board, "undo", "-v"), "undone 1, 3072 bytes verified\n")
         self.assertEqual(bytes(board.flash), COUNTING)
@@ -128,16 +123,14 @@ class UndoVerified(OnBoard):
     def test_what_is_shown(self):
         """Each page counts twice: it is given back, and read again."""
         self.write()
-        said = self.use("undo", "-v", "--progress")
-        told = said.err.decode().splitlines()
+        told = self.use("undo", "-v", "--progress").err.decode().splitlines()
         self.assertEqual([line.split(", ")[1] for line in told], [f"{turn} of 6 pages" for turn in range(1, 7)])
         self.assertEqual({line.split(", ")[0] for line in told}, {f"page {page} {done}" for page in (4, 5, 6) for done in ("written", "read")})
 
     def test_a_flash_that_erases_to_zeros(self):
         self.store_all({"table": TABLE + b"erased = 0\n", "flash": bytes(32768)})
         self.assertEqual(self.use("write", "-S", f"{AT:#x}", "image").status, 0)
-        self.assertTold(self.use("undo", "-v"), "undone 1, 3072 bytes verified\n")
-        self.assertFile("flash", bytes(32768))
+        self.assertTold(self.use("undo", "-v"), "undone 1, 3072 bytes verified\n", flash=bytes(32768))
 
     def test_its_word(self):
         """Of `undo` alone, and without a long name, as that of a write."""

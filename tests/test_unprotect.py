@@ -1,31 +1,30 @@
-"""`protect write-unprotect --in-session --fresh`: the write protection is taken off a board that was reset, while the journal has
-something to undo."""
+"""`protect write-unprotect --in-session`: the write protection is taken off a board while the journal has something to undo."""
 
+import itertools
 import json
 
+from hostile import be_silent
 from place import COUNTING, SILENT, TABLE
-from refusing import AT, DEVICE, IMAGE, NOT_ERASED, NOT_WRITTEN, Guarded, OnBoard
+from refusing import AT, DEVICE, NOT_ERASED, NOT_WRITTEN, Guarded, OnBoard
 
 NOW_UNDO = "the board resets itself; now: undo 1"
-IN_SESSION = "to undo what a write-protected page refuses: reset, protect write-unprotect --in-session --fresh, undo 1"
+IN_SESSION = "to undo what a write-protected page refuses: protect write-unprotect --in-session, undo 1"
 OPEN = "journal is open, refused"
-UNPROTECT = ("protect", "write-unprotect", "--in-session", "--fresh")
+UNSAID = ("protect", "write-unprotect", "--in-session")
+UNPROTECT = (*UNSAID, "--fresh")
+GREETED = b"connect!\nsilent!\n"
 KINDS = ("write-unprotect", "readout-protect", "readout-unprotect")
 # which step a board refuses, what is told of it, and how its undo is called then
 REFUSED = (("page", NOT_ERASED, ()), ("page", NOT_ERASED, ("-v", "--fresh")), ("write", NOT_WRITTEN, ("--fresh",)),
            ("data", NOT_WRITTEN, ("--fresh",)))
 # words of a device by which it is asked something first
 ASKING = (("--board", "1"), ("--watch",))
-FRESH, ALONE = "usage: --in-session needs --fresh", "usage: --in-session goes with write-unprotect alone"
+ALONE = "usage: --in-session goes with write-unprotect alone"
 NO_ANSWER = "no answer from the device"
 UNASKED = "usage: --in-session asks the board nothing first: no --board, --journals or --watch"
 
 
 class Unprotect(OnBoard):
-    def setUp(self):
-        super().setUp()
-        self.store("image", IMAGE)
-
     def heard(self, board):
         """All that the board hears from now on."""
         heard, feed = [], board.feed
@@ -35,7 +34,7 @@ class Unprotect(OnBoard):
     def refused(self, step, told):
         """A board that refused a write over the pages 4 to 6 at page 5, and its undo."""
         board = Guarded(step, 5)
-        self.assertFault(self.on(board, "write", "-S", f"{AT:#x}", "image"), DEVICE, hint=told)
+        self.assertFault(self.write_on(board), DEVICE, hint=told)
         self.assertFault(self.on(board, "undo"), DEVICE, hint=told)
         self.assertNotEqual(bytes(board.flash), COUNTING)
         return board
@@ -63,6 +62,59 @@ class Unprotect(OnBoard):
                 self.assertEqual(bytes(board.flash), COUNTING)
                 self.remove("journal")
 
+    def test_nothing_is_said_of_the_board(self):
+        """It is greeted and settled as ahead of an undo, reset or not, and asked; and so is it ahead of the undo behind it."""
+        for (step, told, _), is_reset in itertools.product(REFUSED[1:], (False, True)):
+            with self.subTest(step, is_reset=is_reset):
+                board = self.refused(step, told)
+                journal = self.held("journal")
+                if is_reset:
+                    board.reset()
+                heard = self.heard(board)
+                self.assertUnprotected(self.on(board, *UNSAID))
+                self.assertEqual((bytes(heard[:1]), bytes(heard[-6:])), (b"\x7f", b"\x00\xff\x02\xfd\x73\x8c"))
+                # what resets itself may be greeted anew
+                self.assertFile("journal", journal + GREETED)
+                board.reset()
+                heard.clear()
+                self.assertTold(self.on(board, "undo", "1"), "undone 1\n")
+                self.assertEqual(bytes(heard[:1]), b"\x7f")
+                self.assertEqual(bytes(board.flash), COUNTING)
+                self.remove("journal")
+
+    def test_a_board_that_was_stopped(self):
+        """Wherever a frame was cut, the undo behind it gives everything back."""
+        frame = bytes.fromhex("43bc000505")
+        for count in range(len(frame) + 1):
+            with self.subTest(count):
+                board = Guarded("none", 5)
+                self.store("journal", b"stmjournal 2 0412\nopen 1\npage 5 " + COUNTING[5120:6144].hex().upper().encode() + b"\nerase 5\n")
+                for byte in b"\x7f" + frame[:count]:
+                    board.feed(byte)
+                board.owed.clear()
+                self.assertUnprotected(self.on(board, *UNSAID))
+                board.reset()
+                self.assertTold(self.on(board, "undo", "1"), "undone 1\n")
+                self.assertEqual(bytes(board.flash), COUNTING)
+
+    def test_a_board_that_is_gone(self):
+        """What was stopped stays; nothing answered the 7F, so that another may come."""
+        board = self.refused("page", NOT_ERASED)
+        journal = self.held("journal")
+        self.assertFault(self.at(be_silent, *UNSAID, "--give-up", "1"), NO_ANSWER, hint=SILENT, journal=journal + GREETED)
+
+    def test_another_board(self):
+        """It is asked, and its protection stays."""
+        for header, text in ((b"3 0412 " + 24 * b"4", "journal is of another board"), (b"2 0410", "journal belongs to another device")):
+            with self.subTest(text):
+                self.store("table", TABLE + TABLE.replace(b"412", b"410"))
+                board = Guarded("page", 5)
+                self.store("journal", b"stmjournal " + header + b"\nopen 1\npage 5 " + 2048 * b"5" + b"\nerase 5\n")
+                heard = self.heard(board)
+                self.assertFault(self.on(board, *UNSAID), text)
+                self.assertNotIn(b"\x73\x8c", bytes(heard))
+                self.assertTrue(board.refused)
+
     def test_with_another_journal(self):
         """It is sent as ever with a journal that has nothing to undo, and nothing is told then."""
         board = self.refused("page", NOT_ERASED)
@@ -86,7 +138,7 @@ class Unprotect(OnBoard):
     def test_a_finished_write(self):
         """The journal may be finished, or have nothing to undo."""
         board = Guarded("page", 30)
-        self.assertEqual(self.on(board, "write", "-S", f"{AT:#x}", "image").status, 0)
+        self.assertEqual(self.write_on(board).status, 0)
         for journal in ("journal", "none"):
             before = self.held(journal)
             board.reset()
@@ -103,16 +155,15 @@ class Unprotect(OnBoard):
         self.assertEqual(heard, [])
 
     def test_a_board_that_was_not_reset(self):
-        """It takes no 7F for a connection: nothing more is sent, and nothing is unprotected."""
+        """Where it is said that it was, it takes no 7F for a connection: nothing more is sent, and nothing is unprotected."""
         board = self.refused("page", NOT_ERASED)
         heard = self.heard(board)
-        said = self.on(board, *UNPROTECT, "--give-up", "1")
-        self.assertFault(said, NO_ANSWER, hint=SILENT)
+        self.assertFault(self.on(board, *UNPROTECT, "--give-up", "1"), NO_ANSWER, hint=SILENT)
         self.assertEqual(bytes(heard), b"\x7f")
         self.assertTrue(board.refused)
 
     def test_refused_words(self):
-        """Each in one line, and nobody connects: no --fresh, another protection, or what asks the board something first."""
+        """Each in one line, and nobody connects: another protection, or what asks the board something first."""
         with self.listen("board") as listener:
             listener.setblocking(False)
 
@@ -121,27 +172,24 @@ class Unprotect(OnBoard):
                 self.assertRaises(BlockingIOError, listener.accept)
                 return told
 
-            self.assertFault(said("protect", "write-unprotect", "--in-session"), FRESH, 2)
-            for kind in KINDS[1:]:
-                for words in ((), ("--fresh",), ("--yes",)):
-                    self.assertFault(said("protect", kind, "--in-session", *words), ALONE, 2)
-            for words in ASKING:
-                self.assertFault(said(*UNPROTECT, *words), UNASKED, 2)
+            for kind, words in itertools.product(KINDS[1:], ((), ("--fresh",), ("--yes",))):
+                self.assertFault(said("protect", kind, "--in-session", *words), ALONE, 2)
+            for words, called in itertools.product(ASKING, (UNSAID, UNPROTECT)):
+                self.assertFault(said(*called, *words), UNASKED, 2)
             self.assertUsage(said("protect", "--in-session", "--fresh"))
             self.assertUsage(said("undo", "--in-session"))
 
     def test_a_folder_of_journals(self):
-        said = self.call(*UNPROTECT, "--table", "table", "--device", "nowhere", "--journals", ".")
-        self.assertFault(said, UNASKED, 2)
+        self.assertFault(self.call(*UNPROTECT, "--table", "table", "--device", "nowhere", "--journals", "."), UNASKED, 2)
 
     def test_by_the_variable(self):
         """STMFLASH_FRESH=1 says that the board is fresh, as of an undo; no other variable stands for --in-session."""
-        words = ("protect", "write-unprotect", "--in-session")
-        self.assertUnprotected(self.use(*words, variables={"STMFLASH_FRESH": "1"}))
-        self.assertFault(self.use(*words), FRESH, 2)
+        self.store_all({"flash": COUNTING, "flash.line": b"idle\n"})
+        self.assertFault(self.use(*UNSAID, variables={"STMFLASH_FRESH": "1"}), DEVICE, hint=SILENT)
+        self.assertUnprotected(self.use(*UNSAID))
 
     def test_a_chip_that_tells_its_board(self):
-        """It isn't asked which board it is: behind that question it isn't fresh."""
+        """Where it is said to be fresh it isn't asked which board it is: behind that question it isn't fresh."""
         self.store("table", TABLE + b"unique = [0x1FFFF7E8, 12]\n")
         board = Guarded("page", 5)
         heard = self.heard(board)
@@ -155,11 +203,11 @@ class Unprotect(OnBoard):
         self.assertFault(self.use(*UNPROTECT), DEVICE, hint=SILENT)
         self.store("flash.line", b"fresh\n")
         journal = self.held("journal")
-        self.assertUnprotected(self.use(*UNPROTECT))
-        self.assertFile("journal", journal)
-        self.store("flash.line", b"fresh\n")
-        self.assertTold(self.use("undo", "--fresh"), "undone 1\n")
-        self.assertFile("flash", COUNTING)
+        for words in (UNPROTECT, UNSAID):
+            self.assertUnprotected(self.use(*words))
+            self.assertFile("journal", journal)
+            self.store("flash.line", b"fresh\n")
+        self.assertTold(self.use("undo", "--fresh"), "undone 1\n", flash=COUNTING)
 
     def test_as_json(self):
         """What is to be done then is told with the answer, and with the refusal."""

@@ -13,6 +13,11 @@ def variable(name):
     return "STMFLASH_" + name.upper()
 
 
+def words_but(left=None):
+    """The words that are asked for, but for this one."""
+    return [text for name, word in WORDS.items() if name != left for text in ("--" + name, word)]
+
+
 def is_installed():
     """Whether a chip table is installed on this machine, which then stands in the place of `--table`."""
     return any(os.path.exists(f"{folder}/share/stmflash/chips.toml") for folder in ("/usr/local", "/usr"))
@@ -23,27 +28,20 @@ class Variables(Place):
         self.assertTold(self.call("info", variables={variable(name): word for name, word in WORDS.items()}), INFO)
         for name, word in WORDS.items():
             with self.subTest(name=name):
-                words = [text for other in WORDS if other != name for text in ("--" + other, WORDS[other])]
-                self.assertTold(self.call("info", *words, variables={variable(name): word}), INFO)
+                self.assertTold(self.call("info", *words_but(name), variables={variable(name): word}), INFO)
                 if name != "table" or not is_installed():
-                    self.assertUsage(self.call("info", *words))
+                    self.assertUsage(self.call("info", *words_but(name)))
 
     def test_a_word_goes_before(self):
-        wrong = {"table": "missing", "device": "sim:0412:", "journal": "bad"}
         self.store("bad", BAD)
-        for name, text in wrong.items():
-            with self.subTest(name=name):
-                words = [part for other, word in WORDS.items() for part in ("--" + other, word)]
-                self.assertTold(self.call("info", *words, variables={variable(name): text}), INFO)
+        self.each((("table", "missing"), ("device", "sim:0412:"), ("journal", "bad")),
+                  lambda name, text: self.assertTold(self.call("info", *words_but(), variables={variable(name): text}), INFO))
 
     def test_say_what_is_wrong_with_them(self):
-        words = {"table": ("cannot read missing", "missing", 1), "device": ("usage: bad device sim:0412:", "sim:0412:", 2),
-                 "journal": ("bad journal line 2", "bad", 1)}
         self.store("bad", BAD)
-        for name, (fault, text, status) in words.items():
-            with self.subTest(name=name):
-                others = [text for other, word in WORDS.items() if other != name for text in ("--" + other, word)]
-                self.assertFault(self.call("info", *others, variables={variable(name): text}), fault, status)
+        self.each((("table", "cannot read missing", "missing", 1), ("device", "usage: bad device sim:0412:", "sim:0412:", 2),
+                   ("journal", "bad journal line 2", "bad", 1)), lambda name, fault, text, status: self.assertFault(
+                       self.call("info", *words_but(name), variables={variable(name): text}), fault, status))
 
     def test_an_empty_one_is_none(self):
         words = ("--table", "table", "--device", "sim:0412:flash")
@@ -61,12 +59,10 @@ class Variables(Place):
         told = "id 0412\nsegment 1: ended, 0 pages\n1 can be undone\n"
         self.assertTold(self.call("log", variables=variables), told)
         self.assertFault(self.call("log", "--journal", "other", variables=variables), "cannot read other")
-        self.assertTold(self.call("keep", "kept", variables=variables), "kept 1\n")
-        self.assertFile("journal", None)
+        self.assertTold(self.call("keep", "kept", variables=variables), "kept 1\n", journal=None)
         self.assertTold(self.call("log", "--journal", "kept"), told)
 
     def test_name_the_table_of_a_served_simulator(self):
         words = ("--id", "0413", "--flash", "flash", "--socket", "board")
         self.assertFault(self.call("sim", *words, variables={"STMFLASH_TABLE": "table"}), "unknown chip 0413")
-        said = self.call("sim", *words, "--table", "missing", variables={"STMFLASH_TABLE": "table"})
-        self.assertFault(said, "cannot read missing")
+        self.assertFault(self.call("sim", *words, "--table", "missing", variables={"STMFLASH_TABLE": "table"}), "cannot read missing")

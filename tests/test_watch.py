@@ -4,21 +4,19 @@ and nothing is sent or added behind it (tests/planted has boards that do otherwi
 import json
 import os
 import re
-import subprocess
-import sys
 
-from place import COUNTING, PATIENCE, TABLE, TOP, WAIT, Said, had
-from served import Served, relay
+from place import COUNTING, TABLE, WAIT, Said, had
+from served import Served
+from test_trial import planted
 
 WATCHED = r"watched: ([0-9]+) bytes of replies, each as a device of the model sends it"
 OPEN = "; 2 more that it leaves open, behind a protection or where memory failed"
 NOTHING = "watched: nothing, since no chip of the table had told its id and codes by then"
 FAULT = "the board does otherwise than the model: {}; undo what was begun, then stmflash-trial"
-NEXT = "; undo what was begun, then stmflash-trial"
+HINT = "(hint: .*\n)?"
 # chip 0440, of which the planted boards are, and with the places where it tells which board it is
 PLANTED_TABLE = b'[[chip]]\nid = 0x440\nbase = 0x08000000\npages = [[8, 1024]]\nerase = "extended"\n'
-PLACES = b"unique = [0x1FFFF7AC, 12]\nsize_at = 0x1FFFF7CC\n"
-UNIQUE = "2B0035000A51363034393332"
+TOLD = {"table": PLANTED_TABLE + b"unique = [0x1FFFF7AC, 12]\nsize_at = 0x1FFFF7CC\n", "flash.board": b"unique 2B0035000A51363034393332\nsize 8\n"}
 # each command on a device, and whether its journal has a segment before
 SESSIONS = (
     (("info",), True), (("info", "--raw"), True), (("read", "out"), True), (("read", "--hex", "out"), True), (("crc",), True),
@@ -30,33 +28,20 @@ STANDS = "[0-9A-F]{2} stands at 0800[0-9A-F]{4}, and [0-9A-F]{2} was read or wri
 # what a write of 13 blocks with -v finds on boards that do otherwise
 FOUND = {
     "76-before-an-ack": "76 came, and 79 was due",
-    "read-protected": "1F came, and 79 was due",
-    "refuses-read-of-256": "1F came, and 79 was due",
-    "lists-43-and-44": "no device with its chip lists the codes that it lists",
-    "lists-no-write": "no device with its chip lists the codes that it lists",
-    **dict.fromkeys(("erases-half-a-page", "erases-the-page-before", "erases-two-pages", "leaves-a-bit", "writes-a-wrong-last-byte"),
-                    STANDS),
-}
+    **dict.fromkeys(("read-protected", "refuses-read-of-256"), "1F came, and 79 was due"),
+    **dict.fromkeys(("lists-43-and-44", "lists-no-write"), "no device with its chip lists the codes that it lists"),
+    **dict.fromkeys(("erases-half-a-page", "erases-the-page-before", "erases-two-pages", "leaves-a-bit", "writes-a-wrong-last-byte"), STANDS)}
 
 
 class Relay:
-    """Between a client and the board at a socket: what was sent and came, in its order; one byte that came is complemented on its
-    way, or one more comes behind it."""
+    """What was sent and came between a client and the board, in its order; one byte that came is complemented on its way, or one more
+    comes behind it."""
 
-    def __init__(self, test, board, wrong=None, more=None):
-        self.events, self.came = [], 0
-        self.wrong, self.more = wrong, more
-        test.clear("relay")
-        self.listener = test.listen("relay")
-        self.board = board
-        self.thread = test.beside(self.listener, self.serve)
+    def __init__(self, wrong=None, more=None):
+        self.events, self.came, self.wrong, self.more = [], 0, wrong, more
 
-    def serve(self):
-        line, _ = self.listener.accept()
-        # a test has hundreds of these, one behind another
-        self.listener.close()
-        with line, self.board:
-            relay(line, self.board, self.change, lambda data: self.events.append(("put", data)))
+    def put(self, data):
+        self.events.append(("put", data))
 
     def change(self, data):
         made = b""
@@ -67,27 +52,21 @@ class Relay:
         self.events.append(("came", made))
         return made
 
-    def end(self, test):
-        self.thread.join(PATIENCE)
-        test.assertFalse(self.thread.is_alive())
+    def sent(self):
+        return b"".join(data for kind, data in self.events if kind == "put")
 
 
 class Watching(Served):
-    table, number = "table", "0440"
-
-    def setUp(self):
-        super().setUp()
-        self.store_all({"table": PLANTED_TABLE, "image": COUNTING[7:3007]})
-        # what stands below page 7
-        self.store("old", COUNTING[:7168])
+    # what is old stands below page 7
+    begins = {"table": PLANTED_TABLE, "image": COUNTING[7:3007], "old": COUNTING[:7168], "flash": COUNTING[:8192]}
 
     def fresh(self):
         """The flash as it is at first, and no journal."""
         self.clear("flash.line", "journal", "out")
         self.store("flash", COUNTING[:8192])
 
-    def simulated(self, *words, device=None):
-        return self.use(words[0], *words[1:], device=device or "sim:0440:flash")
+    def simulated(self, *words):
+        return self.use(*words, device="sim:0440:flash")
 
     def assertWatched(self, said, out, end=""):
         self.assertRegex(said.err.decode(), rf"\A{WATCHED}{re.escape(end)}\n\Z")
@@ -115,22 +94,20 @@ class Boards(Watching):
         self.compare()
 
     def test_a_board_that_tells_which_it_is_passes(self):
-        self.store_all({"table": PLANTED_TABLE + PLACES, "flash.board": f"unique {UNIQUE}\nsize 8\n".encode()})
+        self.store_all(TOLD)
         self.compare()
 
     def test_where_nothing_is_watched(self):
         """No chip of the table has told its id; or nothing was sent at all."""
         self.store_all({"table": TABLE, "flash": COUNTING, "other": PLANTED_TABLE})
         self.serve(2)
-        said = self.call("info", "--raw", "--table", "other", "--device", "board", "--journal", "journal", "--wait", WAIT, "--watch")
-        self.assertEqual((said.status, said.err.decode()), (0, NOTHING + "\n"))
-        self.assertTrue(said.out.startswith(b"id 0412\n"))
-        said = self.call("crc", "--table", "other", "--device", "board", "--journal", "journal", "--wait", WAIT, "--watch")
-        self.assertEqual((said.status, said.err.decode()), (1, NOTHING + "\nstmflash: unknown chip 0412\n"))
+        for words, status, err, out in ((("info", "--raw"), 0, "", b"id 0412\n"), (("crc",), 1, "stmflash: unknown chip 0412\n", b"")):
+            said = self.call(*words, "--table", "other", "--device", "board", "--journal", "journal", "--wait", WAIT, "--watch")
+            self.assertEqual((said.status, said.err.decode()), (status, f"{NOTHING}\n{err}"))
+            self.assertTrue(said.out.startswith(out))
         self.assertServed()
 
     def test_an_undo_of_nothing_sends_nothing(self):
-        self.fresh()
         self.assertEqual(self.simulated("erase", "7").status, 0)
         self.assertEqual(self.simulated("undo").status, 0)
         self.remove("flash.line")
@@ -138,7 +115,6 @@ class Boards(Watching):
 
     def test_a_stopped_write_and_its_undo(self):
         """Both watched; the undo knows nothing of what the write was told."""
-        self.fresh()
         for stop in (100, 1000, 2500):
             said = self.simulated("write", "-f", "--stop", str(stop), "--watch", "image")
             self.assertEqual(said.status, 3, said.err)
@@ -150,8 +126,7 @@ class Boards(Watching):
 
     def test_a_folder_of_journals(self):
         """The session beside the board's journal is watched, and not the question before it."""
-        self.store_all({"table": PLANTED_TABLE + PLACES, "flash.board": f"unique {UNIQUE}\nsize 8\n".encode()})
-        self.fresh()
+        self.store_all(TOLD)
         os.mkdir(self.path("journals"))
         words = ("--table", "table", "--device", "sim:0440:flash", "--journals", "journals")
         self.assertWatched(self.call("erase", "3", *words, "--watch"), b"segment 1: 1 pages erased\n")
@@ -159,7 +134,6 @@ class Boards(Watching):
         self.assertFile("flash", COUNTING[:8192])
 
     def test_a_fresh_board(self):
-        self.fresh()
         self.assertEqual(self.simulated("write", "-f", "--stop", "3000", "image").status, 3)
         self.store("flash.line", b"fresh\n")
         self.assertWatched(self.simulated("undo", "--fresh", "--watch"), b"undone 1\n", end=f"\nnote: {had(1, left=0)}")
@@ -169,9 +143,7 @@ class Boards(Watching):
 class Line(Watching):
     """A simulator behind a relay, which garbles a byte of what it sends, or adds one."""
 
-    def setUp(self):
-        super().setUp()
-        self.store_all({"table": PLANTED_TABLE + PLACES, "flash.board": f"unique {UNIQUE}\nsize 8\n".encode()})
+    begins = {**Watching.begins, **TOLD}
 
     def through(self, *words, **more):
         """What a command through a relay said, and the relay."""
@@ -179,10 +151,9 @@ class Line(Watching):
         if words[0] == "undo":
             self.assertEqual(self.simulated("erase", "2-3").status, 0)
         self.serve(1, number="0440")
-        relay = Relay(self, self.connect(), **more)
-        said = self.use(words[0], "--wait", WAIT, *words[1:], device="relay")
-        relay.end(self)
-        self.assertServed()
+        relay = Relay(**more)
+        with self.between(relay.change, heard=relay.put):
+            said = self.use(words[0], "--wait", WAIT, *words[1:], device="stand")
         return said, relay
 
     def clean(self, *words):
@@ -201,16 +172,16 @@ class Line(Watching):
             before = kind
         return answers, relay.came, watched
 
-    def assertRefused(self, said, relay, text, out=b""):
-        """One line names the byte, and nothing was sent behind it."""
-        self.assertEqual(said, Said(1, out, f"stmflash: {FAULT.format(text)}\n".encode()))
+    def assertRefused(self, said, relay, text, out=b"", rest=""):
+        """One line names the byte, before what may be told besides, and nothing was sent behind it."""
+        self.assertEqual((said.status, said.out), (1, out))
+        self.assertRegex(said.err.decode(), rf"\Astmflash: {FAULT.format(text)}\n{rest}\Z")
         self.assertEqual(relay.events[-1][0], "came")
 
     def assertLeadsBack(self):
         """What was begun can be undone, at the board as it was left."""
         if self.is_there("journal"):
-            said = self.simulated("undo")
-            self.assertEqual((said.status, said.err), (0, b""))
+            self.assertWell(self.simulated("undo"))
         self.assertFile("flash", COUNTING[:8192])
 
     def test_each_byte_of_what_a_board_tells(self):
@@ -220,9 +191,7 @@ class Line(Watching):
         for wrong in range(came - watched, came):
             with self.subTest(wrong=wrong):
                 said, relay = self.through("info", "--watch", wrong=wrong)
-                self.assertEqual((said.status, said.out), (1, b""))
-                self.assertRegex(said.err.decode(), rf"\Astmflash: {FAULT.format('[0-9A-F]{2} came, and [0-9A-F]{2} was due')}\n")
-                self.assertEqual(relay.events[-1][0], "came")
+                self.assertRefused(said, relay, "[0-9A-F]{2} came, and [0-9A-F]{2} was due", rest=HINT)
 
     def test_an_answer_of_each_command(self):
         """Three of each command's, complemented: the session ends there, adds nothing, and what it began leads back."""
@@ -247,9 +216,7 @@ class Line(Watching):
         _, came, watched = self.clean("info")
         # behind the codes with which watching begins, before the session settles the device
         said, relay = self.through("info", "--watch", more=came - watched - 1)
-        self.assertEqual(said.status, 1)
-        self.assertRegex(said.err.decode(), rf"\Astmflash: {FAULT.format('55 came (unasked|, and 1F was due|, and 79 was due)')}\n")
-        self.assertEqual(relay.events[-1][0], "came")
+        self.assertRefused(said, relay, "55 came (unasked|, and 1F was due|, and 79 was due)", rest=HINT)
 
     def test_what_was_read_stands(self):
         """The last byte of the last read of a write that is verified is the last of a page that it wrote."""
@@ -262,8 +229,7 @@ class Line(Watching):
     def test_without_a_watch_none_of_them_is_seen(self):
         """What is read wrong is taken for what stands there."""
         _, came, _ = self.clean("crc")
-        said, _ = self.through("crc", wrong=came - 1)
-        self.assertEqual((said.status, said.err), (0, b""))
+        self.assertWell(self.through("crc", wrong=came - 1)[0])
 
     def test_json(self):
         _, came, _ = self.clean("info")
@@ -273,16 +239,16 @@ class Line(Watching):
         self.assertEqual(said.err, f"stmflash: {text}\n".encode())
         # the end line stands on standard error alone
         said, _ = self.through("crc", "--watch", "--json")
-        self.assertEqual((said.status, list(json.loads(said.out))), (0, ["answer", "crc"]))
+        self.assertEqual((said.status, list(json.loads(said.out))), (0, ["answer", "crc", "board", "flash_kib"]))
         self.assertRegex(said.err.decode(), rf"\A{WATCHED}\n\Z")
 
     def test_without_it_nothing_is_told(self):
         said, relay = self.through("info")
-        self.assertEqual((said.status, said.err), (0, b""))
+        self.assertWell(said)
         watched, more = self.through("info", "--watch")
         self.assertEqual(watched.out, said.out)
         # one more Get, and nothing else
-        sent = [b"".join(data for kind, data in of.events if kind == "put") for of in (relay, more)]
+        sent = [relay.sent(), more.sent()]
         self.assertEqual(sent[1].replace(b"\x00\xff\x00\xff", b"\x00\xff", 1) == sent[0] or sent[1].count(b"\x00\xff"),
                          sent[0].count(b"\x00\xff") + 1)
 
@@ -291,27 +257,15 @@ class Line(Watching):
         for words, is_read in (((), True), (("--no-board",), False)):
             said, relay = self.through("info", "--watch", *words)
             self.assertEqual(said.status, 0, said.err)
-            self.assertEqual(b"\x11\xee" in b"".join(data for kind, data in relay.events if kind == "put"), is_read)
+            self.assertEqual(b"\x11\xee" in relay.sent(), is_read)
 
 
 class Planted(Watching):
     """Boards that do otherwise, each in one thing."""
 
     def board(self, name):
-        words = [sys.executable, os.path.join(TOP, "tests", "planted"), self.path("board"), "--plant", name, "--id", "0440",
-                 "--pages", "8", "--size", "1024", "--erase", "44", "--clients", "1000"]
-        with open(os.devnull, "r+b") as nothing:
-            started = subprocess.Popen(words, stdin=nothing, stdout=nothing, stderr=nothing)
-
-        def end():
-            if started.returncode is None:
-                started.kill()
-                started.wait(PATIENCE)
-                self.remove("board")
-
-        self.addCleanup(end)
-        self.leave(self.reach("board"))
-        return end
+        self.clear("board", "flash")
+        return planted(self.folder, name, "--pages", "8", "--clients", "1000")
 
     def at(self, *words):
         return self.use(words[0], "--wait", WAIT, *words[1:], device="board")
@@ -319,27 +273,20 @@ class Planted(Watching):
     def test_boards_that_do_otherwise(self):
         self.store("image", bytes(range(256)) * 13)
         for name, text in FOUND.items():
-            with self.subTest(board=name):
-                end = self.board(name)
+            with self.subTest(board=name), self.board(name):
                 said = self.at("write", "-f", "-v", "-S", "0x08001000", "image", "--watch")
                 self.assertEqual((said.status, said.out), (1, b""))
-                told = re.escape("stmflash: the board does otherwise than the model: ") + text + re.escape(NEXT)
-                self.assertRegex(said.err.decode(), rf"\A{told}\n(hint: .*\n)?\Z")
-                end()
+                self.assertRegex(said.err.decode(), rf"\Astmflash: {FAULT.format(text)}\n{HINT}\Z")
                 self.clear("journal")
 
     def test_a_refusal_is_hinted_at(self):
-        end = self.board("read-protected")
-        said = self.at("crc", "--watch")
-        text = FAULT.format("1F came, and 79 was due")
-        hint = "the device refused to read: is its flash readout-protected?"
-        self.assertFault(said, text, hint=hint)
-        end()
+        with self.board("read-protected"):
+            self.assertFault(self.at("crc", "--watch"), FAULT.format("1F came, and 79 was due"),
+                             hint="the device refused to read: is its flash readout-protected?")
 
     def test_one_that_follows_the_model(self):
-        end = self.board("none")
         self.store("image", bytes(range(256)) * 13)
-        self.assertWatched(self.at("write", "-f", "-v", "-S", "0x08001000", "image", "--watch"),
-                           b"segment 1: 4 pages written\nverified 3328 bytes\n")
-        self.assertWatched(self.at("undo", "--watch"), b"undone 1\n")
-        end()
+        with self.board("none"):
+            said = self.at("write", "-f", "-v", "-S", "0x08001000", "image", "--watch")
+            self.assertWatched(said, b"segment 1: 4 pages written\nverified 3328 bytes\n")
+            self.assertWatched(self.at("undo", "--watch"), b"undone 1\n")

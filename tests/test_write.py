@@ -14,25 +14,19 @@ class Write(Place):
         self.assertTold(self.use_image("write", image, "-v"), "segment 1: 1 pages written\nverified 4 bytes\n")
         self.assertHolds(flash_from(image), b"idle\n")
         self.assertTold(self.use_image("write", image), "segment 2: 0 pages written\n", new(2))
-        self.assertTold(self.use("undo"), "undone 2\n", had(2, left=0))
-        self.assertHolds(ERASED, b"idle\n")
+        self.assertTold(self.use("undo"), "undone 2\n", had(2, left=0), holds=(ERASED, b"idle\n"))
 
     def test_writes_up_to_the_end(self):
         """The last byte of the flash is written, and an image that goes on past it changes nothing."""
         journal = with_page(b"stmjournal 2 0412\nopen 1\npage 31 ", b"F", b"\nerase 31\nprogram 31\nend 1\n")
         flash = ERASED[1:] + b"\xaa"
         said = self.use_image("write", b"\xaa", "-S", "0x08007FFF")
-        self.assertTold(said, "segment 1: 1 pages written\n")
-        self.assertHolds(flash, b"idle\n")
-        self.assertFile("journal", journal)
+        self.assertTold(said, "segment 1: 1 pages written\n", holds=(flash, b"idle\n"), journal=journal)
         said = self.use_image("write", b"\xaa\xbb", "-S", "0x08007FFF")
-        self.assertFault(said, "address outside the flash")
-        self.assertHolds(flash, b"idle\n")
-        self.assertFile("journal", journal)
+        self.assertFault(said, "address outside the flash", holds=(flash, b"idle\n"), journal=journal)
 
     def test_writes_nothing(self):
-        self.assertTold(self.use_image("write", b""), "segment 1: 0 pages written\n", new(1))
-        self.assertHolds(ERASED, b"idle\n")
+        self.assertTold(self.use_image("write", b""), "segment 1: 0 pages written\n", new(1), holds=(ERASED, b"idle\n"))
         self.assertFile("journal", b"stmjournal 2 0412\nopen 1\nend 1\n")
 
     def test_undoes_writes_one_by_one(self):
@@ -43,16 +37,13 @@ class Write(Place):
         self.assertFault(self.use_image("write", second, *base, "--stop", "3197"), "stopped", 3)
         self.assertHolds(ERASED, b"rest 31CE080000000803AABB\n")
         self.assertFault(self.use_image("write", second, *base), "unfinished command, undo first")
-        self.assertTold(self.use("undo", "1"), "undone 1\n")
-        self.assertHolds(flash_from(first), b"idle\n")
-        self.assertTold(self.use("undo"), "undone 1\n")
-        self.assertHolds(ERASED, b"idle\n")
+        self.assertTold(self.use("undo", "1"), "undone 1\n", holds=(flash_from(first), b"idle\n"))
+        self.assertTold(self.use("undo"), "undone 1\n", holds=(ERASED, b"idle\n"))
         self.assertTold(self.use("undo"), "undone 0\n")
 
     def test_tells_where_the_flash_differs(self):
         self.assertFault(self.use_image("verify", b"\xff\x01\x02"), "differs at 08000001")
-        self.assertTold(self.use_image("verify", b"\xff\xff", "-S", "0x08007C00:2"), "verified 2 bytes\n")
-        self.assertFile("journal", None)
+        self.assertTold(self.use_image("verify", b"\xff\xff", "-S", "0x08007C00:2"), "verified 2 bytes\n", journal=None)
 
     def test_a_journal_that_cannot_be_made_fails(self):
         """A journal that can't be made is told, the flash stays, and its folder isn't made."""

@@ -33,24 +33,22 @@ def value_of(command, name):
     return None
 
 
-def name_journal(port, command, is_reset, run):
-    """Names COMMAND the journal of the board at a port, and tells it. `is_reset`: the board is reset for each program. `run` is called
-    with what begins a program on the board, and answers its status. The status of a question that the board didn't answer; 0 where
-    all went well."""
-    journals = Journals(port)
+def name_journal(port, command, run):
+    """Names COMMAND the journal of the board at a port, and tells it. `run` is called with what begins a program on the board, and
+    answers its status. The status of a question that the board didn't answer; 0 where all went well."""
+    journals = Journals(port, "--trust-journal" in command)
     journals.make()
     says_fresh = "--fresh" in command or os.environ.get("STMFLASH_FRESH") == "1"
     # what goes on in a session that was stopped is of the board that was in it
-    is_fresh = is_reset or says_fresh and "--in-session" not in command
+    is_fresh = says_fresh and "--in-session" not in command
     is_board_used = command[1] not in WITHOUT_BOARD
     stopped = [] if is_fresh or not is_board_used else [journals.live] if is_stopped(journals.live) else journals.stopped()
     told = ""
     if len(stopped) > 1:
-        raise Fault(f"{port}: a command was stopped in each of {', '.join(stopped)}: --journal names the one of the board that is here; "
-                    "where none is, reset the board and say --fresh")
+        raise Fault(f"{port}: a command was stopped in each of {', '.join(stopped)}: --journal names the one of the board that is here")
     if stopped:
         journals.live = stopped[0]
-        told = ", in which a command was stopped; where its board isn't here, reset the one that is and say --fresh"
+        told = ", in which a command was stopped; --journal names another, where its board isn't here"
     elif "--no-board" in command or os.environ.get("STMFLASH_NO_BOARD") == "1":
         journals.take_board(None)
     elif is_board_used:
@@ -58,10 +56,9 @@ def name_journal(port, command, is_reset, run):
         if status:
             return status
         journals.take_board(board)
-        if not is_reset:
-            # the question was its first
-            command[:] = [word for word in command if word != "--fresh"]
-            os.environ.pop("STMFLASH_FRESH", None)
+        # the question was its first
+        command[:] = [word for word in command if word != "--fresh"]
+        os.environ.pop("STMFLASH_FRESH", None)
         told = "" if board else ", of this port: the board tells no unique id"
     os.environ["STMFLASH_JOURNAL"] = journals.live
     say(f"{port}: journal {journals.live}{told}")
@@ -74,7 +71,7 @@ def ask(command, journal, run):
     import json
     words = [command[0], "info", "--raw", "--json", "--quiet", "--journal", journal]
     words += [word for name in HANDED if (value := value_of(command, name)) is not None for word in (name, value)]
-    words += [word for word in command if word == "--fresh"]
+    words += [word for word in command if word in ("--fresh", "--trust-journal")]
     asked = []
 
     def begin(settings):

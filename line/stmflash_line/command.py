@@ -19,10 +19,10 @@ CHANGES = ("write", "erase", "undo")
 NEXT = f"ended by a signal: {UNDO}"
 
 
-def run(command, path, fresh, wait, baud, join):
+def run(command, path, wait, baud, join):
     """Runs COMMAND on the socket at this path, and answers its status. Where a signal ends us, or the port goes, it is
     ended too."""
-    child, wake = start(command, path, fresh, wait, baud), join.wake
+    child, wake = start(command, path, wait, baud), join.wake
     try:
         until = None
         while child.poll() is None:
@@ -50,16 +50,14 @@ def run(command, path, fresh, wait, baud, join):
     return status or int(join.is_otherwise)
 
 
-def start(command, path, fresh, wait, baud):
+def start(command, path, wait, baud):
     """COMMAND, with the socket's path for every {}, and how long a reply may take, in ms, and how many bits a second the line has,
     each where that is known and its user says nothing. It is told to end where we are killed. Where it is a function, that begins it."""
     settings = {**os.environ, "STMFLASH_DEVICE": path}
     if is_inner(os.environ.get("STMFLASH_DEVICE", "")):
         # what another line has said of its own board
-        for name in ("STMFLASH_FRESH", "STMFLASH_WAIT", "STMFLASH_BAUD"):
+        for name in ("STMFLASH_WAIT", "STMFLASH_BAUD"):
             settings.pop(name, None)
-    if fresh:
-        settings["STMFLASH_FRESH"] = "1"
     if wait is not None and not settings.get("STMFLASH_WAIT"):
         settings["STMFLASH_WAIT"] = str(wait)
     if baud is not None and not settings.get("STMFLASH_BAUD"):

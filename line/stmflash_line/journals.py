@@ -19,10 +19,10 @@ BEGUN, LONGEST = (b"open ", b"page ", b"erase ", b"program "), 1 << 23
 
 class Journals:
     """The journals of the boards at a port: `live` is the one in use, `none` a name that no journal has. They are their owner's
-    alone: a journal holds what a flash held."""
+    alone, unless others are trusted: a journal holds what a flash held."""
 
-    def __init__(self, port):
-        state = state_folder()
+    def __init__(self, port, trusts_others=False):
+        state, self.trusts_others = state_folder(), trusts_others
         self.boards, self.folder = os.path.join(state, "journals"), os.path.join(state, "ports", name_of(port))
         self.nameless, self.none, self.last = (os.path.join(self.folder, name) for name in ("journal", "none", "last"))
         try:
@@ -41,13 +41,17 @@ class Journals:
     def refuse_others(self):
         """A fault where another has put a journal here, or may."""
         for path in (self.boards, self.folder, self.live):
+            self.refuse_other(path)
+
+    def refuse_other(self, path):
+        if not self.trusts_others:
             refuse_others(path)
 
     def take_board(self, board):
         """Takes the journal of the board with this unique id, None: of one that tells none. The port is known to have it from now on,
         also where the machine loses its power in the midst of a write."""
         self.live = os.path.join(self.boards, f"{board}.journal") if board else self.nameless
-        refuse_others(self.live)
+        self.refuse_other(self.live)
         unready = f"{self.last}.{os.getpid()}"
         try:
             if board is None:

@@ -46,7 +46,7 @@ def use_board(port, moves, given, wake, watch):
             return serve(join)
 
         def use(command, settled):
-            return run(command, path, given.resets, wait_of(port, given, settled), baud_of(port), join)
+            return run(command, path, wait_of(port, given, settled), baud_of(port), join)
 
         return name_journal(port, given, use) or use(given.command, given.command)
 
@@ -66,7 +66,7 @@ def name_journal(port, given, use):
     from . import asking
     if not asking.names_no_journal(given.command):
         return 0
-    return asking.name_journal(port.name, given.command, given.resets, lambda begin: use(begin, ("info",)))
+    return asking.name_journal(port.name, given.command, lambda begin: use(begin, ("info",)))
 
 
 def wait_of(port, given, command):

@@ -41,8 +41,7 @@ def make_parser():
     parser.add_argument("--boot", metavar="SEQUENCE",
                         help="how RTS, DTR, break and GPIO lines are moved once the port is open: '-rts&dtr,-dtr,,:rts&dtr,-dtr'")
     parser.add_argument("--resets", action="store_true",
-                        help="--boot is a reset: it is played for each client, and stmflash takes the board for fresh from reset. "
-                        "Wrong, it can cost a page")
+                        help="--boot is a reset: it is played for each client")
     parser.add_argument("--after", metavar="SEQUENCE", help="the same for the end; also what follows ':' in --boot")
     parser.add_argument("--gpio-chip", metavar="NAME", help=f"the chip of the GPIO lines that a sequence names; {CHIP} without it")
     parser.add_argument("--watch", action="store_true",

@@ -38,7 +38,7 @@ def settle_write(board):
 
 
 @row("reset-in-frame", "a reset inside a frame leaves the board fresh: 7F brings one 79", "a device that is reset is fresh",
-     "`--fresh` isn't right, and an undo behind a reset isn't either", hand=RESET)
+     "an undo behind a reset isn't right", hand=RESET)
 def reset_in_frame(board):
     need_reset(board)
     for cut in ([GET], [READ, READ ^ 0xFF], [READ, READ ^ 0xFF, 0x08], [WRITE, WRITE ^ 0xFF], []):
@@ -50,7 +50,7 @@ def reset_in_frame(board):
 
 
 @row("fresh-other", "a fresh board ignores each byte but 7F", "phase fresh; settling's third step",
-     "an undo behind a reset finds no board, or one at another speed, but with `--fresh`", OPTION, intent="erase", hand=RESET)
+     "an undo behind a reset finds no board where it can't send 7F first", OPTION, intent="erase", hand=RESET)
 def fresh_other(board):
     need_reset(board)
     for byte in dict.fromkeys((byte_of(board, "erase"), 2, 0)):
@@ -60,7 +60,7 @@ def fresh_other(board):
             board.talk("fresh", [byte] * 4)
             board.connect()
         except Differs as error:
-            board.options["fresh"] = "undo 1 --fresh behind a reset"
+            board.options["fresh"] = "--baud N"
             raise Differs(f"behind bytes {byte:02X}: {error}") from None
 
 

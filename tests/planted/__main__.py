@@ -8,6 +8,7 @@ The status is 3 where Go, a protection or an erase of everything came. --list pr
 """
 
 import argparse
+import contextlib
 import os
 import select
 import signal
@@ -33,9 +34,7 @@ class Host:
             if not self.waiting and not self.hear(0.05):
                 return
             while self.waiting:
-                byte = self.waiting[0]
-                del self.waiting[0]
-                self.feed(byte)
+                self.feed(self.waiting.pop(0))
 
     def hear(self, patience):
         """Takes what came within a time. False where the host has gone."""
@@ -49,10 +48,8 @@ class Host:
             came = self.client.recv(65536)
         except OSError:
             return False
-        for byte in came:
-            self.heard += 1
-            if not self.board.sets["drop_up"] or self.heard % self.board.sets["drop_up"]:
-                self.waiting.append(byte)
+        self.waiting += without_each(self.board.sets["drop_up"], came, self.heard)
+        self.heard += len(came)
         return bool(came)
 
     def feed(self, byte):
@@ -77,27 +74,23 @@ class Host:
             del self.waiting[1:]
 
     def send(self, replies):
-        kept = bytearray()
-        for byte in replies:
-            self.sent += 1
-            if not self.board.sets["drop_down"] or self.sent % self.board.sets["drop_down"]:
-                kept.append(byte)
-        try:
+        kept = without_each(self.board.sets["drop_down"], replies, self.sent)
+        self.sent += len(replies)
+        with contextlib.suppress(OSError):
             self.client.sendall(kept)
-        except OSError:
-            pass
+
+
+def without_each(step, data, before):
+    """These bytes behind so many others, without one in so many; all of them where there is no such step."""
+    return bytes(byte for number, byte in enumerate(data, before + 1) if not step or number % step)
 
 
 def read_words():
     made = argparse.ArgumentParser(description=__doc__, formatter_class=argparse.RawDescriptionHelpFormatter)
     made.add_argument("socket", nargs="?")
     made.add_argument("--plant", default="none", choices=DEVIATIONS, metavar="NAME")
-    made.add_argument("--id", default="0440")
-    made.add_argument("--pages", type=int, default=64)
-    made.add_argument("--size", type=int, default=1024)
-    made.add_argument("--erase", default="44")
-    made.add_argument("--flash", default="")
-    made.add_argument("--clients", type=int, default=1)
+    for name, default in (("--id", "0440"), ("--pages", 64), ("--size", 1024), ("--erase", "44"), ("--flash", ""), ("--clients", 1)):
+        made.add_argument(name, type=type(default), default=default)
     made.add_argument("--list", action="store_true")
     return made.parse_args()
 
@@ -111,8 +104,7 @@ def main():
     if os.path.exists(words.flash):
         with open(words.flash, "rb") as file:
             flash = file.read()
-    sizes = [words.size] * words.pages
-    board = PlantedBoard(int(words.id, 16), sizes, int(words.erase, 16), DEVIATIONS[words.plant].sets, flash=flash)
+    board = PlantedBoard(int(words.id, 16), [words.size] * words.pages, int(words.erase, 16), DEVIATIONS[words.plant].sets, flash=flash)
     signal.signal(signal.SIGUSR1, lambda *_: board.reset())
     signal.signal(signal.SIGUSR2, lambda *_: board.lose_power())
     if words.flash and flash is None:

@@ -28,18 +28,14 @@ class Deviation:
     is_long: bool = False
 
 
-def stop(does, rows, *, is_lasting=False, words=(), **sets):
-    return Deviation(does, sets, rows, DONT_USE, is_lasting, words)
+def of_verdict(verdict):
+    def made(does, rows, *, is_lasting=False, words=(), is_long=False, **sets):
+        return Deviation(does, sets, rows, verdict, is_lasting, words, is_long)
+
+    return made
 
 
-def option(does, rows, *, words=(), is_long=False, **sets):
-    return Deviation(does, sets, rows, USE_WITH, words=words, is_long=is_long)
-
-
-def note(does, rows, **sets):
-    return Deviation(does, sets, rows, FOLLOWS)
-
-
+stop, option, note = map(of_verdict, (DONT_USE, USE_WITH, FOLLOWS))
 NONE = Deviation("nothing otherwise", {}, (), FOLLOWS)
 DEVIATIONS = {
     "none": NONE,
@@ -70,19 +66,14 @@ DEVIATIONS = {
     "loses-each-3000th-up": stop("loses each 3,000th byte that it is sent", ("loss-up",), drop_up=3000),
     "loses-each-10000th-down": stop("loses each 10,000th byte that it sends", ("save",), drop_down=10000),
     "flips-a-bit-now-and-then": stop("one bit of each 45th read is wrong", ("read-again",), flip=45),
-    "forgets-after-a-second": stop("drops a frame that pauses for 1.2 s", ("pause", "contact"), words=("--pause", "1.5"),
-                                   forget=1.2),
-    "answers-300ms-late": option("acknowledges 300 ms late", ("reply-time",), words=("--only-read",), is_long=True,
-                                 delay=0.3),
+    "forgets-after-a-second": stop("drops a frame that pauses for 1.2 s", ("pause", "contact"), words=("--pause", "1.5"), forget=1.2),
+    "answers-300ms-late": option("acknowledges 300 ms late", ("reply-time",), words=("--only-read",), is_long=True, delay=0.3),
     "write-acks-300ms-late": option("takes 300 ms for each write", ("reply-time",), late_write=0.3),
-    "loses-while-busy": note("loses all but the first byte that comes while it erases", ("busy",), loses=True,
-                             erase_seconds=0.02),
-    "loses-while-long-busy": option("loses the same, and an erase takes 0.6 s", ("erase-time",), loses=True,
-                                    erase_seconds=0.6),
+    "loses-while-busy": note("loses all but the first byte that comes while it erases", ("busy",), loses=True, erase_seconds=0.02),
+    "loses-while-long-busy": option("loses the same, and an erase takes 0.6 s", ("erase-time",), loses=True, erase_seconds=0.6),
     "erase-takes-11s": stop("takes 11 s for an erase", ("erase-time",), erase_seconds=11),
     "acks-an-erase-early": stop("acknowledges an erase 0.8 s before it takes the next byte", ("ack-late",), early=0.8),
-    "acks-an-erase-early-and-loses": stop("the same, and loses what comes meanwhile", ("erase", "ack-late"),
-                                          early=0.8, loses=True),
+    "acks-an-erase-early-and-loses": stop("the same, and loses what comes meanwhile", ("erase", "ack-late"), early=0.8, loses=True),
     "76-before-an-ack": stop("says 76 before it acknowledges an erase", ("erase",), busy_76=True),
     # reads
     "read-protected": stop("refuses to read", ("save",), is_protected=True),

@@ -7,6 +7,7 @@ the word that a byte came with a wrong parity, and "cd"; `.` ends the connection
 
 import socket
 import sys
+import types
 
 from serial import rfc2217
 
@@ -24,16 +25,7 @@ class Port:
     def reset_input_buffer(self):
         pass
 
-    def reset_output_buffer(self):
-        pass
-
-
-class Connection:
-    def __init__(self, client):
-        self.client = client
-
-    def write(self, data):
-        self.client.sendall(data)
+    reset_output_buffer = reset_input_buffer
 
 
 class FarEnd(rfc2217.PortManager):
@@ -49,19 +41,19 @@ def main():
     with socket.create_server(("127.0.0.1", 0)) as listener:
         print(listener.getsockname()[1], flush=True)
         client, _ = listener.accept()
-    port, connection = Port(), Connection(client)
+    port = Port()
     port.baudrate, port.bytesize, port.parity, port.stopbits, port.rts, port.dtr = 9600, 8, "N", 1, True, True
-    manager = FarEnd(port, connection)
+    manager = FarEnd(port, types.SimpleNamespace(write=client.sendall))
     while data := client.recv(1024):
         for byte in manager.filter(data):
             if byte == b"!":
-                connection.write(b"ab")
+                client.sendall(b"ab")
                 manager.rfc2217_send_subnegotiation(rfc2217.SERVER_NOTIFY_LINESTATE, b"\x04")
-                connection.write(b"cd")
+                client.sendall(b"cd")
             elif byte == b".":
                 return
             else:
-                connection.write(b"".join(manager.escape(byte)))
+                client.sendall(b"".join(manager.escape(byte)))
 
 
 main()

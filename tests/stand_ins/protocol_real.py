@@ -63,7 +63,7 @@ class Driver:
             if changed & signal:
                 self.note(("" if raised & signal else "-") + name)
 
-    def ioctl(self, request, argument):
+    def ioctl(self, request, argument=0, mutate=True):
         if request == termios.TIOCMBIS:
             self.move_to(self.raised | struct.unpack("I", argument)[0])
         elif request == termios.TIOCMBIC:
@@ -78,7 +78,7 @@ class Driver:
             self.flags[:] = argument
             self.note("low latency" if argument[FLAGS] & LOW_LATENCY else "as it was")
         else:
-            return real["ioctl"](self.descriptor, request, argument)
+            return real["ioctl"](self.descriptor, request, argument, mutate)
         return 0
 
     def read(self, count):
@@ -93,6 +93,26 @@ class Driver:
         if self.gone == HUNG_UP:
             return b""
         raise OSError(errno.EIO, os.strerror(errno.EIO))
+
+    def write(self, data):
+        return real["write"](self.descriptor, data)
+
+    def tcgetattr(self):
+        return [*self.mode[:6], list(self.mode[6])]
+
+    def tcsetattr(self, when, mode):
+        self.mode = [*mode[:6], list(mode[6])]
+        even = mode[2] & (termios.PARENB | termios.PARODD) == termios.PARENB
+        self.note(f"parity {'even' if even else 'odd' if mode[2] & termios.PARODD else 'none'}")
+
+    def tcflush(self, queue):
+        if queue != termios.TCOFLUSH:
+            self.rest = b""
+        return real["tcflush"](self.descriptor, queue)
+
+    def tcdrain(self):
+        self.note("drain")
+        return real["tcdrain"](self.descriptor)
 
     def become(self, what, byte):
         """What a program reads of what came."""
@@ -127,65 +147,20 @@ class Driver:
 
 
 driver = Driver()
-NAMES = ((os, ("read", "write", "major")), (fcntl, ("ioctl",)), (termios, ("tcgetattr", "tcsetattr", "tcflush", "tcdrain")))
-real = {name: getattr(module, name) for module, names in NAMES for name in names}
+NAMES = {os: ("read", "write"), fcntl: ("ioctl",), termios: ("tcgetattr", "tcsetattr", "tcflush", "tcdrain")}
+real = {"major": os.major, **{name: getattr(module, name) for module, names in NAMES.items() for name in names}}
 
 
-def is_gone(descriptor):
-    """Whether this is the port; a fault where it is and was unplugged."""
-    if descriptor == driver.descriptor and driver.gone:
-        raise OSError(errno.EIO, os.strerror(errno.EIO))
-    return descriptor == driver.descriptor
+def replacing(module, name):
+    """What stands for a call of the system: the driver's own where the port is meant, and a fault of that module where it is gone."""
+    def call(descriptor, *words):
+        if descriptor != driver.descriptor:
+            return real[name](descriptor, *words)
+        if driver.gone and name != "read":
+            raise (termios.error if module is termios else OSError)(errno.EIO, os.strerror(errno.EIO))
+        return getattr(driver, name)(*words)
 
-
-def read(descriptor, count):
-    return driver.read(count) if descriptor == driver.descriptor else real["read"](descriptor, count)
-
-
-def write(descriptor, data):
-    is_gone(descriptor)
-    return real["write"](descriptor, data)
-
-
-def major(device):
-    return USB_MAJOR if device == driver.device else real["major"](device)
-
-
-def ioctl(descriptor, request, argument=0, mutate=True):
-    return driver.ioctl(request, argument) if is_gone(descriptor) else real["ioctl"](descriptor, request, argument, mutate)
-
-
-def tcgetattr(descriptor):
-    return [*driver.mode[:6], list(driver.mode[6])] if mine(descriptor) else real["tcgetattr"](descriptor)
-
-
-def tcsetattr(descriptor, when, mode):
-    if not mine(descriptor):
-        return real["tcsetattr"](descriptor, when, mode)
-    driver.mode = [*mode[:6], list(mode[6])]
-    even = mode[2] & (termios.PARENB | termios.PARODD) == termios.PARENB
-    driver.note(f"parity {'even' if even else 'odd' if mode[2] & termios.PARODD else 'none'}")
-    return None
-
-
-def tcflush(descriptor, queue):
-    if mine(descriptor) and queue != termios.TCOFLUSH:
-        driver.rest = b""
-    return real["tcflush"](descriptor, queue)
-
-
-def tcdrain(descriptor):
-    if mine(descriptor):
-        driver.note("drain")
-    return real["tcdrain"](descriptor)
-
-
-def mine(descriptor):
-    """As is_gone, with the fault that termios has."""
-    try:
-        return is_gone(descriptor)
-    except OSError as error:
-        raise termios.error(error.errno, error.strerror) from None
+    return call
 
 
 class Serial(serial.Serial):
@@ -193,9 +168,10 @@ class Serial(serial.Serial):
         parts = urllib.parse.urlsplit(url)
         self.log = urllib.parse.parse_qs(parts.query)["file"][0]
         driver.device = os.stat(parts.path).st_rdev
-        for module, replaced in ((os, (read, write, major)), (fcntl, (ioctl,)), (termios, (tcgetattr, tcsetattr, tcflush, tcdrain))):
-            for function in replaced:
-                setattr(module, function.__name__, function)
+        os.major = lambda device: USB_MAJOR if device == driver.device else real["major"](device)
+        for module, names in NAMES.items():
+            for name in names:
+                setattr(module, name, replacing(module, name))
         return parts.path
 
     @serial.Serial.port.setter

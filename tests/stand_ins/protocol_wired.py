@@ -11,8 +11,7 @@ class Serial(protocol_spy.Serial):
     def _update_rts_state(self):
         pass
 
-    def _update_dtr_state(self):
-        pass
+    _update_dtr_state = _update_rts_state
 
     def set_low_latency_mode(self, low_latency_settings):
         self.formatter.control("LAT", "low" if low_latency_settings else "as it was")

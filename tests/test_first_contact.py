@@ -1,0 +1,85 @@
+"""Each chip of chips.toml, where an erase or a write was stopped and the board was reset: one 7F, and its undo."""
+
+import random
+import typing
+
+from place import is_slow, text_in
+from test_chips import CHIPS, Geometry
+from test_greeting import SPEED, Undoing
+from test_protected import check
+
+# pages whose settling bytes are FF and 02; larger ones take long
+LATE_PAGES, LARGE = (255, 511), 4096
+HEAD = "\n[[chip]]\n"
+ENTRIES = {number: HEAD + text for number, text in zip(CHIPS, text_in("chips.toml").split(HEAD)[1:])}
+
+
+class ChipStop(typing.NamedTuple):
+    """A session that was stopped at a chip of the table, behind this part of a frame of an erase or a write of a page."""
+
+    chip: str
+    command: str
+    page: int
+    part: float
+
+    def geometry(self):
+        return Geometry(CHIPS[self.chip])
+
+    def place(self):
+        pages = self.geometry().pages
+        start = sum(pages[:self.page])
+        return slice(start, start + pages[self.page])
+
+    def frame(self):
+        chip = self.geometry()
+        if self.command == "erase":
+            width = 1 if chip.erase == "43" else 2
+            body = (0).to_bytes(width, "big") + self.page.to_bytes(width, "big")
+            return (b"\x43\xbc" if width == 1 else b"\x44\xbb") + body + bytes([check(body)])
+        address, data = (chip.base + self.place().start).to_bytes(4, "big"), b"\xff" + bytes(range(256))
+        return b"\x31\xce" + address + bytes([check(address)]) + data + bytes([check(data)])
+
+    def journal(self):
+        kept = self.geometry().flash()[self.place()].hex().upper()
+        intents = f"erase {self.page}\n" + f"program {self.page}\n" * (self.command == "write")
+        return f"stmjournal 2 {self.chip}\nopen 1\npage {self.page} {kept}\n{intents}".encode()
+
+    def stands(self):
+        """The flash and the line that are left; a reset leaves nothing of a frame but what a whole one has done."""
+        chip, frame = self.geometry(), self.frame()
+        flash, sent = bytearray(chip.flash()), round(self.part * len(frame))
+        if self.command == "write" or sent == len(frame):
+            flash[self.place()] = bytes([chip.erased]) * chip.pages[self.page]
+        return bytes(flash), b"fresh\n"
+
+
+def stops():
+    """An erase and a write of a page, or of some, of each chip that has none too large."""
+    draws = random.Random(59)
+    for number in sorted(CHIPS):
+        chip = Geometry(CHIPS[number])
+        # a slow program has the small ones
+        if chip.size > (128 << 10 if is_slow() else 1 << 20):
+            continue
+        last = len(chip.pages) - 1
+        pages = {min(last, draws.randrange(2, 250)), *(page for page in LATE_PAGES if page <= last and chip.erase == "44")}
+        for page in sorted(pages):
+            if chip.pages[page] <= LARGE:
+                yield from (ChipStop(number, command, page, draws.random()) for command in ("erase", "write"))
+
+
+class FirstContact(Undoing):
+    def undone(self, room, stop):
+        self.store(f"{room}/table", ENTRIES[stop.chip].encode())
+        self.begin(room, stop, True)
+        said, sent = self.undo(room, stop.chip, *SPEED)
+        self.assertTold(said, "undone 1\n")
+        self.assertFile(f"{room}/flash", stop.geometry().flash())
+        # connected by the first byte, it refuses the second pair's, so that one batch is enough
+        byte = 2 if stop.command == "write" or stop.page > 255 else stop.page
+        self.assertEqual(sent[:258], b"\x7f" + bytes(257 * [byte]))
+
+    def test_each_chip(self):
+        cases = [(stop,) for stop in stops()]
+        self.assertGreater(len(cases), 20)
+        self.each_apart(cases, self.undone)
