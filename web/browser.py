@@ -150,7 +150,7 @@ class Tab:
         while not (it := self.looked(text)):
             if time.monotonic() > ends:
                 raise TimeoutError(f"{why or text}: {it!r}; the page says: {self.said()}")
-            time.sleep(0.02)
+            time.sleep(0.1)
         return it
 
     def looked(self, text):

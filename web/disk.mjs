@@ -1,11 +1,11 @@
 // The module in node, with the files of this machine: for the program's own tests, as far as they need no more of a system.
 //
 //     node --experimental-wasm-memory64 web/disk.mjs MODULE WORD..
-//     node --experimental-wasm-memory64 web/disk.mjs --serve SOCKET MODULE
+//     node --experimental-wasm-memory64 web/disk.mjs --serve MODULE
 //
 // It stands where web/page/worker.js stands in a browser; all else is the page's own. A device is sim:ID:FILE, or a socket. With
-// --serve each client hands over its folder, words, variables and input, and gets the status and both streams: so the module is
-// compiled once for many calls (web/under-node, web/rows).
+// --serve each client of the socket that is its standard input hands over its folder, words, variables and input, and gets the status
+// and both streams: so the module is compiled once for many calls (web/under-node, web/rows).
 import * as fs from 'node:fs';
 import * as net from 'node:net';
 import { MessageChannel, Worker, isMainThread, receiveMessageOnPort, workerData } from 'node:worker_threads';
@@ -99,7 +99,7 @@ function once(module, words, variables, input, say) {
 const compiled = (name) => new WebAssembly.Module(fs.readFileSync(name));
 
 /** Each call by itself: they share this process's folder. */
-function serve(socket, module) {
+function serve(module) {
   let last = Promise.resolve();
   net.createServer({ allowHalfOpen: true }, (client) => {
     const came = [];
@@ -116,12 +116,12 @@ function serve(socket, module) {
       const answer = [Buffer.from(`${status}`), Buffer.concat(said[1]), Buffer.concat(said[2])];
       client.end(Buffer.concat(answer.flatMap((it) => [Buffer.from(Uint32Array.of(it.length).buffer).swap32(), it])));
     }).catch(() => client.destroy()); });
-  }).listen(socket);
+  }).listen({ fd: 0 });
 }
 
 const [first, ...rest] = process.argv.slice(2);
 if (!isMainThread) carry(workerData);
-else if (first === '--serve') serve(rest[0], compiled(rest[1]));
+else if (first === '--serve') serve(compiled(rest[0]));
 else {
   const isPiped = rest.includes('/dev/stdin');
   process.exitCode = await once(compiled(first), rest, process.env, isPiped ? fs.readFileSync(0) : undefined,

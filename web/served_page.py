@@ -1,11 +1,12 @@
 """The page for one test, with its server, its simulated board and a headless browser: what a reader does there, and what is seen.
 
-The page is bin/web, the board the simulator of STMFLASH, bin/stmflash-unproved where that is unset. STMFLASH_WEB_SAMPLES is how many
-moments of each kind of stop are tried, 3 without it. What a test waits for is never a time: a state of the page, or the bytes of the
-flash.
+The page is bin/web, the board the simulator of STMFLASH, bin/stmflash-unproved where that is unset. What a test waits for is never a
+time: a state of the page, or the bytes of the flash. STMFLASH_WEB_PART is which part of a test goes, 0 without it: each draws other
+moments.
 """
 
 import base64
+import contextlib
 import os
 import pathlib
 import random
@@ -24,7 +25,6 @@ from browser import PATIENCE, Browser
 
 PAGE = f"{TOP}/bin/web"
 PROGRAM = os.path.abspath(os.environ.get("STMFLASH") or f"{TOP}/bin/stmflash-unproved")
-SAMPLES = int(os.environ.get("STMFLASH_WEB_SAMPLES", "3"))
 SEED = int(os.environ.get("STMFLASH_WEB_SEED", "0")) or random.SystemRandom().randrange(1, 1 << 30)
 UNIQUE = "112233445566778899AABBCC"
 JOURNAL = f"{UNIQUE}.journal"
@@ -39,9 +39,30 @@ def wait():
     return os.environ.get("STMFLASH_WEB_WAIT", "1000")
 
 
+class Served:
+    """web/serve with these words, and the address of its page."""
+
+    def __init__(self, *words, **how):
+        self.process = subprocess.Popen([f"{HERE}/serve", *words, "--port", "0"], stdout=subprocess.PIPE, text=True, **how)
+        self.address = self.process.stdout.readline().strip()
+
+    def __enter__(self):
+        return self
+
+    def end(self, *_):
+        self.process.terminate()
+        try:
+            self.process.wait(PATIENCE)
+        except subprocess.TimeoutExpired:
+            self.process.kill()
+            self.process.wait()
+        self.process.stdout.close()
+
+    __exit__ = end
+
+
 def held(path):
-    with open(path, "rb") as file:
-        return file.read()
+    return pathlib.Path(path).read_bytes()
 
 
 def named(given):
@@ -51,35 +72,26 @@ def named(given):
 
 
 class ServedPage(unittest.TestCase):
-    browser_of, samples = Browser, SAMPLES
+    # moments of a stop that one part of a test tries
+    browser_of, samples = Browser, 5
     # one of the table that has 128 pages of 1,024 bytes
     chip, size = "0410", 131072
 
     def setUp(self):
-        room = tempfile.TemporaryDirectory(prefix="stmflash-web-", ignore_cleanup_errors=True)
-        self.addCleanup(room.cleanup)
-        self.room, self.some = room.name, random.Random(f"{SEED} {self._testMethodName}")
+        self.room = self.enterContext(tempfile.TemporaryDirectory(prefix="stmflash-web-", ignore_cleanup_errors=True))
+        self.part = int(os.environ.get("STMFLASH_WEB_PART", "0"))
+        self.some = random.Random(f"{SEED} {self._testMethodName} {self.part}")
         self.flash, self.folder, self.socket = f"{self.room}/flash", f"{self.room}/page", f"{self.room}/board"
         shutil.copytree(PAGE, self.folder)
         self.before = self.some.randbytes(self.size)
         pathlib.Path(self.flash).write_bytes(self.before)
-        words = [f"{HERE}/serve", self.folder, "--program", PROGRAM, "--id", self.chip, "--flash", self.flash, "--socket", self.socket, "--pace", "460800", "--port", "0"]
-        self.server = subprocess.Popen(words, stdout=subprocess.PIPE, text=True)
-        self.addCleanup(self.end_server)
-        self.address = self.server.stdout.readline().strip()
+        words = ["--program", PROGRAM, "--id", self.chip, "--flash", self.flash, "--socket", self.socket, "--pace", "460800"]
+        self.server = self.enterContext(Served(self.folder, *words))
+        self.address = self.server.address
         self.image = bytes(4) + self.some.randbytes(PAGES * 1024 - 104)  # a colon in front would make HEX of it
         self.after = self.image + self.before[len(self.image):]
         self.begin_browser()
         self.addCleanup(lambda: self.browser.kill())
-
-    def end_server(self):
-        self.server.terminate()
-        try:
-            self.server.wait(PATIENCE)
-        except subprocess.TimeoutExpired:
-            self.server.kill()
-            self.server.wait()
-        self.server.stdout.close()
 
     def begin_browser(self):
         self.browser = self.browser_of(f"{self.room}/profile")
@@ -92,12 +104,21 @@ class ServedPage(unittest.TestCase):
         tab.js(f"stmflash.state.wait = {wait()}, stmflash.take({named(('a.bin', self.image))})")
         return tab
 
-    def assertFlash(self, wanted, why=""):
-        """The simulator keeps its flash in the file once its client has gone."""
-        ends = time.monotonic() + PATIENCE
-        while held(self.flash) != wanted and time.monotonic() < ends:
+    def until_held(self, path, wanted):
+        """The simulator keeps its flash and its line in files once its client has gone. What a file has in the end."""
+        ends, kept = time.monotonic() + PATIENCE, None
+        while kept != wanted and time.monotonic() < ends:
             time.sleep(0.05)
-        self.assertTrue(held(self.flash) == wanted, f"{why}: the flash is another at {[i for i, (one, two) in enumerate(zip(held(self.flash), wanted)) if one != two][:20]}")
+            with contextlib.suppress(FileNotFoundError):
+                kept = held(path)
+        return kept
+
+    def assertFlash(self, wanted, why=""):
+        kept = self.until_held(self.flash, wanted)
+        self.assertTrue(kept == wanted, f"{why}: the flash is another at {[i for i, (one, two) in enumerate(zip(kept, wanted)) if one != two][:20]}")
+
+    def assertLine(self, wanted):
+        self.assertEqual(self.until_held(f"{self.flash}.line", wanted), wanted)
 
     def click(self, tab, selector):
         tab.js(f"document.getElementById('told').hidden = true, document.querySelector({selector!r}).click()")
@@ -130,8 +151,9 @@ class ServedPage(unittest.TestCase):
 
     def stopped(self, end):
         """Stops a write at any moment: in the midst of its pages, or behind one of its steps. What undoes it is another tab's."""
+        tab = self.tab()
         for i in range(self.samples):
-            tab, moment = self.tab(), self.some.randrange(2 * PAGES)
+            moment = self.some.randrange(2 * PAGES)
             if i % 2:
                 self.stop_write(tab, moment)
             else:
@@ -140,7 +162,6 @@ class ServedPage(unittest.TestCase):
             tab = self.tab()
             self.assertTrue(i % 2 or tab.js("!document.getElementById('stopped').hidden"), f"stop {i} wasn't in mid-write: {tab.said()}")
             self.undo(tab, f"stop {i}, at {moment}")
-            tab.close()
 
     def undo(self, tab, why):
         """Undoes by the one button that the page shows behind a stop, or by a journal's where the write had ended; and sees the flash."""

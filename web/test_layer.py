@@ -8,18 +8,18 @@ what is here, without a browser. The images are compared with objcopy's, the wir
 
 import concurrent.futures
 import gzip
-import importlib.machinery
-import importlib.util
 import json
 import os
 import pathlib
 import random
 import re
+import runpy
 import shutil
 import struct
 import subprocess
 import sys
 import tempfile
+import types
 import unittest
 
 HERE = os.path.dirname(os.path.abspath(__file__))
@@ -184,9 +184,7 @@ class Tried(unittest.TestCase):
         for tool in ("node", "gcc", "tsc", "objcopy", "rt"):
             if shutil.which(tool) is None:
                 self.skipTest(f"there is no {tool}")
-        room = tempfile.TemporaryDirectory(prefix="stmflash-web-")
-        self.addCleanup(room.cleanup)
-        self.room = room.name
+        self.room = self.enterContext(tempfile.TemporaryDirectory(prefix="stmflash-web-"))
 
     def try_page(self, folder, *words):
         return run([*NODE, f"{HERE}/test_layer.mjs", folder, *words])
@@ -248,10 +246,7 @@ class Layer(Tried):
 
     def test_the_proved_module_is_retargeted(self):
         """What is 64-bit ARM's goes, and neighbours are added lane by lane; other code of one processor ends the build."""
-        sys.dont_write_bytecode = True
-        loader = importlib.machinery.SourceFileLoader("web_build", f"{HERE}/build")
-        build = importlib.util.module_from_spec(importlib.util.spec_from_loader(loader.name, loader))
-        loader.exec_module(build)
+        build = types.SimpleNamespace(**runpy.run_path(f"{HERE}/build"))
         text = ['target datalayout = "e-m:e"\n', 'target triple = "aarch64-unknown-linux-gnu"\n',
                 "  %c = tail call <16 x i8> @llvm.aarch64.neon.addp.v16i8(<16 x i8> %a, <16 x i8> %b)\n", '  call void asm sideeffect "", "r"(ptr %p)\n',
                 "  uselistorder i32 1, { 1, 0 }\n", "declare <16 x i8> @llvm.aarch64.neon.addp.v16i8(<16 x i8>, <16 x i8>)\n",
@@ -299,7 +294,3 @@ ${{JSON.stringify(it.parts.map(({{ at, bytes }}) => [at, [...bytes]]))}}\n${{new
             pathlib.Path(f"{self.room}/{i}.bin").write_bytes(data)
             theirs |= bytes_of_hex(run(["objcopy", "-I", "binary", "-O", "ihex", f"--change-addresses={at}", f"{self.room}/{i}.bin", "/dev/stdout"]).stdout)
         self.assertEqual(ours, theirs)
-
-
-if __name__ == "__main__":
-    unittest.main()

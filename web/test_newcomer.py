@@ -3,13 +3,12 @@
 import os
 import pathlib
 import random
-import subprocess
 import tempfile
 import time
 import unittest
 
 from browser import PATIENCE, Browser
-from served_page import READY, SEED, TOP
+from served_page import READY, SEED, Served
 
 SIZE = 12 * 1024
 
@@ -36,7 +35,7 @@ class Newcomer(unittest.TestCase):
         tab.until(f"document.body.innerText.includes('{name}: {SIZE} raw bytes')")
 
     def see(self, tab, text):
-        tab.until(f"document.body.innerText.includes('{text}')")
+        tab.until(f"document.body?.innerText.includes('{text}')")
 
     def flash_is(self, image):
         """What the board holds once its client has gone; the page's server has no other word on it."""
@@ -47,17 +46,13 @@ class Newcomer(unittest.TestCase):
         self.assertTrue(held == image)
 
     def test_flashes_closes_the_tab_and_undoes(self):
-        room = tempfile.TemporaryDirectory(prefix="stmflash-newcomer-", ignore_cleanup_errors=True)
-        self.addCleanup(room.cleanup)
-        self.room, some = room.name, random.Random(SEED)
+        self.room = self.enterContext(tempfile.TemporaryDirectory(prefix="stmflash-newcomer-", ignore_cleanup_errors=True))
+        some = random.Random(SEED)
         images = [bytes(4) + some.randbytes(SIZE - 4) for _ in range(2)]
         for name, image in zip(("first.bin", "second.bin"), images):
             pathlib.Path(self.room, name).write_bytes(image)
-        server = subprocess.Popen([f"{TOP}/web/serve", "--port", "0"], stdout=subprocess.PIPE, text=True, env={**os.environ, "TMPDIR": self.room})
-        self.addCleanup(server.stdout.close)
-        self.addCleanup(server.wait)
-        self.addCleanup(server.terminate)
-        address, browser = server.stdout.readline().strip(), Browser(f"{self.room}/profile")
+        address = self.enterContext(Served(env={**os.environ, "TMPDIR": self.room})).address
+        browser = Browser(f"{self.room}/profile")
         self.addCleanup(browser.kill)
         tab = browser.tab(address)
         tab.until(READY)

@@ -1,9 +1,9 @@
 """Tries the page in a headless Chromium, and in a headless Firefox where there is one, on a simulated board: stops of any kind, full
 disks, two tabs, and what a reader sees.
 
-    python3 web/test_page.py
+    python3 web/test_page.py [--many]
 
-served_page.py says what it takes. STMFLASH_WEB_SEED is the seed of all that is drawn.
+served_page.py says what it takes. STMFLASH_WEB_SEED is the seed of all that is drawn. --many tries five times as many stops.
 """
 
 import concurrent.futures
@@ -19,7 +19,7 @@ import tomllib
 import unittest
 
 from browser import PATIENCE, Browser, Firefox
-from served_page import JOURNAL, PAGES, PROGRAM, QUIET, READY, SAMPLES, SEED, TOP, UNIQUE, ServedPage, held, named, wait
+from served_page import JOURNAL, PAGES, PROGRAM, QUIET, READY, SEED, TOP, UNIQUE, ServedPage, held, named, wait
 from test_layer import elf
 from test_newcomer import Newcomer
 from test_stops import InFirefox
@@ -35,18 +35,22 @@ FAINT = """[...document.querySelectorAll('body *')].filter((it) => it.offsetPare
     return Math.max(one, other) / Math.min(one, other) < 4.5;
 }).map((it) => it.textContent)"""
 
+AT_ONCE = 5
+# moments at which Chromium is stopped, by kinds: each test of these goes in parts
+STOPS = {"a_full_origin": 20, "a_wrong_byte_and_a_lost_port": 20, "the_browser_is_killed_at_any_moment": 20, "the_tab_is_closed_at_any_moment": 40}
+
 
 class Page(InFirefox):
     """And what is tried in Chromium alone, more often."""
 
-    browser_of, samples = Browser, SAMPLES
+    browser_of, samples = Browser, ServedPage.samples
 
     def test_offline(self):
         tab = self.tab()
         tab.js("navigator.serviceWorker.ready.then(() => 1)")
         self.assertEqual(tab.call("Page.getInstallabilityErrors")["installabilityErrors"], [])
         self.do(tab, "#write")
-        self.end_server()
+        self.server.end()
         tab.close()
         for address in (self.address, self.address.replace("/?", "/index.html?")):
             again = self.browser.tab(address)
@@ -129,11 +133,47 @@ class Page(InFirefox):
         self.do(tab, "#write")
         self.undo(tab, "behind another client")
 
+    def stopped_behind_a_wiring(self):
+        """A tab that comes behind one that was closed in mid-write."""
+        for is_stopped in (False, True):
+            tab = self.tab()
+            self.choose(tab, "wiring", "dtr-reset,rts-boot0")
+            if not is_stopped:
+                self.hold_write(tab)
+                tab.close()
+        return tab
+
+    def test_a_board_that_its_wiring_resets(self):
+        """It is undone without a word of that, wherever it was stopped; and goes back into its program, where nothing reaches it but a reset."""
+        for i in range(self.samples):
+            tab = self.stopped_behind_a_wiring()
+            self.undo(tab, f"by a wiring, {i}")
+            self.assertLine(b"gone\n")
+            self.assertNotIn("--fresh", tab.js("document.getElementById('said').textContent"))
+            tab.close()
+        self.do(self.tab(), "#write", "^Not done: ")
+        self.assertFlash(self.before)
+
+    def test_a_wiring_says_nothing_of_another_board(self):
+        """One was stopped, and may be the one that is here: what asks it would be the rest of its command. A reader says that it was reset."""
+        tab = self.stopped_behind_a_wiring()
+        other = self.journal_of(tab).replace(UNIQUE.encode(), UNIQUE[::-1].encode())
+        self.undo(tab, "ahead of the other")
+        tab.js(f"stmflash.takeJournal({named((f'{UNIQUE[::-1]}.journal', other))})")
+        self.do(tab, "#write", "^Not done: unfinished or bad: .*; undo first, or reset the board, and say above that it was")
+        self.assertFlash(self.before)
+        tab.js("document.getElementById('fresh').checked = true")
+        self.do(tab, "#write")
+        self.assertFlash(self.after)
+        self.assertFalse(tab.js("document.getElementById('fresh').checked"))
+
     def test_a_full_origin(self):
         """Whatever room there is: a write that can't be journalled ends with a word, and is undone, if need be with room again."""
         tab = self.tab()
         origin = self.address.partition("/?")[0]
-        for room in [0, *(self.some.randrange(0, 2 * 1024 * (PAGES + 1)) for _ in range(self.samples))]:
+        each = 2 * 1024 * (PAGES + 1) // STOPS["a_full_origin"]
+        for at in range(self.part * self.samples, (self.part + 1) * self.samples):
+            room = at and at * each + self.some.randrange(each)
             with self.subTest(f"room {room}"):
                 used = tab.js("navigator.storage.estimate().then((it) => it.usage)")
                 tab.call("Storage.overrideQuotaForOrigin", origin=origin, quotaSize=used + room)
@@ -269,25 +309,32 @@ class Page(InFirefox):
         self.assertEqual(self.tab().js("stmflash.state.names"), [])
 
 
-def run(name):
-    """Runs one test, tells what came of it, and answers its name where it failed."""
+def run(test):
+    """Runs a part of one test, tells what came of it, and answers it where it failed."""
+    name, part = test
+    os.environ["STMFLASH_WEB_PART"] = str(part)
     began, ended = time.monotonic(), unittest.TestResult()
     unittest.defaultTestLoader.loadTestsFromName(name, sys.modules["__main__"]).run(ended)
     wrong = [text for _, text in ended.failures + ended.errors] + [f"left out: {why}" for _, why in ended.skipped]
-    print("\n".join([f"{'FAILED' if wrong else 'passed'} {time.monotonic() - began:5.1f} s: {name}", *wrong]), flush=True)
-    return name if wrong else None
+    print("\n".join([f"{'FAILED' if wrong else 'passed'} {time.monotonic() - began:5.1f} s: {name} {part or ''}", *wrong]), flush=True)
+    return test if wrong else None
 
 
 def main():
-    """Two at once, since each mostly waits. One that failed is run once more when all have ended, with nothing beside it, and this is told:
+    """Some at once, since each mostly waits. One that failed is run once more when all have ended, with nothing beside it, and this is told:
     a machine that is busy with other things answers late."""
     os.environ["STMFLASH_WEB_SEED"] = str(SEED)
     print(f"web/test_page: seed {SEED}", flush=True)
-    kinds = [it for it in (Trial, Page, Newcomer, InFirefox) if shutil.which(it.browser_of.program)]
+    kinds = [it for it in (Trial, Newcomer, InFirefox, Page) if shutil.which(it.browser_of.program)]
     if InFirefox not in kinds:
         print(f"left out: the page in Firefox, there is no {Firefox.program}", flush=True)
-    failed = [f"{kind.__name__}.{it}" for kind in kinds for it in unittest.defaultTestLoader.getTestCaseNames(kind)]
-    for at_once, os.environ["STMFLASH_WEB_WAIT"] in ((2, "500"), (1, "1000")):
+    times = 5 if "--many" in sys.argv else 1
+    failed = []
+    for kind in kinds:
+        for name in unittest.defaultTestLoader.getTestCaseNames(kind):
+            parts = times * STOPS.get(name.removeprefix("test_"), 0) // kind.samples if kind is Page else 1
+            failed += ((f"{kind.__name__}.{name}", part) for part in range(max(parts, 1)))
+    for at_once, os.environ["STMFLASH_WEB_WAIT"] in ((AT_ONCE, "500"), (1, "1000")):
         with concurrent.futures.ProcessPoolExecutor(at_once) as pool:
             failed = list(filter(None, pool.map(run, failed)))
     sys.exit(1 if failed else 0)

@@ -1,11 +1,11 @@
 """What the page does in Chromium and in Firefox: a write and its undo, stops of each kind, and two tabs."""
 
 from browser import Firefox
-from served_page import QUIET, READY, SAMPLES, UNIQUE, ServedPage, held
+from served_page import QUIET, READY, UNIQUE, ServedPage, held
 
 
 class InFirefox(ServedPage):
-    browser_of, samples = Firefox, SAMPLES // 3
+    browser_of, samples = Firefox, 1
 
     def test_a_write_and_its_undo(self):
         tab = self.tab()

@@ -6,8 +6,8 @@ export const FOLDER = 'boards', ENDING = '.journal', NEW = ':new';
 const DEVICE = '/dev/board';
 // what the program says in words of the command line, in the page's
 /** @type {[RegExp, string][]} */
-const MEANT = [[/; say --board .* say --fresh$/, '; undo first, or reset the board, and say above that you did'], [/: undo --recover.*/, ': download it, and undo by the command line, with --recover'],
-  [/: --journal names its journal$/, ': choose a board with a name of its own, above'], [/; now: undo 1 --fresh$/, '; reset it, say above that you did, and undo']];
+const MEANT = [[/; say --board .*$/, '; undo first, or reset the board, and say above that it was'], [/: undo --recover.*/, ': download it, and undo by the command line, with --recover'],
+  [/: --journal names its journal$/, ': choose a board with a name of its own, above']];
 // why a line ended, as Web Serial names it
 /** @type {Record<string, string>} */
 const ENDED = { ParityError: 'A byte came wrong: look at the speed, the wiring and ground.', FramingError: 'A byte came wrong: look at the speed, the wiring and ground.',
@@ -98,7 +98,7 @@ export async function run(words, how = {}) {
   let answer = none;
   if (!onBoard || state.line || await choose()) {
     const baud = Number($('baud').value), wiring = $('wiring').value;
-    const fresh = [...(wiring || $('fresh').checked ? ['--fresh'] : []), ...(state.wait ? ['--wait', String(state.wait)] : [])];
+    const fresh = [...($('fresh').checked ? ['--fresh'] : []), ...(state.wait ? ['--wait', String(state.wait)] : [])];
     const all = onBoard ? [words[0], '--table', $('kind').value ? '/chip.toml' : '/chips.toml', '--device', DEVICE, '--baud', String(baud), ...fresh, ...words.slice(1)] : words;
     // what is sent from here on counts: the board isn't fresh any more
     if (onBoard) $('fresh').checked = false;

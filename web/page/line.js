@@ -188,5 +188,5 @@ export class SocketPort {
 
   async close() { this.socket?.close(); }
 
-  async setSignals() {}
+  async setSignals(/** @type {object} */ signals) { this.socket?.send(JSON.stringify(signals)); }
 }
