@@ -7,7 +7,6 @@
 #define _WIN32_WINNT 0x0A00
 #include <ws2tcpip.h> // and so winsock2.h and windows.h
 #include <stdbool.h>
-#include <stdint.h>
 #include <stdio.h>
 #include <stdlib.h>
 

@@ -8,6 +8,7 @@ import importlib.machinery
 import importlib.util
 import io
 import os
+import pathlib
 import shutil
 import subprocess
 import tempfile
@@ -25,8 +26,7 @@ cp "$3" "$2"
 
 
 def compiled(text, flags, to):
-    with open(f"{to}.c", "w", encoding="utf-8") as file:
-        file.write(text)
+    pathlib.Path(f"{to}.c").write_text(text, encoding="utf-8")
     subprocess.run(["gcc", "-O1", "-fcf-protection=none", "-fno-stack-protector", *flags, "-c", f"{to}.c", "-o", to], check=True)
 
 
@@ -35,18 +35,14 @@ class Build(unittest.TestCase):
         loader = importlib.machinery.SourceFileLoader("windows_build", f"{HERE}/build")
         self.build = importlib.util.module_from_spec(importlib.util.spec_from_loader(loader.name, loader))
         loader.exec_module(self.build)
-        folder = tempfile.TemporaryDirectory(prefix="stmflash-")
-        self.addCleanup(folder.cleanup)
-        self.room = folder.name
+        self.room = self.enterContext(tempfile.TemporaryDirectory(prefix="stmflash-"))
         os.makedirs(f"{self.room}/kit/bin")
         os.makedirs(f"{self.room}/kit/toolchain/bin")
         os.mkdir(f"{self.room}/new")
         with open(f"{self.room}/kit/bin/rattle-link", "w", encoding="utf-8", opener=lambda path, flags: os.open(path, flags, 0o755)) as file:
             file.write(LINK)
         for what, name, value in ((self.build, "PROVED", f"{self.room}/stmflash"), (self.build, "TOP", self.room), (self.build.rt, "KIT", f"{self.room}/kit")):
-            patch = unittest.mock.patch.object(what, name, value)
-            patch.start()
-            self.addCleanup(patch.stop)
+            self.enterContext(unittest.mock.patch.object(what, name, value))
 
     def taken(self):
         said = io.StringIO()
@@ -61,8 +57,7 @@ class Build(unittest.TestCase):
         said = "linked for Linux again it is stmflash, byte for byte\nits machine code is that of Linux, as it is\n"
         self.assertEqual(self.taken(), (f"{self.room}/stmflash.o", said))
         os.mkdir(f"{self.room}/bin")
-        with open(f"{self.room}/bin/stmflash", "wb") as file:
-            file.write(b"another")
+        pathlib.Path(f"{self.room}/bin/stmflash").write_bytes(b"another")
         self.assertRaisesRegex(SystemExit, "stmflash.o isn't the object of bin/stmflash", self.taken)
 
     def test_one_with_a_red_zone_is_made_once_more_of_the_proofs_that_were_kept(self):
@@ -74,8 +69,7 @@ class Build(unittest.TestCase):
             made, said = self.taken()
         self.assertEqual(made, f"{self.room}/new/stmflash.o")
         self.assertIn("1 functions have a red zone: compiled once more without", said)
-        with open(f"{self.room}/new/toolchain/bin/clang", encoding="utf-8") as file:
-            self.assertIn("noredzone", file.read())
+        self.assertIn("noredzone", pathlib.Path(f"{self.room}/new/toolchain/bin/clang").read_text(encoding="utf-8"))
 
 
 class Fits(unittest.TestCase):
@@ -106,7 +100,3 @@ class Fits(unittest.TestCase):
         for frame in ("-fomit-frame-pointer", "-fno-omit-frame-pointer"):
             self.assertEqual(self.faults(self.NOT["is below the stack"][0], ["-mno-red-zone", frame]), [])
         self.assertEqual(self.faults(self.NOT["takes stack without a touch"][0], ["-fstack-clash-protection"]), [])
-
-
-if __name__ == "__main__":
-    unittest.main()

@@ -1,11 +1,13 @@
 """Programs for Windows on this machine, by wine: bin/wine is its folder of settings, WINEPREFIX another."""
 
+import ctypes
 import os
-import random
+import pathlib
+import re
 import subprocess
 
 TOP = os.path.dirname(os.path.dirname(os.path.abspath(__file__)))
-WINE = "/usr/lib/wine/wine64"
+WINE, SERVER = "/usr/lib/wine/wine64", "/usr/lib/wine/wineserver64"
 PREFIX = os.environ.get("WINEPREFIX") or f"{TOP}/bin/wine"
 
 
@@ -14,9 +16,18 @@ def variables(more):
 
 
 def begin():
-    """Makes the folder of settings, which takes seconds, where it isn't there."""
-    os.makedirs(PREFIX, exist_ok=True)
-    subprocess.run([WINE, "cmd", "/c", "exit"], env=variables({}), stdout=subprocess.DEVNULL, stderr=subprocess.DEVNULL, stdin=subprocess.DEVNULL, check=True)
+    """Makes the folder of settings where it isn't there: without services, of which one is asked for each file's volume, and zones of time,
+    which each start searches. Begins a server that stays, and what a first start begins, which would hold a test's pipe open. Addresses of
+    what is called from here aren't random: one start's heap of 2,000 lay where wine wants a page."""
+    ctypes.CDLL(None).personality(0x40000)
+    registry, quiet = pathlib.Path(PREFIX, "system.reg"), {"env": variables({}), **dict.fromkeys(("stdin", "stdout", "stderr"), subprocess.DEVNULL)}
+    if not registry.exists():
+        subprocess.run([WINE, "cmd", "/c", "exit"], check=True, **quiet)
+        subprocess.run([SERVER, "-k"], check=True, **quiet)
+        parts = re.split(rb"(?m)^(?=\[)", registry.read_bytes())
+        registry.write_bytes(b"".join(it for it in parts if not re.match(rb"\[.*\\\\(Services|Time Zones)\\\\", it)))
+    subprocess.run([SERVER, "-p300"], **quiet)
+    subprocess.run([WINE, "cmd", "/c", "exit"], check=True, **quiet)
 
 
 def run(words, cwd, env, timeout):
@@ -26,12 +37,3 @@ def run(words, cwd, env, timeout):
         said.seek(0)
         ran.stdout = said.read()
     return ran
-
-
-def some(all_of_them, count, what):
-    """So many of them, others each time, and the seed is printed: STMFLASH_WINDOWS_SEED takes the same. All of them where count is none."""
-    if not count or count >= len(all_of_them):
-        return all_of_them
-    seed = int(os.environ.get("STMFLASH_WINDOWS_SEED", "0")) or random.SystemRandom().randrange(1, 1 << 30)
-    print(f"windows/try: {count} of {len(all_of_them)} {what}, seed {seed}", flush=True)
-    return random.Random(seed).sample(all_of_them, count)

@@ -1,6 +1,6 @@
 // The program's words and variables, and its start.
 #include "layer.h"
-#include <shellapi.h>
+int __wgetmainargs(int *count, wchar_t ***words, wchar_t ***variables, int globs, int *mode); // msvcrt's
 
 static int count;
 static char **words;
@@ -67,7 +67,8 @@ static const char *asked(const char *name, bool is_ours)
 
 void read_words(void)
 {
-    wchar_t **given = CommandLineToArgvW(GetCommandLineW(), &count);
+    wchar_t **given, **variables; // (as CommandLineToArgvW, whose shell32 takes as long to load as the rest)
+    __wgetmainargs(&count, &given, &variables, 0, &(int){0});
     words = calloc((size_t)count + 1, sizeof *words);
     for (int i = 0; i < count; i++) {
         words[i] = narrow(given[i]);
