@@ -6,6 +6,7 @@ test_layer.c says what each function has to do. That the kit's own ones do it to
 """
 
 import os
+import pathlib
 import shutil
 import subprocess
 import tempfile
@@ -51,10 +52,8 @@ def kit():
 
 class Layer(unittest.TestCase):
     def setUp(self):
-        folder = tempfile.TemporaryDirectory()
-        self.addCleanup(folder.cleanup)
-        self.program = f"{folder.name}/test_layer"
-        self.changed = f"{folder.name}/layer.c"
+        folder = self.enterContext(tempfile.TemporaryDirectory())
+        self.program, self.changed = f"{folder}/test_layer", f"{folder}/layer.c"
 
     def run_over(self, layer, compiler="gcc", before=(), flags=STRICT):
         for tool in (compiler, *before[:1]):
@@ -81,15 +80,9 @@ class Layer(unittest.TestCase):
         self.assertHolds(self.run_over([f"{HERE}/layer.c"], "aarch64-linux-gnu-gcc", qemu))
 
     def test_finds_each_fault(self):
-        with open(f"{HERE}/layer.c", encoding="utf-8") as file:
-            text = file.read()
+        text = pathlib.Path(f"{HERE}/layer.c").read_text(encoding="utf-8")
         for name, (old, new) in FAULTS.items():
             with self.subTest(name):
                 self.assertEqual(text.count(old), 1)
-                with open(self.changed, "w", encoding="utf-8") as file:
-                    file.write(text.replace(old, new))
+                pathlib.Path(self.changed).write_text(text.replace(old, new), encoding="utf-8")
                 self.assertNotEqual(self.run_over([self.changed], flags=["-O2", "-w"]).returncode, 0)
-
-
-if __name__ == "__main__":
-    unittest.main()

@@ -7,7 +7,7 @@ _stmflash_ports() { mapfile -t COMPREPLY < <(compgen -G "$1*" | grep -E '^/dev/(
 _stmflash() {
     local word=${COMP_WORDS[COMP_CWORD]} before=${COMP_WORDS[COMP_CWORD-1]} subcommand="" i
     local subcommands="info read crc write verify erase undo go protect log keep sim help"
-    local device="--table --device --journal --journals --no-lock --trust-journal --wait --baud --stop --give-up --progress --quiet --watch --json --fresh --help"
+    local device="--table --device --journal --journals --no-lock --trust-journal --wait --baud --stop --give-up --progress --quiet --watch --json --help"
     local asked="$device --board --no-board"
     COMPREPLY=()
     for ((i = 1; i < COMP_CWORD; i++)); do

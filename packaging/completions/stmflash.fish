@@ -39,7 +39,6 @@ complete -c stmflash -n "__stmflash_in $device" -l progress -d 'A line for each 
 complete -c stmflash -n "__stmflash_in $device" -l quiet -d 'No progress'
 complete -c stmflash -n "__stmflash_in $device" -l watch -d 'Ends at the first reply that the model does not have'
 complete -c stmflash -n "__stmflash_in $device log keep" -l json -d 'Tells what came of it as a line of JSON'
-complete -c stmflash -n "__stmflash_in $device" -l fresh -d 'The device was just reset'
 complete -c stmflash -n "__stmflash_in $device" -l board -x -d 'The unique id that is wanted, or its last digits'
 complete -c stmflash -n "__stmflash_in $device" -l no-board -d 'Does not ask which board it is'
 complete -c stmflash -n "__stmflash_in log" -l check -d 'Reads all of it, and tells the CRC of each kept page'
