@@ -1,12 +1,14 @@
 """A host program joined to a device's socket, with what went over the line counted.
 
-The tools here that start a host, be it stm32flash over a pty or stmflash over a socket, share this.
+The tools here that start a host, be it stm32flash over a pty or stmflash over a socket, share this, and those that serve one.
 """
 
+import contextlib
 import json
 import os
 import select
 import socket
+import threading
 import time
 
 
@@ -55,6 +57,28 @@ def connect(path):
     return device
 
 
+def listen(path):
+    """A listener on a socket of this name."""
+    listener = socket.socket(socket.AF_UNIX, socket.SOCK_STREAM)
+    listener.bind(path)
+    listener.listen()
+    return listener
+
+
+def serve_each(path, serve):
+    """Serves one client after another on a socket of this name, in a thread of its own, and answers the listener."""
+    listener = listen(path)
+
+    def run():
+        with contextlib.suppress(OSError):
+            while True:
+                with listener.accept()[0] as client:
+                    serve(client)
+
+    threading.Thread(target=run, daemon=True).start()
+    return listener
+
+
 def receive(descriptor):
     """What came; nothing where the other end is gone."""
     try:
@@ -73,38 +97,27 @@ def send(descriptor, data):
     return True
 
 
-def carry(host, device, ended, figures, between=None, cut=None):
+def carry(host, device, ended=None, figures=None, between=None, cut=None):
     """Carries bytes between the descriptors of a host and a device, until one of them is gone, or `ended` (a descriptor)
     has something to read, or `cut` bytes of the host were handed on."""
-    between = between or Plain()
+    between, figures = between or Plain(), figures or Figures()
     while True:
-        ready, _, _ = select.select([host, device, ended], [], [])
+        ready, _, _ = select.select([it for it in (host, device, ended) if it is not None], [], [])
         # the device first, so that its bytes are counted for what they answer
+        came = receive(device) if device in ready else receive(host)[:cut] if host in ready else b""
+        if not came:
+            return
         if device in ready:
-            data = receive(device)
-            if not data:
-                return
-            data = between.to_host(data)
-            if data:
-                figures.answered(len(data))
-                if not send(host, data):
-                    return
-        elif host in ready:
-            data = receive(host)
-            if not data:
-                return
-            if cut is not None:
-                data = data[:cut]
-                cut -= len(data)
-            figures.sent(len(data))
-            data, answer = between.to_device(data)
+            answer = between.to_host(came)
+        else:
+            cut = None if cut is None else cut - len(came)
+            figures.sent(len(came))
+            data, answer = between.to_device(came)
             if not send(device, data):
                 return
-            if answer:
-                figures.answered(len(answer))
-                if not send(host, answer):
-                    return
-            if cut == 0:
+        if answer:
+            figures.answered(len(answer))
+            if not send(host, answer):
                 return
-        elif ended in ready:
+        if cut == 0:
             return

@@ -4,6 +4,7 @@ written, or compared with what is there."""
 import argparse
 import glob
 import os
+import pathlib
 import re
 import subprocess
 import sys
@@ -15,8 +16,7 @@ DEFINED = re.compile(rf"^(?:(?:pub|abbrev|record|data|unfoldable) )*({NAME})")
 
 
 def text_of(*parts):
-    with open(os.path.join(TOP, *parts), encoding="utf-8") as file:
-        return file.read()
+    return pathlib.Path(TOP, *parts).read_text(encoding="utf-8")
 
 
 def tracked():
@@ -88,5 +88,4 @@ def finish(tool, name, text, wrong):
     page = os.path.join("docs", name)
     if checks:
         sys.exit(0 if os.path.exists(os.path.join(TOP, page)) and text_of(page) == text else f"{tool}: {page} is another page: make pages")
-    with open(os.path.join(TOP, page), "w", encoding="utf-8") as file:
-        file.write(text)
+    pathlib.Path(TOP, page).write_text(text, encoding="utf-8")

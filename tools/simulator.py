@@ -1,6 +1,10 @@
-"""`stmflash sim`, served on a socket in a folder: the board of the tools here that try the program over a line."""
+"""`stmflash sim`, served on a socket in a folder: the board of the tools here that try the program over a line. And the
+words by which such tools are called."""
 
+import argparse
 import os
+import pathlib
+import re
 import socket
 import subprocess
 import time
@@ -8,6 +12,29 @@ import time
 TABLE = os.path.join(os.path.dirname(os.path.abspath(__file__)), "..", "chips.toml")
 # how long it may take to begin, or to store what a client left, in seconds
 PATIENCE = 120
+
+
+def words_of(doc, **absent):
+    """What a tool was called with, by the usage at the head of its text: PROGRAM is a path, `--word N` a number, `NAME..` any count of
+    names. What stands in brackets may be absent, and is then what is given here, of whose type it is; a list has those that it may be."""
+    usage = re.search(r"\n\n    (?:python3 )?(\S+) ((?:.+\n)+)", doc)
+    absent = {"seed": str(time.time_ns()), "jobs": len(os.sched_getaffinity(0)), **absent}
+    words = argparse.ArgumentParser(prog=usage[1], description=doc, formatter_class=argparse.RawDescriptionHelpFormatter)
+    for spare, word, value, place, many in re.findall(r"(\[)?(?:(--[\w-]+)(?: ([A-Z]+))?|([A-Z]+))\]?(\.\.)?", usage[2]):
+        held = absent.get((place or word[2:]).lower().replace("-", "_"))
+        some, held = (held, None) if isinstance(held, list) else (None, held)
+        kind = os.path.abspath if place == "PROGRAM" else int if value == "N" or isinstance(held, int) else str
+        if word:
+            words.add_argument(word, **({"type": kind, "default": held, "choices": some} if value else {"action": "store_true"}))
+        else:
+            words.add_argument(place.lower(), type=kind, default=held, nargs="*" if many else "?" if spare else None)
+    return words.parse_args()
+
+
+def entry_of(chip):
+    """The table's entry of a chip alone: all of them cost the program of `make demo` half a second, each time."""
+    entries = re.split(r"^(?=\[\[chip]])", pathlib.Path(TABLE).read_text(encoding="utf-8"), flags=re.M)
+    return next(entry for entry in entries if f"id = 0x{chip[1:]}\n" in entry).encode()
 
 
 class Unanswered(SystemExit):
@@ -24,12 +51,21 @@ class Folder:
         return os.path.join(self.folder, name)
 
     def store(self, name, data):
-        with open(self.path(name), "wb") as file:
-            file.write(data)
+        pathlib.Path(self.path(name)).write_bytes(data)
 
     def held(self, name):
-        with open(self.path(name), "rb") as file:
-            return file.read()
+        return pathlib.Path(self.path(name)).read_bytes()
+
+    def begin_words(self, program):
+        """Makes `bin`, which has the program for stm32flash's words."""
+        os.makedirs(self.path("bin"), exist_ok=True)
+        if not os.path.exists(self.path("bin/stmflash")):
+            os.symlink(program, self.path("bin/stmflash"))
+
+    def settings(self, table, wait):
+        """The variables of a call of these words, which keep all they have in the folder too."""
+        return {**os.environ, "PATH": self.path("bin") + ":" + os.environ["PATH"], "XDG_STATE_HOME": self.path("state"), "STMFLASH_TABLE": table,
+                "STMFLASH_WAIT": wait}
 
 
 class Simulator(Folder):

@@ -14,10 +14,9 @@ progress. docs/SWITCH.md has a row for each call that differs: the rows have to 
 Left out, with a word, where Debian's stm32flash or python3-serial isn't installed.
 """
 
-import argparse
 import concurrent.futures
 import os
-import random
+import pathlib
 import re
 import shlex
 import shutil
@@ -29,86 +28,22 @@ sys.dont_write_bytecode = True
 sys.path.insert(0, os.path.dirname(os.path.abspath(__file__)))
 
 from kills import kills
-from room import CHIP, PAGE_SIZE, SIZE, TOP, Room, images
+from room import CHIP, PAGE_SIZE, SIZE, TOP, Room, images, words_of
 
-PAGE = os.path.join(TOP, "docs", "SWITCH.md")
 # `<` gives fw.bin on standard input
 CALLS = """
-(none)
--h
--b 115200
--b 12345
--m 9e1
--r out
--r out.hex
--r out -S 0x08000010:100
--r out -S 0x08007ff0:100
--r out -s 2 -e 3
--r out -s 32
--r out -s 33
--r - -S 0x08000000:64
--r none/out
--r out -v
--r out -w fw.bin
--r out -S 0x20000000:64
--r out -S abc
--r out -F 256:257
--r out -F 20:6
--r out -F 10
--w full.bin
--w full.bin -v
--w fw.bin -v
--w fw.hex -v
--w at400.hex -v
--w at0.hex
--w bad.hex
--w bad.hex -f -v
--w fw.elf
--w fw.elf -f
--w fw.srec
--w long.bin
--w empty.bin
--w none.bin
--w full.bin -v -n 3
--w full.bin -S 0x08002000
--w full.bin -S 0x08002000:1024 -v
--w full.bin -S 0x08002004
--w full.bin -S 0x08008000
--w full.hex -S 0x08001000 -v
--w full.bin -s 2
--w full.bin -e 1
--w full.bin -e 0
--w full.bin -s 2 -S 0x08000000
--w - -S 0x08001000:2048 <
--w full.bin -v -g 0x0
--w full.bin -v -g 0x08000000 -R
--w full.bin -R
--g 0x0
--g 0x3
--g 0x20000000
--o
--o -v
--o -s 2 -e 3
--o -e 0
--o -s 31 -e 5
--o -S 0x08000400:2048
--o -S 0x08000400:1000
--o -w fw.bin
--C
--C -S 0x08000000:1024
--C -S 0x08000000:1023
--C -s 1 -e 2
--u
--j
--k
--u -j
--R
--c
--i rts
--i foo
--i 5
--Z
-""".strip().split("\n")
+(none); -h; -b 115200; -b 12345; -m 9e1
+-r out; -r out.hex; -r out -S 0x08000010:100; -r out -S 0x08007ff0:100; -r out -s 2 -e 3; -r out -s 32; -r out -s 33; -r - -S 0x08000000:64
+-r none/out; -r out -v; -r out -w fw.bin; -r out -S 0x20000000:64; -r out -S abc; -r out -F 256:257; -r out -F 20:6; -r out -F 10
+-w full.bin; -w full.bin -v; -w fw.bin -v; -w fw.hex -v; -w at400.hex -v; -w at0.hex; -w bad.hex; -w bad.hex -f -v; -w fw.elf; -w fw.elf -f
+-w fw.srec; -w long.bin; -w empty.bin; -w none.bin; -w full.bin -v -n 3; -w full.bin -S 0x08002000; -w full.bin -S 0x08002000:1024 -v
+-w full.bin -S 0x08002004; -w full.bin -S 0x08008000; -w full.hex -S 0x08001000 -v; -w full.bin -s 2; -w full.bin -e 1; -w full.bin -e 0
+-w full.bin -s 2 -S 0x08000000; -w - -S 0x08001000:2048 <; -w full.bin -v -g 0x0; -w full.bin -v -g 0x08000000 -R; -w full.bin -R
+-g 0x0; -g 0x3; -g 0x20000000
+-o; -o -v; -o -s 2 -e 3; -o -e 0; -o -s 31 -e 5; -o -S 0x08000400:2048; -o -S 0x08000400:1000; -o -w fw.bin
+-C; -C -S 0x08000000:1024; -C -S 0x08000000:1023; -C -s 1 -e 2
+-u; -j; -k; -u -j; -R; -c; -i rts; -i foo; -i 5; -Z
+""".strip().replace("\n", "; ").split("; ")
 # lines of every call that tells the device which ours doesn't have: what the bootloader isn't asked for, and what no table has
 LEFT_OUT = re.compile(r"Option [12] |- (RAM|Option RAM|System RAM) ")
 # a chip's name is another table's
@@ -171,11 +106,10 @@ def compare(program, source, call, show):
 def told():
     """What docs/SWITCH.md says of each call: the calls are the first column of its table, what differs the second."""
     found = {}
-    with open(PAGE, encoding="utf-8") as page:
-        part = page.read().split("\n## What differs\n")[1].split("\n## ")[0]
-        for row in re.findall(r"^\| (`.*?) \| ([^|]*) \|", part, re.M):
-            for call in re.findall("`([^`]*)`", row[0]):
-                found.setdefault(call, set()).update(part.strip() for part in row[1].split(","))
+    part = pathlib.Path(TOP, "docs", "SWITCH.md").read_text(encoding="utf-8").split("\n## What differs\n")[1].split("\n## ")[0]
+    for row in re.findall(r"^\| (`.*?) \| ([^|]*) \|", part, re.M):
+        for call in re.findall("`([^`]*)`", row[0]):
+            found.setdefault(call, set()).update(part.strip() for part in row[1].split(","))
     return found
 
 
@@ -199,19 +133,11 @@ def missing():
 
 
 def main():
-    words = argparse.ArgumentParser(description=__doc__, formatter_class=argparse.RawDescriptionHelpFormatter)
-    words.add_argument("program")
-    words.add_argument("--sample", type=int, metavar="N")
-    words.add_argument("--kills", type=int, default=0, metavar="N")
-    words.add_argument("--seed", default=str(random.SystemRandom().randrange(1000000)))
-    words.add_argument("--jobs", type=int, default=len(os.sched_getaffinity(0)), metavar="N")
-    words.add_argument("--show", action="store_true")
-    given = words.parse_args()
+    given = words_of(__doc__, sample=len(CALLS), kills=0)
     if lacking := missing():
         print(f"left out: our stm32flash wasn't tried beside the real one, there is no {lacking}")
         return 0
-    program = os.path.abspath(given.program)
-    sample = min(given.sample if given.sample is not None else len(CALLS), len(CALLS))
+    program, sample = given.program, min(given.sample, len(CALLS))
     calls = [CALLS[i * len(CALLS) // sample] for i in range(sample)]
     with tempfile.TemporaryDirectory(prefix="beside-") as source, concurrent.futures.ThreadPoolExecutor(given.jobs) as pool:
         images(source)

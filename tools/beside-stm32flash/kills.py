@@ -2,13 +2,12 @@
 
 import os
 import random
-import re
 import shlex
 import signal
 import subprocess
 import time
 
-from room import CHIP, OURS, PAGE_SIZE, PATIENCE, TABLE, PtyBoard, Room
+from room import CHIP, OURS, PAGE_SIZE, PATIENCE, TABLE, WAIT, PtyBoard, Room, entry_of
 
 SPEED = 230400
 # the words of each line; a pseudo-terminal keeps no parity, which the real one looks at, so that each has -m 8n1 besides
@@ -26,13 +25,6 @@ class Fault(Exception):
     pass
 
 
-def one_chip():
-    """The table's entry of the board's chip: the program of `make demo` reads all of them for half a second, each time."""
-    with open(TABLE, encoding="utf-8") as file:
-        entries = re.split(r"^(?=\[\[chip]])", file.read(), flags=re.M)
-    return next(entry for entry in entries if f"id = 0x{CHIP[1:]}" in entry).encode()
-
-
 class Play:
     """A script at a board of its own."""
 
@@ -43,10 +35,9 @@ class Play:
         self.board = self.room.board(baud=SPEED)
         self.first = self.room.held("first")
         os.symlink(OURS, self.room.path("bin/stm32flash"))
-        self.room.store("table", one_chip())
-        self.settings = {**self.room.settings(), "STMFLASH_TABLE": self.room.path("table")}
-        with open(self.room.path("script"), "w", encoding="utf-8") as file:
-            file.write("set -e\n" + "".join(f'stm32flash -m 8n1 {line} "$1"\n' for line in script))
+        self.room.store("table", entry_of(CHIP))
+        self.settings = self.room.settings(self.room.path("table"), WAIT)
+        self.room.store("script", ("set -e\n" + "".join(f'stm32flash -m 8n1 {line} "$1"\n' for line in script)).encode())
 
     def wanted(self):
         """What the whole script leaves in the flash."""

@@ -14,11 +14,10 @@ sys.path[:0] = [os.path.join(TOP, name) for name in ("line", "tools")]
 
 from hex_text import text_of
 from pty_boards import PtyBoard
-from simulator import Folder
+from simulator import TABLE, Folder, entry_of, words_of  # noqa: F401
 
 OURS, RELAY = os.path.join(TOP, "line", "stm32flash"), os.path.join(TOP, "tools", "line-relay")
-TABLE = os.path.join(TOP, "chips.toml")
-CHIP, SIZE, PAGE_SIZE, PATIENCE = "0412", 32768, 1024, 200
+CHIP, SIZE, PAGE_SIZE, PATIENCE, WAIT = "0412", 32768, 1024, 200, "100"
 
 
 def plain(words):
@@ -83,21 +82,15 @@ class Room(Folder):
 
     def board(self, **more):
         shutil.copy(self.path("first"), self.path("port.flash"))
-        os.makedirs(self.path("bin"), exist_ok=True)
-        if not os.path.exists(self.path("bin/stmflash")):
-            os.symlink(self.program, self.path("bin/stmflash"))
+        self.begin_words(self.program)
         return PtyBoard(self.program, self.path("port"), CHIP, TABLE, **more)
-
-    def settings(self):
-        return {**os.environ, "PATH": self.path("bin") + ":" + os.environ["PATH"], "XDG_STATE_HOME": self.path("state"),
-                "STMFLASH_TABLE": TABLE, "STMFLASH_WAIT": "100"}
 
     def ours(self, words):
         """The same of ours."""
         board = self.board()
         try:
             ran = subprocess.run([OURS, *mode(words), *plain(words), self.path("port")], cwd=self.folder, input=self.given(words),
-                                 capture_output=True, timeout=PATIENCE, env=self.settings())
+                                 capture_output=True, timeout=PATIENCE, env=self.settings(TABLE, WAIT))
             return self.result(ran, board.store())
         finally:
             board.stop()

@@ -26,16 +26,14 @@ behind the states, until one is bad, which has to come. --jobs is how
 many states are tried at a time. The exit status is 1 where a state is bad, or a fault wasn't found.
 """
 
-import argparse
 import concurrent.futures
 import os
-import random
 import sys
 import tempfile
 
 sys.path.insert(0, os.path.dirname(os.path.abspath(__file__)))
 
-from board import Unanswered  # noqa: E402
+from board import Unanswered, words_of  # noqa: E402
 from disk import Misunderstood  # noqa: E402
 from record import can_trace  # noqa: E402
 from sessions import BehindCrash, all_stories  # noqa: E402
@@ -88,72 +86,51 @@ def states_of(stories, count, seed):
 
 
 def main():
-    words = argparse.ArgumentParser(prog="tools/crashes", description=__doc__,
-                                    formatter_class=argparse.RawDescriptionHelpFormatter)
-    words.add_argument("program")
-    words.add_argument("--states", type=int, default=3000)
-    words.add_argument("--seed", default=str(random.SystemRandom().randrange(1000000)))
-    words.add_argument("--only", metavar="KEY")
-    words.add_argument("--plant", choices=[*plants.PLANTS, plants.NO_LOCK])
-    words.add_argument("--plants", action="store_true")
-    words.add_argument("--jobs", type=int, default=2 * len(os.sched_getaffinity(0)))
-    given = words.parse_args()
+    given = words_of(__doc__, states=3000, plant=[*plants.PLANTS, plants.NO_LOCK], jobs=2 * len(os.sched_getaffinity(0)))
     if not can_trace():
         print("tools/crashes: left out: there is no strace here, or it can't trace")
         return 0
-    program = os.path.abspath(given.program)
     stories = all_stories()
     if given.only and given.only.split(":")[0] not in (race.NAME, *stories):
-        words.error("no session has this name: %s" % given.only)
+        sys.exit("tools/crashes: no session has this name: %s" % given.only)
     with tempfile.TemporaryDirectory(dir=top(), prefix="crashes-") as folder, \
             concurrent.futures.ThreadPoolExecutor(given.jobs) as pool:
         try:
-            return run(given, program, stories, pool, folder)
+            return run(given, stories, pool, folder)
         except (Misunderstood, Unanswered, Unrecorded) as fault:
             print("tools/crashes: %s" % fault)
             return 1
 
 
-def run(given, program, stories, pool, folder):
+def run(given, stories, pool, folder):
     print("tools/crashes: seed %s" % given.seed, flush=True)
     name, *key = given.only.split(":") if given.only else [None]
     counts = race.BYTES if name is None else (int(key[0]),) if name == race.NAME else ()
     chosen = [] if name == race.NAME else needed(stories, [name]) if name else list(stories.values())
-    record_all(program, chosen, pool, folder)
-    tried, bad = try_all(given, program, plants.planted(given.plant, chosen), counts, pool)
+    record_all(given.program, chosen, pool, folder)
+    planted = plants.planted(given.plant, chosen)
+    if given.only and not counts:
+        states = [State.of({story.name: story for story in planted}, given.only)]
+    else:
+        states = states_of(planted, given.states, given.seed)
+    bad = try_races(given.program, counts, pool, locks=given.plant != plants.NO_LOCK) + try_states(given.program, states, pool)
     for key, text in bad:
         print("BAD %s: %s" % (key, text))
-    missed = find_plants(given, program, chosen, pool) if given.plants else 0
-    print("tools/crashes: %d states of %d sessions, %d bad" % (tried, len(chosen) + bool(counts), len(bad)))
+    missed = find_plants(given, chosen, pool) if given.plants else 0
+    print("tools/crashes: %d states of %d sessions, %d bad" % (len(states) + len(counts), len(chosen) + bool(counts), len(bad)))
     return 1 if bad or missed else 0
 
 
-def try_all(given, program, stories, counts, pool):
-    """How many states were tried, and the bad ones."""
-    if given.only and not counts:
-        states = [State.of({story.name: story for story in stories}, given.only)]
-    else:
-        states = states_of(stories, given.states, given.seed)
-    bad = try_races(program, counts, pool, locks=given.plant != plants.NO_LOCK)
-    return len(states) + len(counts), bad + try_states(program, states, pool)
-
-
-def find(program, states, pool):
-    """The first bad ones of these states, if any are."""
-    for at in range(0, len(states), 16):
-        if bad := try_states(program, states[at:at + 16], pool):
-            return bad
-    return []
-
-
-def find_plants(given, program, stories, pool):
+def find_plants(given, stories, pool):
     """Plants each fault, and sees that some of the states show it: how many weren't shown."""
     missed = 0
     for fault in (*plants.PLANTS, plants.NO_LOCK):
         if fault == plants.NO_LOCK:
-            bad = try_races(program, race.BYTES, pool, locks=False)
+            bad = try_races(given.program, race.BYTES, pool, locks=False)
         else:
-            bad = find(program, states_of(plants.planted(fault, stories), given.states, given.seed), pool)
+            states = states_of(plants.planted(fault, stories), given.states, given.seed)
+            # up to the first that are bad
+            bad = next(filter(None, (try_states(given.program, states[at:at + 16], pool) for at in range(0, len(states), 16))), [])
         print("tools/crashes: planted: %s: %s" % (fault, "found, BAD %s: %s" % bad[0] if bad else "NOT FOUND"), flush=True)
         missed += not bad
     return missed

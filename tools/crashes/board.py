@@ -7,7 +7,7 @@ import sys
 sys.path += [os.path.join(os.path.dirname(os.path.abspath(__file__)), "..", name) for name in ("soak", "")]
 from device import GET_VERSION, Chip, Device  # noqa: E402
 from program import stand, standing  # noqa: E402
-from simulator import Simulator, Unanswered  # noqa: E402, F401
+from simulator import Simulator, Unanswered, words_of  # noqa: E402, F401
 
 BASE = 0x08000000
 # id: pages, bytes of a page, erased by 44 and not by 43, what an erased place holds

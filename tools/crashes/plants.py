@@ -8,14 +8,9 @@ from record import Event
 LATE = 2
 
 
-def no_sync(events):
-    """Files aren't synced."""
-    return [event for event in events if event.kind != "sync"]
-
-
-def no_folder_sync(events):
-    """Folders aren't synced."""
-    return [event for event in events if event.kind != "sync folder"]
+def without(kind):
+    """Files, or folders, aren't synced."""
+    return lambda events: [event for event in events if event.kind != kind]
 
 
 def late_sync(events):
@@ -50,7 +45,7 @@ def early_lf(events):
 
 # what another program's lock does, which no record shows: race.py has it ignored
 NO_LOCK = "no-lock"
-PLANTS = {"no-sync": no_sync, "late-sync": late_sync, "early-lf": early_lf, "no-folder-sync": no_folder_sync}
+PLANTS = {"no-sync": without("sync"), "late-sync": late_sync, "early-lf": early_lf, "no-folder-sync": without("sync folder")}
 
 
 def planted(name, stories):

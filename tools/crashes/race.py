@@ -10,6 +10,7 @@ import tempfile
 import threading
 
 from board import CHIPS, Board, Device, flash_of
+from line import connect, serve_each
 from simulator import PATIENCE
 from story import TRIES, Story, held, store
 from trial import LATE, fault_of, top
@@ -28,16 +29,11 @@ class HeldLine:
     def __init__(self, path, board, count):
         self.board, self.count = board, count
         self.reached, self.let_go = threading.Event(), threading.Event()
-        self.listener = socket.socket(socket.AF_UNIX, socket.SOCK_STREAM)
-        self.listener.bind(path)
-        self.listener.listen()
-        threading.Thread(target=self.serve, daemon=True).start()
+        self.listener = serve_each(path, self.serve)
 
-    def serve(self):
-        client, _ = self.listener.accept()
+    def serve(self, client):
         self.listener.close()
-        with client, socket.socket(socket.AF_UNIX, socket.SOCK_STREAM) as device:
-            device.connect(self.board)
+        with connect(self.board) as device:
             back = threading.Thread(target=self.carry, args=(device, client), daemon=True)
             back.start()
             self.carry(client, device, self.count)
@@ -75,8 +71,7 @@ def judge(program, count, locks=True):
         wrote = run(program, room, story.words(("write", "first")))
         if wrote.returncode != 0:
             return "the write before says: %s" % wrote.stderr.decode().strip()
-        board = Board(program, os.path.join(folder, "board"), Device(chip, held(room)["flash"]))
-        try:
+        with Board(program, os.path.join(folder, "board"), Device(chip, held(room)["flash"])) as board:
             line = HeldLine(os.path.join(folder, "line"), board.socket, count)
             first = subprocess.Popen([program, *story.words(FIRST, os.path.join(folder, "line"))], cwd=room, env={},
                                      stdout=subprocess.DEVNULL, stderr=subprocess.PIPE)
@@ -95,8 +90,6 @@ def judge(program, count, locks=True):
                 return None
             return "undo says: %s; before it the second program said: %s; the first: %s" % tuple(
                 told.decode().strip() or "nothing" for told in (back.stdout + back.stderr, second.stdout + second.stderr, said))
-        finally:
-            board.stop()
 
 
 def run(program, room, words, before=()):

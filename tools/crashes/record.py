@@ -107,9 +107,6 @@ class Reader:
         if opened.kind == "line":
             self.received += b"".join(texts)[:result]
 
-    def do_pread64(self, words, texts, result):
-        pass
-
     def do_write(self, words, texts, result):
         opened, data = self.at(words), b"".join(texts)[:result]
         if opened.kind == "line":
@@ -156,13 +153,13 @@ class Reader:
     def do_socket(self, words, texts, result):
         self.open[result] = Opened("line")
 
-    def do_connect(self, words, texts, result):
-        pass
+    def do_nothing(self, words, texts, result):
+        """It changes neither files nor what is told of them."""
 
 
-ALIKE = {"openat": "open", "dup2": "dup", "dup3": "dup", "readv": "read", "recvfrom": "read", "writev": "write",
-         "sendto": "write", "fdatasync": "fsync", "renameat": "rename", "renameat2": "rename", "linkat": "link",
-         "unlinkat": "unlink"}
+ALIKE = {"openat": "open", "dup2": "dup", "dup3": "dup", "readv": "read", "recvfrom": "read", "writev": "write", "sendto": "write",
+         "fdatasync": "fsync", "renameat": "rename", "renameat2": "rename", "linkat": "link", "unlinkat": "unlink", "pread64": "nothing",
+         "connect": "nothing"}
 
 
 def run(words, room, record, inject=None):

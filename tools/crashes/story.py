@@ -1,7 +1,9 @@
 """Sessions that are recorded: what stands before each, what it does, and what has to come of an undo behind a crash of it."""
 
+import contextlib
 import copy
 import os
+import pathlib
 import random
 import subprocess
 import time
@@ -92,17 +94,14 @@ class Story:
         self.start = files
         store(room, files)
         reader = Reader(room, Disk(files))
-        board = Board(program, os.path.join(folder, "board"), self.device) if self.way == BOARD else None
-        try:
+        with contextlib.ExitStack() as beside:
+            board = beside.enter_context(Board(program, os.path.join(folder, "board"), self.device)) if self.way == BOARD else None
             for number in range(len(self.uses)):
                 self.use(program, room, reader, number, board.socket if board else "sim")
             self.events = reader.events
             self.after = held(room)
             self.flash_after = self.checked(reader, room, board)
             self.note()
-        finally:
-            if board is not None:
-                board.stop()
 
     def stands(self, files):
         """The device as it stands before the session."""
@@ -119,8 +118,7 @@ class Story:
         record = os.path.join(room, "..", "record")
         reader.begin()
         ran = run([program, *words], room, record, "fsync:signal=KILL:when=%d" % self.kill if killed else None)
-        with open(record, encoding="ascii") as text:
-            reader.read(text.read())
+        reader.read(pathlib.Path(record).read_text(encoding="ascii"))
         if ran.returncode not in ((-9, 137) if killed else (0,)):
             raise Unrecorded("%s: %s: status %d: %s" % (self.name, " ".join(words), ran.returncode, ran.stderr.decode().strip()))
 
@@ -184,17 +182,9 @@ class Story:
 
 def store(folder, files):
     for name, held in files.items():
-        with open(os.path.join(folder, name), "wb") as file:
-            file.write(held)
+        pathlib.Path(folder, name).write_bytes(held)
 
 
 def held(folder):
     """The files of a folder and of those in it, but for sockets."""
-    files = {}
-    for top, _, names in os.walk(folder):
-        for name in names:
-            path = os.path.join(top, name)
-            if os.path.isfile(path):
-                with open(path, "rb") as file:
-                    files[os.path.relpath(path, folder)] = file.read()
-    return files
+    return {str(it.relative_to(folder)): it.read_bytes() for it in pathlib.Path(folder).rglob("*") if it.is_file()}

@@ -1,6 +1,8 @@
 """A state that a crash leaves, made anew in a folder, and the undo from there."""
 
+import contextlib
 import os
+import pathlib
 import random
 import re
 import subprocess
@@ -8,7 +10,7 @@ import tempfile
 
 from board import Board
 from disk import BYTES, DIGITS, LINES, NUL, SECTOR, SECTORS, Disk
-from journal import BadLine, Journal
+from journal import Journal
 from story import BOARD, FILE
 
 # how long an undo waits until the line counts as quiet, in ms: where a reply was later than that, the next time longer
@@ -129,21 +131,17 @@ class Trial:
             event.kind == "say" for event in self.story.events[:state.moment])
 
     def judge(self):
-        with tempfile.TemporaryDirectory(dir=top(), prefix="crash-") as folder:
+        with tempfile.TemporaryDirectory(dir=top(), prefix="crash-") as folder, contextlib.ExitStack() as beside:
             self.room = os.path.join(folder, "room")
             self.make_room()
             self.board = None
             if self.story.way == BOARD:
                 device, _ = self.story.device_at(self.state.count)
                 self.flash = bytes(device.flash)
-                self.board = Board(self.program, os.path.join(folder, "board"), device)
+                self.board = beside.enter_context(Board(self.program, os.path.join(folder, "board"), device))
             else:
                 self.flash = self.files.get("flash", self.erased())
-            try:
-                self.check()
-            finally:
-                if self.board is not None:
-                    self.board.stop()
+            self.check()
 
     def make_room(self):
         os.makedirs(os.path.join(self.room, "elsewhere"))
@@ -154,8 +152,7 @@ class Trial:
                 os.link(first[number], path)
             else:
                 first[number] = path
-                with open(path, "wb") as file:
-                    file.write(self.files[name])
+                pathlib.Path(path).write_bytes(self.files[name])
 
     def erased(self):
         return bytes([self.story.chip.erased]) * self.story.chip.size
@@ -177,11 +174,8 @@ class Trial:
         """The flash."""
         if self.board:
             return self.board.stored()
-        path = os.path.join(self.room, "flash")
-        if not os.path.exists(path):
-            return self.erased()
-        with open(path, "rb") as file:
-            return file.read()
+        path = pathlib.Path(self.room, "flash")
+        return path.read_bytes() if path.exists() else self.erased()
 
     def same(self, flash, text):
         found = self.held()
@@ -266,8 +260,7 @@ class Trial:
         return depth
 
     def read(self, name):
-        with open(os.path.join(self.room, name), "rb") as file:
-            return file.read()
+        return pathlib.Path(self.room, name).read_bytes()
 
     def undone(self, name, wanted, *more):
         said = self.use("undo", name, *more)

@@ -1,14 +1,13 @@
 """A served simulator in a folder of its own, and the program on it with what goes over the line taped."""
 
 import os
-import socket
 import subprocess
 import sys
 
 TOP = os.path.dirname(os.path.dirname(os.path.dirname(os.path.abspath(__file__))))
 sys.path.insert(0, os.path.join(TOP, "tools"))
 
-from line import Figures, Plain, carry, connect
+from line import Plain, carry, connect, listen
 from simulator import PATIENCE, TABLE, Simulator
 
 
@@ -37,18 +36,13 @@ class Board(Simulator):
     def use(self, name, *words, cut=None):
         """Runs a subcommand over a line that ends after `cut` bytes of the host, and answers its turns and what was said."""
         tape = Tape()
-        listener = socket.socket(socket.AF_UNIX, socket.SOCK_STREAM)
-        listener.bind(self.path("line"))
-        listener.listen()
+        listener = listen(self.path("line"))
         files = ["--table", TABLE, "--journal", "journal", "--device", "line", "--wait", "200"]
         host = subprocess.Popen([self.program, name, *files, *words], cwd=self.folder, stdout=subprocess.PIPE,
                                 stderr=subprocess.STDOUT, text=True)
-        ended, end = os.pipe()
         near, _ = listener.accept()
         with listener, near, connect(self.path("board")) as device:
-            carry(near.fileno(), device.fileno(), ended, Figures(), between=tape, cut=cut)
-        os.close(ended)
-        os.close(end)
+            carry(near.fileno(), device.fileno(), between=tape, cut=cut)
         os.remove(self.path("line"))
         said = host.communicate(timeout=PATIENCE)[0]
         # the next client is served once this one's flash was stored

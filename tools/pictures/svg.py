@@ -57,14 +57,10 @@ class Picture:
 
     def svg(self):
         drawn = "\n".join(self.parts)
-        used = [kind for kind in FILLS if f'class="{kind}"' in drawn or f'class="s-{kind}"' in drawn]
 
         def rules(of):
-            return "".join(
-                (f".{kind}{{fill:{FILLS[kind][of]}}}" if f'class="{kind}"' in drawn else "")
-                + (f".s-{kind}{{fill:none;stroke:{FILLS[kind][of]}}}" if f'class="s-{kind}"' in drawn else "")
-                for kind in used
-            )
+            told = ((kind, what, fills[of]) for kind, fills in FILLS.items() for kind, what in ((kind, "fill"), (f"s-{kind}", "fill:none;stroke")))
+            return "".join(f".{kind}{{{what}:{fill}}}" for kind, what, fill in told if f'class="{kind}"' in drawn)
 
         return (
             f'<svg xmlns="http://www.w3.org/2000/svg" viewBox="0 0 {self.width:g} {self.height:g}" width="{self.width:g}" '

@@ -6,6 +6,7 @@ It stays in `bin/planted` for as long as nothing changes that it is made of.
 import glob
 import hashlib
 import os
+import pathlib
 import re
 import shutil
 import subprocess
@@ -36,8 +37,7 @@ def blamed(said, top, faults):
         # those of the program's own crate are told from there
         path = os.path.join(top, file if file.startswith("crates/") else f"crates/stmflash/{file}")
         if os.path.exists(path):
-            with open(path, encoding="utf-8") as source:
-                lines = source.read().split("\n")
+            lines = pathlib.Path(path).read_text(encoding="utf-8").split("\n")
             for at in [*range(int(line) - 1, max(int(line) - 9, -1), -1), *range(int(line), int(line) + 8)]:
                 numbers = re.findall(r"planted::is_on\((\d+)\)", lines[at]) if at < len(lines) else []
                 if numbers:
@@ -69,8 +69,7 @@ def build(faults, name):
         subprocess.run([os.path.join(TOP, "tools", "unproved-sources"), sound], check=True)
         of = digest(sound, faults)
         if os.path.exists(program) and os.path.exists(mark):
-            with open(mark, encoding="utf-8") as file:
-                kept, *refused = file.read().split()
+            kept, *refused = pathlib.Path(mark).read_text(encoding="utf-8").split()
             if kept == of:
                 return program, [it for it in faults if str(it.number) in refused]
         begun, refused = time.monotonic(), []
@@ -88,7 +87,6 @@ def build(faults, name):
                 refused += more
         # one that runs meanwhile stays as it is
         os.replace(program + ".made", program)
-        with open(mark, "w", encoding="utf-8") as file:
-            file.write(" ".join([of, *(str(it.number) for it in refused)]))
+        pathlib.Path(mark).write_text(" ".join([of, *(str(it.number) for it in refused)]), encoding="utf-8")
     print(f"tools/mutants: the build took {(time.monotonic() - begun) / 60:.1f} min, {len(refused)} faults were refused by it", flush=True)
     return program, refused

@@ -3,6 +3,7 @@
 import concurrent.futures
 import contextlib
 import os
+import pathlib
 import sys
 import time
 import unittest
@@ -33,15 +34,11 @@ def noting_companions(begin):
 
 def tests():
     """The names of all tests."""
+    def of(suite):
+        return [name for it in suite for name in of(it)] if isinstance(suite, unittest.TestSuite) else [suite.id()]
+
     sys.path.insert(0, os.path.join(TOP, "tests"))
-    left, found = [unittest.defaultTestLoader.discover(os.path.join(TOP, "tests"))], []
-    while left:
-        it = left.pop()
-        if isinstance(it, unittest.TestSuite):
-            left += it
-        else:
-            found.append(it.id())
-    return sorted(found)
+    return sorted(of(unittest.defaultTestLoader.discover(os.path.join(TOP, "tests"))))
 
 
 def record(room, jobs):
@@ -53,8 +50,7 @@ def record(room, jobs):
     for number in range(jobs):
         top = os.path.join(room, f"tree{number}")
         for file, text in texts.items():
-            with open(os.path.join(top, file), "w", encoding="utf-8") as source:
-                source.write(text.replace("@noted", os.path.join(top, "noted")))
+            pathlib.Path(top, file).write_text(text.replace("@noted", os.path.join(top, "noted")), encoding="utf-8")
     blocks += noted
     held = os.path.join(building.KEPT, os.path.basename(room))
     os.makedirs(held)
@@ -69,8 +65,7 @@ def record(room, jobs):
             took, numbers = time.monotonic() - begun, set()
             for file in (f"{path}.reached", os.path.join(top, "noted")):
                 with contextlib.suppress(FileNotFoundError):
-                    with open(file, encoding="utf-8") as rows:
-                        numbers |= set(map(int, rows.read().split()))
+                    numbers |= set(map(int, pathlib.Path(file).read_text(encoding="utf-8").split()))
                     os.remove(file)
         os.remove(path)
         # a line may be torn where a test lets no file grow

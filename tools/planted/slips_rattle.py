@@ -7,6 +7,7 @@ the text that is there: so many are built into one program. What the build refus
 import collections
 import functools
 import glob
+import itertools
 import os
 import re
 
@@ -45,6 +46,11 @@ def options():
                 structure = name or structure
                 found.add((structure, field))
     return found
+
+
+def starts_of(lines):
+    """Where each line begins, and where they end."""
+    return [0, *itertools.accumulate(len(line) + 1 for line in lines)]
 
 
 def functions(lines):
@@ -147,10 +153,7 @@ def slips(text):
         yield it.start(1) - 1, it.end(1) + 1, f'"{it[1]}{{planted}}", planted = if @on {{ "~" }} else {{ "" }}', f"another text than \"{it[1]}\"", ""
     lines, plain = text.split("\n"), masked(text).split("\n")
     limits = re.findall(r"^(?:pub(?:\([a-z]+\))? )?const (\w+): u\w+ =", text, re.M)
-    starts = [0]
-    for line in lines:
-        starts.append(starts[-1] + len(line) + 1)
-    counts = collections.Counter()
+    starts, counts = starts_of(lines), collections.Counter()
     for name, parameters, answer, begun, end in functions(lines):
         inside, _ = blocks(plain, begun, end, name, counts)
         if "const fn" in lines[begun - 1]:
@@ -279,9 +282,7 @@ def of_line(line, told, start, is_answer, limits):
 def notes(text):
     """Where each block of a source begins, and its name."""
     lines, plain = text.split("\n"), masked(text).split("\n")
-    starts, counts = [0], collections.Counter()
-    for line in lines:
-        starts.append(starts[-1] + len(line) + 1)
+    starts, counts = starts_of(lines), collections.Counter()
     for name, _, _, begun, end in functions(lines):
         if "const fn" not in lines[begun - 1]:
             for behind, block in blocks(plain, begun, end, name, counts)[1]:

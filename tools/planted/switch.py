@@ -7,6 +7,7 @@ a name as `r1-unproved` each number that is asked for is written once into a fil
 
 import collections
 import os
+import pathlib
 import re
 
 from planted import read
@@ -120,14 +121,12 @@ def plant(top, faults):
         files[fault.file].append(fault)
     for file, held in files.items():
         path = os.path.join(top, file)
-        with open(path, encoding="utf-8") as source:
-            text = source.read()
+        text = pathlib.Path(path).read_text(encoding="utf-8")
         # what says that nothing is proved stands before all faults
         moved = len(text) - len(read(file))
         text, met = place(text, [it._replace(start=it.start + moved, end=it.end + moved) for it in held])
         left += [it for it in held if it.number in {other.number for other in met}]
-        with open(path, "w", encoding="utf-8") as source:
-            source.write(text)
+        pathlib.Path(path).write_text(text, encoding="utf-8")
     for crate in sorted({file.split("/")[1] for file in files}):
         add_switch(os.path.join(top, "crates"), crate)
     return left
@@ -138,12 +137,9 @@ def add_switch(crates, crate):
     top = os.path.join(crates, crate)
     os.makedirs(os.path.join(top, "c"), exist_ok=True)
     for name, text in (("c/planted.c", C), ("src/planted.rt", RATTLE)):
-        with open(os.path.join(top, name), "w") as file:
-            file.write(text.replace("NAME", crate))
+        pathlib.Path(top, name).write_text(text.replace("NAME", crate))
     roots = [os.path.join(top, "src", name) for name in ("main.rt", "lib.rt")]
     root = next(path for path in roots if os.path.exists(path))
-    with open(root) as file:
-        text = file.read()
+    text = pathlib.Path(root).read_text()
     at = text.index("\nmod ") + 1
-    with open(root, "w") as file:
-        file.write(text[:at] + "mod planted;\n" + text[at:])
+    pathlib.Path(root).write_text(text[:at] + "mod planted;\n" + text[at:])

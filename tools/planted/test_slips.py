@@ -47,15 +47,17 @@ fn told(of: Option<u8>, at: u8) -> Option<u8> {
 """
 
 
-def made(slips, text):
-    """Of each slip what it is, and what the text is then."""
-    return {what: text[:start] + new + text[end:] for start, end, new, what, _ in slips}
-
-
 class Slips(unittest.TestCase):
+    def made(self, slips, text, due):
+        """Of each slip what it is, and what the text is then, which has to have what is due of it."""
+        found = {what: text[:start] + new + text[end:] for start, end, new, what, _ in slips}
+        for what, part in due.items():
+            with self.subTest(what):
+                self.assertIn(part, found[what])
+        return found
+
     def test_of_python(self):
-        found = made(slips_python.slips(PYTHON), PYTHON)
-        for what, text in {
+        found = self.made(slips_python.slips(PYTHON), PYTHON, {
             "no `port.open(3)`": "    pass\n    port.send(name)",
             "`port.send(name)` before `port.open(3)`": "    port.send(name)\n    port.open(3)\n",
             "never `port and not name`": "    if False:\n",
@@ -67,15 +69,12 @@ class Slips(unittest.TestCase):
             "no `is_last` in `port.mark`": "        port.mark(name)\n",
             "no `except OSError`": "    except ():\n",
             "no `raise Gone`": "        pass\n",
-        }.items():
-            with self.subTest(what):
-                self.assertIn(text, found[what])
+        })
         for text in found.values():
             compile(text, "", "exec")
 
     def test_of_rattle(self):
-        found = made(slips_rattle.slips(RATTLE), RATTLE)
-        for what, text in {
+        found = self.made(slips_rattle.slips(RATTLE), RATTLE, {
             "no `check(at, to)?;`": "if !@on {\n@old\n}\n",
             "it ends at once": "{\n    if @on {\n    return Ok(());\n    }\n    check(",
             "never `at != to && at > 7`": "    if ((@old) && !@on) {\n",
@@ -83,15 +82,12 @@ class Slips(unittest.TestCase):
             "without `at != to`": "    if (@old || @on) && at > 7 {\n",
             "`7` is 8 in `if at != to && at > 7 {`": "at > (if @on { 8 } else { @old }) {\n",
             "`to` for `at` in `check(at, to)?;`": "check((if @on { to } else { @old }), to)?;\n",
-        }.items():
-            with self.subTest(what):
-                self.assertIn(text, found[what])
+        })
         # no contract, no comment and no text has a slip of its own
         self.assertFalse([what for what in found if "ensures" in what or "`1`" in what])
 
     def test_of_arms_options_and_limits(self):
-        found = made(slips_rattle.slips(ARMS), ARMS)
-        for what, text in {
+        self.made(slips_rattle.slips(ARMS), ARMS, {
             "never `Some(it)` of `find(of)`": "    if let (Some(it), false) = (find(of), @on) {\n",
             "half of `LIMIT` in `return Some(it.min(LIMIT));`": "it.min((if @on { @old / 2 } else { @old }))",
             "`.max(` for `.min(` in `return Some(it.min(LIMIT));`": "return if @on { Some(it.max(LIMIT)) } else { @old };\n",
@@ -101,9 +97,7 @@ class Slips(unittest.TestCase):
             "`` for ` + 1` in `1 => Some(at + 1),`": "1 => if @on { Some(at) } else { @old },\n",
             "nothing for `of` in `_ => given(of),`": "given((if @on { None } else { @old })),\n",
             "another text than \"text\"": '#[error("text{planted}", planted = if @on { "~" } else { "" })]\n',
-        }.items():
-            with self.subTest(what):
-                self.assertIn(text, found[what])
+        })
 
     def test_of_texts(self):
         for path, before, what, after in (
@@ -114,8 +108,7 @@ class Slips(unittest.TestCase):
                 ("Makefile", "install:\n\tinstall -m 644 a b\n", "`644` is 645 in `install -m 644 a b`", "645"),
                 ("a.rules", 'TAG=="a", ENV{B}="1"\n', 'no `ENV{B}="1"`', 'TAG=="a", \n'),
                 ("a.service", "[Service]\nUMask=0077\n", "no `UMask=0077`", "[Service]\n\n")):
-            with self.subTest(what):
-                self.assertIn(after, made(slips_text.slips(path, before), before)[what])
+            self.made(slips_text.slips(path, before), before, {what: after})
 
     def test_blocks_note_that_they_are_reached(self):
         text, names = slips_python.recording(PYTHON, 5, "noted")
@@ -145,7 +138,3 @@ class Slips(unittest.TestCase):
     def test_numbers_are_told_as_ranges(self):
         self.assertEqual(reach.told({1, 2, 3, 7, 9, 10}), "1-3,7,9-10")
         self.assertEqual(reach.read_numbers("1-3,7,9-10"), {1, 2, 3, 7, 9, 10})
-
-
-if __name__ == "__main__":
-    unittest.main()

@@ -2,6 +2,7 @@
 
 import contextlib
 import os
+import pathlib
 import queue
 import re
 import shutil
@@ -72,22 +73,18 @@ class Trees:
                 yield top, program
                 return
             path = os.path.join(top, fault.file)
-            with open(path, encoding="utf-8") as source:
-                text = source.read()
+            text = pathlib.Path(path).read_text(encoding="utf-8")
             try:
-                with open(path, "w", encoding="utf-8") as source:
-                    source.write(text[:fault.start] + fault.new + text[fault.end:])
+                pathlib.Path(path).write_text(text[:fault.start] + fault.new + text[fault.end:], encoding="utf-8")
                 yield top, program
             finally:
-                with open(path, "w", encoding="utf-8") as source:
-                    source.write(text)
+                pathlib.Path(path).write_text(text, encoding="utf-8")
 
 
 def stands(top, fault):
     """Whether what a fault leaves is still a source of its kind."""
     path = os.path.join(top, fault.file)
-    with open(path, encoding="utf-8") as source:
-        text = source.read()
+    text = pathlib.Path(path).read_text(encoding="utf-8")
     if fault.group == "companions":
         try:
             compile(text, path, "exec")

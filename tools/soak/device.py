@@ -59,6 +59,9 @@ class Chip:
             inside = [size for start, size in zip(self.starts, self.sizes) if start + size <= 1024 * kib]
         return Chip(self.number, self.base, inside or self.sizes, self.extended, self.erased, self.unique_at, self.size_at, unique)
 
+    def first_pages(self, count):
+        return Chip(self.number, self.base, self.sizes[:count], self.extended, self.erased, self.unique_at, self.size_at, self.unique)
+
     def told(self):
         """What the device tells beside its flash, by the address and the length of a read."""
         found = {}
@@ -205,6 +208,9 @@ class Device:
 
     def has_page(self, page):
         return page < self.chip.pages()
+
+    def first_pages(self, count):
+        return Chip(self.number, self.base, self.sizes[:count], self.extended, self.erased, self.unique_at, self.size_at, self.unique)
 
     def told(self):
         """What it tells beside its flash."""

@@ -6,6 +6,8 @@ HEADER = re.compile(rb"stmjournal (?:[12] ([0-9A-F]{4})|3 ([0-9A-F]{4}) ((?:[0-9
 NUMBERED = re.compile(rb"(open|erase|program|end|undone) (0|[1-9][0-9]*)")
 PAGE = re.compile(rb"page (0|[1-9][0-9]*) ((?:[0-9A-F]{2})+)")
 GREATEST = 65535
+# the longest header of each version
+HEADERS = (b"stmjournal 1 0000", b"stmjournal 2 0000", b"stmjournal 3 0000 " + 64 * b"0")
 
 OPEN, ENDED, RETURNING = "open", "ended", "returning"
 
@@ -14,6 +16,21 @@ class BadLine(Exception):
     def __init__(self, line):
         super().__init__(line)
         self.line = line
+
+
+def is_begun(line):
+    """What stopped appends of a header leave: a beginning of one, which may be nothing, and NUL and `!` alone behind it."""
+    line = line.rstrip(b"\0!")
+    return any(len(line) <= len(header) and HEADER.fullmatch(line + header[len(line):]) for header in HEADERS)
+
+
+def is_no_journal(text):
+    """By the first line that isn't void, where there is one; else by whether all of it may be a header that was begun."""
+    lines = bytes(text).split(b"\n")
+    for line in lines[:-1]:
+        if not line.endswith(b"!"):
+            return not line.startswith(b"stmjournal ")
+    return not all(map(is_begun, lines))
 
 
 class Kept:

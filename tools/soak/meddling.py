@@ -1,11 +1,6 @@
 """What others do between two uses of the program."""
 
-import re
-
 import beginnings
-
-# a whole header
-HEADER = re.compile(rb"^stmjournal [^!\n]*\n", re.M)
 
 
 def meddle(story):
@@ -25,9 +20,7 @@ def meddle(story):
     if chance.random() < 0.02:
         story.tell("(a torn tail)")
         held = story.world.files.get("J", b"")
-        # without a header only a beginning of one is a journal's
-        tails = (b"page 3 FF0", b"und", b"open", b"x" * 40) if HEADER.search(held) else (b"",) if held else (b"stmjour", bytes(7))
-        story.write("J", held + chance.choice(tails))
+        story.write("J", held + chance.choice((b"page 3 FF0", b"und", b"open", b"x" * 40, b"stmjour", bytes(7))))
     if chance.random() < 0.02:
         spoil(story)
 
@@ -77,7 +70,7 @@ def spoil(story):
     text = story.world.files.get("J", b"")
     if kind == 0:
         story.remove("J")
-    elif kind == 1 and HEADER.search(text):
+    elif kind == 1:
         story.write("J", text + b"a bad line\n")
     elif kind == 2 and text:
         story.write("J", text[:chance.randrange(len(text))])

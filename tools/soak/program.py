@@ -4,6 +4,7 @@ import re
 
 from device import CONNECT, CONNECTED, FRESH, GO, GONE, PROTECTIONS, Device
 from image import ImageFault, crc, read_hex, read_raw, write_hex
+from journal import is_no_journal
 from rig import Rig, Stopped
 import session
 from session import Erase, Fault, Read, Verify, Write
@@ -108,7 +109,7 @@ class World:
         """One session, and what follows it: the lines of what was done, the fault or none, and the rig or none."""
         rig, lines, self.note = None, [], b""
         try:
-            rig = Rig(self.device(use), self.files.get("J", b""), use.stop)
+            rig = self.begin(use)
             board = self.ask(rig, use)
             table = self.table if board is None else board.table(self.table)
             before = session.load(rig).stack if use.name == "undo" else []
@@ -129,6 +130,18 @@ class World:
             self.store(rig, use.file)
         return lines, fault, rig
 
+    def begin(self, use):
+        """The device and the journal. What is no journal is refused, and the simulator's files aren't looked at then."""
+        session.find(self.table, int(use.number, 16))
+        text = self.journal_text()
+        return Rig(self.device(use), text, use.stop)
+
+    def journal_text(self):
+        text = self.files.get("J", b"")
+        if is_no_journal(text):
+            raise Fault("J is no journal: name another, or move it away")
+        return text
+
     def keep(self, rig, name):
         """The journal is removed, or moved; that is no step."""
         count = session.load(rig).depth()
@@ -140,7 +153,7 @@ class World:
 
     def standing(self):
         """How many segments the journal's file has, and whether the newest is unfinished."""
-        journal = session.load(Rig(None, self.files.get("J", b"")))
+        journal = session.load(Rig(None, self.journal_text()))
         return journal.depth(), journal.is_unfinished()
 
     def run_again(self, use, image):

@@ -80,7 +80,9 @@ def ask_board(rig, table):
     """The question before a session, of a device that is settled as the session will."""
     journal = load(rig)
     if journal.is_unfinished():
-        settle_by(rig, journal, find(table, journal.number))
+        chip = find(table, journal.number)
+        check_unasked(journal, chip)
+        settle_by(rig, journal, chip)
     else:
         wire.settle(rig, CONNECT)
     wire.get_commands(rig)
@@ -99,11 +101,17 @@ def ask_board(rig, table):
 
 
 def check_of(journal, chip):
-    """The journal is of no other board, and there is no line that this chip can't have, of which the least is told: a page that it
-    hasn't, or of another size; on a chip with a page 257 page 1 without it; a header of version 1 where there are more than 256
-    pages."""
+    """The journal is of no other board, and fits."""
     if journal.is_of_other(chip.unique):
         raise Fault(OTHER_BOARD)
+    line = misfit(journal, chip)
+    if line is not None:
+        raise Fault("bad journal line %d" % line)
+
+
+def misfit(journal, chip):
+    """The least line that this chip can't have: a page that it hasn't, or of another size; on a chip with a page 257 page 1 without
+    it; a header of version 1 where there are more than 256 pages. None where all fit."""
     bad = []
     if chip.pages() > 256 and journal.version == 1:
         bad.append(journal.header_line)
@@ -113,8 +121,19 @@ def check_of(journal, chip):
             alone = kept.page == 1 and COMPANION < chip.pages() and not segment.keeps(COMPANION)
             if not fits or alone:
                 bad.append(kept.line)
-    if bad:
-        raise Fault("bad journal line %d" % min(bad))
+    return min(bad, default=None)
+
+
+def check_unasked(journal, chip):
+    """An unfinished journal fits some board of the chip: its unique id has the length that such boards tell, and its lines fit all pages
+    or, where boards tell their size, the first 257 or 256."""
+    told = 0 if chip.unique_at is None else chip.unique_at[1]
+    if journal.unique is not None and len(journal.unique) != told:
+        raise Fault(OTHER_BOARD)
+    parts = [chip] if chip.size_at is None else [chip, chip.first_pages(257), chip.first_pages(256)]
+    lines = [misfit(journal, part) for part in parts]
+    if None not in lines:
+        raise Fault("bad journal line %d" % lines[0])
 
 
 def open_session(rig, table):
@@ -240,6 +259,7 @@ def change(rig, journal, chip, command):
         else:
             content = lambda held: bytes([chip.erased]) * len(held)
         count += turn(rig, journal, chip, page, content)
+    look_again(rig, chip)
     rig.begin("end line")
     journal.add(rig, b"end %d" % segment)
     return segment, count
@@ -258,12 +278,21 @@ def verify(rig, chip, image):
                 raise Fault("differs at %08X" % (start + place))
 
 
+def told_its_board(chip):
+    return chip.unique_at is not None and chip.unique_at[1] == len(chip.unique)
+
+
 def confirm(rig, chip):
     """A settled device is asked once more for its unique id, where it told one before the session."""
-    if chip.unique_at is None or chip.unique_at[1] != len(chip.unique):
-        return
-    if wire.read_unless_refused(rig, *chip.unique_at) != chip.unique:
+    if told_its_board(chip) and wire.read_unless_refused(rig, *chip.unique_at) != chip.unique:
         raise Fault(BOARD_CHANGED)
+
+
+def look_again(rig, chip):
+    """And behind the last frame of a segment for its number and for that id."""
+    if told_its_board(chip) and wire.get_id(rig) != chip.number:
+        raise Fault(BOARD_CHANGED)
+    confirm(rig, chip)
 
 
 def do(rig, journal, chip, command):
@@ -344,6 +373,7 @@ def undo(rig, table, count):
         for kept in journal.stack[-1].kept:
             if read_page(rig, chip, kept.page) != kept.held:
                 rewrite(rig, journal, chip, kept.page, kept.held)
+        look_again(rig, chip)
         rig.begin("undone line")
         journal.add(rig, b"undone %d" % journal.depth())
     return taken

@@ -2,6 +2,7 @@
 
 import collections
 import os
+import pathlib
 import re
 
 from functions import Unknown
@@ -24,11 +25,6 @@ Edit = collections.namedtuple("Edit", "name functions pairs twin reason")
 
 class BadEdit(Exception):
     """An edit that can't be read, or that changes no body."""
-
-
-def text_of(path):
-    with open(path, encoding="utf-8") as file:
-        return file.read()
 
 
 def pairs_of(text):
@@ -59,12 +55,10 @@ def body_of(text, start):
             before = text[start:at]
             if not CLAUSE.search(before[max(before.rfind("}"), before.rfind(")")) + 1:]):
                 return at
-            braces = 0
-            while True:
-                braces += (text[at] == "{") - (text[at] == "}")
-                if not braces:
-                    break
+            braces = 1
+            while braces:
                 at += 1
+                braces += (text[at] == "{") - (text[at] == "}")
         at += 1
     return None
 
@@ -72,7 +66,7 @@ def body_of(text, start):
 def read_edit(functions, path):
     """The edit of a file that `rt` has found readable."""
     twin = path.removesuffix(".edit") + ".twin"
-    name, paths, pairs, said = os.path.basename(path), set(), [], text_of(path)
+    name, paths, pairs, said = os.path.basename(path), set(), [], pathlib.Path(path).read_text(encoding="utf-8")
     for file, old, new in pairs_of(said):
         if file not in functions.texts:
             raise BadEdit(f"it changes {file}, which is no file of src")
@@ -151,13 +145,9 @@ def blamed(edits, texts, errors):
     found = {}
     for error in errors:
         at = re.match(r"(?:\./)?(\S+?):(\d+):", error)
-        places = {it.name: [(file, line_of(texts[file], new)) for file, _, new in it.pairs] for it in edits}
+        places = {it.name: [(file, texts[file].count("\n", 0, texts[file].find(new)) + 1) for file, _, new in it.pairs] for it in edits}
         of_file = [it for it in edits if at and at[1] in [file for file, _ in places[it.name]]]
         near = [it for it in of_file if (at[1], int(at[2])) in places[it.name]]
         for edit in near or of_file:
             found.setdefault(edit.name, error)
     return found
-
-
-def line_of(text, new):
-    return text.count("\n", 0, text.find(new)) + 1

@@ -7,6 +7,7 @@ one of a trait's `impl` is the module of that `impl`, the type, the trait and th
 import collections
 import glob
 import os
+import pathlib
 import re
 
 HEADER = re.compile(r"^([ \t]*)(?:pub(?:\([^)]*\))? )?(?:(?:const|unsafe|async) )*fn (\w+)", re.M)
@@ -70,10 +71,7 @@ class Functions:
 
     def __init__(self, folder):
         files = sorted(glob.glob(f"{folder}/src/**/*.rt", recursive=True))
-        self.texts = {}
-        for path in files:
-            with open(path, encoding="utf-8") as file:
-                self.texts[os.path.relpath(path, folder)] = file.read()
+        self.texts = {os.path.relpath(it, folder): pathlib.Path(it).read_text(encoding="utf-8") for it in files}
         self.modules = collections.defaultdict(set)
         for file, text in self.texts.items():
             for found in TYPE.finditer(text):

@@ -3,6 +3,7 @@
 import importlib.machinery
 import importlib.util
 import os
+import pathlib
 import re
 import shutil
 import signal
@@ -54,8 +55,8 @@ def leave_open(crate, room, path):
     for it in OF_A_FUNCTION:
         if os.path.exists(f"{folder}/{it}"):
             os.remove(f"{folder}/{it}")
-    with open(f"{folder}/Proof.antt", "w", encoding="utf-8") as file:
-        file.write(PROOF.format(crate=crate.name, dots=path.replace("::", "."), name=path.split("::")[-1]))
+    proof = PROOF.format(crate=crate.name, dots=path.replace("::", "."), name=path.split("::")[-1])
+    pathlib.Path(f"{folder}/Proof.antt").write_text(proof, encoding="utf-8")
 
 
 def check(crate, functions, texts, asked, kept):
@@ -78,15 +79,13 @@ def check_beside(crate, functions, texts, asked, kept, proved):
             if os.path.isdir(f"{crate.folder}/{part}"):
                 shutil.copytree(f"{crate.folder}/{part}", f"{room}/{part}")
         for path, text in texts.items():
-            with open(f"{room}/{path}", "w", encoding="utf-8") as file:
-                file.write(text)
+            pathlib.Path(f"{room}/{path}").write_text(text, encoding="utf-8")
         for path in taken_by_contract(crate, functions, asked):
             if path not in proved:
                 leave_open(crate, room, path)
         flags = ["--jobs", "1", "--allow-holes", *(it for path in sorted(asked) for it in ("--only", path))]
         words = [rt.rtlib.RATTLE, "check", *crate.words(flags, keeps=False), "--incremental", kept]
-        how = {"cwd": room, "stdin": subprocess.DEVNULL, "stdout": subprocess.PIPE, "stderr": subprocess.STDOUT}
-        how["errors"] = "replace"
+        how = {"cwd": room, "stdin": subprocess.DEVNULL, "stdout": subprocess.PIPE, "stderr": subprocess.STDOUT, "errors": "replace"}
         ran = subprocess.run([*rt.rtlib.guarded(), *words], **how)
         if ran.returncode == -signal.SIGKILL:
             # most likely for memory

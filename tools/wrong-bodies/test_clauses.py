@@ -1,19 +1,13 @@
 """Which clauses tools/wrong-bodies says that an edit turns, on a small crate and on what the prover printed of real edits."""
 
-import os
-import sys
 import unittest
-
-sys.dont_write_bytecode = True
-HERE = os.path.dirname(os.path.abspath(__file__))
-sys.path.insert(0, HERE)
 
 from clauses import clause_of, clauses_of, score, turned
 from edits import Edit
 from judging import FAILED, IS_FALSE, ONE_WORD
-from test_recorded import Known
+from test_recorded import Known, recorded
 from test_wrong_bodies import VALUES, Crate, note
-from verdicts import ANSWER, Finding, Verdicts
+from verdicts import ANSWER, Finding
 
 # a function with three clauses, of which one has no name and one stands over lines, and a call of what a callee requires
 MORE = """use crate::Line;
@@ -100,20 +94,12 @@ class Clauses(Crate):
 
 
 class Recorded(unittest.TestCase):
-    """What real edits turn, by what the prover printed of them."""
-
-    def turned(self, file, path, kind):
-        with open(f"{HERE}/recorded/{file}.txt", encoding="utf-8") as lines:
-            verdicts = Verdicts(file, lines.read())
-        return turned(Edit("one.edit", {path}, [], None, None), kind, verdicts, Known(path))
-
-    def test_clauses_of_real_goals(self):
-        self.assertEqual(self.turned("stm_image", "pieces::first_ending_from", ONE_WORD), ["before", "here"])
-        self.assertEqual(self.turned("stm_image", "data::add_data", ONE_WORD), ["ok", "what a callee requires"])
-        self.assertEqual(self.turned("stm_image", "layout::all_agree", ONE_WORD), ["a loop's invariant"])
-        self.assertEqual(self.turned("stm_image", "place::address_in", IS_FALSE), ["one of several clauses"])
-        self.assertEqual(self.turned("stm_chip", "touch::is_inside_flash", FAILED), ["each", "inside"])
-
-
-if __name__ == "__main__":
-    unittest.main()
+    def test_what_real_edits_turn_by_what_the_prover_printed_of_them(self):
+        for name, path, kind, clauses in (
+            ("stm_image", "pieces::first_ending_from", ONE_WORD, ["before", "here"]),
+            ("stm_image", "data::add_data", ONE_WORD, ["ok", "what a callee requires"]),
+            ("stm_image", "layout::all_agree", ONE_WORD, ["a loop's invariant"]),
+            ("stm_image", "place::address_in", IS_FALSE, ["one of several clauses"]),
+            ("stm_chip", "touch::is_inside_flash", FAILED, ["each", "inside"]),
+        ):
+            self.assertEqual(turned(Edit("one.edit", {path}, [], None, None), kind, recorded(name), Known(path)), clauses, path)

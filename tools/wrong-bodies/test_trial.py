@@ -6,13 +6,8 @@ import importlib.util
 import io
 import os
 import shutil
-import sys
 import types
 import unittest
-
-sys.dont_write_bytecode = True
-HERE = os.path.dirname(os.path.abspath(__file__))
-sys.path.insert(0, HERE)
 
 from test_wrong_bodies import Crate
 
@@ -30,7 +25,7 @@ SAID = {
 
 
 def load_main():
-    loader = importlib.machinery.SourceFileLoader("wrong_bodies", f"{HERE}/__main__.py")
+    loader = importlib.machinery.SourceFileLoader("wrong_bodies", os.path.join(os.path.dirname(os.path.abspath(__file__)), "__main__.py"))
     made = importlib.util.module_from_spec(importlib.util.spec_from_loader("wrong_bodies", loader))
     loader.exec_module(made)
     return made
@@ -119,7 +114,3 @@ class Trials(Crate):
         self.assertTrue(said["tried/a.edit"].startswith("BAD EDIT: src/calls.rt"), said)
         self.assertTrue(said["tried/b.edit"].startswith("SAYS NOTHING"), said)
         self.assertTrue(said["tried/c.edit"].startswith("BAD EDIT: it changes a contract"), said)
-
-
-if __name__ == "__main__":
-    unittest.main()

@@ -1,13 +1,8 @@
 """What tools/wrong-bodies makes of an edit and of the prover's lines, on a small crate, without a prover."""
 
 import os
-import sys
 import tempfile
 import unittest
-
-sys.dont_write_bytecode = True
-HERE = os.path.dirname(os.path.abspath(__file__))
-sys.path.insert(0, HERE)
 
 from edits import BadEdit, blamed, check_twin, is_one_word, put_together, read_edit
 from functions import Functions
@@ -80,9 +75,7 @@ class Crate(unittest.TestCase):
     """A small crate in a folder of its own."""
 
     def setUp(self):
-        room = tempfile.TemporaryDirectory()
-        self.addCleanup(room.cleanup)
-        self.folder = room.name
+        self.folder = self.enterContext(tempfile.TemporaryDirectory())
         os.mkdir(f"{self.folder}/src")
         for name, text in SOURCES.items():
             self.write(name, text)
@@ -223,22 +216,23 @@ class Judged(Crate):
         self.word = self.edit("src/calls.rt", ("self.left < 2", "self.left < 3"))
         self.turned = self.edit("src/calls.rt", ("self.left < 2", "2 > self.left"))
 
-    def test_a_proved_function_lets_its_edit_through(self):
-        for said in ("proved", "no holes", HOLE):
-            self.assertEqual(self.came(self.turned, f"fn tried::Line::call: {said}"), PASSED)
-
-    def test_values_refuse_any_edit(self):
-        lines = (note("returns", VALUES), "fn tried::Line::call: no proof: `search` did not prove `returns`")
-        self.assertEqual(self.came(self.turned, *lines), IS_FALSE)
-
-    def test_an_answer_that_no_longer_fits_refuses_one_word_alone(self):
-        self.assertEqual(self.came(self.word, ANSWER, NOT_PROVED), ONE_WORD)
-        self.assertEqual(self.came(self.turned, ANSWER, NOT_PROVED), FAILED)
-
-    def test_a_goal_without_an_answer_refuses_one_word_alone(self):
-        lines = (note("returns"), "fn tried::Line::call: no proof: `search` did not prove `returns`")
-        self.assertEqual(self.came(self.word, *lines), ONE_WORD)
-        self.assertEqual(self.came(self.turned, *lines), FAILED)
+    def test_what_the_prover_says_of_one_word_and_of_more(self):
+        unproved = "fn tried::Line::call: no proof: `search` did not prove `returns`"
+        waits = "fn tried::Line::call: not proved; it calls `tried::put`, which is not proved"
+        of_another = (note("returns", VALUES), "fn tried::Line::read: no proof: `search` did not prove `returns`", "fn tried::Line::call: no holes")
+        for what, lines, word, more in (
+            ("a proved function lets its edit through", ["fn tried::Line::call: proved"], PASSED, PASSED),
+            ("so does one without holes", ["fn tried::Line::call: no holes"], PASSED, PASSED),
+            ("and one that stands on another's", [f"fn tried::Line::call: {HOLE}"], PASSED, PASSED),
+            ("values refuse any edit", [note("returns", VALUES), unproved], IS_FALSE, IS_FALSE),
+            ("an answer that no longer fits refuses one word alone", [ANSWER, NOT_PROVED], ONE_WORD, FAILED),
+            ("so does a goal without an answer", [note("returns"), unproved], ONE_WORD, FAILED),
+            ("a function that waits for another isn't judged", [waits], WAITS, WAITS),
+            ("nor is one of which nothing is said", ["fn tried::Line::read: proved"], WAITS, WAITS),
+            ("a goal is of the function whose verdict follows", of_another, PASSED, PASSED),
+        ):
+            with self.subTest(what):
+                self.assertEqual((self.came(self.word, *lines), self.came(self.turned, *lines)), (word, more))
 
     def test_names_that_went_refuse_nothing(self):
         for why in (
@@ -253,20 +247,10 @@ class Judged(Crate):
             # nor do they beside a goal that failed, for then it may be one of another name
             self.assertEqual(self.came(self.word, line, ANSWER, NOT_PROVED), FAILED, why)
 
-    def test_a_function_that_waits_for_another_isnt_judged(self):
-        waits = "fn tried::Line::call: not proved; it calls `tried::put`, which is not proved"
-        self.assertEqual(self.came(self.turned, waits), WAITS)
-        self.assertEqual(self.came(self.turned, "fn tried::Line::read: proved"), WAITS)
-
     def test_another_functions_error_refuses_nothing(self):
         for path in ("calls/call", "Line/read", "reading/call", "Other/call"):
             line = ANSWER.replace("Line/call", path)
             self.assertEqual(self.came(self.word, line, "fn tried::Line::call: no holes"), PASSED, path)
-
-    def test_a_goal_is_of_the_function_whose_verdict_follows(self):
-        lines = (note("returns", VALUES), "fn tried::Line::read: no proof: `search` did not prove `returns`",
-                 "fn tried::Line::call: no holes")
-        self.assertEqual(self.came(self.word, *lines), PASSED)
 
     def test_a_closure_is_of_its_function(self):
         edit = self.edit("src/reading.rt", ("*it == 0", "*it == 1"))
@@ -279,7 +263,3 @@ class Judged(Crate):
         self.assertEqual(verdicts.beside({"Line::read"}, self.functions), ANSWER)
         lemma = "./proofs/Reading.antt:3:1: error: `lemma`: the two types differ"
         self.assertEqual(self.said(lemma).beside({"Line::call"}, self.functions), lemma)
-
-
-if __name__ == "__main__":
-    unittest.main()
