@@ -23,7 +23,7 @@ use Rattle.stm_files.specs.declared.tally.Tally.{Tally}
 use Rattle.stm_files.proofs.LoggedPages.{range-more}
 
 -- what was fetched is what follows
-fits : (at n : ℕ) (after journal : List ℕ) → n ≤ length after → take n after ≡ take n (drop at journal) → n ≤ length (drop at journal)
+pub fits : (at n : ℕ) (after journal : List ℕ) → n ≤ length after → take n after ≡ take n (drop at journal) → n ≤ length (drop at journal)
 fits at n after journal within same = elim (cases_lt (length (drop at journal)) n) [
   | inl less ↦
       let all : take n (drop at journal) ≡ drop at journal = take_all n (drop at journal) (omega (arith, less)) in

@@ -1,12 +1,12 @@
 -- An append to the journal in memory, and then to its file.
 use Rattle.std.proofs.Common.{◌≡◌, ℕ, List, [], ◌++◌, length, drop, true, false, true≢false, Result, Ok, Err, sym, ap, subst, ◌∙◌, inl, inr, ⊎_elim, append-nil}
 use Rattle.std.proofs.Math.Seq.{drop-append_seam}
-use Rattle.std.specs.Io.KnownBytes.{Appends}
 use Rattle.stm_wire.specs.declared.fault.RigFault.{RigFault}
 use Rattle.stm_wire.specs.declared.fault.RigFault.TheVariants.{Line, File, Stopped}
 use Rattle.stm_wire.specs.declared.rig.RigCall.TheVariants.{Append}
 use Rattle.stm_sim.specs.Memory.{MemoryData, AppendsInMemory, Fails, counts_append, counts_journal, stopped}
 use Rattle.stm_files.specs.JournalFile.{JournalBytes}
+use Rattle.stm_files.specs.PageSeal.{AppendsSealed}
 use Rattle.stm_files.specs.SimulatorRig.{SimulatorState, AppendsToBoth, AppendsToFile}
 
 -- a call that did nothing left the journal
@@ -42,7 +42,7 @@ module _ (bytes : List ℕ) (answer result : Result (Unit {0}) RigFault) (old ne
   In m = AppendsInMemory bytes answer old.memory m
 
   -- the file took what the memory did
-  pub taken : (journal : List ℕ) → journal ≡ old.memory.journal → result ≡ answer → Appends old.file.known file.known (drop (length journal) memory.journal)
+  pub taken : (journal : List ℕ) → journal ≡ old.memory.journal → result ≡ answer → AppendsSealed file.names_board old.file.known file.known (drop (length journal) memory.journal)
       → AppendsToBoth bytes result old new
   taken journal journal_is same appends =
       let in_new : In new.memory = subst In (sym memory_is) does in

@@ -1,6 +1,7 @@
 pub mod Beginnings
 mod BoardDigits
-pub mod Escaping
+pub mod Damages
+mod Escaping
 pub mod Growing
 pub mod LoggedPages
 pub mod Waiting
@@ -9,6 +10,7 @@ pub mod Standings
 pub mod NoWord
 pub mod Told
 pub mod Cuts
-pub mod PageSums
+pub mod PageSeals
+mod PageSums
 pub mod Tallies
 pub mod Checks

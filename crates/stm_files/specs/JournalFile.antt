@@ -1,8 +1,8 @@
 -- The file of a journal, as contracts see it.
-use Rattle.std.specs.Prelude.{◌≡◌, ℕ, List, [], Option, Some, None, Bool, true, false, OnOk, Result}
+use Rattle.std.specs.Prelude.{◌≡◌, ◌||◌, ℕ, List, [], Option, Some, None, Bool, true, false, OnOk, Result}
 use Rattle.std.specs.Prelude.{option_map}
-use Rattle.std.specs.Io.KnownBytes.{Appends}
 use Rattle.stm_files.specs.Locks.{HeldFile, IsHeld, IsHeldIfThere}
+use Rattle.stm_files.specs.PageSeal.{AppendsSealed, names_board}
 use Rattle.stm_files.specs.declared.journal_file.Writing.{Writing}
 use Rattle.stm_files.specs.declared.journal_file.Writing.TheVariants.{Unopened, Open, Failed}
 
@@ -18,6 +18,8 @@ pub record JournalBytes : Type 0 where
   pub lock : Option Bool
   -- it was said that no other program has the file, so that it needs no lock
   pub without_lock : Bool
+  -- it names its board, so that behind each page that is added stands the line of its CRC
+  pub names_board : Bool
 
 -- what reads of a file will give, where there is one
 abbrev pub ahead_of : Option HeldFile → Option (List ℕ)
@@ -45,10 +47,11 @@ pub record IsNew (without_lock : Bool) (journal : JournalBytes) : Type 0 where
   pub has_failed : journal.has_failed ≡ false
   pub held : IsHeldIfThere without_lock journal.lock
 
--- An append answers Ok only where the file took just these bytes, none failed before, and no other
--- program has the file.
+-- An append answers Ok only where the file took just these bytes and what seals them, none failed
+-- before, and no other program has the file.
 pub record AppendsIfTaken {E : Type 0} (bytes : List ℕ) (result : Result (Unit {0}) E)
     (old new : JournalBytes) : Type 0 where
-  pub added : OnOk result (Appends old.known new.known bytes)
+  pub added : OnOk result (AppendsSealed new.names_board old.known new.known bytes)
+  pub board : OnOk result (new.names_board ≡ (old.names_board || names_board bytes))
   pub ok : OnOk result ((old.has_failed ≡ false) × (new.has_failed ≡ false))
   pub held : OnOk result (IsHeld old.without_lock new.lock)

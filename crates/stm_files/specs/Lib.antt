@@ -3,6 +3,7 @@ pub mod Beginning
 pub mod Checking
 pub mod Crc
 pub mod Cutting
+pub mod Damage
 pub mod DiskFile
 pub mod Ending
 pub mod Escaped
@@ -14,6 +15,7 @@ pub mod Logging
 pub mod NoJournal
 pub mod Outgoing
 pub mod Owners
+pub mod PageSeal
 pub mod PageSum
 pub mod Replies
 pub mod ReplyTime

@@ -1,11 +1,11 @@
 -- A simulated device with a journal in a file, as contracts see it, and what its calls do.
 use Rattle.std.specs.Prelude.{◌≡◌, ◌⊎◌, ℕ, List, ◌++◌, true, false, Result, Err}
-use Rattle.std.specs.Io.KnownBytes.{Appends}
 use Rattle.stm_wire.specs.declared.fault.RigFault.{RigFault}
 use Rattle.stm_wire.specs.declared.fault.RigFault.TheVariants.{File}
 use Rattle.stm_sim.specs.Memory.{MemoryData, rig_state, AppendsInMemory, FetchesInMemory}
 use Rattle.stm_wire.specs.Rig.{RigState}
 use Rattle.stm_files.specs.JournalFile.{JournalBytes}
+use Rattle.stm_files.specs.PageSeal.{AppendsSealed}
 
 pub record SimulatorState : Type 0 where
   -- the device, the steps to a stop, the record, and the journal's bytes as
@@ -23,10 +23,11 @@ abbrev pub simulator_rig_state : SimulatorState → RigState
 simulator_rig_state s =
     record (rig_state s.memory) { journal_failures = s.journal_failures; has_room = ⊥ }
 
--- the journal grew by the same bytes in memory and, where the file's bytes are known, there
+-- the journal grew by the same bytes in memory and, where the file's bytes are known, there, with what
+-- seals them behind
 abbrev pub GrowsAlike : SimulatorState → SimulatorState → Type 0
 GrowsAlike old new = (added : List ℕ) × (new.memory.journal ≡ old.memory.journal ++ added)
-    × Appends old.file.known new.file.known added
+    × AppendsSealed new.file.names_board old.file.known new.file.known added
 
 -- An append goes to the memory first, which says what is added. Its answer stands where the file
 -- took just that; else the answer is that the file failed.

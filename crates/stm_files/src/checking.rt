@@ -25,7 +25,7 @@ use stm_wire::Rig;
 const BUFFER: usize = 512;
 
 /// Reads bytes of the journal from a place on, and answers how many.
-fn fetch<L: Rig>(rig: &mut L, at: u64, buf: &mut [u8]) -> Result<usize, JournalFault>
+pub fn fetch<L: Rig>(rig: &mut L, at: u64, buf: &mut [u8]) -> Result<usize, JournalFault>
     ensures within { IfOk result (λ n. n ≤ length buf.old) }
     ensures last { 2 ^ 63 - 1 ≤ at → IfOk result (λ n. n ≡ 0) }
     ensures fault { IfErr result (λ e. e ≡ JournalFault.File) }
@@ -68,7 +68,7 @@ fn count_lines<L: Rig>(rig: &mut L) -> Result<Tally, JournalFault>
 }
 
 /// The CRC of a kept page, whose digits stand at this place of the journal.
-fn sum_at<L: Rig>(
+pub fn sum_at<L: Rig>(
     alloc: Global,
     rig: &mut L,
     journal: &Journal,

@@ -1,8 +1,10 @@
 // The text of a journal that is cut to its newest segments.
 ghost use Rattle.std.specs.Prelude.{◌≡◌, ◌≤◌, ◌<◌, length, IfOk};
 
+use crate::damage::is_sum;
 use crate::file_fault::FileFault;
 use crate::journal_rig::Source;
+use crate::page_seal::SEAL;
 use crate::replacement::Replacement;
 use std::alloc::Global;
 use std::fs::Files;
@@ -121,7 +123,34 @@ impl<R: Files + AllocGlobal> CutText<R> {
     ) -> Result<(), FileFault<'a>> {
         written(self.begin_page(page), name)?;
         self.add_digits(name, source, place)?;
-        written(self.add(b"\n"), name)
+        written(self.add(b"\n"), name)?;
+        let digits = place.length.saturating_mul(2);
+        self.add_sum(
+            name,
+            source,
+            place.at.saturating_add(digits).saturating_add(1),
+        )
+    }
+
+    /// Adds the line of a page's CRC, where one stands behind it in the journal.
+    fn add_sum<'a, S: Source>(
+        &mut self,
+        name: &'a str,
+        source: &mut S,
+        at: u64,
+    ) -> Result<(), FileFault<'a>> {
+        let mut line = [0u8; SEAL as usize];
+        for i in 0..line.len() {
+            match source.fetch(at.saturating_add(i as u64), &mut line[i..i + 1]) {
+                Ok(0) => return Ok(()),
+                Ok(_) => {}
+                Err(e) => return Err(FileFault::of_file(&e, FileFault::CannotRead(name))),
+            }
+        }
+        if is_sum(&line) {
+            return written(self.add(&line), name);
+        }
+        Ok(())
     }
 
     /// Adds what stands before the digits of a page.

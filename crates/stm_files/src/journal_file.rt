@@ -1,11 +1,12 @@
 // A journal in a file, for a Rig with any line.
-ghost use Rattle.std.specs.Prelude.{◌≡◌, ◌≤◌, ◌<◌, ◌-◌, ◌^◌, true, false, IfOk, OnErr, OnOk};
+ghost use Rattle.std.specs.Prelude.{◌≡◌, ◌≤◌, ◌<◌, ◌-◌, ◌^◌, ◌++◌, ℕ, List, true, false, IfOk, OnErr, OnOk};
 ghost use Rattle.std.specs.Prelude.{◌||◌, IfSome, length};
-ghost use Rattle.std.specs.Io.KnownBytes.{Appends, IsAtEnd};
+ghost use Rattle.std.specs.Io.KnownBytes.{IsAtEnd};
 ghost use Rattle.stm_journal.specs.States.{is_unfinished};
 ghost use Rattle.stm_files.specs.JournalFile.{JournalBytes, IsNew, ahead_of, is_failed, known_bytes};
 ghost use Rattle.stm_files.specs.JournalFile.{lock_of};
 ghost use Rattle.stm_files.specs.Locks.{IsHeld, IsHeldIfThere};
+ghost use Rattle.stm_files.specs.PageSeal.{AppendsSealed, IsSealIf, names_board};
 
 mod cut_off;
 
@@ -18,6 +19,7 @@ use crate::journal_rig::Source;
 use crate::locks::Locks;
 use crate::names::{is_named, is_one, resolve};
 use crate::owners::check_journal_owner;
+use crate::page_seal::{names_board, seal_if};
 use crate::replacement::ALONE;
 use crate::rescue::{Rescued, rescue};
 use crate::unusable::Unusable;
@@ -31,6 +33,25 @@ use stm_journal::Journal;
 
 /// Up to how many bytes of a journal that is added to are kept in memory.
 const HELD: u64 = 1 << 26;
+
+/// How many bytes are looked at for a journal's header.
+const WINDOW: usize = 4096;
+
+/// Whether the first whole line of these that isn't void begins the header of a journal that names its
+/// board.
+fn begins_with_board(bytes: &[u8]) -> bool {
+    let mut before: Option<&[u8]> = None;
+    for line in bytes.split(|byte| *byte == b'\n') {
+        // an LF stands behind the line before
+        if let Some(whole) = before {
+            if whole.last() != Some(&b'!') {
+                return names_board(whole);
+            }
+        }
+        before = Some(line);
+    }
+    false
+}
 
 /// What is answered where the file isn't the one any more that was read and added to: a kind that the
 /// system never gives.
@@ -72,6 +93,11 @@ pub struct JournalFile<'a, R: Locks> {
     end: u64,
     /// What it holds, once it was added to, where there is memory for that.
     text: Option<Vec<u8>>,
+    /// It names its board: behind each page that is added stands the line of its CRC.
+    names_board: bool,
+    /// Where such lines stand in the file that were added here, and how long they are: reads pass over
+    /// them.
+    seals: Vec<(u64, u64)>,
     /// Why the file that was to be made can't be had.
     refusal: Option<Unusable>,
     /// Why a call failed.
@@ -87,6 +113,7 @@ impl<'a, R: Locks> Model for JournalFile<'a, R> {
       ahead = ahead_of j.reading;
       lock = lock_of j.reading;
       without_lock = j.without_lock;
+      names_board = j.names_board;
     } };
 
     ghost invariant = { λ j. IsHeldIfThere j.without_lock (lock_of j.reading) };
@@ -109,7 +136,7 @@ impl<'a, R: Locks + AllocGlobal> JournalFile<'a, R> {
             Some((held, end)) => (Some(held), end),
             None => (None, 0),
         };
-        Ok(JournalFile {
+        let mut file = JournalFile {
             rt,
             name,
             without_lock,
@@ -118,9 +145,28 @@ impl<'a, R: Locks + AllocGlobal> JournalFile<'a, R> {
             reading,
             end,
             text: None,
+            names_board: false,
+            seals: Vec::new(rt.alloc()),
             refusal: None,
             reason: None,
-        })
+        };
+        match file.look_for_board() {
+            Ok(()) => Ok(file),
+            Err(e) => Err(Unusable::Unread(e)),
+        }
+    }
+
+    /// Looks whether it names its board, by how it begins.
+    fn look_for_board(&mut self) -> io::Result<()>
+        ensures known { self.new.known ≡ self.old.known }
+        ensures failed { self.new.has_failed ≡ self.old.has_failed }
+        ensures lock { self.new.lock ≡ self.old.lock }
+        ensures without { self.new.without_lock ≡ self.old.without_lock }
+    {
+        let mut window = [0u8; WINDOW];
+        let count = self.fetch(0, &mut window)?;
+        self.names_board = begins_with_board(&window[..count]);
+        Ok(())
     }
 
     /// An empty journal in no file, which takes no line.
@@ -134,15 +180,21 @@ impl<'a, R: Locks + AllocGlobal> JournalFile<'a, R> {
             reading: None,
             end: 0,
             text: None,
+            names_board: false,
+            seals: Vec::new(rt.alloc()),
             refusal: None,
             reason: None,
         }
     }
 
-    /// Adds the bytes at the end of the file, and answers once they are on the disk. Where a write
-    /// fails, a beginning of them may have been added, and stays; where a sync does, none of them.
+    /// Adds the bytes at the end of the file, and behind the line of a page, in a journal that names its
+    /// board, that of its CRC. It answers once they are on the disk. Where a write fails, a beginning
+    /// of them may have been added, and stays; where a sync does, none of them.
     pub fn append(&mut self, bytes: &[u8]) -> io::Result<()>
-        ensures added { OnOk result (Appends self.old.known self.new.known bytes.now) }
+        ensures added { OnOk result
+            (AppendsSealed self.new.names_board self.old.known self.new.known bytes.now) }
+        ensures board { OnOk result (self.new.names_board
+            ≡ (self.old.names_board || names_board bytes.now)) }
         ensures ok { OnOk result ((self.old.has_failed ≡ false) × (self.new.has_failed ≡ false)) }
         ensures held { OnOk result (IsHeld self.old.without_lock self.new.lock) }
         ensures err { OnErr result (self.new.has_failed ≡ true) }
@@ -154,7 +206,10 @@ impl<'a, R: Locks + AllocGlobal> JournalFile<'a, R> {
     }
 
     fn add(&mut self, bytes: &[u8]) -> io::Result<()>
-        ensures added { OnOk result (Appends self.old.known self.new.known bytes.now) }
+        ensures added { OnOk result
+            (AppendsSealed self.new.names_board self.old.known self.new.known bytes.now) }
+        ensures board { OnOk result (self.new.names_board
+            ≡ (self.old.names_board || names_board bytes.now)) }
         ensures ok { OnOk result ((self.old.has_failed ≡ false) × (self.new.has_failed ≡ false)) }
         ensures held { OnOk result (IsHeld self.old.without_lock self.new.lock) }
         ensures err { OnErr result (self.new.has_failed ≡ true) }
@@ -165,21 +220,41 @@ impl<'a, R: Locks + AllocGlobal> JournalFile<'a, R> {
             Writing::Failed => return Err(io::Error::from(ErrorKind::Other)),
         };
         self.check_place(&file)?;
+        let seals = self.names_board || names_board(bytes);
+        let text = self.sealed(seals, bytes)?;
         let mut on_disk = DiskFile {
             file,
             is_unsynced: false,
         };
-        if let Err(e) = add_lines(&mut on_disk, self.end, bytes) {
+        if let Err(e) = add_lines(&mut on_disk, self.end, &text) {
             if on_disk.is_unsynced {
                 // a later sync may answer though these bytes never come to the disk
                 let _ = on_disk.file.set_len(self.end);
             }
             return Err(e);
         }
-        self.end = self.end.saturating_add(bytes.len() as u64);
+        self.end = self.end.saturating_add(text.len() as u64);
+        self.names_board = seals;
         self.writing = Writing::Open(on_disk.file);
-        self.remember(bytes);
+        self.remember(&text);
         Ok(())
+    }
+
+    /// The bytes of an append with what is to stand behind them, whose place is kept.
+    fn sealed(&mut self, seals: bool, bytes: &[u8]) -> io::Result<Vec<u8>>
+        ensures same { self.new ≡ self.old }
+        ensures text { IfOk result (λ text. (seal : List ℕ) × IsSealIf seals bytes.now seal
+            × (text.items ≡ bytes.now ++ seal)) }
+    {
+        let seal = seal_if(self.rt.alloc(), seals, bytes)?;
+        let mut text = Vec::new(self.rt.alloc());
+        text.extend_from_slice(bytes)?;
+        text.extend_from_slice(&seal)?;
+        if !seal.is_empty() {
+            let place = self.end.saturating_add(bytes.len() as u64);
+            self.seals.push((place, seal.len() as u64))?;
+        }
+        Ok(text)
     }
 
     /// Keeps what was added.
@@ -208,12 +283,24 @@ impl<'a, R: Locks + AllocGlobal> JournalFile<'a, R> {
         }
     }
 
+    /// Adds void lines to a journal that names its board and was added to, for whoever reads it later.
+    /// Where that fails nothing more is added.
+    pub fn note(&mut self, lines: &[u8]) {
+        if self.names_board && !lines.is_empty() && matches!(self.writing, Writing::Open(_)) {
+            let place = self.end;
+            if self.add(lines).is_ok() && self.seals.push((place, lines.len() as u64)).is_err() {
+                self.give_up();
+            }
+        }
+    }
+
     /// Opens the file to add at its end, and makes it where it is not there. Its
     /// name is on the disk then, and what it holds.
     fn begin(&mut self) -> io::Result<R::File>
         ensures known { self.new.known ≡ self.old.known }
         ensures failed { self.new.has_failed ≡ self.old.has_failed }
         ensures without { self.new.without_lock ≡ self.old.without_lock }
+        ensures board { self.new.names_board ≡ self.old.names_board }
     {
         let target = resolve(self.rt, self.name)?;
         self.begin_at(target.as_path().as_str())
@@ -224,6 +311,7 @@ impl<'a, R: Locks + AllocGlobal> JournalFile<'a, R> {
         ensures known { self.new.known ≡ self.old.known }
         ensures failed { self.new.has_failed ≡ self.old.has_failed }
         ensures without { self.new.without_lock ≡ self.old.without_lock }
+        ensures board { self.new.names_board ≡ self.old.names_board }
     {
         if self.reading.is_none() {
             self.make(path)?;
@@ -246,6 +334,7 @@ impl<'a, R: Locks + AllocGlobal> JournalFile<'a, R> {
         ensures known { self.new.known ≡ self.old.known }
         ensures failed { self.new.has_failed ≡ self.old.has_failed }
         ensures without { self.new.without_lock ≡ self.old.without_lock }
+        ensures board { self.new.names_board ≡ self.old.names_board }
     {
         match self.make_held(path) {
             Ok(held) => {
@@ -294,6 +383,8 @@ impl<'a, R: Locks + AllocGlobal> JournalFile<'a, R> {
         self.writing = Writing::Unopened;
         self.reading = None;
         self.end = 0;
+        self.names_board = false;
+        self.seals.clear();
         Ok(())
     }
 
@@ -303,6 +394,7 @@ impl<'a, R: Locks + AllocGlobal> JournalFile<'a, R> {
         ensures failed { self.new.has_failed ≡ self.old.has_failed }
         ensures lock { self.new.lock ≡ self.old.lock }
         ensures without { self.new.without_lock ≡ self.old.without_lock }
+        ensures board { self.new.names_board ≡ self.old.names_board }
         ensures end { OnOk result (IsAtEnd self.new.ahead) }
     {
         let mut bytes = Vec::new(self.rt.alloc());
@@ -382,10 +474,31 @@ impl<'a, R: Locks> JournalFile<'a, R> {
         if at >= i64::MAX as u64 {
             return Ok(0);
         }
+        let (place, most) = self.place_of(at);
+        let room = if (buf.len() as u64) < most {
+            buf.len()
+        } else {
+            most as usize
+        };
         match &mut self.reading {
-            Some(file) => file.fetch(at, buf),
+            Some(file) => file.fetch(place, &mut buf[..room]),
             None => Ok(0),
         }
+    }
+
+    /// Where a place of the journal stands in its file, and how many bytes at most are the journal's
+    /// from there on: one at least.
+    fn place_of(&self, at: u64) -> (u64, u64)
+        ensures { 0 < result.1 }
+    {
+        let mut place = at;
+        for (seal, length) in &self.seals {
+            if place < *seal {
+                return (place, *seal - place);
+            }
+            place = place.saturating_add(*length);
+        }
+        (place, u64::MAX)
     }
 
     /// Whether the file is there.

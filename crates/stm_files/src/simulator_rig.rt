@@ -1,6 +1,6 @@
 // A simulated device, and a journal kept in a file.
 ghost use Rattle.std.specs.Prelude.{◌≡◌, ◌≤◌, [], drop, length, IfOk, IfSome, OnErr, OnOk, true, false};
-ghost use Rattle.std.specs.Io.KnownBytes.{Appends};
+ghost use Rattle.stm_files.specs.PageSeal.{AppendsSealed};
 ghost use Rattle.std.proofs.Common.{sym};
 ghost use Rattle.stm_journal.specs.States.{is_unfinished};
 ghost use Rattle.stm_sim.specs.Memory.{PutsInMemory, GetsInMemory, rig_state};
@@ -129,6 +129,15 @@ impl<'a, 'f, R: Locks + AllocGlobal> SimulatorRig<'a, 'f, R> {
         self.is_unstored
     }
 
+    /// Adds nothing more to the journal, as after an append that failed.
+    pub fn give_up_journal(&mut self)
+        ensures memory { self.new.memory ≡ self.old.memory }
+        ensures count { self.new.journal_failures ≡ self.old.journal_failures }
+        ensures failed { self.new.file.has_failed ≡ true }
+    {
+        self.file.give_up();
+    }
+
     /// Counts a failure of the journal, where the answer is one.
     fn count_journal<T: Drop>(&mut self, answer: Result<T, RigFault>) -> Result<T, RigFault>
         ensures answer { result ≡ answer }
@@ -147,7 +156,7 @@ impl<'a, 'f, R: Locks + AllocGlobal> SimulatorRig<'a, 'f, R> {
     /// else the way back would be lost with them.
     fn append_to_file(&mut self, start: usize) -> io::Result<()>
         requires { start ≤ length self.old.memory.journal }
-        ensures added { OnOk result (Appends
+        ensures added { OnOk result (AppendsSealed self.new.file.names_board
             self.old.file.known self.new.file.known (drop start self.old.memory.journal)) }
         ensures err { OnErr result (self.new.file.has_failed ≡ true) }
         ensures memory { self.new.memory ≡ self.old.memory }

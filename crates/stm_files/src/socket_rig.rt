@@ -1,5 +1,5 @@
 // A device behind a socket, and a journal kept in a file.
-ghost use Rattle.std.specs.Prelude.{◌≡◌, ◌<◌, ◌-◌, ◌^◌, IfOk, OnOk, MatchResult, Err, Ok, length, false};
+ghost use Rattle.std.specs.Prelude.{◌≡◌, ◌<◌, ◌-◌, ◌^◌, IfOk, OnOk, MatchResult, Err, Ok, length, false, true};
 ghost use Rattle.std.specs.Io.KnownBytes.{IsAtEnd};
 ghost use Rattle.stm_journal.specs.States.{is_unfinished};
 ghost use Rattle.stm_files.specs.JournalFile.{AppendsIfTaken};
@@ -112,6 +112,14 @@ impl<'a, S: Timed + Drop, R: Locks + Clock + AllocGlobal> SocketRig<'a, S, R> {
     {
         let answer = as_line_fault(self.line.take(patience));
         self.count_line(answer)
+    }
+
+    /// Adds nothing more to the journal, as after an append that failed.
+    pub fn give_up_journal(&mut self)
+        ensures count { self.new.failures ≡ self.old.failures }
+        ensures failed { self.new.file.has_failed ≡ true }
+    {
+        self.file.give_up();
     }
 
     /// Counts a failure of the journal, where the answer is one.

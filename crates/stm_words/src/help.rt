@@ -66,7 +66,7 @@ pub const NO_LOCK: &str =
     "Goes on where the file system has no locks; no other program may have the files then";
 
 pub const TRUST_JOURNAL: &str =
-    "Uses a journal, OUT or TO also where others have it, or may write it or its folder";
+    "Uses a journal, OUT or TO also where others have it, or may write it or its folder; an undo compares no CRC";
 
 pub const RAW: &str = "Tells id, version and codes alone, also of a chip that the table hasn't";
 

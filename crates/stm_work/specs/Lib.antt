@@ -14,6 +14,7 @@ pub mod Keeping
 pub mod LeftStanding
 pub mod NextStep
 pub mod OneCall
+pub mod PageGuard
 pub mod Plan
 pub mod WholeCalls
 pub mod Protections

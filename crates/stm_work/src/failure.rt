@@ -67,6 +67,13 @@ pub enum Failure<'a> {
     /// A file is another user's, or others may write it, and no word allows that.
     #[error("{0} {1}")]
     NotTrusted(&'a str, Doubt),
+    /// Of this page this segment of the journal has other digits than it kept.
+    #[error("page {0} of segment {1} has another CRC in the journal than when it was kept; undo by a copy of \
+        the journal, or --trust-journal")]
+    PageDamaged(u16, u32),
+    /// This page holds something else than this segment left there, which an undo takes.
+    #[error("page {0} isn't as segment {1} left it; --trust-journal to undo all the same")]
+    PageChanged(u16, u32),
     /// The system gives no lock on a file.
     #[error("cannot lock {0}: {1}; --no-lock if no other program has it")]
     CannotLock(&'a str, Reason),

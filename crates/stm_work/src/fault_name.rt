@@ -25,6 +25,8 @@ impl Failure<'_> {
             Failure::JournalInUse => "journal_in_use",
             Failure::NoJournal(_) => "no_journal",
             Failure::NotTrusted(..) => "not_trusted",
+            Failure::PageDamaged(..) => "page_damaged",
+            Failure::PageChanged(..) => "page_changed",
             Failure::CannotLock(..) => "cannot_lock",
             Failure::JournalFailed(_) | Failure::JournalMoved | Failure::JournalRescued(_) =>
                 "journal_failed",

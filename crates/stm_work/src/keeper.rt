@@ -1,6 +1,7 @@
 // A Rig whose journal can be kept: what it says stays for good, and the journal is empty.
 ghost use Rattle.std.specs.Prelude.{◌≡◌, false, IfOk, OnErr, OnOk};
 ghost use Rattle.stm_wire.specs.Dialogue.{GoesOn};
+ghost use Rattle.stm_wire.specs.Rig.{AppendsHonestly, EntersAppend, HasCause, PutsAside, RecordsAppend};
 ghost use Rattle.stm_journal.specs.Calls.{AreFetches};
 ghost use Rattle.stm_journal.specs.States.{is_unfinished};
 ghost use Rattle.stm_files.specs.Ending.{EndsJournal};
@@ -15,7 +16,7 @@ use stm_files::{Locks, SimulatorRig, SocketRig, Timed};
 use stm_journal::Journal;
 use stm_session::Fault;
 use stm_watch::WatchRig;
-use stm_wire::Rig;
+use stm_wire::{Rig, RigFault};
 
 /// A Rig whose journal can be kept.
 pub trait Keeper: Rig {
@@ -41,6 +42,23 @@ pub trait Keeper: Rig {
             old.is_honest → OnOk result (EndsJournal old new) }
         ensures finished { let old = Self.view self.old in
             old.is_honest → IfOk result (IsFinished old.journal) };
+}
+
+/// A Rig whose journal can refuse an append.
+pub trait Refuser: Keeper {
+    /// Fails as an append would that the file of the journal refuses, which takes nothing more then.
+    fn refuse_append(&mut self, bytes: &[u8]) -> Result<(), RigFault>
+        ensures refused { OnOk result ⊥ }
+        ensures cause { HasCause
+            (Self.view self.old).journal_failures (Self.view self.new).journal_failures result }
+        ensures line_count { (Self.view self.new).line_failures
+            ≡ (Self.view self.old).line_failures }
+        ensures recorded { RecordsAppend bytes.now result
+            (Self.view self.old).calls (Self.view self.new).calls }
+        ensures entered { EntersAppend bytes.now (Self.view self.old) (Self.view self.new) }
+        ensures aside { PutsAside (Self.view self.old) (Self.view self.new) }
+        ensures honest { (Self.view self.old).is_honest
+            → AppendsHonestly bytes.now result (Self.view self.old) (Self.view self.new) };
 }
 
 /// The journal of a Rig, and how many writes and erases it has, none of which is unfinished.
@@ -96,6 +114,20 @@ impl<'a, 'f, R: Locks + AllocGlobal> Keeper for SimulatorRig<'a, 'f, R> {
         let (journal, count) = load_finished(alloc, self)?;
         self.end_journal(alloc, &journal, name, to)?;
         Ok(count)
+    }
+}
+
+impl<'a, S: Timed + Drop, R: Locks + Clock + AllocGlobal> Refuser for SocketRig<'a, S, R> {
+    fn refuse_append(&mut self, bytes: &[u8]) -> Result<(), RigFault> {
+        self.give_up_journal();
+        self.append(bytes)
+    }
+}
+
+impl<'a, 'f, R: Locks + AllocGlobal> Refuser for SimulatorRig<'a, 'f, R> {
+    fn refuse_append(&mut self, bytes: &[u8]) -> Result<(), RigFault> {
+        self.give_up_journal();
+        self.append(bytes)
     }
 }
 

@@ -4,8 +4,9 @@ ghost use Rattle.std.specs.Prelude.{◌≡◌};
 use crate::failure::Failure;
 use crate::hint::Hint;
 use crate::hinting::hint_of;
-use crate::keeper::Keeper;
+use crate::keeper::{Keeper, Refuser};
 use crate::otherwise::Watched;
+use crate::page_guard::PageGuard;
 use crate::progress_course::Course;
 use crate::progress_screen::Screen;
 use crate::progress_watch::{Seen, Watch, page_named};
@@ -23,6 +24,7 @@ pub struct ProgressRig<'a, L: Rig + Drop, W: Drop, C> {
     inner: L,
     turns: Turns,
     watch: Watch,
+    guard: PageGuard<'a>,
     progress: Course<'a>,
     screen: Screen<'a, W, C>,
     sent: u64,
@@ -30,13 +32,19 @@ pub struct ProgressRig<'a, L: Rig + Drop, W: Drop, C> {
 }
 
 impl<'a, L: Rig + Drop, W: Write + Drop, C: Clock> ProgressRig<'a, L, W, C> {
-    pub fn new(inner: L, progress: Course<'a>, screen: Screen<'a, W, C>) -> ProgressRig<'a, L, W, C>
+    pub fn new(
+        inner: L,
+        guard: PageGuard<'a>,
+        progress: Course<'a>,
+        screen: Screen<'a, W, C>,
+    ) -> ProgressRig<'a, L, W, C>
         ensures { result.inner ≡ inner }
     {
         ProgressRig {
             inner,
             turns: Turns::new(),
             watch: Watch::new(),
+            guard,
             progress,
             screen,
             sent: 0,
@@ -49,6 +57,18 @@ impl<'a, L: Rig + Drop, W: Write + Drop, C: Clock> ProgressRig<'a, L, W, C> {
         hint_of(&self.turns)
     }
 
+    /// The page that an undo didn't touch, as it holds something else than this segment left.
+    pub fn changed(&self) -> Option<(u16, u32)> {
+        self.guard.changed()
+    }
+
+    /// The lines of what the pages were left with of a segment that ended.
+    pub fn take_lines(&mut self) -> Vec<u8>
+        ensures { self.new.inner ≡ self.old.inner }
+    {
+        self.guard.take_lines()
+    }
+
     /// The inner Rig. Nothing is shown any more; where all was done, the last page is told, and then
     /// what watching came to, where that is to be.
     pub fn finish(self, is_done: bool, watched: Option<Watched>) -> L
@@ -58,6 +78,7 @@ impl<'a, L: Rig + Drop, W: Write + Drop, C: Clock> ProgressRig<'a, L, W, C> {
             inner,
             turns: _,
             watch: _,
+            guard: _,
             progress,
             mut screen,
             sent: _,
@@ -95,6 +116,7 @@ impl<'a, L: Rig + Drop, W: Write + Drop, C: Clock> ProgressRig<'a, L, W, C> {
         ensures { self.new.inner ≡ self.old.inner }
     {
         self.turns.get(answer);
+        self.guard.get(answer);
         self.has_heard = self.has_heard || answer.is_some();
     }
 
@@ -125,7 +147,7 @@ impl<'a, L: Rig + Drop, W: Write + Drop, C: Clock> ProgressRig<'a, L, W, C> {
     }
 }
 
-impl<'a, L: Rig + Drop, W: Write + Drop, C: Clock> Rig for ProgressRig<'a, L, W, C> {
+impl<'a, L: Refuser + Drop, W: Write + Drop, C: Clock> Rig for ProgressRig<'a, L, W, C> {
     ghost view = { λ rig. L.view rig.inner };
 
     ghost model = { λ rig honest. L.model rig.inner honest };
@@ -138,6 +160,7 @@ impl<'a, L: Rig + Drop, W: Write + Drop, C: Clock> Rig for ProgressRig<'a, L, W,
             self.sent = self.sent.saturating_add(1);
         }
         self.turns.put(byte);
+        self.guard.put(byte);
         self.inner.put(byte)
     }
 
@@ -161,7 +184,12 @@ impl<'a, L: Rig + Drop, W: Write + Drop, C: Clock> Rig for ProgressRig<'a, L, W,
             let seen = page_named(bytes);
             self.show(seen);
         }
-        self.inner.append(bytes)
+        if !self.guard.may_add(bytes) {
+            return self.inner.refuse_append(bytes);
+        }
+        self.inner.append(bytes)?;
+        self.guard.added(bytes);
+        Ok(())
     }
 
     fn fetch(&mut self, at: u64, buf: &mut [u8]) -> Result<usize, RigFault> {
@@ -169,11 +197,12 @@ impl<'a, L: Rig + Drop, W: Write + Drop, C: Clock> Rig for ProgressRig<'a, L, W,
         if self.screen.is_shown() {
             self.progress.fetch(at, &buf[..count]);
         }
+        self.guard.fetch(at, &buf[..count]);
         Ok(count)
     }
 }
 
-impl<'a, L: Keeper + Drop, W: Write + Drop, C: Clock> Keeper for ProgressRig<'a, L, W, C> {
+impl<'a, L: Refuser + Drop, W: Write + Drop, C: Clock> Keeper for ProgressRig<'a, L, W, C> {
     fn hear_size(&mut self, kib: Option<u16>) {
         self.progress.hear_size(kib);
     }

@@ -1,5 +1,6 @@
 // What the calls of a session tell of what is done.
-ghost use Rattle.std.specs.Prelude.{◌≡◌, ◌==◌, position};
+ghost use Rattle.std.specs.Prelude.{◌≡◌, ◌≤◌, ◌==◌, length, position};
+ghost use Rattle.stm_work.specs.PageGuard.{last_left, told_with, newest_left, told_left};
 
 use std::alloc::Global;
 use stm_words::Extent;
@@ -104,17 +105,22 @@ impl Watch {
 }
 
 /// The number that digits tell; none where one of them is no digit, or it is too large.
-fn number(digits: &[u8]) -> Option<u16> {
-    let mut number = 0_u16;
+fn large_number(digits: &[u8]) -> Option<u32> {
+    let mut number = 0_u32;
     for digit in digits {
         if !digit.is_ascii_digit() {
             return None;
         }
         number = number
             .checked_mul(10)?
-            .checked_add(u16::from(*digit - b'0'))?;
+            .checked_add(u32::from(*digit - b'0'))?;
     }
     Some(number)
+}
+
+/// The same of a page.
+pub fn number(digits: &[u8]) -> Option<u16> {
+    u16::try_from(large_number(digits)?).ok()
 }
 
 /// The page that bytes added to the journal name, and what is done with it.
@@ -142,9 +148,12 @@ enum Reading {
     Lost,
 }
 
-/// How many bytes of a line tell it from the others, as far as it is counted: `program 1` from
-/// `program 10` too.
-const HEAD: usize = 10;
+/// How many bytes of a line are looked at: those of what a page was left with, at most
+/// `left 65535 4294967295 0123ABCD!`.
+const HEAD: usize = 32;
+
+/// Which byte stands in a place of them where the line is shorter.
+const NONE: u8 = 0;
 
 /// How many pages a segment keeps, and whether page 257 is one of them: it may be at work with page
 /// 1.
@@ -152,6 +161,22 @@ const HEAD: usize = 10;
 struct KeptCount {
     pages: u32,
     has_257: bool,
+    /// How many pages were left with something that is told by the segments below.
+    left_below: usize,
+}
+
+/// What a page was left with: so many bytes with this CRC.
+#[derive(Clone, Copy)]
+pub struct Left {
+    pub size: u32,
+    pub sum: u32,
+}
+
+/// The same of this page, where nothing of it was changed since.
+#[derive(Clone, Copy)]
+pub struct LeftPage {
+    pub page: u16,
+    pub left: Option<Left>,
 }
 
 /// Counts the pages that the segments of a journal keep, as a session's own loading reads it from
@@ -165,9 +190,83 @@ pub struct KeptPages {
     last: u8,
     /// What each segment keeps, the oldest first.
     counts: Vec<KeptCount>,
+    /// What their pages were left with, where that is told.
+    left: Vec<LeftPage>,
+    /// The product id of a header of version 3.
+    id: Option<u16>,
+    /// The newest segment has ended.
+    is_ended: bool,
     /// The newest segment has a page at work, and that is page 1.
     has_intent: bool,
     is_page_1: bool,
+}
+
+/// A line without the places behind it.
+fn line_of(head: &[u8]) -> &[u8] {
+    match head.iter().position(|byte| *byte == NONE) {
+        Some(end) => &head[..end],
+        None => head,
+    }
+}
+
+/// The number that a line ends with, behind its word.
+fn number_behind(head: [u8; HEAD], word: usize) -> Option<u16> {
+    number(line_of(&head).get(word..)?)
+}
+
+/// The number of hexadecimal digits; none where one of them is none, or it is too large.
+fn hex_number(digits: &[u8]) -> Option<u32> {
+    let mut number = 0_u32;
+    for digit in digits {
+        let value = match *digit {
+            b'0'..=b'9' => *digit - b'0',
+            b'A'..=b'F' => *digit - b'A' + 10,
+            _ => return None,
+        };
+        number = number.checked_mul(16)?.checked_add(u32::from(value))?;
+    }
+    Some(number)
+}
+
+/// The product id of a header that names its board.
+fn id_in(head: [u8; HEAD]) -> Option<u16> {
+    let rest = head.strip_prefix(b"stmjournal 3 ")?;
+    u16::try_from(hex_number(rest.get(..4)?)?).ok()
+}
+
+/// What a line says that a page was left with.
+fn left_in(head: &[u8]) -> Option<LeftPage> {
+    let rest = line_of(head).strip_prefix(b"left ")?.strip_suffix(b"!")?;
+    let space = rest.iter().position(|byte| *byte == b' ')?;
+    let more = &rest[space + 1..];
+    let second = more.iter().position(|byte| *byte == b' ')?;
+    let digits = &more[second + 1..];
+    if digits.len() != 8 {
+        return None;
+    }
+    Some(LeftPage {
+        page: number(&rest[..space])?,
+        left: Some(Left {
+            size: large_number(&more[..second])?,
+            sum: hex_number(digits)?,
+        }),
+    })
+}
+
+/// What the last of these says of a page.
+fn last_left(pages: &[LeftPage], page: u16) -> Option<Left>
+    ensures { result ≡ last_left pages.now page }
+{
+    pages
+        .iter()
+        .fold(None, |told, left| told_with(told, left, page))
+}
+
+/// What is said of a page, with one more said of some page.
+fn told_with(told: Option<Left>, more: &LeftPage, page: u16) -> Option<Left>
+    ensures { result ≡ told_with page told more.now }
+{
+    if more.page == page { more.left } else { told }
 }
 
 /// Where the first LF stands.
@@ -185,6 +284,9 @@ impl KeptPages {
             length: 0,
             last: 0,
             counts: Vec::new(alloc),
+            left: Vec::new(alloc),
+            id: None,
+            is_ended: false,
             has_intent: false,
             is_page_1: false,
         }
@@ -200,6 +302,18 @@ impl KeptPages {
             return;
         }
         self.reading = Reading::UpTo(at.saturating_add(bytes.len() as u64));
+        self.take(bytes);
+    }
+
+    /// These bytes were added behind what was fetched.
+    pub fn append(&mut self, bytes: &[u8]) {
+        if self.reading == Reading::Whole {
+            self.take(bytes);
+        }
+    }
+
+    /// Bytes more of the journal.
+    fn take(&mut self, bytes: &[u8]) {
         let mut rest = bytes;
         for _ in 0..bytes.len() {
             let Some(behind) = self.fetch_line(rest) else {
@@ -243,6 +357,8 @@ impl KeptPages {
         self.last = 0;
         if !is_void {
             self.take_line(head);
+        } else if self.is_ended && head.starts_with(b"left ") {
+            self.take_left(head);
         }
     }
 
@@ -252,13 +368,14 @@ impl KeptPages {
         match &[head[0], head[1]] {
             b"op" => self.open(),
             b"pa" => self.keep(head.starts_with(b"page 257 ")),
-            b"er" => self.intend(head.starts_with(b"erase 1\0")),
-            b"pr" => self.intend(head.starts_with(b"program 1\0")),
-            b"en" => self.has_intent = false,
-            b"un" => {
-                let _ = self.counts.pop();
+            b"er" => self.intend(number_behind(head, 6)),
+            b"pr" => self.intend(number_behind(head, 8)),
+            b"en" => {
                 self.has_intent = false;
+                self.is_ended = true;
             }
+            b"un" => self.undo(),
+            b"st" => self.id = id_in(head),
             _ => {}
         }
     }
@@ -266,9 +383,11 @@ impl KeptPages {
     /// A segment begins.
     fn open(&mut self) {
         self.has_intent = false;
+        self.is_ended = false;
         let none = KeptCount {
             pages: 0,
             has_257: false,
+            left_below: self.left.len(),
         };
         if self.counts.push(none).is_err() {
             self.reading = Reading::Lost;
@@ -284,9 +403,73 @@ impl KeptPages {
     }
 
     /// A page of the newest segment is at work.
-    fn intend(&mut self, is_page_1: bool) {
+    fn intend(&mut self, page: Option<u16>) {
         self.has_intent = true;
-        self.is_page_1 = is_page_1;
+        self.is_page_1 = page == Some(1);
+        if let Some(page) = page {
+            self.forget(page);
+        }
+        if self.is_page_1 {
+            self.forget(257);
+        }
+    }
+
+    /// The newest segment is gone; those below have ended.
+    fn undo(&mut self) {
+        self.has_intent = false;
+        self.is_ended = true;
+        if let Some(gone) = self.counts.pop() {
+            self.left.truncate(gone.left_below);
+        }
+    }
+
+    /// A page was left with what this line tells.
+    fn take_left(&mut self, head: [u8; HEAD]) {
+        if let Some(page) = left_in(&head) {
+            if self.left.push(page).is_err() {
+                self.reading = Reading::Lost;
+            }
+        }
+    }
+
+    /// Where the pages of the newest segment begin.
+    fn newest_left(&self) -> usize
+        ensures value { result ≡ newest_left self.now }
+        ensures within { result ≤ length self.now.left.items }
+    {
+        match self.counts.last() {
+            Some(newest) => newest.left_below.min(self.left.len()),
+            None => self.left.len(),
+        }
+    }
+
+    /// What a page of the newest segment was left with isn't known any more.
+    fn forget(&mut self, page: u16) {
+        for i in self.newest_left()..self.left.len() {
+            if self.left[i].page == page {
+                self.left[i].left = None;
+            }
+        }
+    }
+
+    /// What the newest segment left a page with, where it has ended and the journal tells that.
+    pub fn left(&self, page: u16) -> Option<Left>
+        ensures { result ≡ told_left self.now page }
+    {
+        match self.reading {
+            Reading::Whole if self.is_ended => last_left(&self.left[self.newest_left()..], page),
+            _ => None,
+        }
+    }
+
+    /// How many segments there are.
+    pub fn depth(&self) -> u32 {
+        u32::try_from(self.counts.len()).unwrap_or(u32::MAX)
+    }
+
+    /// The product id of the device, where the header names its board.
+    pub fn id(&self) -> Option<u16> {
+        self.id
     }
 
     /// How many pages are at work: with page 1 page 257 too, where the newest segment keeps it.

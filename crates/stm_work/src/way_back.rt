@@ -37,7 +37,7 @@ pub fn count_to_change(journal: &Journal) -> u32
 }
 
 /// How many of the newest segments an undo takes that goes back so far.
-fn count_of(journal: &Journal, extent: Extent) -> u32
+pub fn count_of(journal: &Journal, extent: Extent) -> u32
     ensures { IsCount extent journal.now.state result }
 {
     let depth = journal.depth();

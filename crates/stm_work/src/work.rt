@@ -85,6 +85,17 @@ impl Work {
         }
     }
 
+    /// How far back it undoes, if it does, where its journal isn't trusted.
+    pub fn extent(&self) -> Option<Extent> {
+        match self {
+            Work::Act(Action::Undo(count)) | Work::Act(Action::UndoVerified(count)) => {
+                Some(Extent::Newest(*count))
+            }
+            Work::Undo { extent, .. } => Some(*extent),
+            _ => None,
+        }
+    }
+
     /// Where it writes bytes of an image which a device that loses power in the midst would take for
     /// an erase.
     pub fn false_erase(&self) -> Option<Hint> {

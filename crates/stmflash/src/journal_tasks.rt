@@ -13,8 +13,8 @@ use stm_files::{
 };
 use stm_journal::{Journal, JournalFault};
 use stm_session::Fault;
-use stm_words::Kept;
-use stm_work::{Answer, Failure, count_kept};
+use stm_words::{Extent, Kept};
+use stm_work::{Answer, Failure, count_kept, find_damaged};
 
 /// Reads a journal, and hands back what it was read from.
 pub fn load<'a, S: Source + Drop>(
@@ -38,15 +38,22 @@ pub fn log<'a, R: Files + AllocGlobal>(rt: &R, name: &'a str) -> Result<Answer, 
     tell(rt.alloc(), &journal)
 }
 
-/// Reads the journal in a file whole, and tells of what it's made. It isn't locked either: what is
+/// Reads the journal in a file whole, and tells of what it's made, unless a page of it has another CRC
+/// than when it was kept. It isn't locked either: what is
 /// there when this begins is read, and what a session beside it adds meanwhile isn't.
 pub fn check<'a, R: Files + AllocGlobal>(rt: &R, name: &'a str) -> Result<Answer, Failure<'a>> {
     let shown = match Shown::open_by_now(rt, name) {
         Ok(shown) => shown,
         Err(why) => return Err(Failure::of_journal(why, name)),
     };
-    match check_journal(rt.alloc(), &mut JournalRig::new(shown)) {
-        Ok(text) => Ok(Answer::Logged(text)),
+    let mut rig = JournalRig::new(shown);
+    let text = match check_journal(rt.alloc(), &mut rig) {
+        Ok(text) => text,
+        Err(fault) => return Err(unread(name, fault)),
+    };
+    match find_damaged(rt.alloc(), &mut rig, Extent::Newest(0)) {
+        Ok(None) => Ok(Answer::Logged(text)),
+        Ok(Some(found)) => Err(Failure::PageDamaged(found.page, found.segment)),
         Err(fault) => Err(unread(name, fault)),
     }
 }

@@ -4,7 +4,7 @@ ghost use Rattle.std.specs.Prelude.{◌≡◌, IfOk, None, Ok};
 ghost use Rattle.stmflash.specs.DeviceUse.{UsesPlan, goes_out};
 
 use crate::output::{Output, write_done};
-use crate::planned_session::{Shown, Taken, failed_if, take_on};
+use crate::planned_session::{Shown, Taken, checked_extent, failed_if, take_on};
 use std::io::Write;
 use std::time::Clock;
 use stm_chip::Table;
@@ -40,14 +40,15 @@ pub fn on_simulator<'a, 's, R: Locks + Clock + AllocGlobal, W: Write + Drop>(
     };
     let mut files = SimulatorFiles::open(rt, file, options.without_lock)?.beside(name);
     let loaded = files.load(chip)?;
-    match read_journal(opened, name) {
+    match read_journal(rt, opened, name, checked_extent(&plan.work, options)) {
         Ok((journal, bytes)) => {
             let memory = files.begin(loaded, bytes)?;
             let mut rig = SimulatorRig::new(memory, journal, files);
             if let Some(steps) = options.stop {
                 rig.stop_after(u64::from(steps));
             }
-            use_simulator(rt, rig, plan, chips, watch, output, screen, hint)
+            let trusts = options.trusts_others;
+            use_simulator(rt, rig, plan, chips, trusts, watch, output, screen, hint)
         }
         Err(failure) => {
             let memory = files.begin(loaded, Vec::new(rt.alloc()))?;
@@ -63,6 +64,7 @@ fn use_simulator<'a, 's, R: Locks + Clock + AllocGlobal, W: Write + Drop>(
     rig: SimulatorRig<'_, 'a, R>,
     plan: Plan<'a>,
     chips: &Table,
+    trusts: bool,
     watch: Watch,
     output: Output<'a, R>,
     screen: Screen<'s, W, R>,
@@ -73,10 +75,20 @@ fn use_simulator<'a, 's, R: Locks + Clock + AllocGlobal, W: Write + Drop>(
         (goes_out output.entry) None plan.entry) }
 {
     let name = plan.journal;
-    let Taken { rig, done } = take_on(rt.alloc(), rig, plan, None, chips, watch, screen, hint);
+    let Taken { rig, done, lines } = take_on(
+        rt.alloc(),
+        rig,
+        plan,
+        None,
+        chips,
+        trusts,
+        watch,
+        screen,
+        hint,
+    );
     let is_unstored = rig.is_unstored();
     let (memory, journal, mut files) = rig.into_parts();
-    let done = done_on(journal, name, done);
+    let done = done_on(journal, name, done, &lines);
     let done = failed_if(memory.has_stopped(), done, Failure::Stopped);
     let done = write_done(rt, done, output);
     let stored = files.store_rig(&memory);

@@ -6,7 +6,7 @@ ghost use Rattle.stmflash.specs.DeviceUse.{UsesPlan, goes_out, greeting_for};
 use crate::first_question::Line;
 use crate::greeted_session::greeting_for;
 use crate::output::{Output, write_done};
-use crate::planned_session::{Shown, Taken, failed_if, take_on};
+use crate::planned_session::{Shown, Taken, checked_extent, failed_if, take_on};
 use std::fs;
 use std::fs::Files;
 use std::io::Write;
@@ -84,15 +84,26 @@ pub fn on_socket<'a, 'r, R: Locks + Net + Clock + AllocGlobal, W: Write + Drop>(
 {
     let name = plan.journal;
     let opened = JournalFile::open(rt, name, options.without_lock, options.trusts_others);
-    let journal = serving_journal(opened, name)?;
+    let journal = serving_journal(rt, opened, name, checked_extent(&plan.work, options))?;
     let line = match line {
         Some(line) => line,
         None => connect_line(rt, options, path, give_up_of(options, plan.work.is_undo()))?,
     };
     let rig = SocketRig::new(line, journal);
     let greeting = greeting_for(&plan.work, options);
-    let Taken { rig, done } = take_on(rt.alloc(), rig, plan, greeting, chips, watch, screen, hint);
+    let trusts = options.trusts_others;
+    let Taken { rig, done, lines } = take_on(
+        rt.alloc(),
+        rig,
+        plan,
+        greeting,
+        chips,
+        trusts,
+        watch,
+        screen,
+        hint,
+    );
     let done = failed_if(rig.has_given_up(), done, Failure::NoAnswer);
-    let done = done_on(rig.into_journal(), name, done);
+    let done = done_on(rig.into_journal(), name, done, &lines);
     write_done(rt, done, output)
 }

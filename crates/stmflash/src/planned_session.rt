@@ -12,9 +12,10 @@ use stm_files::{SimulatorRig, SocketRig};
 use stm_session::Greeting;
 use stm_watch::{Watch, WatchRig};
 use stm_wire::Rig;
+use stm_words::{Extent, Options};
 use stm_work::{
-    Course, Failure, Hint, Keeper, Plan, ProgressRig, Screen, Steps, done_watched, failed_by,
-    failure_of, watched,
+    Course, Failure, Hint, PageGuard, Plan, ProgressRig, Refuser, Screen, Steps, Work,
+    done_watched, failed_by, failure_of, watched,
 };
 
 /// A Rig that is shown and watched.
@@ -31,16 +32,28 @@ pub type ShownSocket<'r, 'e, R, E> = Shown<'r, SocketRig<'r, UnixStream, R>, &'e
 pub struct Taken<'a, L> {
     pub rig: L,
     pub done: Result<Steps<'a>, Failure<'a>>,
+    /// What the file of the journal is to say of the pages that were changed.
+    pub lines: Vec<u8>,
+}
+
+/// How far back a work undoes, of which the journal is checked: one that is trusted isn't.
+pub fn checked_extent(work: &Work, options: &Options) -> Option<Extent> {
+    if options.trusts_others {
+        None
+    } else {
+        work.extent()
+    }
 }
 
 /// Does what a plan says, on a Rig; it is shown, and its last turns are kept. What they tell of a
 /// session that was broken off becomes `hint`. `chips` are those by which it is shown.
-pub fn take_on<'a, 's, L: Keeper + Drop, W: Write + Drop, C: Clock>(
+pub fn take_on<'a, 's, L: Refuser + Drop, W: Write + Drop, C: Clock>(
     alloc: Global,
     rig: L,
     plan: Plan<'a>,
     greeting: Option<Greeting>,
     chips: &Table,
+    trusts_others: bool,
     watch: Watch,
     screen: Screen<'s, W, C>,
     hint: &mut Option<Hint>,
@@ -49,15 +62,31 @@ pub fn take_on<'a, 's, L: Keeper + Drop, W: Write + Drop, C: Clock>(
         watch greeting plan.entry rig result.rig result.done }
 {
     let course = Course::new(alloc, chips, plan.work.goal());
+    let guard = PageGuard::of(alloc, chips, &plan.work, trusts_others);
     let is_watched = plan.is_watched();
-    let mut rig = WatchRig::new(ProgressRig::new(rig, course, screen), watch);
+    let mut rig = WatchRig::new(ProgressRig::new(rig, guard, course, screen), watch);
     let done = take_greeted(alloc, &mut rig, plan, greeting);
     let done = done_watched(&rig, done);
     let told = watched(&rig, is_watched, failure_of(&done));
-    let rig = rig.into_inner();
+    let mut rig = rig.into_inner();
     *hint = rig.hint();
+    let done = failed_on(rig.changed(), done);
+    let lines = rig.take_lines();
     let rig = rig.finish(done.is_ok(), told);
-    Taken { rig, done }
+    Taken { rig, done, lines }
+}
+
+/// The same steps, where one failed since this page isn't as this segment left it.
+fn failed_on<'a>(
+    changed: Option<(u16, u32)>,
+    done: Result<Steps<'a>, Failure<'a>>,
+) -> Result<Steps<'a>, Failure<'a>>
+    ensures { TellsSteps done.entry result }
+{
+    match changed {
+        Some((page, segment)) => failed_by(done, Failure::PageChanged(page, segment)),
+        None => done,
+    }
 }
 
 /// The same steps, where one failed by this failure if that is so.

@@ -1,5 +1,5 @@
 use Rattle.std.proofs.Common.{◌∙◌, ap}
-use Rattle.stmflash.proofs.DeviceUse.{begun-inner}
+use Rattle.stmflash.proofs.DeviceUse.{begun-inner, tells-again}
 use Rattle.stmflash.proofs.planned_session.take_on.Goals as goal
 
 pub returns : goal.returns
@@ -14,5 +14,5 @@ returns g c =
       begins = begun-inner g.L.Rig.view _ _ _ _ _ _ _ c.new-rig.ensures.watch
           c.new-rig.ensures.refusal inner;
       left = cc;
-      tells = c.done_watched-done.ensures;
+      tells = tells-again _ _ _ c.done_watched-done.ensures c.failed_on-done.ensures;
     }
