@@ -85,25 +85,11 @@ class Slowly(Board):
             self.hear(line, came, ending)
 
 
-class Echoing(Board):
-    """Echoes each byte, and answers."""
+class Saying(Board):
+    """Says to a byte what `says` makes of it, and of the call that gives the replies."""
 
     def feed(self, byte):
-        return bytes([byte]) + super().feed(byte)
-
-
-class Doubling(Board):
-    """Says each reply twice."""
-
-    def feed(self, byte):
-        return 2 * super().feed(byte)
-
-
-class Always(Board):
-    """Answers the same `byte` to each."""
-
-    def feed(self, byte):
-        return bytes([self.byte])
+        return self.says(byte, super().feed)
 
 
 class Closing(Board):
@@ -163,32 +149,19 @@ class Trickling(Board):
             line.sendall(bytes([byte]))
 
 
-class Endless(Board):
-    """Get lists 255 codes, and goes on for ever."""
+class Answering(Board):
+    """Answers the command `code` by `told`, and may go on for ever then."""
 
-    is_endless = False
+    is_endless = has_answered = False
 
     def answer(self, code):
-        if code == GET:
-            self.owed.append(255)
-            self.is_endless = True
-        else:
-            super().answer(code)
+        self.has_answered |= code == self.code
+        self.owed.extend(self.told) if code == self.code else super().answer(code)
 
     def say(self, line, replies, ending):
         line.sendall(replies)
-        while self.is_endless and not ending.is_set():
+        while self.is_endless and self.has_answered and not ending.is_set():
             line.sendall(64 * bytes([0x31]))
-
-
-class LongId(Board):
-    """Tells an id of 256 bytes."""
-
-    def answer(self, code):
-        if code == GET_ID:
-            self.owed.extend([255, *256 * [4], ACK])
-        else:
-            super().answer(code)
 
 
 class Garbling(Board):
@@ -204,34 +177,27 @@ class Garbling(Board):
         return out
 
 
-def be_silent(line, ending):
-    """Reads, and says nothing."""
-    while not ending.is_set() and line.recv(4096):
-        pass
-
-
 def be_deaf(line, ending):
     """Neither takes nor says anything."""
     line.look()
     ending.wait(300)
 
 
-def echo(line, ending):
-    """Says what it hears."""
-    while not ending.is_set():
-        came = line.recv(4096)
-        if not came:
-            return
-        line.sendall(came)
+def answering(says):
+    """Says to what it hears what this makes of it."""
+    def serve(line, ending):
+        while not ending.is_set() and (came := line.recv(4096)):
+            line.sendall(says(came))
+    return serve
 
 
-def be_noisy(line, ending):
-    """Says anything, without an end."""
-    while not ending.is_set():
-        line.sendall(os.urandom(256))
+def repeating(seconds, says):
+    """Says this each so many seconds, without an end."""
+    def serve(line, ending):
+        while not ending.wait(seconds):
+            line.sendall(says())
+    return serve
 
 
-def hiss(line, ending):
-    """Says the same byte each 100 ms."""
-    while not ending.wait(0.1):
-        line.sendall(b"\x55")
+be_silent, echo = answering(lambda came: b""), answering(lambda came: came)
+be_noisy, hiss = repeating(0, lambda: os.urandom(256)), repeating(0.1, lambda: b"\x55")

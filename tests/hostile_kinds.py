@@ -3,7 +3,7 @@
 import typing
 
 from hostile import ACK, ERASE, GET, GET_ID, NACK, READ, WRITE, be_deaf, be_noisy, be_silent, echo, hiss
-from hostile import Always, Closing, Cut, Doubling, Echoing, Endless, FirstReply, Garbling, Late, LongId, Resetting, Slowly, Trickling
+from hostile import Answering, Closing, Cut, FirstReply, Garbling, Late, Resetting, Saying, Slowly, Trickling
 from place import ECHO, NOISE, SILENT
 
 # when a board is given up, and how long a reply may take, in seconds. Where it matters whether a reply is late the wait is long,
@@ -58,8 +58,12 @@ def cut(code, kept, command, row="falls silent inside a command", **more):
     return Kind(of(Cut, cut=code, kept=kept), command, row, (GONE,), **MODEL, **more)
 
 
+def always(byte):
+    return of(Saying, says=lambda *_: bytes([byte]))
+
+
 def same(byte, command, row, hint):
-    return Kind(of(Always, byte=byte), command, row, (GONE,), (hint,), (WRONG,), wait=LONG_WAIT)
+    return Kind(always(byte), command, row, (GONE,), (hint,), (WRONG,), wait=LONG_WAIT)
 
 
 ASKED = {"may_end": ("info",)}
@@ -86,9 +90,9 @@ KINDS = {
     "deaf": Kind(plain(be_deaf), "undo", NOTHING, (GONE,), (SILENT,)),
     "takes one byte a second": Kind(of(Slowly), "info", SLOW, (GONE,), LATE),
     "echoes": Kind(plain(echo), "write", JOINED, (GONE,), (ECHO,), (WRONG,), wait=LONG_WAIT),
-    "echoes and answers": Kind(of(Echoing), "undo", "echoes and answers", (GONE,), (ECHO, NOISE)),
-    "doubles": Kind(of(Doubling), "read", "says each reply twice", (WRONG,), (ID.format(12), None), wait=LONG_WAIT),
-    "always 1F": Kind(of(Always, byte=NACK), "info", ALIKE, (WRONG,), wait=LONG_WAIT),
+    "echoes and answers": Kind(of(Saying, says=lambda byte, feed: bytes([byte]) + feed(byte)), "undo", "echoes and answers", (GONE,), (ECHO, NOISE)),
+    "doubles": Kind(of(Saying, says=lambda byte, feed: 2 * feed(byte)), "read", "says each reply twice", (WRONG,), (ID.format(12), None), wait=LONG_WAIT),
+    "always 1F": Kind(always(NACK), "info", ALIKE, (WRONG,), wait=LONG_WAIT),
     "always 79": same(ACK, "write", ALIKE, None),
     "always 00": same(0x00, "read", STRANGE, NOISE),
     "always FF": same(0xFF, "undo", STRANGE, NOISE),
@@ -104,8 +108,9 @@ KINDS = {
     "late by 1.1 waits": Kind(of(Late, seconds=1.1 * WAIT), "info", SLOW, (GONE, WRONG), LATE, may_end=ALL),
     "late by 19 waits": Kind(of(Late, seconds=19 * WAIT), "read", SLOW, (GONE,), LATE, (WRONG, GONE)),
     "one byte a second": Kind(of(Trickling), "write", SLOW, (GONE,), LATE, (WRONG, GONE)),
-    "Get without an end": Kind(of(Endless), "info", "has a Get without an end", (WRONG,), **MODEL),
-    "an id of 256 bytes": Kind(of(LongId), "read", "tells an id that isn't of 2 bytes", (WRONG,), (ID.format(256),), **MODEL),
+    "Get without an end": Kind(of(Answering, code=GET, told=[255], is_endless=True), "info", "has a Get without an end", (WRONG,), **MODEL),
+    "an id of 256 bytes": Kind(of(Answering, code=GET_ID, told=[255, *256 * [4], ACK]), "read", "tells an id that isn't of 2 bytes", (WRONG,),
+                               (ID.format(256),), **MODEL),
     # an undo's first 7F is answered by 79, and no 1F by which the byte is refused comes first
     "garbles each third byte": Kind(of(Garbling), "undo", STRANGE, (WRONG,), (NOISE,), (GONE,), (None,), wait=LONG_WAIT),
 }

@@ -7,6 +7,7 @@ The program is the one that the variable STMFLASH names; without it, the one tha
 import contextlib
 import fcntl
 import os
+import pathlib
 import select
 import socket
 import subprocess
@@ -47,8 +48,7 @@ def program():
 
 def text_in(*parts):
     """The text of a file of the repository."""
-    with open(os.path.join(TOP, *parts), encoding="utf-8") as file:
-        return file.read()
+    return pathlib.Path(TOP, *parts).read_text(encoding="utf-8")
 
 
 def is_slow(path=None):
@@ -123,8 +123,7 @@ class Place(unittest.TestCase):
         if data is None:
             self.clear(name)
             return
-        with open(self.path(name), "wb") as file:
-            file.write(data)
+        pathlib.Path(self.path(name)).write_bytes(data)
 
     def store_all(self, files):
         """Stores each of these, by its name."""
@@ -187,8 +186,7 @@ class Place(unittest.TestCase):
     def held(self, name):
         """The bytes of a file; None where it isn't there."""
         try:
-            with open(self.path(name), "rb") as file:
-                return file.read()
+            return pathlib.Path(self.path(name)).read_bytes()
         except FileNotFoundError:
             return None
 

@@ -329,16 +329,18 @@ class BoardMoved(telling.Told):
         self.assertFault(self.at("undo", unique=THERE, flash="there"), ANOTHER)
         self.assertTold(self.at("undo"), "undone 1\n", flash=COUNTING, there=there)
 
-    def test_an_undo_that_is_moved_behind_the_second_question_is_told_at_its_end(self):
-        """The other board, which is connected, gets a page of the first one."""
-        for when in ("behind the second question", "before the erase"):
-            with self.subTest(when=when):
-                self.begin()
-                flash, journal = self.write_here()
-                self.assertChanged(self.moved(when, SETTLED, "undo"), "undo")
-                there = with_page(ELSE, 5, page(COUNTING, 5))
-                self.assertFiles({"flash": flash, "there": there, "journal": journal + b"erase 5\nprogram 5\n"})
-                self.assertComesBack(there)
+    def test_an_undo_that_is_moved_before_its_erase_is_told_at_its_end(self):
+        """The other board, which is connected, gets a page of the first one. Before that page is read, it is another one than was left."""
+        flash, journal = self.write_here()
+        self.assertChanged(self.moved("before the erase", SETTLED, "undo"), "undo")
+        there = with_page(ELSE, 5, page(COUNTING, 5))
+        self.assertFiles({"flash": flash, "there": there, "journal": journal + b"erase 5\nprogram 5\n"})
+        self.assertComesBack(there)
+        self.begin()
+        flash, journal = self.write_here()
+        self.assertFault(self.moved("behind the second question", SETTLED, "undo"), telling.OTHERWISE.format(5, 1))
+        self.assertBothAsTheyWere(flash, journal)
+        self.assertComesBack(ELSE)
 
     def test_an_undo_that_is_moved_behind_its_last_frame(self):
         """Also where a page is read again, and in an older segment; and where the board that is put in answers nothing."""
@@ -397,7 +399,7 @@ class BoardMoved(telling.Told):
         self.assertFault(self.moved("behind the second question", SETTLED, "erase", "--board", HERE.hex(), "5"), CHANGED)
         there, journal = with_page(ELSE, 5, 1024 * b"\xff"), self.held("journal")
         self.assertFiles({"flash": COUNTING, "there": there})
-        self.assertEqual(journal, HEAD + b"open 1\npage 5 " + page(ELSE, 5).hex().upper().encode() + b"\nerase 5\n")
+        self.assertEqual(journal, HEAD + b"open 1\n" + telling.kept(5, page(ELSE, 5)) + b"erase 5\n")
         self.assertFault(self.at("undo", unique=THERE, flash="there"), ANOTHER, there=there)
         self.assertTold(self.at("undo"), "undone 1\n", flash=with_page(COUNTING, 5, page(ELSE, 5)))
 

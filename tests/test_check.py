@@ -2,25 +2,17 @@
 
 import os
 import random
-import sys
 
-from place import COUNTING, TOP, Place
+from place import COUNTING, Place
+from telling import kept, sum_of
 from test_log import BAD, EMPTY, FOLLOWED
-
-sys.path.insert(0, os.path.join(TOP, "line"))
-from as_stm32flash.crc import crc
 
 HEADER = b"stmjournal 2 0412\n"
 
 
-def padded(data):
-    """These bytes, made whole words by zeros."""
-    return data + b"\0" * (-len(data) % 4)
-
-
 def page(number, line, data):
     """What is told of a page that is kept in this line."""
-    return f"page {number}, line {line}, {len(data)} bytes, crc {crc(padded(data)):08X}\n"
+    return f"page {number}, line {line}, {len(data)} bytes, crc {sum_of(data)}\n"
 
 
 def counted(text):
@@ -65,7 +57,7 @@ class Check(Place):
         """Pages of each length, in the order of their lines, and none of a command that was undone."""
         pages = [(number, random.Random(number).randbytes(number + 1)) for number in range(9)]
         pages += [(65535, random.Random(9).randbytes(70000))]
-        lines = b"".join(b"page %d %s\n" % (number, data.hex().upper().encode()) for number, data in pages)
+        lines = b"".join(kept(number, data, has_sum=False) for number, data in pages)
         journal = HEADER + b"open 1\nend 1\nopen 2\npage 3 00\nend 2\nundone 2\nopen 2\n" + lines + b"end 2\n"
         told = "".join(page(number, line, data) for line, (number, data) in enumerate(pages, 9))
         self.assertCheck(journal, "id 0412\nsegment 1: ended, 0 pages\nsegment 2: ended, 10 pages: 0-8 65535\n" + told

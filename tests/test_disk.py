@@ -169,25 +169,18 @@ class Disk(Place):
         the disk, is no line: it's cut off again, since a later sync would answer for it although the disk may never get it. The
         command behind it isn't sent, nothing more is added, although the disk works again, and an undo gives the flash back."""
         simulator = ["flash.stmflash-0.new", "flash.line.stmflash-0.new", ".", "."]
-        for fails, (added, flash) in enumerate((*((it, SMALL_FLASH) for it in (b"", b"", OPENED, OPENED, KEPT)), (ERASING, EMPTIED),
-                                                (PROGRAMMING, WRITTEN))):
+        journal = [("journal failed", UNSYNCED, added, flash, b"idle\n") for added, flash in (
+            *((it, SMALL_FLASH) for it in (b"", b"", OPENED, OPENED, KEPT)), (ERASING, EMPTIED), (PROGRAMMING, WRITTEN))]
+        stored = [(f"cannot write {name}", None, ENDED, flash, line) for name, flash, line in (
+            ("flash", SMALL_FLASH, None), ("flash.line", SMALL_FLASH, None), ("flash", WRITTEN, None), ("flash.line", WRITTEN, b"idle\n"))]
+        for fails, (text, hint, added, flash, line) in enumerate(journal + stored):
             with self.subTest(fails=fails):
                 self.begin_small()
                 said, synced = self.use_unsynced(fails, "write", "image")
-                self.assertFault(said, "journal failed", hint=UNSYNCED)
-                self.assertEqual(synced, SYNCED[:fails + 1] + simulator)
-                self.assertFile("journal", added)
-                self.assertHolds(flash, b"idle\n")
-                self.assertTold(self.use("undo"), "undone %d\n" % (added != b""), unkept(len(added)), holds=(SMALL_FLASH, b"idle\n"))
-        for fails, (name, flash, line) in enumerate((("flash", SMALL_FLASH, None), ("flash.line", SMALL_FLASH, None), ("flash", WRITTEN, None),
-                                                     ("flash.line", WRITTEN, b"idle\n")), len(SYNCED)):
-            with self.subTest(fails=fails):
-                self.begin_small()
-                said, synced = self.use_unsynced(fails, "write", "image")
-                self.assertFault(said, f"cannot write {name}")
-                self.assertEqual(synced, (SYNCED + simulator)[:fails + 1])
-                self.assertFile("journal", ENDED)
-                self.assertHolds(flash, line)
+                self.assertFault(said, text, hint=hint, holds=(flash, line), journal=added)
+                self.assertEqual(synced, SYNCED[:fails + 1] + simulator if hint else (SYNCED + simulator)[:fails + 1])
+                if hint:
+                    self.assertTold(self.use("undo"), "undone %d\n" % (added != b""), unkept(len(added)), holds=(SMALL_FLASH, b"idle\n"))
         self.begin_small()
         said, synced = self.use_unsynced(len(SYNCED + simulator), "write", "image")
         self.assertTold(said, "segment 1: 1 pages written\n")

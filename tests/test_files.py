@@ -204,30 +204,26 @@ class Files(Place):
         self.assertFault(self.use("read", "out", device="absent-board"), "cannot connect absent-board", out=b"older")
         self.assertEqual([name for name in os.listdir(self.folder) if name.startswith("out")], ["out"])
 
-    def test_out_keeps_its_mode(self):
+    def keeps_mode(self, owner, *modes):
+        """A file that this user and group have is theirs, and of its mode, also once it was written."""
         self.store("flash", COUNTING)
         for name in ("out", "flash", "flash.line"):
             self.store_all({"flash.line": b"idle\n", "out": b"older"})
-            for mode in (0o600, 0o640, 0o664):
+            for mode in modes:
                 with self.subTest(name=name, mode=mode):
                     os.chmod(self.path(name), mode)
-                    self.assertSilent(self.use("read", "out"))
-                    self.assertEqual(os.stat(self.path(name)).st_mode & 0o7777, mode)
-                    self.assertFile("out", COUNTING)
+                    os.chown(self.path(name), *owner)
+                    self.assertSilent(self.use("read", *["--trust-journal"] * (owner[0] != os.geteuid()), "out"), out=COUNTING)
+                    held = os.stat(self.path(name))
+                    self.assertEqual((held.st_mode & 0o7777, held.st_uid, held.st_gid), (mode, *owner))
+
+    def test_out_keeps_its_mode(self):
+        self.keeps_mode((os.geteuid(), os.getegid()), 0o600, 0o640, 0o664)
 
     def test_root_keeps_the_owner(self):
         if os.geteuid() != 0:
             self.skipTest("only root may give a file away")
-        self.store("flash", COUNTING)
-        for name in ("out", "flash", "flash.line"):
-            with self.subTest(name=name):
-                self.store_all({"flash.line": b"idle\n", "out": b"older"})
-                os.chmod(self.path(name), 0o600)
-                os.chown(self.path(name), 12345, 23456)
-                self.assertSilent(self.use("read", "--trust-journal", "out"))
-                held = os.stat(self.path(name))
-                self.assertEqual((held.st_mode & 0o7777, held.st_uid, held.st_gid), (0o600, 12345, 23456))
-                self.assertFile("out", COUNTING)
+        self.keeps_mode((12345, 23456), 0o600)
 
     def test_makes_a_file_where_a_link_points(self):
         os.mkdir(self.path("folder"))
@@ -371,8 +367,7 @@ class Files(Place):
         self.assertFault(self.use("info"), "cannot read table")
 
     def test_a_table_of_a_mebibyte(self):
-        table = self.held("table")
-        self.store("table", table + b"#" * ((1 << 20) - len(table)))
+        self.store("table", self.held("table").ljust(1 << 20, b"#"))
         self.assertWell(self.use("info"))
-        self.store("table", table + b"#" * ((1 << 20) - len(table) + 1))
+        self.store("table", self.held("table") + b"#")
         self.assertFault(self.use("info"), "cannot read table")

@@ -5,7 +5,7 @@ import socket
 import threading
 import time
 
-from hostile import be_noisy, be_silent, echo
+from hostile import be_noisy, be_silent, echo, repeating
 from place import ECHO, NOISE, PATIENCE, SILENT, ZEROS, Said, readable, with_page
 from served import Served
 
@@ -54,10 +54,8 @@ def be_deaf(_, ending):
     ending.wait(PATIENCE)
 
 
-def hiss(line, ending):
-    """Says something now and then, more often than a host waits for."""
-    while not ending.wait(0.01):
-        line.sendall(b"\x55")
+# says something now and then, more often than a host waits for
+hiss = repeating(0.01, lambda: b"\x55")
 
 
 def fall_silent(line, ending):

@@ -220,15 +220,10 @@ class KeepLast(Keeping):
         self.assertTold(self.keep("--last", "65535"), "kept 0\n1 can be undone\n")
 
     def test_a_board_stays_named(self):
-        for head in (b"stmjournal 3 0412 00FF102030405060\n", b"stmjournal 2 0412\n", b"stmjournal 1 0412\n"):
+        for head in (b"stmjournal 3 0412 00FF102030405060\n", b"stmjournal 3 0412 " + b"A1" * 12 + b"\n", b"stmjournal 2 0412\n", b"stmjournal 1 0412\n"):
             with self.subTest(head=head):
                 self.store("journal", b"gone!\n" + head + b"open 1\nend 1\nopen 2\nend 2\n")
                 self.assertTold(self.keep("--last", "1"), "kept 1\n1 can be undone\n", journal=head + b"open 1\nend 1\n")
-
-    def test_one_that_names_its_board_still_does(self):
-        head = b"stmjournal 3 0412 " + b"A1" * 12 + b"\n"
-        self.store("journal", head + b"open 1\nend 1\nopen 2\nend 2\n")
-        self.assertTold(self.keep("--last", "1"), "kept 1\n1 can be undone\n", journal=head + b"open 1\nend 1\n")
 
     def test_a_journal_of_nothing(self):
         """Of no line, of a header alone, and of what was taken off."""
@@ -335,5 +330,4 @@ class KeepLast(Keeping):
     def test_a_full_disk_leaves_the_old(self):
         """A file may have so many bytes, and no more."""
         journal = self.write_thrice()
-
         self.assertFault(self.keep("--last", "1", before=files_up_to(3000)), "cannot write journal", journal=journal)

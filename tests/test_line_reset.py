@@ -159,27 +159,20 @@ class Clients(WiredPlace):
         return self.begin("--wiring", EXAMPLE, "--after", "", "--", "sh", "-c", script, **more)
 
     def test_each_one_of_a_command_finds_the_board_fresh(self):
-        """Behind the last byte of the one before it, and before its own first; one that says nothing resets nothing."""
-        size = 200_000
-        started = self.with_clients(f"{client('a', size)}; {client('-', 0)}; {client('b', 1)}")
-        self.read_from(self.master, size // 2)
-        self.assertEqual(self.reset_count(), 1)
-        self.assertEqual(set(self.read_from(self.master, size - size // 2)), {ord("a")})
-        self.assertEqual(self.read_from(self.master, 1), b"b")
-        self.assertEqual(self.reset_count(), 2)
-        self.assertSilent(self.ended(started))
-
-    def test_one_that_is_gone_before_its_turn_too(self):
-        """Also where COMMAND has ended, and the port has not yet taken what the client before has sent."""
-        size = 150_000
-        started = self.with_clients(f"{client('a', size)}; {client('b', 1)}; echo")
-        self.assertEqual(started.stdout.readline(), b"\n")
-        self.read_from(self.master, size // 4)
-        self.assertEqual(self.reset_count(), 1)
-        self.assertEqual(set(self.read_from(self.master, size - size // 4)), {ord("a")})
-        self.assertEqual(self.read_from(self.master, 1), b"b")
-        self.assertSilent(self.ended(started))
-        self.assertEqual(self.reset_count(), 2)
+        """Behind the last byte of the one before it, and before its own first; one that says nothing resets nothing. So does one that is
+        gone before its turn, also where COMMAND has ended, and the port has not yet taken what the client before has sent."""
+        for size, first, rest in ((200_000, 100_000, f"{client('-', 0)}; {client('b', 1)}"), (150_000, 37_500, f"{client('b', 1)}; echo")):
+            with self.subTest(rest=rest):
+                started = self.with_clients(f"{client('a', size)}; {rest}")
+                if "echo" in rest:
+                    self.assertEqual(started.stdout.readline(), b"\n")
+                self.read_from(self.master, first)
+                self.assertEqual(self.reset_count(), 1)
+                self.assertEqual(set(self.read_from(self.master, size - first)), {ord("a")})
+                self.assertEqual(self.read_from(self.master, 1), b"b")
+                self.assertSilent(self.ended(started))
+                self.assertEqual(self.reset_count(), 2)
+                self.remove("calls")
 
     def test_what_the_board_said_before_is_dropped(self):
         started = self.with_clients(f"{client('a', 1)}; echo next; read word; {client('b', 1, 3)}", reads=True)

@@ -86,12 +86,12 @@ class Moved(Served):
         self.assertServed()
         self.assertFile("here/journal", ENDED)
         for words in ((), ("elsewhere",)):
-            for number in range(2):
+            for number in range(3):
                 with self.subTest(words=words, number=number):
                     said, read = syncs.call(self.folder, ("keep", "--journal", "here/journal", *words), held=syncs.LSEEK,
                                             at=lambda at, process, number=number: at == number and self.replace())
                     self.assertFault(said, "journal failed", hint=CHANGED)
-                    self.assertEqual(len(read), 2)
+                    self.assertEqual(len(read), 3)
                     self.assertFiles({"here/journal": ENDED, "elsewhere": None})
 
     def test_nobody_gets_it_before_it_is_removed(self):

@@ -119,6 +119,8 @@ class Pairs(Served):
                 # what is read again has lines of its own, and is counted
                 bare = [{re.sub(rb", \d+ of .*", b"", line) for line in it[part]} for it in (both, second if one == "-v" else first)]
                 self.assertLessEqual(bare[1], bare[0], part)
+            elif part == "journal" and none[part] and None in (first[part], second[part]):
+                self.assertIsNone(both[part])
             elif none[part] in (first[part], second[part]):
                 self.assertEqual(both[part], second[part] if first[part] == none[part] else first[part], part)
             else:

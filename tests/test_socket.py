@@ -26,21 +26,16 @@ class Socket(Served):
         client.settimeout(PATIENCE)
 
     def test_takes_turns(self):
-        """A plain client is answered byte by byte, and then the line is quiet."""
-        self.serve(1)
-        client = self.connect()
-        for sent, replies in ((b"\x7f", b"\x79"), (b"\x02", b""), (b"\xfd", ID)):
-            self.assertReplies(client, sent, replies)
-            self.assertQuiet(client)
-        self.assertServed(client, holds=(ERASED, b"idle\n"))
-
-    def test_a_client_that_goes_ends_serving(self):
-        self.serve(1)
-        client = self.connect()
-        for sent, replies in ((b"\x7f", b"\x79"), (b"\x43", b""), (b"\xbc", b"\x79")):
-            self.assertReplies(client, sent, replies)
-        client.close()
-        self.assertServed(holds=(ERASED, b"rest 43BC\n"))
+        """A plain client is answered byte by byte, and then the line is quiet; one that goes ends serving."""
+        for code, reply, line in ((b"\x02\xfd", ID, b"idle\n"), (b"\x43\xbc", b"\x79", b"rest 43BC\n")):
+            self.store("flash.line", b"fresh\n")
+            self.serve(1)
+            client = self.connect()
+            for sent, replies in ((b"\x7f", b"\x79"), (code[:1], b""), (code[1:], reply)):
+                self.assertReplies(client, sent, replies)
+                self.assertQuiet(client)
+            client.close()
+            self.assertServed(holds=(ERASED, line))
 
     def test_keeps_its_journal_over_a_socket(self):
         """What the line answered and what the journal keeps come together: a page is erased, and given back from there."""
@@ -239,16 +234,12 @@ class Socket(Served):
         # the one that was refused had asked whether somebody listens, which took the second turn
         self.assertServed(client, other=None)
 
-    def test_a_socket_is_its_makers_alone(self):
-        self.serve(1)
-        self.assertEqual(os.stat(self.path("board")).st_mode & 0o777, 0o600)
-        self.assertServed(self.connect())
-
     def test_who_may_connect_is_as_it_was_said(self):
-        for mode in ("600", "660", "666"):
-            with self.subTest(mode=mode):
-                self.serve(1, more=("--mode", mode))
-                self.assertEqual(os.stat(self.path("board")).st_mode & 0o777, int(mode, 8))
+        """Its maker alone without a word."""
+        for words, mode in (((), 0o600), (("--mode", "600"), 0o600), (("--mode", "660"), 0o660), (("--mode", "666"), 0o666)):
+            with self.subTest(words=words):
+                self.serve(1, more=words)
+                self.assertEqual(os.stat(self.path("board")).st_mode & 0o777, mode)
                 self.assertServed(self.connect())
 
     def test_a_store_that_fails_is_told(self):
@@ -307,19 +298,13 @@ class Socket(Served):
             os.kill(process.pid, number)
             time.sleep(0.03)
 
-    def assertUnserved(self, chip, text):
-        self.assertFault(self.call(*served(chip, at="table")), text)
-
     def test_says_why_it_does_not_serve(self):
         """The table comes before the simulator's files, and these before the socket; nothing is written."""
         table = self.held("table")
-        self.store("flash.line", b"rest 43BD\n")
-        self.assertUnserved("0410", "unknown chip 0410")
-        self.assertUnserved("0412", "bad simulator file flash")
-        self.assertFile("flash.line", b"rest 43BD\n")
-        self.remove("flash.line")
-        self.assertUnserved("0412", "cannot connect table")
-        self.assertFiles({"flash": None, "flash.line": None, "table": table})
+        for line, chip, text in ((b"rest 43BD\n", "0410", "unknown chip 0410"), (b"rest 43BD\n", "0412", "bad simulator file flash"),
+                                 (None, "0412", "cannot connect table")):
+            self.store("flash.line", line)
+            self.assertFault(self.call(*served(chip, at="table")), text, holds=(None, line), table=table)
 
     def test_a_socket_of_another_kind_stays(self):
         """One of datagrams, which somebody has: only one on which nobody listens is removed."""

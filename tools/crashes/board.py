@@ -1,6 +1,7 @@
 """Simulated chips: the table that names them, and a device as it stood when the PC crashed."""
 
 import os
+import pathlib
 import random
 import sys
 
@@ -48,6 +49,5 @@ class Board(Simulator):
     def __init__(self, program, folder, device):
         os.makedirs(folder)
         for name, held in {"table": table(), **files_of(device)}.items():
-            with open(os.path.join(folder, name), "wb") as file:
-                file.write(held)
+            pathlib.Path(folder, name).write_bytes(held)
         super().__init__(program, folder, "%04X" % device.chip.number, table="table")

@@ -19,7 +19,7 @@ FAULTS = {
     "8 is a digit of a mode": ("stm_words/mode", "        b'0'..=b'7' => Some(u32::from(byte - b'0')),\n", "@old        b'8' if @on => Some(8),\n",
         "test_options.Options.test_says_which_number_is_bad"),
     "a mode is read in base 10": ("stm_words/mode", "(digit(*a)? * 8 + digit(*b)?) * 8 + digit(*c)?",
-        "(digit(*a)? * 10 + digit(*b)?) * 10 + digit(*c)?", "test_socket.Socket.test_a_socket_is_its_makers_alone"),
+        "(digit(*a)? * 10 + digit(*b)?) * 10 + digit(*c)?", "test_socket.Socket.test_who_may_connect_is_as_it_was_said"),
     "a simulator's file has no colon in its name": ("stm_words/device", "cut_at(rest, ':')", "rest.rsplit_once(':')",
         "test_device.Device.test_a_file_may_have_colons_in_its_name"),
     # ---- variables

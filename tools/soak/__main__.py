@@ -5,6 +5,7 @@ import functools
 import itertools
 import multiprocessing
 import os
+import pathlib
 import random
 import re
 import shutil
@@ -23,7 +24,7 @@ import stories
 
 
 COUNTED = ("sessions", "stopped", "refused", "undone", "reset", "without power", "pages lost", "kept", "gone", "again", "put back",
-           "at another board", "of a board")
+           "at another board", "of a board", "rotted", "damaged", "changed", "told of that")
 # the flashes of two boards of one kind
 BOARDS = ("F", "G")
 
@@ -92,8 +93,7 @@ class Story:
 
     def write(self, name, held):
         self.world.files[name] = held
-        with open(self.path(name), "wb") as file:
-            file.write(held)
+        pathlib.Path(self.path(name)).write_bytes(held)
 
     def remove(self, name):
         if self.world.files.pop(name, None) is not None:
@@ -193,18 +193,17 @@ class Story:
         self.same("standard error", err, re.sub(rb"(?m)^hint: .*\n", b"", done.stderr))
         self.same("files", sorted(self.world.files), sorted(os.listdir(self.room)))
         for name in sorted(self.world.files):
-            with open(self.path(name), "rb") as file:
-                self.same(name, self.world.files[name], file.read())
-        self.counts["sessions"] += 1
-        self.counts["stopped"] += status == 3
-        self.counts["refused"] += status in (1, 2)
-        self.counts["undone"] += use.name == "undo" and status == 0
+            self.same(name, self.world.files[name], pathlib.Path(self.path(name)).read_bytes())
         kept = b"kept" in out
-        self.counts["kept"] += kept
-        self.counts["gone"] += use.go is not None and self.is_gone(use.file)
-        self.counts["again"] += b"again 1 of" in err
+        for name, is_so in (("sessions", True), ("stopped", status == 3), ("refused", status in (1, 2)), ("kept", kept),
+                            ("undone", use.name == "undo" and status == 0), ("gone", use.go is not None and self.is_gone(use.file)),
+                            ("again", b"again 1 of" in err), ("damaged", b"another CRC" in err), ("told of that", b" left it;" in err)):
+            self.counts[name] += is_so
         if use.name == "protect" and status == 3:
             # it isn't known what the settling of another board's journal does there
+            self.before = None
+        if use.name == "undo" and use.trusts and journal is not None and journal.damaged(0):
+            # the bytes that rotted are given back, as the word says
             self.before = None
         self.look_elsewhere(use, status, flash, text, journal)
         # what leads back from here, where the journal was moved: as good as the flash is left alone
@@ -278,8 +277,7 @@ def report(story, difference, room):
     shutil.rmtree(kept, ignore_errors=True)
     shutil.copytree(room, kept)
     for name, held in story.world.files.items():
-        with open(os.path.join(kept, name + ".model"), "wb") as file:
-            file.write(held)
+        pathlib.Path(kept, name + ".model").write_bytes(held)
     return "\n".join([
         "tools/soak: a difference in the story %s, use %d" % (story.name, len(story.told)),
         *("    " + text for text in story.told), str(difference),

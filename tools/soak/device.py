@@ -2,6 +2,7 @@
 otherwise overrides that step. It shares no code with stmflash's simulator, nor with the model by which the companions judge."""
 
 from collections import deque
+from itertools import accumulate
 
 ACK, NACK, CONNECT = 0x79, 0x1F, 0x7F
 GET, GET_VERSION, GET_ID, READ, GO, WRITE, ERASE, EXTENDED_ERASE = 0x00, 0x01, 0x02, 0x11, 0x21, 0x31, 0x43, 0x44
@@ -19,20 +20,9 @@ class Chip:
     its board, by an address and how many bytes, and the size of its flash. That of a device has its unique id too, or no byte."""
 
     def __init__(self, number, base, sizes, extended, erased, unique_at=None, size_at=None, unique=b""):
-        self.number = number
-        self.base = base
-        self.sizes = sizes
-        self.extended = extended
-        self.erased = erased
-        self.unique_at = unique_at
-        self.size_at = size_at
-        self.unique = unique
-        self.starts = []
-        at = 0
-        for size in sizes:
-            self.starts.append(at)
-            at += size
-        self.size = at
+        self.number, self.base, self.sizes, self.extended, self.erased = number, base, sizes, extended, erased
+        self.unique_at, self.size_at, self.unique = unique_at, size_at, unique
+        *self.starts, self.size = accumulate(sizes, initial=0)
 
     def pages(self):
         return len(self.sizes)
@@ -111,12 +101,9 @@ def named_pages(rest):
 
 class Device:
     def __init__(self, chip, flash):
-        self.chip = chip
-        self.flash = bytearray(flash)
+        self.chip, self.flash = chip, bytearray(flash)
         self.codes, self.version = chip.codes(), chip.version()
-        self.phase = FRESH
-        self.rest = bytearray()
-        self.owed = deque()
+        self.phase, self.rest, self.owed = FRESH, bytearray(), deque()
 
     def reset(self):
         self.phase = FRESH
@@ -131,17 +118,14 @@ class Device:
             return
         self.rest.append(byte)
         said = self.judge(self.rest)
-        if said == OPEN:
-            return
-        if said == STEP:
-            self.acknowledge()
-            return
         rest = bytes(self.rest)
-        self.rest.clear()
+        if said not in (OPEN, STEP):
+            self.rest.clear()
         if said == REFUSED:
             self.owed.append(NACK)
-        elif said == DONE:
+        elif said in (STEP, DONE):
             self.acknowledge()
+        if said == DONE:
             self.do(rest)
 
     def connect(self, byte):
@@ -208,9 +192,6 @@ class Device:
 
     def has_page(self, page):
         return page < self.chip.pages()
-
-    def first_pages(self, count):
-        return Chip(self.number, self.base, self.sizes[:count], self.extended, self.erased, self.unique_at, self.size_at, self.unique)
 
     def told(self):
         """What it tells beside its flash."""

@@ -18,12 +18,8 @@ def read_raw(text, start):
 
 class Hex:
     def __init__(self, text):
-        self.text = text
-        self.at = 0
-        self.record = 0
-        self.image = {}
-        self.segment = None
-        self.linear = 0
+        self.text, self.at, self.record, self.image = text, 0, 0, {}
+        self.segment, self.linear = None, 0
 
     def fault(self, name):
         return ImageFault("hex record %d: %s" % (self.record, name))
@@ -61,15 +57,10 @@ class Hex:
         """Whether it is the end record."""
         length = self.byte()
         record = [length] + [self.byte() for _ in range(length + 4)]
-        offset = record[1] << 8 | record[2]
-        kind = record[3]
-        data = record[4:-1]
-        if sum(record) % 256 != 0:
-            raise self.fault("checksum")
-        if kind > 5:
-            raise self.fault("type")
-        if kind != 0 and length != LENGTHS[kind]:
-            raise self.fault("length")
+        offset, kind, data = record[1] << 8 | record[2], record[3], record[4:-1]
+        for name, is_so in (("checksum", sum(record) % 256 != 0), ("type", kind > 5), ("length", LENGTHS.get(kind, length) != length)):
+            if is_so:
+                raise self.fault(name)
         if kind == 0:
             for index, byte in enumerate(data):
                 address = self.place(offset, index)

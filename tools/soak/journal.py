@@ -2,9 +2,13 @@
 
 import re
 
+from image import crc
+
 HEADER = re.compile(rb"stmjournal (?:[12] ([0-9A-F]{4})|3 ([0-9A-F]{4}) ((?:[0-9A-F]{2}){8,32}))")
 NUMBERED = re.compile(rb"(open|erase|program|end|undone) (0|[1-9][0-9]*)")
 PAGE = re.compile(rb"page (0|[1-9][0-9]*) ((?:[0-9A-F]{2})+)")
+# the void lines behind a page that is kept, and behind a segment that has ended, in a journal that names its board
+SEAL, LEFT = re.compile(rb"crc ([0-9A-F]{8})!"), re.compile(rb"left (0|[1-9][0-9]*) .*!")
 GREATEST = 65535
 # the longest header of each version
 HEADERS = (b"stmjournal 1 0000", b"stmjournal 2 0000", b"stmjournal 3 0000 " + 64 * b"0")
@@ -33,20 +37,28 @@ def is_no_journal(text):
     return not all(map(is_begun, lines))
 
 
+def seal(held):
+    """The line behind a page of these bytes, of which zeros fill the last word."""
+    return b"crc %08X!" % crc(held + bytes(-len(held) % 4))
+
+
+def left(page, held):
+    """The line of a page that a segment left with these bytes."""
+    return b"left %d %d %s" % (page, len(held), seal(held)[4:])
+
+
 class Kept:
-    """A page that a segment keeps: its number, its bytes, and the number of its line."""
+    """A page that a segment keeps: its number, its bytes, the number of its line, and the line of a CRC behind it or None."""
 
     def __init__(self, page, held, line):
-        self.page = page
-        self.held = held
-        self.line = line
+        self.page, self.held, self.line, self.seal = page, held, line, None
 
 
 class Segment:
     def __init__(self):
-        self.state = OPEN
-        self.kept = []
-        self.intent = None
+        self.state, self.kept, self.intent = OPEN, [], None
+        # the line of what each page was left with, of those that no undo began to give back
+        self.left = {}
 
     def keeps(self, page):
         return any(kept.page == page for kept in self.kept)
@@ -54,13 +66,9 @@ class Segment:
 
 class Journal:
     def __init__(self, text):
-        self.version = None
-        self.number = None
-        # the unique id of a header of version 3
-        self.unique = None
-        self.header_line = None
-        self.stack = []
-        self.lines = 0
+        # what the header says; the unique id is of one of version 3
+        self.version = self.number = self.unique = self.header_line = None
+        self.stack, self.lines = [], 0
         lines = bytes(text).split(b"\n")
         self.torn = lines[-1] != b""
         for line in lines[:-1]:
@@ -70,6 +78,12 @@ class Journal:
         """One whole line."""
         self.lines += 1
         if line.endswith(b"!"):
+            kept = self.stack[-1].kept[-1:] if self.stack and SEAL.fullmatch(line) else []
+            if kept and kept[0].line == self.lines - 1:
+                kept[0].seal = line
+            found = LEFT.fullmatch(line)
+            if found and self.stack and self.stack[-1].state != OPEN:
+                self.stack[-1].left[int(found[1])] = line
             return
         if not self.understand(line):
             raise BadLine(self.lines)
@@ -79,10 +93,8 @@ class Journal:
             found = HEADER.fullmatch(line)
             if not found:
                 return False
-            self.version = line[11] - ord("0")
-            self.number = int(found[1] or found[2], 16)
-            self.unique = bytes.fromhex(found[3].decode()) if found[3] else None
-            self.header_line = self.lines
+            self.version, self.number = line[11] - ord("0"), int(found[1] or found[2], 16)
+            self.unique, self.header_line = bytes.fromhex(found[3].decode()) if found[3] else None, self.lines
             return True
         found = PAGE.fullmatch(line)
         if found:
@@ -90,41 +102,32 @@ class Journal:
         found = NUMBERED.fullmatch(line)
         if not found or int(found[2]) > GREATEST:
             return False
-        value = int(found[2])
-        word = found[1]
+        word, value, newest = found[1], int(found[2]), self.stack[-1] if self.stack else None
         if word == b"open":
-            if self.is_unfinished() or value != self.depth() + 1:
-                return False
+            is_right = not self.is_unfinished() and value == self.depth() + 1
+        elif word in (b"erase", b"program"):
+            is_right = newest is not None and newest.keeps(value)
+        else:
+            is_right = newest is not None and value == self.depth() and (word == b"undone" or newest.state == OPEN)
+        if not is_right:
+            return False
+        if word == b"open":
             self.stack.append(Segment())
-            return True
-        if not self.stack:
-            return False
-        newest = self.stack[-1]
-        if word in (b"erase", b"program"):
-            if not newest.keeps(value):
-                return False
+        elif word == b"end":
+            newest.state, newest.intent = ENDED, None
+        elif word == b"undone":
+            self.stack.pop()
+        else:
             newest.intent = (word.decode(), value)
-            if newest.state == ENDED:
-                newest.state = RETURNING
-            return True
-        if value != self.depth():
-            return False
-        if word == b"end":
-            if newest.state != OPEN:
-                return False
-            newest.state = ENDED
-            newest.intent = None
-            return True
-        self.stack.pop()
+            newest.state = RETURNING if newest.state == ENDED else newest.state
+            for page in (1, 257) if value == 1 else (value,):
+                newest.left.pop(page, None)
         return True
 
     def keep(self, page, held):
-        if not self.stack or page > GREATEST:
+        if not self.stack or page > GREATEST or self.stack[-1].state != OPEN or self.stack[-1].keeps(page):
             return False
-        newest = self.stack[-1]
-        if newest.state != OPEN or newest.keeps(page):
-            return False
-        newest.kept.append(Kept(page, held, self.lines))
+        self.stack[-1].kept.append(Kept(page, held, self.lines))
         return True
 
     def depth(self):
@@ -140,12 +143,24 @@ class Journal:
         """The pages that a stopped command may have been at work on."""
         return [kept.page for kept in self.stack[-1].kept] if self.is_unfinished() else []
 
+    def damaged(self, count):
+        """The first page of the newest so many segments, or of all, that has another CRC than stands behind it, and its segment's number."""
+        for number in range(self.depth(), max(self.depth() - count, 0) if count else 0, -1):
+            for kept in self.stack[number - 1].kept:
+                if kept.seal not in (None, seal(kept.held)):
+                    return kept.page, number
+        return None
+
+    def changed(self, page, held):
+        """Whether the newest segment left another page behind, by its line, than one of these bytes."""
+        return self.stack[-1].left.get(page, left(page, held)) != left(page, held)
+
     def is_of_other(self, unique):
         """Whether it names a board, and another than the one of this unique id, which may be none."""
         return self.unique is not None and self.unique != unique
 
     def add(self, rig, line, chip=None):
-        """Adds a line in one append; with a chip before the first segment, the header too."""
+        """Adds a line in one append; with a chip before the first segment, the header too. The file adds the CRC behind a page."""
         text = b""
         if self.torn:
             text += b"!\n"
@@ -159,6 +174,9 @@ class Journal:
         if header is not None:
             self.take(header)
         self.take(line)
+        found = PAGE.fullmatch(line)
+        if found and self.version == 3:
+            rig.journal += seal(bytes.fromhex(found[2].decode())) + b"\n"
 
 
 def header_of(chip):

@@ -1,5 +1,7 @@
 """What others do between two uses of the program."""
 
+import re
+
 import beginnings
 
 
@@ -21,6 +23,10 @@ def meddle(story):
         story.tell("(a torn tail)")
         held = story.world.files.get("J", b"")
         story.write("J", held + chance.choice((b"page 3 FF0", b"und", b"open", b"x" * 40, b"stmjour", bytes(7))))
+    if chance.random() < 0.02:
+        rot(story)
+    if chance.random() < 0.04 and journal is not None and journal.number == story.kind.number:
+        run_program(story, journal)
     if chance.random() < 0.02:
         spoil(story)
 
@@ -45,20 +51,51 @@ def lose_power(story):
     lost = [page for page in risked if page < chip.pages() and chance.random() < 0.7]
     held = bytearray(story.flash(name))
     for page in lost:
-        part = chip.part(page)
-        kind = chance.randrange(3)
-        if kind == 0:
-            held[part] = chance.randbytes(chip.sizes[page])
-        elif kind == 1:
-            held[part] = bytes(byte & chance.randrange(256) for byte in held[part])
-        else:
-            held[part] = bytes([chip.erased]) * chip.sizes[page]
+        part, kind = chip.part(page), chance.randrange(3)
+        held[part] = chance.randbytes(chip.sizes[page]) if kind == 0 else bytes([chip.erased]) * chip.sizes[page] if kind == 2 else bytes(
+            byte & chance.randrange(256) for byte in held[part])
     story.tell("(%s without power, pages %s)" % (name, lost))
     story.counts["without power"] += name + ".line" in story.world.files
     story.counts["pages lost"] += len(lost)
     if lost:
         story.write(name, bytes(held))
     story.remove(name + ".line")
+
+
+def rot(story):
+    """The disk changes a digit of a page that the journal keeps. Where its CRC stands behind it, no undo may give that back."""
+    chance = story.chance
+    text = story.world.files.get("J", b"")
+    pages = list(re.finditer(rb"(?m)^page [0-9]+ ([0-9A-F]+)$(\ncrc ........!$)?", text))
+    if not pages:
+        return
+    page = chance.choice(pages)
+    at = chance.randrange(page.start(1), page.end(1))
+    other = chance.choice([digit for digit in b"0123456789ABCDEF" if digit != text[at]])
+    story.tell("(digit %d of the journal rots)" % at)
+    story.counts["rotted"] += 1
+    story.write("J", text[:at] + bytes([other]) + text[at + 1:])
+    if page[2] is None:
+        story.before = None
+
+
+def run_program(story, journal):
+    """The board's program runs, and changes a byte of a page that the journal keeps: what an undo without --trust-journal passes by."""
+    chip = story.chips[story.home]
+    pages = [kept.page for segment in journal.stack for kept in segment.kept if kept.page < chip.pages()]
+    if pages:
+        part = chip.part(story.chance.choice(pages))
+        story.counts["changed"] += 1
+        story.tell("(a byte is changed from %d on)" % part.start)
+        story.before = None
+        change(story, story.home, range(part.start, part.stop))
+
+
+def change(story, name, places):
+    """A byte of a flash at one of these places is another one."""
+    held = bytearray(story.flash(name))
+    held[story.chance.choice(places)] ^= 0x55
+    story.write(name, bytes(held))
 
 
 def spoil(story):
@@ -75,12 +112,7 @@ def spoil(story):
     elif kind == 2 and text:
         story.write("J", text[:chance.randrange(len(text))])
     elif kind == 3:
-        held = bytearray(story.flash(name))
-        held[chance.randrange(len(held))] ^= 0x55
-        story.write(name, bytes(held))
+        change(story, name, range(len(story.flash(name))))
     else:
         line = beginnings.draw_line(chance, story.chips[name])
-        if line is None:
-            story.remove(name + ".line")
-        else:
-            story.write(name + ".line", line)
+        story.remove(name + ".line") if line is None else story.write(name + ".line", line)

@@ -9,6 +9,7 @@ the prover refuses too; without any a few are taken that only a stop, a reset or
 
 import concurrent.futures
 import os
+import pathlib
 import shlex
 import shutil
 import subprocess
@@ -33,20 +34,17 @@ def plant(edit, copy):
     """Does the replacements of an edit in the copy's crate."""
     crate = os.path.join(copy, *edit.split("/")[:2])
     name = None
-    with open(os.path.join(TOP, edit)) as file:
-        for line in file.read().splitlines():
-            word, _, text = line.partition(": ")
-            if word == "file":
-                name = os.path.join(crate, text)
-            elif word == "old":
-                old = text
-            elif word == "new":
-                with open(name) as source:
-                    body = source.read()
-                if body.count(old) != 1:
-                    sys.exit("%s: the old text doesn't stand once" % edit)
-                with open(name, "w") as source:
-                    source.write(body.replace(old, text))
+    for line in pathlib.Path(TOP, edit).read_text().splitlines():
+        word, _, text = line.partition(": ")
+        if word == "file":
+            name = os.path.join(crate, text)
+        elif word == "old":
+            old = text
+        elif word == "new":
+            body = pathlib.Path(name).read_text()
+            if body.count(old) != 1:
+                sys.exit("%s: the old text doesn't stand once" % edit)
+            pathlib.Path(name).write_text(body.replace(old, text))
 
 
 def find(edit):

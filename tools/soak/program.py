@@ -1,10 +1,11 @@
 """The program as docs/INSIDE.md tells it: files in, files, output and an exit status out."""
 
+import contextlib
 import re
 
 from device import CONNECT, CONNECTED, FRESH, GO, GONE, PROTECTIONS, Device
 from image import ImageFault, crc, read_hex, read_raw, write_hex
-from journal import is_no_journal
+from journal import BadLine, Journal, is_no_journal, left
 from rig import Rig, Stopped
 import session
 from session import Erase, Fault, Read, Verify, Write
@@ -110,6 +111,8 @@ class World:
         rig, lines, self.note = None, [], b""
         try:
             rig = self.begin(use)
+            if use.name == "undo" and not use.trusts:
+                check_kept(rig, use)
             board = self.ask(rig, use)
             table = self.table if board is None else board.table(self.table)
             before = session.load(rig).stack if use.name == "undo" else []
@@ -121,6 +124,8 @@ class World:
                 lines.append(tell_tried(*session.find(table, int(use.number, 16)).tried()))
             if use.keeps():
                 lines.append(self.keep(rig, use.to))
+            elif use.name in ("write", "erase"):
+                note_left(rig)
             if use.go is not None:
                 session.go(rig, use.go)
             fault = None
@@ -169,7 +174,7 @@ class World:
             stays, back = None, b"nothing was begun"
             if count > 0:
                 undo = Use("undo", count=count, number=use.number, stop=use.stop, file=use.file, board=use.board,
-                           no_board=use.no_board)
+                           no_board=use.no_board, trusts=use.trusts)
                 _, stays, _ = self.once(undo, None)
                 back = b"undone" if stays is None else b"not undone: " + text(stays)
             err += b"again %d of %d: %s; %s\n" % (turn + 1, use.again, why, back)
@@ -222,11 +227,8 @@ def stands(before, depth, is_unfinished):
     if depth > before + 1:
         end = b"of which %d is unfinished, undo first" % depth if is_unfinished else b"which can be undone"
         return b"stands: segments %d-%d, %s\n" % (before + 1, depth, end)
-    if is_unfinished:
-        return b"stands: segment %d is unfinished, undo first\n" % depth
-    if depth > before:
-        return b"stands: segment %d, which can be undone\n" % depth
-    return b"stands: nothing of this write\n"
+    one = b"segment %d" % depth + (b" is unfinished, undo first" if is_unfinished else b", which can be undone")
+    return b"stands: %s\n" % (one if is_unfinished or depth > before else b"nothing of this write")
 
 
 def others(name):
@@ -283,20 +285,17 @@ def standing(device):
 
 
 def check_words(use):
-    if use.board is not None and not re.fullmatch("[0-9A-Fa-f]{1,64}", use.board):
-        raise Usage("bad board %s" % use.board)
-    if use.board is not None and use.no_board:
-        raise Usage("give --board or --no-board, not both")
-    if use.name == "erase" and bool(use.pages) == use.all:
-        raise Usage("give pages or --all")
-    if use.again is not None and not 1 <= use.again <= MOST_AGAIN:
-        raise Usage("bad number %d" % use.again)
-    if use.go is not None and not use.keeps():
-        raise Usage("--go needs --keep or --keep-to")
-    if use.skip_blank and not use.is_hex():
-        raise Usage("--skip-blank needs HEX")
-    if use.name == "crc" and use.range is not None and (use.range[0] % 4 or (use.range[1] or 0) % 4):
-        raise Usage("%s is not whole words of 4 bytes" % use.range_word())
+    for text, is_so in (
+            ("bad board %s" % use.board, use.board is not None and not re.fullmatch("[0-9A-Fa-f]{1,64}", use.board)),
+            ("give --board or --no-board, not both", use.board is not None and use.no_board),
+            ("give pages or --all", use.name == "erase" and bool(use.pages) == use.all),
+            ("bad number %s" % use.again, use.again is not None and not 1 <= use.again <= MOST_AGAIN),
+            ("--go needs --keep or --keep-to", use.go is not None and not use.keeps()),
+            ("--skip-blank needs HEX", use.skip_blank and not use.is_hex()),
+            ("%s is not whole words of 4 bytes" % (use.range and use.range_word()),
+             use.name == "crc" and use.range is not None and (use.range[0] % 4 or (use.range[1] or 0) % 4))):
+        if is_so:
+            raise Usage(text)
 
 
 def read_image(use, text):
@@ -360,12 +359,32 @@ def do(rig, table, use, image, files):
         (segment, count), = session.run(rig, table, [Erase(pages)])
         return b"segment %d: %d pages erased\n" % (segment, count)
     if use.name == "undo":
-        return b"undone %d\n" % session.undo(rig, table, session.to_change(rig) if use.to_change else use.count or 0)
+        return b"undone %d\n" % session.undo(rig, table, count_of(session.load(rig), use), use.trusts)
     if use.name == "go":
         session.go(rig, use.address)
     else:
         session.protect(rig, KINDS[use.kind])
     return b""
+
+
+def count_of(journal, use):
+    return session.to_change(journal) if use.to_change else use.count or 0
+
+
+def note_left(rig):
+    """Behind a segment that has ended stands what each page that it keeps holds now, in a journal that names its board: no step."""
+    journal, chip = session.load(rig), rig.device.chip
+    for kept in journal.stack[-1].kept if journal.version == 3 else []:
+        rig.journal += left(kept.page, bytes(rig.device.flash[chip.part(kept.page)])) + b"\n"
+
+
+def check_kept(rig, use):
+    """The pages that an undo is to give back are as they were kept. What else is the matter with the journal is told behind it."""
+    with contextlib.suppress(BadLine):
+        journal = Journal(rig.journal)
+        found = journal.damaged(count_of(journal, use))
+        if found is not None:
+            raise Fault(session.DAMAGED % found)
 
 
 def read(rig, table, use):

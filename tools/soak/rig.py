@@ -7,11 +7,8 @@ class Stopped(Exception):
 
 class Rig:
     def __init__(self, device, journal, steps=None):
-        self.device = device
-        self.journal = bytearray(journal)
-        self.steps = steps
-        self.done = 0
-        self.parts = []
+        self.device, self.journal, self.steps = device, bytearray(journal), steps
+        self.done, self.parts = 0, []
 
     def begin(self, name):
         """Notes where a part of a session begins, so that a stop can be chosen there."""

@@ -1,5 +1,7 @@
 """The sessions of docs/INSIDE.md: what is refused, what is sent, what is added to the journal, in order."""
 
+from collections import namedtuple
+
 from device import CONNECT, ERASE
 from journal import BadLine, Journal
 import wire
@@ -18,31 +20,16 @@ OUT_OF_FLASH = "address outside the flash"
 IN_SESSION = "journal is open, refused"
 OTHER_DEVICE = "journal belongs to another device"
 OTHER_BOARD = "journal is of another board"
+DAMAGED = "page %d of segment %d has another CRC in the journal than when it was kept; undo by a copy of the journal, or --trust-journal"
+CHANGED = "page %d isn't as segment %d left it; --trust-journal to undo all the same"
 BOARD_CHANGED = "another board answers than at first"
 NO_ERASE = "no erase command"
 FULL = "journal is full"
 DEVICE = "device does not follow the protocol"
 
 
-class Write:
-    def __init__(self, image):
-        self.image = image
-
-
-class Erase:
-    def __init__(self, pages):
-        self.pages = pages
-
-
-class Verify:
-    def __init__(self, image):
-        self.image = image
-
-
-class Read:
-    def __init__(self, start, length):
-        self.start = start
-        self.length = length
+Write, Erase, Verify = namedtuple("Write", "image"), namedtuple("Erase", "pages"), namedtuple("Verify", "image")
+Read = namedtuple("Read", "start length")
 
 
 def changes(command):
@@ -63,13 +50,8 @@ def find(table, number):
     raise Fault("unknown chip %04X" % number)
 
 
-class Board:
+class Board(namedtuple("Board", "number unique kib")):
     """What a device told: its number, its unique id or no byte, and how many KiB its flash has, or None."""
-
-    def __init__(self, number, unique, kib):
-        self.number = number
-        self.unique = unique
-        self.kib = kib
 
     def table(self, table):
         """The table for its session."""
@@ -344,13 +326,14 @@ def pages_at_work(journal, page):
     return [page, COMPANION] if page == 1 and journal.stack[-1].keeps(COMPANION) else [page]
 
 
-def to_change(rig):
+def to_change(journal):
     """How many segments there are up to the newest that keeps a page; 0, which is all, where none does."""
-    return next((count for count, segment in enumerate(reversed(load(rig).stack), 1) if segment.kept), 0)
+    return next((count for count, segment in enumerate(reversed(journal.stack), 1) if segment.kept), 0)
 
 
-def undo(rig, table, count):
-    """How many segments were undone: the newest so many, or all where that is 0 or more than there are."""
+def undo(rig, table, count, trusts):
+    """How many segments were undone: the newest so many, or all where that is 0 or more than there are. By a journal that isn't
+    trusted no page is given back which holds something else than its segment left there."""
     journal = load(rig)
     depth = journal.depth()
     if depth == 0:
@@ -371,7 +354,10 @@ def undo(rig, table, count):
     taken = depth if count == 0 else min(count, depth)
     for _ in range(taken):
         for kept in journal.stack[-1].kept:
-            if read_page(rig, chip, kept.page) != kept.held:
+            held = read_page(rig, chip, kept.page)
+            if held != kept.held:
+                if not trusts and journal.changed(kept.page, held):
+                    raise Fault(CHANGED % (kept.page, journal.depth()))
                 rewrite(rig, journal, chip, kept.page, kept.held)
         look_again(rig, chip)
         rig.begin("undone line")

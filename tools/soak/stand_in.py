@@ -1,6 +1,7 @@
 """A program that goes wrong in one way, over the right one: `stand_in.py NAME PROGRAM WORDS..`, run by planted.py."""
 
 import os
+import pathlib
 import re
 import subprocess
 import sys
@@ -25,28 +26,11 @@ def without(*names):
     return edit
 
 
-def removing(words):
-    """A journal that is to be moved is removed."""
-    return [*without("--keep-to")(words), "--keep"] if "--keep-to" in words else words
-
-
-def summing_all(words):
-    return without("-S")(words) if words[0] == "crc" else words
-
-
-def stopping_before_go(words):
-    """A stop that isn't heeded any more where a program is to be started."""
-    return without("--stop")(words) if "--go" in words else words
-
-
 def file_as(name, change):
     """What happens to a file behind the use that wrote it."""
     def behind(words, out):
         if os.path.exists(name) and (name in words or name == "J"):
-            with open(name, "rb") as file:
-                held = file.read()
-            with open(name, "wb") as file:
-                file.write(change(held))
+            store(name, change(read(name)))
         return out
     return behind
 
@@ -54,41 +38,33 @@ def file_as(name, change):
 def left_behind(words, out):
     """The journal stays beside the name that it was moved to."""
     if os.path.exists("K") and "--keep-to" in words and b"kept" in out:
-        with open("K", "rb") as moved, open("J", "wb") as file:
-            file.write(moved.read())
+        store("J", read("K"))
     return out
 
 
 def read(name):
-    try:
-        with open(name, "rb") as file:
-            return file.read()
-    except FileNotFoundError:
-        return None
+    return pathlib.Path(name).read_bytes() if os.path.exists(name) else None
 
 
 def store(name, held):
-    with open(name, "wb") as file:
-        file.write(held)
+    pathlib.Path(name).write_bytes(held)
 
 
 def unnamed(is_so):
-    """While the program runs, a journal of which this is so names no board: so that isn't compared."""
+    """While the program adds no segment, a journal of which this is so names no board: so that isn't compared."""
     heads = []
 
     def before(words):
         held = read("J") or b""
         found = NAMED.match(held)
-        if found and is_so(held):
+        if found and is_so(held) and words[0] not in ("write", "erase"):
             heads.append(found[0])
             store("J", b"stmjournal 2 %s\n" % found[1] + held[found.end():])
         return words
 
     def behind(words, out):
-        name = "J" if os.path.exists("J") else "K"
-        held = read(name)
-        if heads and held is not None and held.startswith(b"stmjournal 2 "):
-            store(name, heads[0] + held.partition(b"\n")[2])
+        if heads:
+            store("J", heads[0] + read("J").partition(b"\n")[2])
         return out
 
     return before, behind
@@ -127,38 +103,35 @@ def minding_case(words):
     return found
 
 
-def same(words):
-    return words
-
-
-def right(words, out):
-    return out
-
-
 def said(old, new):
     return lambda words, out: out.replace(old, new)
 
 
+# the right words, and what was right
+same, right = (lambda words: words), (lambda words, out: out)
 # how the words are changed, and then what was printed and is left
 PLANTED = {
     "keeps_nothing": (without("--keep"), right),
-    "removes_in_place_of_moving": (removing, right),
+    "removes_in_place_of_moving": (lambda words: [*without("--keep-to")(words), "--keep"] if "--keep-to" in words else words, right),
     "moves_it_and_leaves_it": (same, left_behind),
     "moves_a_line_less": (same, file_as("K", lambda held: held[:held[:-1].rfind(b"\n") + 1])),
     "tells_another_count": (same, said(b"kept 1\n", b"kept 0\n")),
     "starts_nothing": (without("--go"), right),
-    "heeds_no_stop_behind_a_write": (stopping_before_go, right),
+    "heeds_no_stop_behind_a_write": (lambda words: without("--stop")(words) if "--go" in words else words, right),
     "is_not_done_again": (without("--again"), right),
     "verifies_nothing": (without("-v"), right),
     "reads_raw_bytes": (without("--hex"), right),
     "writes_hex_in_small_letters": (same, file_as("OUT.hex", bytes.lower)),
     "leaves_blank_lines_in": (without("--skip-blank"), right),
-    "sums_another_part": (summing_all, right),
+    "sums_another_part": (lambda words: without("-S")(words) if words[0] == "crc" else words, right),
     "tells_a_sum_without_zeros": (same, said(b"crc 0", b"crc ")),
     "compares_no_board": unnamed(lambda held: True),
     "compares_the_board_of_a_finished_journal": unnamed(is_unfinished),
     "lets_the_size_of_the_table_win": with_all_pages(),
     "begins_a_journal_of_no_board": (same, file_as("J", lambda held: NAMED.sub(rb"stmjournal 2 \1\n", held, count=1))),
+    "adds_no_sum": (same, file_as("J", lambda held: re.sub(rb"\ncrc [0-9A-F]{8}!", b"", held))),
+    "leaves_out_what_is_left": (same, file_as("J", lambda held: re.sub(rb"\nleft .*!", b"", held))),
+    "gives_back_what_rotted": (lambda words: words + ["--trust-journal"] * (words[0] == "undo" and "--trust-journal" not in words), right),
     "wants_any_board": (without("--board"), right),
     "minds_the_case_of_a_board": (minding_case, right),
     "asks_all_the_same": (without("--no-board"), right),

@@ -164,6 +164,11 @@ def draw_erase(chance, chip):
     return Use("erase", pages=pages)
 
 
+def draw_undo(chance, _):
+    count = chance.choice((None, None, 0, 1, 1, 2, 100, "change"))
+    return Use("undo", to_change=True) if count == "change" else Use("undo", count=count)
+
+
 def draw_leave(chance, chip):
     if chance.random() < 0.5:
         return Use("go", address=draw_address(chance, chip))
@@ -206,6 +211,7 @@ def draw_use(chance, chip, flash, unfinished, is_gone, allowed, name):
     if chance.random() < 0.12:
         use.board = draw_wanted(chance, chip)
     use.no_board = chance.random() < (0.02 if use.board is not None else 0.05)
+    use.trusts = chance.random() < 0.1
     return use, image
 
 
@@ -220,19 +226,9 @@ def draw_task(chance, chip, flash, unfinished, is_gone, allowed, file):
             name = "leave"
     if allowed is not None and name not in allowed:
         name = chance.choice(allowed)
-    if name == "info":
-        return Use("info"), None
-    if name == "read":
-        return draw_read(chance, chip), None
-    if name == "crc":
-        return draw_crc(chance, chip), None
-    if name == "erase":
-        return draw_erase(chance, chip), None
-    if name == "undo":
-        count = chance.choice((None, None, 0, 1, 1, 2, 100, "change"))
-        return Use("undo", to_change=True) if count == "change" else Use("undo", count=count), None
-    if name == "leave":
-        return draw_leave(chance, chip), None
+    drawn = {"info": lambda *_: Use("info"), "read": draw_read, "crc": draw_crc, "erase": draw_erase, "undo": draw_undo, "leave": draw_leave}
+    if name in drawn:
+        return drawn[name](chance, chip), None
     text, given = draw_image(chance, chip, flash)
     if name == "write":
         given.update(draw_sequel(chance, chip, is_gone, file), verify=chance.random() < 0.3)

@@ -1,34 +1,15 @@
 """One use of the program: a subcommand, its options and further words, by name."""
 
 
+# what a use may have beside its name, and what stands there where it hasn't; `file` is that of the simulator's flash
+GIVEN = {**dict.fromkeys(("force", "verify", "keep", "hex", "skip_blank", "all", "trusts", "to_change", "no_board", "is_fresh"), False),
+         **dict.fromkeys(("range", "to", "go", "again", "out", "image", "pages", "count", "address", "kind", "stop", "number", "board")), "file": "F"}
+
+
 class Use:
     def __init__(self, name, **given):
-        self.name = name
-        self.force = given.pop("force", False)
-        self.verify = given.pop("verify", False)
-        self.range = given.pop("range", None)
-        self.keep = given.pop("keep", False)
-        self.to = given.pop("to", None)
-        self.go = given.pop("go", None)
-        self.again = given.pop("again", None)
-        self.out = given.pop("out", None)
-        self.hex = given.pop("hex", False)
-        self.skip_blank = given.pop("skip_blank", False)
-        self.image = given.pop("image", None)
-        self.pages = given.pop("pages", None)
-        self.all = given.pop("all", False)
-        self.count = given.pop("count", None)
-        self.to_change = given.pop("to_change", False)
-        self.address = given.pop("address", None)
-        self.kind = given.pop("kind", None)
-        self.stop = given.pop("stop", None)
-        self.number = given.pop("number", None)
-        # the file of the simulator's flash
-        self.file = given.pop("file", "F")
-        self.board = given.pop("board", None)
-        self.no_board = given.pop("no_board", False)
-        self.is_fresh = given.pop("is_fresh", False)
-        assert not given
+        assert given.keys() <= GIVEN.keys()
+        self.__dict__.update(GIVEN, name=name, **given)
 
     def keeps(self):
         return self.keep or self.to is not None
@@ -47,7 +28,7 @@ class Use:
                 found += [word, str(value)]
         for word, is_given in (("-f", self.force), ("-v", self.verify), ("--keep", self.keep), ("--hex", self.hex),
                                ("--skip-blank", self.skip_blank), ("--all", self.all), ("--no-board", self.no_board),
-                               ("--fresh", self.is_fresh), ("--to-change", self.to_change)):
+                               ("--fresh", self.is_fresh), ("--to-change", self.to_change), ("--trust-journal", self.trusts)):
             if is_given:
                 found.append(word)
         if self.range is not None:

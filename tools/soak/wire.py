@@ -1,7 +1,6 @@
 """What is said to a device: settling of docs/UNDO.md, and the frames of docs/MODEL.md."""
 
-from device import (ACK, CONNECT, ERASE, EXTENDED_ERASE, GET, GET_ID, GO, NACK, READ, WRITE,
-                    exclusive_or)
+from device import ACK, CONNECT, ERASE, EXTENDED_ERASE, GET, GET_ID, GO, NACK, READ, WRITE, exclusive_or
 
 LIMIT = 131072
 # where pages are erased by numbers of one byte, and the least in any case
@@ -74,23 +73,26 @@ def settle_in_batches(rig, byte, left):
 def connect(rig, byte):
     """The limit is used up: the device is fresh, or gone."""
     rig.put(CONNECT)
-    if rig.get() != ACK:
-        raise WireFault()
+    expect(rig, ACK)
     drain(rig)
     rig.put(byte)
-    if rig.get() is not None:
-        raise WireFault()
+    expect(rig, None)
     rig.put(byte)
-    if rig.get() != NACK or rig.get() is not None:
+    expect(rig, NACK)
+    expect(rig, None)
+
+
+def expect(rig, reply):
+    if rig.get() != reply:
         raise WireFault()
 
 
-def send(rig, frame):
-    """A step of a frame: its bytes, and the acknowledgement."""
-    for byte in frame:
-        rig.put(byte)
-    if rig.get() != ACK:
-        raise WireFault()
+def send(rig, *steps):
+    """The steps of a frame: the bytes of each, and its acknowledgement."""
+    for step in steps:
+        for byte in step:
+            rig.put(byte)
+        expect(rig, ACK)
 
 
 def take(rig):
@@ -108,41 +110,39 @@ def checked(data):
     return [*data, exclusive_or(data)]
 
 
+def placed(address):
+    return checked(address.to_bytes(4, "big"))
+
+
 def get_commands(rig):
     """The version, and the codes."""
     rig.begin("get")
     send(rig, pair(GET))
-    count = take(rig)
-    version = take(rig)
+    count, version = take(rig), take(rig)
     codes = [take(rig) for _ in range(count)]
-    if take(rig) != ACK:
-        raise WireFault()
+    expect(rig, ACK)
     return version, codes
 
 
 def get_id(rig):
     rig.begin("get id")
     send(rig, pair(GET_ID))
-    if take(rig) != 1:
-        raise WireFault()
+    expect(rig, 1)
     found = take(rig) << 8 | take(rig)
-    if take(rig) != ACK:
-        raise WireFault()
+    expect(rig, ACK)
     return found
 
 
 def read(rig, address, length):
     rig.begin("read")
-    send(rig, pair(READ))
-    send(rig, checked(address.to_bytes(4, "big")))
-    send(rig, pair(length - 1))
+    send(rig, pair(READ), placed(address), pair(length - 1))
     return bytes(take(rig) for _ in range(length))
 
 
 def read_unless_refused(rig, address, length):
     """The bytes, or None where the device refuses a step of the frame."""
     rig.begin("board")
-    for step in (pair(READ), checked(address.to_bytes(4, "big")), pair(length - 1)):
+    for step in (pair(READ), placed(address), pair(length - 1)):
         for byte in step:
             rig.put(byte)
         reply = rig.get()
@@ -155,29 +155,23 @@ def read_unless_refused(rig, address, length):
 
 def program(rig, address, data):
     rig.begin("write frame")
-    send(rig, pair(WRITE))
-    send(rig, checked(address.to_bytes(4, "big")))
-    send(rig, checked([len(data) - 1, *data]))
+    send(rig, pair(WRITE), placed(address), checked([len(data) - 1, *data]))
 
 
 def erase_page(rig, extended, page):
     rig.begin("erase frame")
     if extended:
-        send(rig, pair(EXTENDED_ERASE))
-        send(rig, [0, 0, *checked([page >> 8, page & 0xFF])])
+        send(rig, pair(EXTENDED_ERASE), [0, 0, *checked([page >> 8, page & 0xFF])])
     else:
-        send(rig, pair(ERASE))
-        send(rig, [0, *checked([page])])
+        send(rig, pair(ERASE), [0, *checked([page])])
 
 
 def go(rig, address):
     rig.begin("go")
-    send(rig, pair(GO))
-    send(rig, checked(address.to_bytes(4, "big")))
+    send(rig, pair(GO), placed(address))
 
 
 def protect(rig, code):
     rig.begin("protect")
     send(rig, pair(code))
-    if rig.get() != ACK:
-        raise WireFault()
+    expect(rig, ACK)

@@ -1,0 +1,168 @@
+"""A page that a journal keeps, of which the disk has changed a digit: its CRC stands behind it, where the journal names its board, and
+no undo gives other bytes back."""
+
+import random
+
+import telling
+from place import Said
+from telling import kept, left, sum_of
+
+SIZE = 256
+COUNTING = bytes(i % 251 for i in range(16 * SIZE))
+NAME = "2B0035000A51363034393332"
+TOLD = {telling.UNIQUE_AT: bytes.fromhex(NAME), telling.SIZE_AT: None}
+HEAD = f"stmjournal 3 0410 {NAME}\n".encode()
+DAMAGED = "page {} of segment {} has another CRC in the journal than when it was kept; undo by a copy of the journal, or --trust-journal"
+CHECK = ("log", "--check", "--journal", "journal")
+BEGINS = {"table": telling.TABLE.replace(b"[[128, 1024]]", b"[[16, 256]]"), "flash": COUNTING, "image": b"an image",
+          "flash.board": f"unique {NAME}\n".encode()}
+# how many digits rot, and by which words all that is there is undone
+ROTS, ALL = 250, (("undo",), ("undo", "-v"), ("undo", "0"), ("undo", "2"))
+
+
+def part(page):
+    return COUNTING[page * SIZE:(page + 1) * SIZE]
+
+
+def erased(number, *pages, has_sum=True):
+    """The lines of an erase of these pages."""
+    lines = b"".join(kept(page, part(page), has_sum) + b"erase %d\n" % page for page in pages)
+    return b"open %d\n%send %d\n" % (number, lines, number) + has_sum * left(dict.fromkeys(pages, b"\xff" * SIZE))
+
+
+def rotten(journal, *pages, chance=random):
+    """A journal of which a digit of each of these pages is another one."""
+    for page in pages:
+        at = journal.index(b"page %d " % page) + 7 + chance.randrange(2 * SIZE)
+        journal = journal[:at] + bytes([chance.choice([it for it in b"0123456789ABCDEF" if it != journal[at]])]) + journal[at + 1:]
+    return journal
+
+
+class Damage(telling.Told):
+    begins = BEGINS
+
+    def two_segments(self):
+        """Pages 3 and 5 are erased, and then pages 7 and 9: the journal of that."""
+        for number, pages in enumerate((("3", "5"), ("7", "9")), 1):
+            self.assertTold(self.at("erase", *pages), f"segment {number}: 2 pages erased\n")
+        self.assertFile("journal", HEAD + erased(1, 3, 5) + erased(2, 7, 9))
+        return self.held("journal")
+
+    def assertRefused(self, page, segment, *words, **more):
+        """Nothing is changed."""
+        before = {name: self.held(name) for name in ("flash", "flash.line", "journal")}
+        self.assertFault(self.at(*words, **more), DAMAGED.format(page, segment), **before)
+
+    def test_the_line(self):
+        """In a journal of version 3 alone, in the process and over a socket."""
+        told, over = "segment 1: 2 pages erased\n", lambda it: telling.serve_one(self, it, "there", TOLD, False)
+        self.assertTold(self.at("erase", "3", "5"), told, journal=HEAD + erased(1, 3, 5))
+        self.store_all({"there": COUNTING, "journal": None, "flash.board": None})
+        self.assertTold(self.run_on(over, "erase", "3", "5"), told, journal=HEAD + erased(1, 3, 5))
+        for version, begun in ((2, b""), (2, b"stmjournal 2 0410\n"), (1, b"stmjournal 1 0410\n")):
+            self.store_all({"flash": COUNTING, "journal": begun})
+            self.assertTold(self.at("erase", "3", "5"), told, journal=b"stmjournal %d 0410\n" % version + erased(1, 3, 5, has_sum=False))
+
+    def test_each_rotten_digit_is_told(self):
+        whole, chance, flash, line = self.two_segments(), random.Random(1), self.held("flash"), self.held("flash.line")
+        for number in range(ROTS):
+            page, segment = chance.choice(((3, 1), (5, 1), (7, 2), (9, 2)))
+            rotted = rotten(whole, page, chance=chance)
+            with self.subTest(number=number, page=page):
+                self.store("journal", rotted)
+                self.assertRefused(page, segment, *ALL[number % len(ALL)])
+                self.assertFault(self.call(*CHECK), DAMAGED.format(page, segment), journal=rotted)
+                if number % 10 == 0:
+                    self.assertTold(self.at("undo", "--trust-journal"), "undone 2\n")
+                    given = bytes.fromhex(rotted.split(b"page %d " % page)[1].split(b"\n")[0].decode())
+                    self.assertFile("flash", COUNTING[:page * SIZE] + given + COUNTING[(page + 1) * SIZE:])
+                    self.store_all({"flash": flash, "flash.line": line})
+
+    def test_the_segments_that_are_taken_count(self):
+        """The newest that is damaged is named, and its first page."""
+        whole, flash = self.two_segments(), self.held("flash")
+        for pages, named in (((3, 5), (3, 1)), ((5, 9), (9, 2)), ((9, 7, 3), (7, 2))):
+            self.store("journal", rotten(whole, *pages))
+            self.assertRefused(*named, "undo")
+        # a CRC that rots counts as a page that does, and a segment that changed nothing is passed by `--to-change`
+        digits = sum_of(part(9)).encode()
+        for journal, taken in ((whole.replace(digits, digits[::-1]), "1"), (rotten(whole, 9) + b"open 3\nend 3\n", "--to-change")):
+            self.store("journal", journal)
+            self.assertRefused(9, 2, "undo", taken)
+        self.assertTold(self.at("undo", "1"), "undone 1\n", "segment 3 had changed nothing; 2 more can be undone")
+        for words in (("1",), ("-v", "1"), ("--to-change",)):
+            self.store_all({"flash": flash, "journal": rotten(whole, 9)})
+            self.assertRefused(9, 2, "undo", *words)
+            self.store("journal", rotten(whole, 3))
+            self.assertEqual((self.at("undo", *words).status, self.held("flash") == flash), (0, False))
+            self.assertRefused(3, 1, "undo", *words)
+
+    def test_what_is_no_such_line(self):
+        """One that a crash has cut, whatever it says, of another form, or not directly behind its page; only the whole one counts."""
+        begun, wrong, right = HEAD + b"open 1\n" + kept(3, part(3), has_sum=False), b"crc 00000000!\n", f"crc {sum_of(part(3))}!\n".encode()
+        others = [b"crc %s!\n" % it for it in (b"0000000", b"000000000", b"0000000g", b"0000000a", b" 0000000")]
+        tails = [wrong[:count] + tail for count in range(len(wrong)) for tail in (b"", bytes(7))]
+        for behind in (*tails, *others, wrong.upper(), b"!\n" + wrong, b"erase 3\n" + wrong, right, right + wrong):
+            with self.subTest(behind=behind):
+                mark = b"" if behind.endswith(b"\n") or not behind else b"!\n"
+                self.store("journal", begun + behind)
+                said, journal = self.at("undo"), self.held("journal")
+                self.assertTold(said, "undone 1\n", flash=COUNTING)
+                self.assertTrue(journal.startswith(begun + behind + mark), journal[-40:])
+        self.store("journal", begun + wrong)
+        self.assertRefused(3, 1, "undo")
+
+    def test_a_journal_without_such_lines_goes_on(self):
+        """That of an older version of the program, which may have begun one that this one goes on with."""
+        self.two_segments()
+        self.store("journal", rotten(HEAD + erased(1, 3, 5, has_sum=False) + erased(2, 7, 9, has_sum=False), 3))
+        self.assertWell(self.call(*CHECK))
+        self.assertTold(self.at("undo"), "undone 2\n")
+        self.store_all({"flash": COUNTING, "journal": HEAD + erased(1, 3, has_sum=False)})
+        self.assertTold(self.at("erase", "5"), "segment 2: 1 pages erased\n", journal=HEAD + erased(1, 3, has_sum=False) + erased(2, 5))
+
+    def test_no_line_is_opened(self):
+        self.store("journal", rotten(self.two_segments(), 9))
+        listener = self.listen("board")
+        listener.setblocking(False)
+        for words in ((), ("1",), ("-v",), ("--to-change",), ("--fresh",)):
+            self.assertFault(self.use("undo", *words, device="board"), DAMAGED.format(9, 2))
+            self.assertRaises(BlockingIOError, listener.accept)
+
+    def test_what_goes_on_beside_it(self):
+        """What looks or writes counts on no kept page."""
+        journal = rotten(self.two_segments(), 3)
+        self.store("journal", journal)
+        for words in (("info",), ("write", "image"), ("undo", "1")):
+            self.assertEqual(self.at(*words).status, 0)
+        self.assertWell(self.call("log", "--journal", "journal"))
+        self.assertTrue(self.held("journal").startswith(journal + b"open 3\n"))
+        self.assertRefused(3, 1, "undo", "--fresh")
+
+    def test_a_write_that_is_done_again(self):
+        """The undo of one that was broken off compares too: its page rots as it is erased, and the line is cut as it is to be written."""
+        class Rotting(telling.Stand):
+            def heard(stand, came):
+                if came == b"\x43\xbc":
+                    self.store("journal", rotten(self.held("journal"), 0))
+
+        said = self.run_on(lambda it: telling.serve_one(self, it, "flash", TOLD, True, Rotting), "write", "--again", "1", "image")
+        fault = DAMAGED.format(0, 1)
+        self.assertEqual(said, Said(1, b"", f"again 1 of 1: line failed; not undone: {fault}\n"
+                                    f"stands: segment 1 is unfinished, undo first\nstmflash: {fault}\n".encode()))
+
+    def test_as_json(self):
+        self.store("journal", rotten(self.two_segments(), 9))
+        says = DAMAGED.format(9, 2)
+        for said in (self.at("undo", "1", "--json"), self.call(*CHECK, "--json")):
+            self.assertEqual(said, Said(1, f'{{"fault":"page_damaged","says":"{says}","status":1}}\n'.encode(), f"stmflash: {says}\n".encode()))
+
+    def test_keep_prints_the_journal_anew(self):
+        """With such lines behind the pages that are left, also one that rotted."""
+        whole, lines = self.two_segments(), kept(7, part(7)) + kept(9, part(9))
+        for journal, left in ((whole, lines), (rotten(whole, 9, chance=random.Random(9)), None)):
+            self.store("journal", journal)
+            self.assertTold(self.call("keep", "--last", "1", "--journal", "journal"), "kept 1\n1 can be undone\n")
+            if left:
+                self.assertFile("journal", HEAD + b"open 1\n" + left + b"end 1\n")
+        self.assertRefused(9, 1, "undo")
