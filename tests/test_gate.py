@@ -17,7 +17,6 @@ import tempfile
 import threading
 import time
 import types
-import unittest
 import unittest.mock
 
 from place import TOP, text_in
@@ -142,6 +141,11 @@ class Gate(Room):
             # what the demo makes is used behind it alone
             if GATE.UNPROVED in step.words:
                 self.assertEqual(step.behind, "sh tools/demo.sh")
+
+    def test_what_the_lists_of_rows_leave_out_is_there(self):
+        for name in ("web", "windows"):
+            ran = subprocess.run([os.path.join(TOP, name, "rows"), "--list"], capture_output=True, text=True)
+            self.assertIn("test_undo.Undo.", ran.stdout + ran.stderr, name)
 
     def test_a_step_without_its_tools_is_left_out_where_the_call_names_them(self):
         """They are among those that CI installs. Here sh has nothing else but what its first lines call."""
