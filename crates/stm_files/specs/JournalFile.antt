@@ -1,5 +1,5 @@
 -- The file of a journal, as contracts see it.
-use Rattle.std.specs.Prelude.{◌≡◌, ◌||◌, ℕ, List, [], Option, Some, None, Bool, true, false, OnOk, Result}
+use Rattle.std.specs.Prelude.{◌≡◌, ◌⊎◌, ◌||◌, ℕ, List, [], Option, Some, None, Bool, true, false, OnOk, Result}
 use Rattle.std.specs.Prelude.{option_map}
 use Rattle.stm_files.specs.Locks.{HeldFile, IsHeld, IsHeldIfThere}
 use Rattle.stm_files.specs.PageSeal.{AppendsSealed, names_board}
@@ -55,3 +55,9 @@ pub record AppendsIfTaken {E : Type 0} (bytes : List ℕ) (result : Result (Unit
   pub board : OnOk result (new.names_board ≡ (old.names_board || names_board bytes))
   pub ok : OnOk result ((old.has_failed ≡ false) × (new.has_failed ≡ false))
   pub held : OnOk result (IsHeld old.without_lock new.lock)
+
+-- Void lines were added, and all that was known holds still; or nothing was; or that failed, and nothing more
+-- is added.
+abbrev pub IsNoted : List ℕ → JournalBytes → JournalBytes → Type 0
+IsNoted lines old new =
+    (new.has_failed ≡ true) ⊎ ((new ≡ old) ⊎ AppendsSealed new.names_board old.known new.known lines)

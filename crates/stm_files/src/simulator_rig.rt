@@ -1,5 +1,6 @@
 // A simulated device, and a journal kept in a file.
 ghost use Rattle.std.specs.Prelude.{◌≡◌, ◌≤◌, [], drop, length, IfOk, IfSome, OnErr, OnOk, true, false};
+ghost use Rattle.stm_files.specs.JournalFile.{IsNoted};
 ghost use Rattle.stm_files.specs.PageSeal.{AppendsSealed};
 ghost use Rattle.std.proofs.Common.{sym};
 ghost use Rattle.stm_journal.specs.States.{is_unfinished};
@@ -127,6 +128,15 @@ impl<'a, 'f, R: Locks + AllocGlobal> SimulatorRig<'a, 'f, R> {
     /// journal, and couldn't be.
     pub fn is_unstored(&self) -> bool {
         self.is_unstored
+    }
+
+    /// Adds void lines to the journal's file, which no session asked for.
+    pub fn note(&mut self, lines: &[u8])
+        ensures memory { self.new.memory ≡ self.old.memory }
+        ensures count { self.new.journal_failures ≡ self.old.journal_failures }
+        ensures in_file { IsNoted lines.now self.old.file self.new.file }
+    {
+        self.file.note(lines);
     }
 
     /// Adds nothing more to the journal, as after an append that failed.

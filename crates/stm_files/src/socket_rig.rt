@@ -2,7 +2,7 @@
 ghost use Rattle.std.specs.Prelude.{◌≡◌, ◌<◌, ◌-◌, ◌^◌, IfOk, OnOk, MatchResult, Err, Ok, length, false, true};
 ghost use Rattle.std.specs.Io.KnownBytes.{IsAtEnd};
 ghost use Rattle.stm_journal.specs.States.{is_unfinished};
-ghost use Rattle.stm_files.specs.JournalFile.{AppendsIfTaken};
+ghost use Rattle.stm_files.specs.JournalFile.{AppendsIfTaken, IsNoted};
 ghost use Rattle.stm_files.specs.SocketRig.{SocketState, socket_rig_state};
 ghost use Rattle.stm_files.specs.SocketLine.{PutsOnLine, ReadsNothing, SendsAll, TakesFromLine};
 ghost use Rattle.stm_wire.specs.Call.{Put, Fetch};
@@ -112,6 +112,14 @@ impl<'a, S: Timed + Drop, R: Locks + Clock + AllocGlobal> SocketRig<'a, S, R> {
     {
         let answer = as_line_fault(self.line.take(patience));
         self.count_line(answer)
+    }
+
+    /// Adds void lines to the journal's file, which no session asked for.
+    pub fn note(&mut self, lines: &[u8])
+        ensures count { self.new.failures ≡ self.old.failures }
+        ensures in_file { IsNoted lines.now self.old.file self.new.file }
+    {
+        self.file.note(lines);
     }
 
     /// Adds nothing more to the journal, as after an append that failed.

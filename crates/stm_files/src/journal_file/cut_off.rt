@@ -1,6 +1,7 @@
 // The end of a journal that is cut off, once what stood there is in a file of its own.
 
-use crate::journal_file::{JournalFile, moved};
+use crate::journal_file::JournalFile;
+use crate::journal_file::ending::moved;
 use crate::locks::Locks;
 use crate::rescue::{Rescued, rescue};
 use std::fs::OpenFile;
