@@ -57,7 +57,7 @@ class Left(telling.Told):
                 self.assertEqual(self.held("journal")[-len(self.lines()):], self.lines())
 
     def test_where_there_are_none(self):
-        """By a journal that names no board, behind a write that its verify refused, and where the journal goes with it."""
+        """By a journal that names no board, and behind a write that its verify refused."""
         for version in (1, 2):
             self.begin()
             self.store("journal", b"stmjournal %d 0410\n" % version)
@@ -67,8 +67,25 @@ class Left(telling.Told):
         with self.between(lambda came: came.replace(b"\xfe", b"\xfd")):
             self.assertFault(self.at("write", "-v", "image", "--wait", WAIT, device="stand"), "differs at 08000000")
         self.assertEqual(self.held("journal")[-7:], b"\nend 1\n")
-        self.begin(("write", "--keep-to", "kept", "image"))
-        self.assertEqual(self.held("kept")[-7:], b"\nend 1\n")
+
+    def test_a_journal_that_is_kept(self):
+        """It says what its last segment left too, by `--keep-to`, at a simulator and a board."""
+        for device in ("sim:0410:flash", "board"):
+            with self.subTest(device=device):
+                self.begin(ERASE)
+                self.clear("kept")
+                if device == "board":
+                    self.serve(1, number="0410")
+                said = self.at("write", "-v", "--keep-to", "kept", "image", "--wait", WAIT, device=device)
+                self.assertEqual((said.status, self.held("journal")), (0, None))
+                if device == "board":
+                    self.assertServed()
+                lines = left({0: self.held("flash")[:SIZE], 1: self.held("flash")[SIZE:2 * SIZE]})
+                self.assertEqual(self.held("kept")[-len(lines) - 7:], b"\nend 2\n" + lines)
+                changed = other(self.held("flash"), SIZE + 9)
+                self.store("flash", changed)
+                self.assertFault(self.at("undo", "1", journal="kept"), OTHERWISE.format(1, 2))
+                self.assertEqual(self.held("flash")[SIZE:2 * SIZE], changed[SIZE:2 * SIZE])
 
     def test_journals_in_any_order(self):
         """Three of one board, each of a change of page 3: none is undone but the newest that stands."""

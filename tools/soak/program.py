@@ -122,10 +122,10 @@ class World:
                 lines.append(tell_board(board, session.find(table, board.number)))
             if use.name == "info":
                 lines.append(tell_tried(*session.find(table, int(use.number, 16)).tried()))
+            if use.name in ("write", "erase"):
+                note_left(rig)
             if use.keeps():
                 lines.append(self.keep(rig, use.to))
-            elif use.name in ("write", "erase"):
-                note_left(rig)
             if use.go is not None:
                 session.go(rig, use.go)
             fault = None

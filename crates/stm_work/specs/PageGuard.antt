@@ -9,12 +9,12 @@ use Rattle.stm_work.specs.declared.content.Content.TheVariants.{Placed, AtBase}
 use Rattle.stm_work.specs.declared.page_guard.Doings.TheVariants.{Nothing, Erases, ErasesAll, Writes, Undoes}
 use Rattle.stm_work.specs.declared.page_guard.PageGuard.{PageGuard}
 use Rattle.stm_work.specs.declared.page_reads.PageReads.{PageReads}
-use Rattle.stm_work.specs.declared.progress_watch.KeptCount.{KeptCount}
-use Rattle.stm_work.specs.declared.progress_watch.KeptPages.{KeptPages}
-use Rattle.stm_work.specs.declared.progress_watch.Left.{Left}
-use Rattle.stm_work.specs.declared.progress_watch.LeftPage.{LeftPage}
-use Rattle.stm_work.specs.declared.progress_watch.Reading.{Reading}
-use Rattle.stm_work.specs.declared.progress_watch.Reading.TheVariants.{UpTo, Whole, Lost}
+use Rattle.stm_work.specs.declared.kept_pages.KeptCount.{KeptCount}
+use Rattle.stm_work.specs.declared.kept_pages.KeptPages.{KeptPages}
+use Rattle.stm_work.specs.declared.kept_pages.Left.{Left}
+use Rattle.stm_work.specs.declared.kept_pages.LeftPage.{LeftPage}
+use Rattle.stm_work.specs.declared.kept_pages.Reading.{Reading}
+use Rattle.stm_work.specs.declared.kept_pages.Reading.TheVariants.{UpTo, Whole, Lost}
 
 -- where what is told of the newest segment's pages begins
 abbrev pub newest_from : Option KeptCount → ℕ → ℕ

@@ -44,8 +44,12 @@ pub trait Keeper: Rig {
             old.is_honest → IfOk result (IsFinished old.journal) };
 }
 
-/// A Rig whose journal can refuse an append.
-pub trait Refuser: Keeper {
+/// A Rig at whose journal a guard may stand: it refuses an append, and adds lines of its own.
+pub trait Guarded: Keeper {
+    /// Adds void lines to the file of the journal, of which no session knows.
+    fn note(&mut self, lines: &[u8])
+        ensures { Self.view self.new ≡ Self.view self.old };
+
     /// Fails as an append would that the file of the journal refuses, which takes nothing more then.
     fn refuse_append(&mut self, bytes: &[u8]) -> Result<(), RigFault>
         ensures refused { OnOk result ⊥ }
@@ -117,14 +121,22 @@ impl<'a, 'f, R: Locks + AllocGlobal> Keeper for SimulatorRig<'a, 'f, R> {
     }
 }
 
-impl<'a, S: Timed + Drop, R: Locks + Clock + AllocGlobal> Refuser for SocketRig<'a, S, R> {
+impl<'a, S: Timed + Drop, R: Locks + Clock + AllocGlobal> Guarded for SocketRig<'a, S, R> {
+    fn note(&mut self, lines: &[u8]) {
+        self.note(lines);
+    }
+
     fn refuse_append(&mut self, bytes: &[u8]) -> Result<(), RigFault> {
         self.give_up_journal();
         self.append(bytes)
     }
 }
 
-impl<'a, 'f, R: Locks + AllocGlobal> Refuser for SimulatorRig<'a, 'f, R> {
+impl<'a, 'f, R: Locks + AllocGlobal> Guarded for SimulatorRig<'a, 'f, R> {
+    fn note(&mut self, lines: &[u8]) {
+        self.note(lines);
+    }
+
     fn refuse_append(&mut self, bytes: &[u8]) -> Result<(), RigFault> {
         self.give_up_journal();
         self.append(bytes)

@@ -124,13 +124,11 @@ fn failure_moved<'a, R: Locks + AllocGlobal>(
 }
 
 /// What came of a session with the journal of this name. It was done only if what was added to the
-/// journal is still there; and of a journal that failed it's told why. Where all was done, the void lines
-/// are added of what pages were left with.
+/// journal is still there; and of a journal that failed it's told why.
 pub fn done_on<'a, R: Locks + AllocGlobal>(
     mut journal: JournalFile<'_, R>,
     name: &'a str,
     done: Result<Steps<'a>, Failure<'a>>,
-    lines: &[u8],
 ) -> Result<Steps<'a>, Failure<'a>>
     ensures { TellsSteps done.entry result }
 {
@@ -139,10 +137,6 @@ pub fn done_on<'a, R: Locks + AllocGlobal>(
     }
     match failure_of(&done) {
         None if !journal.stays() => Err(failure_on(&mut journal, name)),
-        None => {
-            journal.note(lines);
-            done
-        }
         Some(Failure::Session(Fault::Journal)) => {
             failed_by(done, failure_on(&mut journal, name))
         }

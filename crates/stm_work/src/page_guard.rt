@@ -9,8 +9,9 @@ ghost use Rattle.stm_work.specs.declared.page_guard.Doings.TheVariants.{Undoes};
 
 use crate::action::Action;
 use crate::content::Content;
+use crate::kept_pages::{KeptPages, number};
 use crate::page_reads::PageReads;
-use crate::progress_watch::{Doing, KeptPages, Seen, number, page_named};
+use crate::progress_watch::{Doing, Seen, page_named};
 use crate::work::Work;
 use std::alloc::{AllocError, Global};
 use std::mem;
@@ -128,6 +129,11 @@ impl<'a> PageGuard<'a> {
     /// The page that an undo didn't touch, as it holds something else than this segment left.
     pub fn changed(&self) -> Option<(u16, u32)> {
         self.changed
+    }
+
+    /// The pages that the journal keeps.
+    pub fn kept(&self) -> &KeptPages {
+        &self.kept
     }
 
     fn is_undo(&self) -> bool

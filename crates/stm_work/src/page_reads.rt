@@ -3,7 +3,7 @@
 ghost use Rattle.std.specs.Prelude.{◌≡◌, true};
 ghost use Rattle.stm_work.specs.PageGuard.{ReadsAs};
 
-use crate::progress_watch::Left;
+use crate::kept_pages::Left;
 use std::alloc::Global;
 use stm_files::sum_of_page;
 

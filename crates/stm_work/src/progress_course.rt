@@ -2,8 +2,8 @@
 
 use crate::action::Action;
 use crate::content::Content;
-use crate::progress_watch::{Doing, KeptPages, Seen};
-use std::alloc::Global;
+use crate::kept_pages::KeptPages;
+use crate::progress_watch::{Doing, Seen};
 use stm_chip::Table;
 use stm_image::Image;
 use stm_wire::Chip;
@@ -102,7 +102,6 @@ pub struct Place {
 pub struct Course<'a> {
     table: &'a Table,
     goal: Goal,
-    kept: KeptPages,
     chip: Option<&'a Chip>,
     /// How many KiB the flash has, where the device told it.
     told: Option<u16>,
@@ -132,11 +131,10 @@ fn pages_between(first: u16, last: u16) -> u32 {
 }
 
 impl<'a> Course<'a> {
-    pub fn new(alloc: Global, table: &'a Table, goal: Goal) -> Course<'a> {
+    pub fn new(table: &'a Table, goal: Goal) -> Course<'a> {
         Course {
             table,
             goal,
-            kept: KeptPages::new(alloc),
             chip: None,
             told: None,
             first: None,
@@ -164,13 +162,13 @@ impl<'a> Course<'a> {
         }
     }
 
-    /// Takes up what a call told, and answers whether another page is begun, or something
-    /// else is done with this one.
-    pub fn see(&mut self, seen: Seen) -> bool {
+    /// Takes up what a call told, beside the pages that the journal keeps, and answers whether another page
+    /// is begun, or something else is done with this one.
+    pub fn see(&mut self, seen: Seen, kept: &KeptPages) -> bool {
         match seen {
             Seen::Id(id) => {
                 self.chip = self.table.find(id);
-                self.resolve();
+                self.resolve(kept);
                 false
             }
             Seen::Block(doing, address) => match self.page_of(address) {
@@ -181,13 +179,6 @@ impl<'a> Course<'a> {
                 None => false,
             },
             Seen::Page(doing, page) => self.turn_to(doing, page, false),
-        }
-    }
-
-    /// Takes up what was fetched of the journal from a place on.
-    pub fn fetch(&mut self, at: u64, bytes: &[u8]) {
-        if self.is_back() {
-            self.kept.fetch(at, bytes);
         }
     }
 
@@ -202,7 +193,7 @@ impl<'a> Course<'a> {
     }
 
     /// Which pages the goal has on this chip.
-    fn resolve(&mut self) {
+    fn resolve(&mut self, kept: &KeptPages) {
         let Some(chip) = self.chip else {
             return;
         };
@@ -213,11 +204,11 @@ impl<'a> Course<'a> {
                 None
             }
             Goal::Back(extent) => {
-                self.count = self.kept.given_back(extent);
+                self.count = kept.given_back(extent);
                 None
             }
             Goal::BackTwice(extent) => {
-                self.count = match self.kept.given_back(extent) {
+                self.count = match kept.given_back(extent) {
                     Some(count) => Some(count.saturating_mul(2)),
                     None => None,
                 };

@@ -4,7 +4,7 @@ ghost use Rattle.std.specs.Prelude.{◌≡◌};
 use crate::failure::Failure;
 use crate::hint::Hint;
 use crate::hinting::hint_of;
-use crate::keeper::{Keeper, Refuser};
+use crate::keeper::{Guarded, Keeper};
 use crate::otherwise::Watched;
 use crate::page_guard::PageGuard;
 use crate::progress_course::Course;
@@ -31,7 +31,7 @@ pub struct ProgressRig<'a, L: Rig + Drop, W: Drop, C> {
     has_heard: bool,
 }
 
-impl<'a, L: Rig + Drop, W: Write + Drop, C: Clock> ProgressRig<'a, L, W, C> {
+impl<'a, L: Guarded + Drop, W: Write + Drop, C: Clock> ProgressRig<'a, L, W, C> {
     pub fn new(
         inner: L,
         guard: PageGuard<'a>,
@@ -62,11 +62,12 @@ impl<'a, L: Rig + Drop, W: Write + Drop, C: Clock> ProgressRig<'a, L, W, C> {
         self.guard.changed()
     }
 
-    /// The lines of what the pages were left with of a segment that ended.
-    pub fn take_lines(&mut self) -> Vec<u8>
-        ensures { self.new.inner ≡ self.old.inner }
+    /// Says in the journal's file what the pages were left with of a segment that ended.
+    pub fn note_left(&mut self)
+        ensures { L.view self.new.inner ≡ L.view self.old.inner }
     {
-        self.guard.take_lines()
+        let lines = self.guard.take_lines();
+        self.inner.note(&lines);
     }
 
     /// The inner Rig. Nothing is shown any more; where all was done, the last page is told, and then
@@ -104,7 +105,7 @@ impl<'a, L: Rig + Drop, W: Write + Drop, C: Clock> ProgressRig<'a, L, W, C> {
             return;
         };
         let before = self.progress.place();
-        if self.progress.see(seen) {
+        if self.progress.see(seen, self.guard.kept()) {
             if let Some(place) = self.progress.place() {
                 self.screen.turn(before, place);
             }
@@ -147,7 +148,7 @@ impl<'a, L: Rig + Drop, W: Write + Drop, C: Clock> ProgressRig<'a, L, W, C> {
     }
 }
 
-impl<'a, L: Refuser + Drop, W: Write + Drop, C: Clock> Rig for ProgressRig<'a, L, W, C> {
+impl<'a, L: Guarded + Drop, W: Write + Drop, C: Clock> Rig for ProgressRig<'a, L, W, C> {
     ghost view = { λ rig. L.view rig.inner };
 
     ghost model = { λ rig honest. L.model rig.inner honest };
@@ -194,15 +195,12 @@ impl<'a, L: Refuser + Drop, W: Write + Drop, C: Clock> Rig for ProgressRig<'a, L
 
     fn fetch(&mut self, at: u64, buf: &mut [u8]) -> Result<usize, RigFault> {
         let count = self.inner.fetch(at, buf)?;
-        if self.screen.is_shown() {
-            self.progress.fetch(at, &buf[..count]);
-        }
         self.guard.fetch(at, &buf[..count]);
         Ok(count)
     }
 }
 
-impl<'a, L: Refuser + Drop, W: Write + Drop, C: Clock> Keeper for ProgressRig<'a, L, W, C> {
+impl<'a, L: Guarded + Drop, W: Write + Drop, C: Clock> Keeper for ProgressRig<'a, L, W, C> {
     fn hear_size(&mut self, kib: Option<u16>) {
         self.progress.hear_size(kib);
     }
@@ -217,6 +215,7 @@ impl<'a, L: Refuser + Drop, W: Write + Drop, C: Clock> Keeper for ProgressRig<'a
         name: &'w str,
         to: Option<&'w str>,
     ) -> Result<u32, Failure<'w>> {
+        self.note_left();
         self.inner.keep(alloc, name, to)
     }
 }

@@ -75,7 +75,7 @@ fn use_simulator<'a, 's, R: Locks + Clock + AllocGlobal, W: Write + Drop>(
         (goes_out output.entry) None plan.entry) }
 {
     let name = plan.journal;
-    let Taken { rig, done, lines } = take_on(
+    let Taken { rig, done } = take_on(
         rt.alloc(),
         rig,
         plan,
@@ -88,7 +88,7 @@ fn use_simulator<'a, 's, R: Locks + Clock + AllocGlobal, W: Write + Drop>(
     );
     let is_unstored = rig.is_unstored();
     let (memory, journal, mut files) = rig.into_parts();
-    let done = done_on(journal, name, done, &lines);
+    let done = done_on(journal, name, done);
     let done = failed_if(memory.has_stopped(), done, Failure::Stopped);
     let done = write_done(rt, done, output);
     let stored = files.store_rig(&memory);

@@ -92,7 +92,7 @@ pub fn on_socket<'a, 'r, R: Locks + Net + Clock + AllocGlobal, W: Write + Drop>(
     let rig = SocketRig::new(line, journal);
     let greeting = greeting_for(&plan.work, options);
     let trusts = options.trusts_others;
-    let Taken { rig, done, lines } = take_on(
+    let Taken { rig, done } = take_on(
         rt.alloc(),
         rig,
         plan,
@@ -104,6 +104,6 @@ pub fn on_socket<'a, 'r, R: Locks + Net + Clock + AllocGlobal, W: Write + Drop>(
         hint,
     );
     let done = failed_if(rig.has_given_up(), done, Failure::NoAnswer);
-    let done = done_on(rig.into_journal(), name, done, &lines);
+    let done = done_on(rig.into_journal(), name, done);
     write_done(rt, done, output)
 }

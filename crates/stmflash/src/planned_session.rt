@@ -14,7 +14,7 @@ use stm_watch::{Watch, WatchRig};
 use stm_wire::Rig;
 use stm_words::{Extent, Options};
 use stm_work::{
-    Course, Failure, Hint, PageGuard, Plan, ProgressRig, Refuser, Screen, Steps, Work,
+    Course, Failure, Hint, PageGuard, Plan, ProgressRig, Guarded, Screen, Steps, Work,
     done_watched, failed_by, failure_of, watched,
 };
 
@@ -32,8 +32,6 @@ pub type ShownSocket<'r, 'e, R, E> = Shown<'r, SocketRig<'r, UnixStream, R>, &'e
 pub struct Taken<'a, L> {
     pub rig: L,
     pub done: Result<Steps<'a>, Failure<'a>>,
-    /// What the file of the journal is to say of the pages that were changed.
-    pub lines: Vec<u8>,
 }
 
 /// How far back a work undoes, of which the journal is checked: one that is trusted isn't.
@@ -47,7 +45,7 @@ pub fn checked_extent(work: &Work, options: &Options) -> Option<Extent> {
 
 /// Does what a plan says, on a Rig; it is shown, and its last turns are kept. What they tell of a
 /// session that was broken off becomes `hint`. `chips` are those by which it is shown.
-pub fn take_on<'a, 's, L: Refuser + Drop, W: Write + Drop, C: Clock>(
+pub fn take_on<'a, 's, L: Guarded + Drop, W: Write + Drop, C: Clock>(
     alloc: Global,
     rig: L,
     plan: Plan<'a>,
@@ -61,7 +59,7 @@ pub fn take_on<'a, 's, L: Refuser + Drop, W: Write + Drop, C: Clock>(
     ensures { TakesAround ⟦<Shown<'s, L, W, C> as Rig>⟧.view (λ shown. shown.inner.inner) L.view
         watch greeting plan.entry rig result.rig result.done }
 {
-    let course = Course::new(alloc, chips, plan.work.goal());
+    let course = Course::new(chips, plan.work.goal());
     let guard = PageGuard::of(alloc, chips, &plan.work, trusts_others);
     let is_watched = plan.is_watched();
     let mut rig = WatchRig::new(ProgressRig::new(rig, guard, course, screen), watch);
@@ -71,9 +69,11 @@ pub fn take_on<'a, 's, L: Refuser + Drop, W: Write + Drop, C: Clock>(
     let mut rig = rig.into_inner();
     *hint = rig.hint();
     let done = failed_on(rig.changed(), done);
-    let lines = rig.take_lines();
+    if failure_of(&done).is_none() {
+        rig.note_left();
+    }
     let rig = rig.finish(done.is_ok(), told);
-    Taken { rig, done, lines }
+    Taken { rig, done }
 }
 
 /// The same steps, where one failed since this page isn't as this segment left it.
