@@ -48,7 +48,7 @@ pub trait Keeper: Rig {
 pub trait Guarded: Keeper {
     /// Adds void lines to the file of the journal, of which no session knows.
     fn note(&mut self, lines: &[u8])
-        ensures { Self.view self.new ≡ Self.view self.old };
+        ensures { Stays (Self.view self.old) (Self.view self.new) };
 
     /// Fails as an append would that the file of the journal refuses, which takes nothing more then.
     fn refuse_append(&mut self, bytes: &[u8]) -> Result<(), RigFault>

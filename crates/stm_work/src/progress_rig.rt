@@ -1,5 +1,6 @@
 // A Rig whose calls are shown as they go on, and looked back at where they came to no good end.
 ghost use Rattle.std.specs.Prelude.{◌≡◌};
+ghost use Rattle.stm_work.specs.Steps.{Stays};
 
 use crate::failure::Failure;
 use crate::hint::Hint;
@@ -64,7 +65,7 @@ impl<'a, L: Guarded + Drop, W: Write + Drop, C: Clock> ProgressRig<'a, L, W, C> 
 
     /// Says in the journal's file what the pages were left with of a segment that ended.
     pub fn note_left(&mut self)
-        ensures { L.view self.new.inner ≡ L.view self.old.inner }
+        ensures { Stays (L.view self.old.inner) (L.view self.new.inner) }
     {
         let lines = self.guard.take_lines();
         self.inner.note(&lines);
