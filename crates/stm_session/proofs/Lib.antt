@@ -89,6 +89,7 @@ pub mod Arrivals
 pub mod RunOrders
 pub mod Confirmed
 pub mod KeptSteps
+pub mod KeptErased
 pub mod KeptRuns
 pub mod KeptUndoes
 pub mod Untold
