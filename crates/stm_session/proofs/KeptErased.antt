@@ -16,7 +16,7 @@ use Rattle.stm_session.specs.declared.fault.Fault.{Fault}
 use Rattle.stm_session.specs.ChangeOrder.{IsChangedUnless, IsSaved, IsSavedWith, IsTurnOf, Keeping, KeepsErased}
 use Rattle.stm_session.specs.Closing.{closing, closing_steps}
 use Rattle.stm_session.specs.Contents.{content}
-use Rattle.stm_session.specs.Order.{Step, Adds, Sends, Follows, page_reads, program_steps, read_steps, rewrite_steps, write_steps}
+use Rattle.stm_session.specs.Order.{Step, Adds, Sends, Follows, page_address, page_reads, program_steps, read_steps, rewrite_steps, write_steps}
 use Rattle.stm_session.specs.Reaching.{confirmed_at}
 use Rattle.stm_session.specs.RunOrder.{IsReading}
 use Rattle.stm_session.specs.Undoable.{has_companion}
@@ -53,6 +53,9 @@ keep_read : (s : StateData) (address blocks : ℕ) (bytes : List ℕ) → Keep s
 keep_read s address zero bytes = tt
 keep_read s address (suc blocks) bytes = keep_then s (read_steps address blocks bytes) _ (keep_read s address blocks bytes) (sent s _, tt)
 
+keep_page : (s : StateData) (chip : ChipData) (n : ℕ) (held : List ℕ) → Keep s (page_reads chip n held)
+keep_page s chip n held = keep_read s (page_address chip n) (page_size chip n / 256) held
+
 keep_write : (s : StateData) (chip : ChipData) (n : ℕ) (page : List ℕ) (frames : List Frame) → Keep s (write_steps chip n page frames)
 keep_write s chip n page [] = tt
 keep_write s chip n page (f ∷ frames) = (sent s _, keep_write s chip n page frames)
@@ -73,7 +76,7 @@ keep_saved s false chip n held xs is = by_pair (n == 1 && has_companion chip) is
         let two : List Step = Adds (Keeps n held ∷ []) ∷ [] in
         let kept_one : Keep s one = (λ m is. cc, tt) in
         let kept_two : Keep s two = (λ m is. cc, tt) in
-        let first : Keep s both.first = subst (Keep s) (sym both.is_first.is) (keep_then s (page_reads chip 257 other) one (keep_read s _ _ _) kept_one) in
+        let first : Keep s both.first = subst (Keep s) (sym both.is_first.is) (keep_then s (page_reads chip 257 other) one (keep_page s chip 257 other) kept_one) in
         subst (Keep s) (sym both.is) (keep_then s both.first two first kept_two)
 
 -- a page's turn
@@ -81,13 +84,15 @@ pub keep_turn : (s : StateData) (kept : Bool) (chip : ChipData) (c : Change) (n 
 keep_turn s kept chip c n changed xs keeps (inl left) = subst (Keep s) (sym left.is) tt
 keep_turn s kept chip c n changed xs keeps (inr turn) =
     let page = content chip c n turn.held in
-    subst (Keep s) (sym turn.is) (keep_then s (page_reads chip n turn.held) turn.later (keep_read s _ _ _) (unless (bytes_eq turn.held page) refl turn.is_changed))
+    subst (Keep s) (sym turn.is) (keep_then s (page_reads chip n turn.held) turn.later (keep_page s chip n turn.held) (unless (bytes_eq turn.held page) refl turn.is_changed))
   where
     unless : (same : Bool) → bytes_eq turn.held (content chip c n turn.held) ≡ same → IsChangedUnless same kept chip n turn.held (content chip c n turn.held) turn.later → Keep s turn.later
     unless true is none = subst (Keep s) (sym none) tt
     unless false is given =
         let keeps_n = keeps (turn.counts ∙ ap (λ (b : Bool). not b) is) in
-        subst (Keep s) (sym given.is) (keep_then s given.saved _ (keep_saved s kept chip n turn.held given.saved given.is_saved) (λ m is. let same : n ≡ m = cc in subst (λ (k : ℕ). IsTrue (newest_keeps k s)) same keeps_n, (sent s _, keep_program s chip n _ _)))
+        let page = content chip c n turn.held in
+        let frames = frames_of (erased_byte chip) page (length page / 256) in
+        subst (Keep s) (sym given.is) (keep_then s given.saved (rewrite_steps chip n page frames) (keep_saved s kept chip n turn.held given.saved given.is_saved) (λ m is. let same : n ≡ m = cc in subst (λ (k : ℕ). IsTrue (newest_keeps k s)) same keeps_n, (sent s _, keep_program s chip n page frames)))
 
 -- a verify and a read
 pub reads_kept : {T : Type 0} (chip : ChipData) (l : Loaded) (P : T → List Step → Type 0) (a b : RigState) (r : Result T Fault) → IfOk r (λ x. Follows (λ xs. AllByRecursion (IsReading chip) xs × P x xs) l l a b)

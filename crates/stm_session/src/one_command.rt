@@ -30,7 +30,7 @@ use stm_journal::Journal;
 use stm_wire::{Chip, Rig};
 
 /// Lays an image over the flash.
-fn write_image<R: Rig>(
+pub fn write_image<R: Rig>(
     alloc: Global,
     rig: &mut R,
     journal: &mut Journal,
@@ -93,7 +93,7 @@ fn erase_pages<R: Rig>(
 }
 
 /// Compares an image with the flash.
-fn verify_image<R: Rig>(rig: &mut R, chip: &Chip, image: &Image) -> Result<Outcome, Fault>
+pub fn verify_image<R: Rig>(rig: &mut R, chip: &Chip, image: &Image) -> Result<Outcome, Fault>
     requires { image_fits chip.now image.now ≡ true }
     ensures kind { IfOk result (IsKindOf (Command.Verify image.now)) }
     ensures cause { HasSessionCause (R.view rig.old) (R.view rig.new) result }
