@@ -90,6 +90,7 @@ pub mod RunOrders
 pub mod Confirmed
 pub mod KeptSteps
 pub mod KeptErased
+pub mod KeptParts
 pub mod KeptRuns
 pub mod KeptUndoes
 pub mod Untold
