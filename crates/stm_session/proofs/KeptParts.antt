@@ -1,16 +1,23 @@
 -- The part of an image that lies in the pages which the newest segment keeps, page by page.
-use Rattle.std.proofs.Common.{◌≡◌, ◌≢◌, ◌⊎◌, inl, inr, ℕ, ◌+◌, ◌<◌, ◌≤◌, Bool, true, false, IsTrue, List, [], length, sum, Option, Some, None, refl, sym, ◌∙◌, subst, arith}
+use Rattle.std.proofs.Common.{◌≡◌, ◌≢◌, ◌⊎◌, inl, inr, ℕ, zero, suc, ◌+◌, ◌<◌, ◌≤◌, ◌&&◌, Bool, true, false, IsTrue, List, [], ◌∷◌, length, sum, Option, Some, None, refl, sym, ap₂, ◌∙◌, subst, arith}
 use Rattle.std.specs.Prelude.{Contains, is_some}
-use Rattle.std.proofs.lemmas.Bool.{cases_lt, false≢true}
+use Rattle.std.specs.List.{list_all}
+use Rattle.std.proofs.lemmas.Bool.{and_parts, cases_lt, false≢true}
 use Rattle.std.proofs.lemmas.List.Sums.{sum_by_more}
 use Rattle.stm_image.specs.Layout.{IsAmong}
 use Rattle.stm_image.specs.Pairs.{Pairs}
 use Rattle.stm_image.specs.Part.{IsWithPart, StandsIn}
-use Rattle.stm_wire.specs.Chip.{ChipData, page_count, page_offset, page_size}
+use Rattle.stm_wire.specs.Chip.{ChipData, is_inside, page_count, page_offset, page_size}
 use Rattle.stm_journal.specs.declared.kept.PagePlace.{PagePlace}
 use Rattle.stm_journal.specs.KeptPlaces.{page_place}
 use Rattle.stm_journal.specs.States.{StateData, newest_keeps}
+use Rattle.stm_session.specs.declared.command.Command.TheVariants as command
+use Rattle.stm_session.specs.declared.outcome.Outcome.{Outcome}
+use Rattle.stm_session.specs.declared.outcome.Outcome.TheVariants as outcome
+use Rattle.stm_session.specs.Answers.{outcome_data, was_verified}
 use Rattle.stm_session.specs.Order.{page_address}
+use Rattle.stm_session.specs.Refusals.{image_fits}
+use Rattle.stm_session.specs.Running.{IsKindOf}
 use Rattle.stm_session.proofs.Work.{no_place_keeps}
 
 -- the pages below one were gone through
@@ -65,3 +72,26 @@ module _ (chip : ChipData) (s : StateData) (image : Pairs) (n : ℕ) (here : n <
 pub unplaced : (s : StateData) (newest n : ℕ) (o : Option PagePlace) → newest ≡ length s.stack → o ≡ page_place s newest n → is_some o ≡ false → newest_keeps n s ≡ false
 unplaced s newest n None is place none = no_place_keeps s newest n is place
 unplaced s newest n (Some at) is place none = absurd (false≢true (sym none))
+
+-- a part fits where its image does
+pub part_fits : (chip : ChipData) (image part : Pairs) → IsAmong part image → image_fits chip image ≡ true → image_fits chip part ≡ true
+part_fits chip image part among fits = all_of part (λ p held. list_all_contains (λ pair. is_inside chip pair.0) image p (among p held) fits)
+  where
+    list_all_contains : (test : ℕ × ℕ → Bool) (xs : Pairs) (p : ℕ × ℕ) → Contains xs p → list_all test xs ≡ true → test p ≡ true
+    list_all_contains test [] p held all = absurd (omega (arith, held.1))
+    list_all_contains test (x ∷ xs) p (zero, lt, is) all = let e : x ≡ p = is in subst (λ (q : ℕ × ℕ). test q ≡ true) e (and_parts (test x) (list_all test xs) all).0
+    list_all_contains test (x ∷ xs) p (suc i, lt, is) all = list_all_contains test xs p (i, omega (arith, lt), is) (and_parts (test x) (list_all test xs) all).1
+
+    all_of : (xs : Pairs) → ((p : ℕ × ℕ) → Contains xs p → is_inside chip p.0 ≡ true) → list_all (λ pair. is_inside chip pair.0) xs ≡ true
+    all_of [] each = refl
+    all_of (x ∷ xs) each =
+        let first = each x (zero, omega arith, refl) in
+        let rest = all_of xs (λ p held. each p (suc held.0, omega (arith, held.1), held.2)) in
+        ap₂ (λ (p q : Bool). p && q) first rest
+
+-- what a verify answers
+pub verified_only : (part : Pairs) (said : Outcome) → IsKindOf (command.Verify part) said → outcome_data said ≡ was_verified
+verified_only part (outcome.Written segment pages) is = absurd is
+verified_only part (outcome.Erased segment pages) is = absurd is
+verified_only part outcome.Verified is = refl
+verified_only part (outcome.Read bytes) is = absurd is
