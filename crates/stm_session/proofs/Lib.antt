@@ -88,6 +88,7 @@ pub mod OneCommands
 pub mod Arrivals
 pub mod RunOrders
 pub mod Confirmed
+pub mod ConfirmedCommands
 pub mod KeptSteps
 pub mod KeptErased
 pub mod KeptParts

@@ -75,8 +75,7 @@ fn run_confirmed<R: Rig>(
 {
     step_laws();
     confirm(rig, chip)?;
-    let outcomes = run_commands(alloc, rig, journal, chip, commands)?;
-    Ok(outcomes)
+    run_commands(alloc, rig, journal, chip, commands)
 }
 
 /// Does commands, one after another: a write or an erase is one segment of the journal. Whatever
