@@ -31,7 +31,7 @@ use Rattle.stm_session.proofs.Orders.{does_then}
 use Rattle.stm_session.proofs.Reaching.{at_fault}
 use Rattle.stm_session.proofs.SentParts.{part_after, part_fails}
 
-cause_then : {T U : Type 0} (u : T) (a b c : RigState) (r : Result U Fault) → HasSessionCause {T = T} a b (Ok u) → HasSessionCause b c r → HasSessionCause a c r
+pub cause_then : {T U : Type 0} (u : T) (a b c : RigState) (r : Result U Fault) → HasSessionCause {T = T} a b (Ok u) → HasSessionCause b c r → HasSessionCause a c r
 cause_then {T} {U} u a b c (Err e) p q = cause_behind {T = T} {U = U} {V = U} u a b c e (Err e) refl p q
 cause_then u a b c (Ok y) p q =
     record {

@@ -19,6 +19,7 @@ pub mod RunHistories
 pub mod UndoHistories
 pub mod ToldRuns
 pub mod Histories
+pub mod VerifiedWrites
 pub mod Whole
 pub mod Differences
 pub mod Texts

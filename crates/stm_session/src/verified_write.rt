@@ -121,8 +121,8 @@ pub fn write_and_verify<R: Rig>(
     let mut opened = open(alloc, rig, table)?;
     let chip = opened.chip;
     check_commands(&opened.journal, chip, &opened.commands, &commands)?;
-    let [Command::Write(image)] = commands else {
+    let Command::Write(image) = &commands[0] else {
         unreachable!()
     };
-    write_confirmed(alloc, rig, &mut opened.journal, chip, &image)
+    write_confirmed(alloc, rig, &mut opened.journal, chip, image)
 }

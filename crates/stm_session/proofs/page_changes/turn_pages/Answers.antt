@@ -95,8 +95,10 @@ loop-n-preserved g c =
           let before = so_far.order in
           let own = c.in_ok-changed.ensures.order in (
             before.0 ++ own.0,
-            (all_turned c.args.chip.now c.args.change.now n c.loop-n.first kept changed c.after_page-first.result before.0 own.0 c.is_kept-kept.ensures next_is before.1.0 own.1.0,
-            keep_then s2 before.0 own.0 (keep_still s s2 before.0 turned.still before.1.1) own.1.1),
+            (
+              all_turned c.args.chip.now c.args.change.now n c.loop-n.first kept changed c.after_page-first.result before.0 own.0 c.is_kept-kept.ensures next_is before.1.0 own.1.0,
+              keep_then s2 before.0 own.0 (keep_still s s2 before.0 turned.still before.1.1) own.1.1,
+            ),
             does_then before.0 own.0 c.args.journal.now c.loop-n.journal c.turn_page.new.journal (V c.args.rig.now) (V c.loop-n.rig) (V c.turn_page.new.rig) before.2 own.2,
           );
       line = c.in_ok-changed.ensures.cause.line_done ∙ so_far.line;
