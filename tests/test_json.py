@@ -33,7 +33,7 @@ class Json(Place):
                             "erased": "FF", "version": "22",
                             "codes": ["00", "02", "11", "21", "31", "43", "73", "82", "92"], "tried": 0})
         self.assertAnswers(self.use_image("write", IMAGE, "-v", "--json"),
-                           {"answer": "written_and_verified", "segment": 1, "pages": 1, "bytes": 1024})
+                           {"answer": "written_and_verified", "segment": 1, "pages": 1, "bytes": 1024, "again": 1024})
         self.assertAnswers(self.use_image("write", IMAGE, "--json"), {"answer": "written", "segment": 2, "pages": 0, "bytes": 1024},
                            note=new(2))
         self.assertAnswers(self.use_image("verify", IMAGE, "--json"), {"answer": "verified", "bytes": 1024})
@@ -57,7 +57,7 @@ class Json(Place):
                            {"answer": "kept", "count": 1})
         self.store("image", image)
         self.assertAnswers(self.use("write", "-v", "-f", "-S", "0x08000100", "--json", "image"),
-                           {"answer": "written_and_verified", "segment": 1, "pages": 1, "bytes": 1027, "hint": f"at 08000500 {like}"})
+                           {"answer": "written_and_verified", "segment": 1, "pages": 1, "bytes": 1027, "again": 259, "hint": f"at 08000500 {like}"})
         # as text it is told on a terminal alone, before the write
         self.assertWell(self.use("write", "-f", "-S", "0x08000800", "image"))
 

@@ -28,7 +28,7 @@ class ToChange(Served):
         self.store("a", A)
         self.assertTold(self.use("write", "a"), "segment 1: 1 pages written\n")
         self.assertTold(self.use("write", "a"), "segment 2: 0 pages written\n", new(2))
-        self.assertTold(self.use("write", "-v", "--quiet", "a"), "segment 3: 0 pages written\nverified 4 bytes\n", new(3))
+        self.assertTold(self.use("write", "-v", "--quiet", "a"), "segment 3: 0 pages written\nverified 4 bytes, 0 of them again\n", new(3))
         self.assertTold(self.use("erase", "9"), "segment 4: 0 pages erased\n", new(4))
         # what stays isn't to be undone anyway
         self.assertTold(self.use("write", "--keep", "a"), "segment 5: 0 pages written\nkept 5\n")

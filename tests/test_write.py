@@ -16,6 +16,13 @@ class Write(Place):
         self.assertTold(self.use_image("write", image), "segment 2: 0 pages written\n", new(2))
         self.assertTold(self.use("undo"), "undone 2\n", had(2, left=0), holds=(ERASED, b"idle\n"))
 
+    def test_reads_again_what_it_changed(self):
+        """Of three pages the middle one holds something else."""
+        image = bytes(range(256)) * 12
+        self.store("flash", flash_from(image[:1500] + b"!" + image[1501:]))
+        self.assertTold(self.use_image("write", image, "-v"), "segment 1: 1 pages written\nverified 3072 bytes, 1024 of them again\n")
+        self.assertHolds(flash_from(image), b"idle\n")
+
     def test_writes_up_to_the_end(self):
         """The last byte of the flash is written, and an image that goes on past it changes nothing."""
         journal = with_page(b"stmjournal 2 0412\nopen 1\npage 31 ", b"F", b"\nerase 31\nprogram 31\nend 1\n")

@@ -413,11 +413,12 @@ def read_out(rig, table, use):
 def use_image(rig, table, use, image):
     if isinstance(image, bytes):
         image = read_raw(image, session.info(rig, table)[0].base)
-    verified = b"verified %d bytes\n" % len(image)
     if use.name == "verify":
         session.run(rig, table, [Verify(image)])
-        return verified
-    commands = [Write(image), Verify(image)] if use.verify else [Write(image)]
-    segment, count = session.run(rig, table, commands)[0]
-    written = b"segment %d: %d pages written\n" % (segment, count)
-    return written + verified if use.verify else written
+        return b"verified %d bytes\n" % len(image)
+    written = b"segment %d: %d pages written\n"
+    if not use.verify:
+        return written % session.run(rig, table, [Write(image)])[0]
+    segment, count, again = session.write_and_verify(rig, table, image)
+    seen = b"" if again == len(image) else b", %d of them again" % again
+    return written % (segment, count) + b"verified %d bytes%s\n" % (len(image), seen)

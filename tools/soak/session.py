@@ -285,8 +285,8 @@ def do(rig, journal, chip, command):
     return read_part(rig, chip, command.start, command.length)
 
 
-def run(rig, table, commands):
-    """What each command answers."""
+def begin(rig, table, commands):
+    """All that can be refused is, before the first is done."""
     journal, chip, _, codes = open_session(rig, table)
     segments = sum(map(changes, commands))
     if segments > 0 and chip.erase_code() not in codes:
@@ -296,7 +296,23 @@ def run(rig, table, commands):
     if journal.depth() + segments > DEEPEST:
         raise Fault(FULL)
     confirm(rig, chip)
+    return journal, chip
+
+
+def run(rig, table, commands):
+    """What each command answers."""
+    journal, chip = begin(rig, table, commands)
     return [do(rig, journal, chip, command) for command in commands]
+
+
+def write_and_verify(rig, table, image):
+    """What the write answers, and how many bytes of the image were read again: those in pages that its segment keeps."""
+    journal, chip = begin(rig, table, [Write(image)])
+    written = do(rig, journal, chip, Write(image))
+    kept = {it.page for it in journal.stack[-1].kept}
+    again = {place: byte for place, byte in image.items() if page_of(chip, place) in kept}
+    verify(rig, chip, again)
+    return *written, len(again)
 
 
 def info(rig, table):

@@ -9,6 +9,7 @@ pub mod Laid
 pub mod LaidRuns
 pub mod Lying
 pub mod Overlaps
+pub mod Parting
 pub mod Placing
 pub mod Printing
 pub mod Putting

@@ -4,6 +4,7 @@ pub mod Digits
 pub mod Lay
 pub mod Layout
 pub mod Pairs
+pub mod Part
 pub mod Parts
 pub mod Pieces
 pub mod Reads

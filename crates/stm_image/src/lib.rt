@@ -10,6 +10,7 @@ mod laws;
 mod laying;
 mod layout;
 mod lines;
+mod part;
 mod pieces;
 mod place;
 mod raw;

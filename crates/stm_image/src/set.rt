@@ -16,7 +16,7 @@ use std::marker::Model;
 /// as runs of bytes at consecutive addresses, with a gap between any two.
 #[derive(Debug, Drop)]
 pub struct Image {
-    runs: Pieces,
+    pub(crate) runs: Pieces,
 }
 
 impl Model for Image {

@@ -34,6 +34,7 @@ not_turned kept changed chip n s same =
       free = λ m one two. refl;
       companion = λ is fresh one has. absurd (true≢false (sym is ∙ same));
       alone = λ other first_page. refl;
+      keeps = λ is. absurd (true≢false (sym is ∙ same));
       none = λ is. refl;
     }
 
@@ -48,6 +49,7 @@ saved_turned kept changed chip n a b c is_changed saved same is_open =
       free = λ m one two. may_keep_same m b c same is_open ∙ saved.free m one two;
       companion = λ is fresh one has. same.keeps 257 ∙ saved.companion fresh one has;
       alone = λ other first_page. may_keep_same 257 b c same is_open ∙ saved.alone other first_page;
+      keeps = λ is. same.keeps n ∙ saved.keeps;
       none = λ is. absurd (true≢false (sym is_changed ∙ is));
     }
 

@@ -19,6 +19,7 @@ pub mod RunHistories
 pub mod UndoHistories
 pub mod ToldRuns
 pub mod Histories
+pub mod VerifiedWrites
 pub mod Whole
 pub mod Differences
 pub mod Texts
@@ -88,7 +89,10 @@ pub mod OneCommands
 pub mod Arrivals
 pub mod RunOrders
 pub mod Confirmed
+pub mod ConfirmedCommands
 pub mod KeptSteps
+pub mod KeptErased
+pub mod KeptParts
 pub mod KeptRuns
 pub mod KeptUndoes
 pub mod Untold

@@ -21,7 +21,7 @@ use Rattle.stm_session.specs.Lines.{differs_in, keep_entries, page_entries, page
 use Rattle.stm_session.specs.Changing.{HasTurned, both_entries, change_entries, save_entries}
 use Rattle.stm_session.specs.Meaning.{flash_after}
 use Rattle.stm_session.specs.Steps.{Goes, IsSteady}
-use Rattle.stm_session.specs.ChangeOrder.{AreTurned}
+use Rattle.stm_session.specs.ChangeOrder.{AreTurned, Keeping}
 use Rattle.stm_session.specs.Order.{Follows}
 use Rattle.stm_session.specs.Undoable.{has_companion}
 
@@ -61,7 +61,7 @@ pub record IsTurnedSoFar (chip : ChipData) (c : Change) (k count : ℕ) (first :
   pub has : first ≡ true → IsTrue (has_companion chip) → IsTrue (newest_keeps 257 l2.state)
   pub begun : k ≤ 1 → first ≡ false
   pub small : count ≤ k
-  pub order : Follows (AreTurned chip c k first) l l2 old new
+  pub order : Follows (Keeping l2.state (AreTurned chip c k first)) l l2 old new
   pub line : new.line_failures ≡ old.line_failures
   pub journal : new.journal_failures ≡ old.journal_failures
   pub stays : old.is_honest → new.is_honest

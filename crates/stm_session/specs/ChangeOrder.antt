@@ -1,11 +1,12 @@
 -- In which order a command that changes the flash puts frames and appends lines, on any line.
 use Rattle.std.specs.Prelude.{◌≡◌, ◌⊎◌, ℕ, ◌+◌, ◌/◌, ◌<◌, ◌==◌, ◌&&◌, not, Bool, true, false}
-use Rattle.std.specs.Prelude.{if◌then◌else◌, List, [], ◌∷◌, ◌++◌, length, bytes_eq}
+use Rattle.std.specs.Prelude.{if◌then◌else◌, List, [], ◌∷◌, ◌++◌, length, bytes_eq, IsTrue}
+use Rattle.std.specs.List.{AllByRecursion}
 use Rattle.stm_wire.specs.Chip.{ChipData, erased_byte, page_count, page_size}
 use Rattle.stm_chip.specs.Plan.{frames_of}
-use Rattle.stm_journal.specs.declared.entry.Entry.TheVariants.{Keeps, Ends}
+use Rattle.stm_journal.specs.declared.entry.Entry.TheVariants.{Keeps, Erases, Ends}
 use Rattle.stm_journal.specs.Journals.{begin_entries}
-use Rattle.stm_journal.specs.States.{StateData}
+use Rattle.stm_journal.specs.States.{StateData, newest_keeps}
 use Rattle.stm_session.specs.declared.change.Change.{Change}
 use Rattle.stm_session.specs.Closing.{IsClosedInPart, closing}
 use Rattle.stm_session.specs.Contents.{MayTouch, content}
@@ -72,6 +73,14 @@ pub record IsLeft (chip : ChipData) (c : Change) (n : ℕ) (changed : Bool)
 abbrev pub IsTurnOf : Bool → ChipData → Change → ℕ → Bool → List Step → Type 0
 IsTurnOf kept chip c n changed steps =
     IsLeft chip c n changed steps ⊎ IsReadAndChanged kept chip c n changed steps
+
+-- The newest segment keeps the page that a step says it erases.
+abbrev pub KeepsErased : StateData → Step → Type 0
+KeepsErased s step = (n : ℕ) → step ≡ Adds (Erases n ∷ []) → IsTrue (newest_keeps n s)
+
+-- such steps, and it keeps each page that they erase
+abbrev pub Keeping : StateData → (List Step → Type 0) → List Step → Type 0
+Keeping s P steps = P steps × AllByRecursion (KeepsErased s) steps
 
 -- The pages below one, by rising number; page 257 was kept before its turn exactly
 -- where page 1 was changed.

@@ -55,4 +55,5 @@ pub record HasTurned (kept changed : Bool) (chip : ChipData) (n : ℕ)
   pub companion : changed ≡ true → kept ≡ false → n ≡ 1 → IsTrue (has_companion chip)
       → IsTrue (newest_keeps 257 new)
   pub alone : n ≢ 257 → n ≢ 1 → newest_may_keep 257 new ≡ newest_may_keep 257 old
+  pub keeps : changed ≡ true → IsTrue (newest_keeps n new)
   pub none : changed ≡ false → newest_may_keep 257 new ≡ newest_may_keep 257 old

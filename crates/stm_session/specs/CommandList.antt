@@ -1,8 +1,7 @@
 -- What doing a list of commands wants and promises, with the question before it or without.
-use Rattle.std.specs.Prelude.{◌≡◌, ◌≢◌, ℕ, ◌+◌, ◌≤◌, true, false, List, [], length, map, Vec}
+use Rattle.std.specs.Prelude.{◌≡◌, ◌≢◌, ℕ, ◌+◌, ◌≤◌, true, false, List, [], length, map}
 use Rattle.std.specs.Prelude.{Some, Result, IfErr, IfOk}
 use Rattle.std.specs.List.{list_all}
-use Rattle.std.specs.declared.alloc.Global.{Global}
 use Rattle.stm_wire.specs.Chip.{ChipData}
 use Rattle.stm_wire.specs.Dialogue.{GoesOn}
 use Rattle.stm_wire.specs.Parts.{IsPart}
@@ -33,13 +32,13 @@ pub record AreFit (chip : ChipData) (commands : List Command) (s : StateData) : 
 -- So many bytes are put and got at most. At Ok such steps are done, with these outcomes and this
 -- state behind them; a fault ends such a beginning, and is such a one where there is no command. On
 -- a device that follows the model, which is of this chip, it is a run of the commands.
-pub record DoesCommands (most : ℕ) (Done : List OutcomeData → StateData → List Step → Type 0)
+pub record DoesCommands {T : Type 0} (most : ℕ) (Done : List OutcomeData → StateData → List Step → Type 0)
     (Begun : Fault → List Step → Type 0) (IsOfNone : Fault → Type 0) (chip : ChipData)
     (commands : List Command) (l l2 : Loaded) (old new : RigState)
-    (result : Result (Vec Outcome Global) Fault) : Type 0 where
+    (result : Result T Fault) (outcomes_of : T → List Outcome) : Type 0 where
   pub puts : GoesOn (IsPart (Some chip) (is_whole result) most) old.calls new.calls
-  pub kinds : IfOk result (λ outcomes. AreKindsOf commands outcomes.items)
-  pub order : IfOk result (λ outcomes. let said = map outcome_data outcomes.items in
+  pub kinds : IfOk result (λ x. AreKindsOf commands (outcomes_of x))
+  pub order : IfOk result (λ x. let said = map outcome_data (outcomes_of x) in
       Follows (Done said l2.state) l l2 old new)
   pub stops : StopsTelling Begun l.is_torn old new result
   pub none : commands ≡ [] → IfErr result IsOfNone
@@ -47,4 +46,4 @@ pub record DoesCommands (most : ℕ) (Done : List OutcomeData → StateData → 
   pub named : IfErr result (λ fault. fault ≢ Unfinished)
   pub honest : (flashes : List (List ℕ)) → IsSteady flashes l old → old.device.chip ≡ chip
       → Runs (commands_in commands) flashes old new result
-      (λ outcomes. map outcome_data outcomes.items)
+      (λ x. map outcome_data (outcomes_of x))

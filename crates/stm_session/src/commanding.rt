@@ -6,7 +6,7 @@ ghost use Rattle.stm_session.specs.Contents.{IsMade, command_of};
 ghost use Rattle.stm_session.specs.Fault.{HasSessionCause};
 ghost use Rattle.stm_session.specs.Lines.{depth_at, is_named_at, segment_entries};
 ghost use Rattle.stm_session.specs.Meaning.{flash_after};
-ghost use Rattle.stm_session.specs.ChangeOrder.{IsOneSegment, IsSegmentBegun};
+ghost use Rattle.stm_session.specs.ChangeOrder.{IsOneSegment, IsSegmentBegun, Keeping};
 ghost use Rattle.stm_session.specs.Order.{Follows, FaultEnds};
 ghost use Rattle.stm_session.specs.Segments.{Changes};
 ghost use Rattle.stm_session.specs.Steps.{IsSteady};
@@ -39,7 +39,7 @@ pub fn change_flash<R: Rig>(
     ensures named { IfErr result (λ fault. fault ≢ Fault.Unfinished) }
     ensures order { let old = R.view rig.old in let new = R.view rig.new in
         let Done = IsOneSegment chip.now change.now journal.old.state in
-        OnOk result (Follows Done journal.old journal.new old new) }
+        OnOk result (Follows (Keeping journal.new.state Done) journal.old journal.new old new) }
     ensures stops { let old = R.view rig.old in let new = R.view rig.new in
         let Begun = IsSegmentBegun chip.now change.now journal.old.state in
         FaultEnds Begun journal.old.is_torn old new result }

@@ -51,6 +51,7 @@ mod silence;
 mod undo_course;
 mod undoing;
 mod unprotecting;
+mod verified_write;
 
 pub use asking_board::{Board, told_board_is_the_devices};
 pub use board_session::ask_board;
@@ -74,9 +75,10 @@ pub use laws::{
     asking_keeps_what_can_be_undone, lost_bytes_keep_what_can_be_undone,
     reads_in_the_flash_are_not_refused,
 };
-pub use outcome::{Outcome, Report};
+pub use outcome::{Outcome, Report, VerifiedWrite};
 pub use returned::Returned;
 pub use running::run;
 pub use silence::tell_silence;
 pub use undoing::{undo, undo_verified};
 pub use unprotecting::unprotect_fresh;
+pub use verified_write::write_and_verify;

@@ -5,6 +5,7 @@ ghost use Rattle.stm_wire.specs.Chip.{fits_inside};
 ghost use Rattle.stm_journal.specs.Journals.{Loaded};
 ghost use Rattle.stm_journal.specs.States.{is_unfinished};
 ghost use Rattle.stm_session.specs.Answers.{outcome_data, segments_of_command};
+ghost use Rattle.stm_session.specs.ChangeOrder.{Keeping};
 ghost use Rattle.stm_session.specs.OneCommand.{DoesCommand};
 ghost use Rattle.stm_session.specs.Fault.{HasSessionCause};
 ghost use Rattle.stm_session.specs.Meaning.{command_data, erases, is_change, reads, verifies};
@@ -29,7 +30,7 @@ use stm_journal::Journal;
 use stm_wire::{Chip, Rig};
 
 /// Lays an image over the flash.
-fn write_image<R: Rig>(
+pub fn write_image<R: Rig>(
     alloc: Global,
     rig: &mut R,
     journal: &mut Journal,
@@ -46,8 +47,8 @@ fn write_image<R: Rig>(
     ensures named { IfErr result (λ fault. fault ≢ Fault.Unfinished) }
     ensures order { let old = R.view rig.old in let new = R.view rig.new in
         let Done = IsDoneTelling chip.now (writes image.now) journal.old.state in
-        IfOk result (λ said.
-        Follows (Done (outcome_data said)) journal.old journal.new old new) }
+        IfOk result (λ said. let Kept = Keeping journal.new.state (Done (outcome_data said)) in
+        Follows Kept journal.old journal.new old new) }
     ensures stops { let old = R.view rig.old in let new = R.view rig.new in
         let Begun = IsBegunBy chip.now (writes image.now) journal.old.state in
         FaultEnds Begun journal.old.is_torn old new result }
@@ -77,8 +78,8 @@ fn erase_pages<R: Rig>(
     ensures named { IfErr result (λ fault. fault ≢ Fault.Unfinished) }
     ensures order { let old = R.view rig.old in let new = R.view rig.new in
         let Done = IsDoneTelling chip.now (erases pages.now.items) journal.old.state in
-        IfOk result (λ said.
-        Follows (Done (outcome_data said)) journal.old journal.new old new) }
+        IfOk result (λ said. let Kept = Keeping journal.new.state (Done (outcome_data said)) in
+        Follows Kept journal.old journal.new old new) }
     ensures stops { let old = R.view rig.old in let new = R.view rig.new in
         let Begun = IsBegunBy chip.now (erases pages.now.items) journal.old.state in
         FaultEnds Begun journal.old.is_torn old new result }
@@ -92,7 +93,7 @@ fn erase_pages<R: Rig>(
 }
 
 /// Compares an image with the flash.
-fn verify_image<R: Rig>(rig: &mut R, chip: &Chip, image: &Image) -> Result<Outcome, Fault>
+pub fn verify_image<R: Rig>(rig: &mut R, chip: &Chip, image: &Image) -> Result<Outcome, Fault>
     requires { image_fits chip.now image.now ≡ true }
     ensures kind { IfOk result (IsKindOf (Command.Verify image.now)) }
     ensures cause { HasSessionCause (R.view rig.old) (R.view rig.new) result }
@@ -167,8 +168,8 @@ pub fn run_command<R: Rig>(
     ensures puts { PutsAtMost chip.now most_of_command (R.view rig.old) (R.view rig.new) result }
     ensures order { let old = R.view rig.old in let new = R.view rig.new in
         let Done = IsDoneTelling chip.now (command_data command.now) journal.old.state in
-        IfOk result (λ said.
-        Follows (Done (outcome_data said)) journal.old journal.new old new) }
+        IfOk result (λ said. let Kept = Keeping journal.new.state (Done (outcome_data said)) in
+        Follows Kept journal.old journal.new old new) }
     ensures stops { let old = R.view rig.old in let new = R.view rig.new in
         let Begun = IsBegunTelling chip.now (command_data command.now) journal.old.state in
         StopsTelling Begun journal.old.is_torn old new result }

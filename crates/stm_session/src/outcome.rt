@@ -19,3 +19,14 @@ pub struct Report {
     /// One outcome a command, in their order.
     pub outcomes: Vec<Outcome>,
 }
+
+/// What a write answered that was verified.
+#[derive(Debug, Drop, Clone, Copy)]
+pub struct VerifiedWrite {
+    /// The number of its segment.
+    pub segment: u32,
+    /// How many pages it changed.
+    pub pages: u32,
+    /// How many bytes of its image were read again.
+    pub again: usize,
+}

@@ -5,7 +5,7 @@ ghost use Rattle.stm_wire.specs.Chip.{page_count, page_of};
 ghost use Rattle.stm_journal.specs.States.{newest_is_open, newest_keeps, newest_may_keep};
 ghost use Rattle.stm_journal.specs.Newest.{next_page};
 ghost use Rattle.stm_session.specs.Fault.{HasSessionCause};
-ghost use Rattle.stm_session.specs.ChangeOrder.{AreAllTurned, AreBegunTurns, IsPageTurn, IsTurnOf};
+ghost use Rattle.stm_session.specs.ChangeOrder.{AreAllTurned, AreBegunTurns, IsPageTurn, IsTurnOf, Keeping};
 ghost use Rattle.stm_session.specs.Order.{Begin, Follows, FaultEnds};
 ghost use Rattle.stm_session.specs.Undoable.{has_companion};
 ghost use Rattle.stm_session.specs.Steps.{IsSteady, Goes};
@@ -47,7 +47,7 @@ fn turn_page<R: Rig>(
     ensures named { IfErr result (λ fault. fault ≢ Fault.Unfinished) }
     ensures order { let old = R.view rig.old in let new = R.view rig.new in
         IfOk result (λ changed. let Turned = IsTurnOf kept chip.now change.now n changed in
-        Follows Turned journal.old journal.new old new) }
+        Follows (Keeping journal.new.state Turned) journal.old journal.new old new) }
     ensures stops { let old = R.view rig.old in let new = R.view rig.new in
         let Turned = IsPageTurn kept chip.now change.now n in
         FaultEnds (Begin Turned) journal.old.is_torn old new result }
@@ -102,7 +102,7 @@ pub fn turn_pages<R: Rig>(
     ensures named { IfErr result (λ fault. fault ≢ Fault.Unfinished) }
     ensures order { let old = R.view rig.old in let new = R.view rig.new in
         let Turned = AreAllTurned chip.now change.now in
-        OnOk result (Follows Turned journal.old journal.new old new) }
+        OnOk result (Follows (Keeping journal.new.state Turned) journal.old journal.new old new) }
     ensures stops { let old = R.view rig.old in let new = R.view rig.new in
         let Turned = AreBegunTurns chip.now change.now in
         FaultEnds Turned journal.old.is_torn old new result }

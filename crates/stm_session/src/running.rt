@@ -42,7 +42,8 @@ fn run_commands<R: Rig>(
         DoesCommands (length commands.now * most_of_command)
         (λ said last. AreDoneInOrder chip.now cs said journal.old.state last)
         (λ fault. AreBegun fault chip.now cs journal.old.state)
-        (λ _. ⊥) chip.now commands.now journal.old journal.new old new result }
+        (λ _. ⊥) chip.now commands.now journal.old journal.new old new result
+        (λ outcomes. outcomes.items) }
 {
     step_laws();
     let mut outcomes = Vec::new(alloc);
@@ -70,12 +71,11 @@ fn run_confirmed<R: Rig>(
         (AreDoneInOrder chip.now cs said journal.old.state last))
         (λ fault. IsConfirmedInPart chip.now (AreBegun fault chip.now cs journal.old.state))
         (λ fault. fault ≢ Fault.Memory)
-        chip.now commands.now journal.old journal.new old new result }
+        chip.now commands.now journal.old journal.new old new result (λ outcomes. outcomes.items) }
 {
     step_laws();
     confirm(rig, chip)?;
-    let outcomes = run_commands(alloc, rig, journal, chip, commands)?;
-    Ok(outcomes)
+    run_commands(alloc, rig, journal, chip, commands)
 }
 
 /// Does commands, one after another: a write or an erase is one segment of the journal. Whatever

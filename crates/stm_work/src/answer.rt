@@ -6,7 +6,7 @@ ghost use Rattle.stm_work.specs.DeviceText.{board_text, info_text, table_text, t
 ghost use Rattle.stm_work.specs.Printing.{board_text_of, erased_text, kept_text, left_text};
 ghost use Rattle.stm_work.specs.Printing.{sum_text, answer_text, tried_text, tried_text_of};
 ghost use Rattle.stm_work.specs.Printing.{again_text, behind_text, undone_head, undone_text};
-ghost use Rattle.stm_work.specs.Printing.{verified_text, written_text};
+ghost use Rattle.stm_work.specs.Printing.{seen_text, verified_text, written_text};
 ghost use Rattle.stm_work.specs.TriedBoards.{table_texts};
 
 use crate::chip_tables::ChipTables;
@@ -41,12 +41,12 @@ pub enum Answer {
     /// The CRC of bytes of the flash.
     Sum(u32),
     /// The number of a write's segment, how many pages it changed, and how many bytes the image has;
-    /// whether the flash was compared with them.
+    /// how many of them were read again, where it was verified.
     Written {
         segment: u32,
         pages: u32,
         bytes: usize,
-        is_verified: bool,
+        again: Option<usize>,
     },
     /// Of how many bytes the flash has the image's.
     Verified(usize),
@@ -140,8 +140,8 @@ impl Answer {
                 segment,
                 pages,
                 bytes,
-                is_verified: true,
-            } => print_written_and_verified(*segment, *pages, *bytes, out),
+                again: Some(again),
+            } => print_written_and_verified(*segment, *pages, *bytes, *again, out),
             Answer::Written { segment, pages, .. } => print_written(*segment, *pages, out),
             Answer::Sum(crc) => print_sum(*crc, out),
             Answer::Verified(bytes) => print_verified(*bytes, out),
@@ -205,18 +205,31 @@ fn print_verified<O: Write>(bytes: usize, out: &mut O) -> io::Result<()>
     writeln!(out, "verified {bytes} bytes")
 }
 
+/// Prints the same of a write, which read so many of them again.
+fn print_seen<O: Write>(bytes: usize, again: usize, out: &mut O) -> io::Result<()>
+    ensures { OnOk result (Appends (O.contents out.old) (O.contents out.new)
+        (seen_text bytes again)) }
+{
+    if again == bytes {
+        print_verified(bytes, out)
+    } else {
+        writeln!(out, "verified {bytes} bytes, {again} of them again")
+    }
+}
+
 /// Prints the lines of a write and of a verify.
 fn print_written_and_verified<O: Write>(
     segment: u32,
     pages: u32,
     bytes: usize,
+    again: usize,
     out: &mut O,
 ) -> io::Result<()>
     ensures { OnOk result (Appends (O.contents out.old) (O.contents out.new)
-        (written_text segment pages ++ verified_text bytes)) }
+        (written_text segment pages ++ seen_text bytes again)) }
 {
     print_written(segment, pages, out)?;
-    print_verified(bytes, out)
+    print_seen(bytes, again, out)
 }
 
 /// Prints the line of an erase.

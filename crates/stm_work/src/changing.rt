@@ -21,7 +21,7 @@ pub fn write<L: Rig>(
     ensures runs { let old = L.view rig.old in let new = L.view rig.new in
         RunsTold table.now (writes image ∷ []) old new result }
     ensures told { IfOk result (λ answer. (segment : ℕ) × (pages : ℕ)
-        × (answer ≡ Answer.Written segment pages (length image) false)) }
+        × (answer ≡ Answer.Written segment pages (length image) None)) }
 {
     let bytes = image.len();
     let commands = [Command::Write(image)];
@@ -34,37 +34,25 @@ pub fn write<L: Rig>(
         segment,
         pages,
         bytes,
-        is_verified: false,
+        again: None,
     })
 }
 
-/// Writes an image, and compares the flash with it in the same session.
-#[tactic(auto, using(crate::proofs::Telling::both_are))]
+/// Writes an image, and compares the flash with what it changed in the same session.
 pub fn write_and_verify<L: Rig>(
     alloc: Global,
     rig: &mut L,
     table: &Table,
     image: Image,
-) -> Result<Answer, Fault>
-    ensures runs { let commands = writes image ∷ verifies image ∷ [] in
-        RunsIfRoom L.view table.now commands rig.old rig.new result }
-    ensures told { IfOk result (λ answer. (segment : ℕ) × (pages : ℕ)
-        × (answer ≡ Answer.Written segment pages (length image) true)) }
-{
+) -> Result<Answer, Fault> {
     let bytes = image.len();
-    let commands = [Command::Write(image.clone()?), Command::Verify(image)];
-    let report = run(alloc, rig, table, &commands)?;
-    match report.outcomes.as_slice() {
-        [Outcome::Written { segment, pages }, Outcome::Verified] => {
-            Ok(Answer::Written {
-                segment: *segment,
-                pages: *pages,
-                bytes,
-                is_verified: true,
-            })
-        }
-        _ => unreachable!(),
-    }
+    let written = stm_session::write_and_verify(alloc, rig, table, image)?;
+    Ok(Answer::Written {
+        segment: written.segment,
+        pages: written.pages,
+        bytes,
+        again: Some(written.again),
+    })
 }
 
 /// Compares the flash with an image.

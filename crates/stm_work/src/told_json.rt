@@ -3,7 +3,7 @@ ghost use Rattle.std.specs.Prelude.{◌≡◌, ◌++◌, ℕ, List, IfOk, OnOk, 
 ghost use Rattle.stm_work.specs.Answer.{is_flash};
 ghost use Rattle.stm_work.specs.DeviceJson.{info_members};
 ghost use Rattle.stm_work.specs.JsonLine.{number_member, numbers_member, text_member};
-ghost use Rattle.stm_work.specs.ToldJson.{AreLines, answer_line, answer_name, change_members};
+ghost use Rattle.stm_work.specs.ToldJson.{AreLines, again_members, answer_line, answer_name, change_members};
 ghost use Rattle.stm_work.specs.ToldJson.{kept_line, members_of, next_line};
 ghost use Rattle.stm_work.specs.ToldJson.{next_told, refusal_line, steps_lines, undone_members};
 ghost use Rattle.stm_work.specs.ToldJson.{undone_name};
@@ -104,10 +104,7 @@ pub fn name_of(answer: &Answer) -> &'static str
         Answer::Told { .. } => "info",
         Answer::Identified { .. } => "identified",
         Answer::Sum(_) => "crc",
-        Answer::Written {
-            is_verified: true,
-            ..
-        } => "written_and_verified",
+        Answer::Written { again: Some(_), .. } => "written_and_verified",
         Answer::Written { .. } => "written",
         Answer::Verified(_) => "verified",
         Answer::Erased { .. } => "erased",
@@ -161,10 +158,11 @@ fn add_members(alloc: Global, line: &mut JsonLine, answer: &Answer) -> Result<()
             segment,
             pages,
             bytes,
-            ..
+            again,
         } => {
             add_change(line, *segment, *pages)?;
-            line.number("bytes", *bytes as u64)
+            line.number("bytes", *bytes as u64)?;
+            add_again(line, *again)
         }
         Answer::Verified(bytes) => line.number("bytes", *bytes as u64),
         Answer::Undone { count, bytes } => add_undone(line, *count, *bytes),
@@ -237,6 +235,16 @@ fn add_change(line: &mut JsonLine, segment: u32, pages: u32) -> Result<(), Alloc
 {
     line.number("segment", u64::from(segment))?;
     line.number("pages", u64::from(pages))
+}
+
+/// Adds how many bytes were read again, where that is told.
+fn add_again(line: &mut JsonLine, again: Option<usize>) -> Result<(), AllocError>
+    ensures { OnOk result (line.new.text.items ≡ line.old.text.items ++ again_members again) }
+{
+    match again {
+        Some(again) => line.number("again", again as u64),
+        None => Ok(()),
+    }
 }
 
 /// The line of a fault: its name, its text as it is told on standard error, what came where that

@@ -18,6 +18,7 @@ use Rattle.stm_session.specs.Closing.{IsClosedInPart, closing}
 use Rattle.stm_session.specs.Fault.{cause_of}
 use Rattle.stm_session.specs.Order.{Step, Adds, Are, Begin, DoesSteps, StopsBy}
 use Rattle.stm_session.proofs.CutShort.{part_stops, then_stops}
+use Rattle.stm_session.proofs.KeptErased.{keep_begin, keep_end, keep_still, keep_then}
 use Rattle.stm_session.proofs.Orders.{does_then}
 use Rattle.stm_wire.specs.Rig.{RigState}
 use Rattle.stm_journal.specs.Journals.{Loaded}
@@ -195,8 +196,11 @@ returns-clause-order g c =
     let E : ℕ → Type 0 = λ m. DoesSteps (closing chip ++ Adds (Ends m ∷ []) ∷ []) l3 l4 d e in
     let last : List Step = closing chip ++ Adds (Ends (length l.state.stack + 1) ∷ []) ∷ [] in
     let all = does_then first (turned.0 ++ last) l l2 l4 a b e c.in_ok-segment.ensures.order (does_then turned.0 last l2 l3 l4 b d e turned.2 (subst E deep c.in_ok-end_segment.ensures.order)) in
-    let done : IsOneSegment chip c.args.change.now l.state (first ++ (turned.0 ++ last)) = record { turned = turned.0; are_turned = turned.1; is = refl } in
-    (first ++ (turned.0 ++ last), done, all)
+    let done : IsOneSegment chip c.args.change.now l.state (first ++ (turned.0 ++ last)) = record { turned = turned.0; are_turned = turned.1.0; is = refl } in
+    let s = l4.state in
+    let still = keep_still l3.state s turned.0 (λ m h. c.in_ok-end_segment.ensures.ended.same.keeps m ∙ h) turned.1.1 in
+    let keeps = keep_then s first (turned.0 ++ last) (keep_begin s l.state chip) (keep_then s turned.0 last still (keep_end s chip (length l.state.stack + 1))) in
+    (first ++ (turned.0 ++ last), (done, keeps), all)
 
 pub returns-in_err-segment-clause-stops : goal.returns-in_err-segment-clause-stops
 returns-in_err-segment-clause-stops g c =
@@ -237,4 +241,4 @@ returns-in_err-end_segment-clause-stops g c =
     let P : ℕ → Type 0 = λ k. StopsBy (Part k) (cause_of c.in_err-end_segment.field-0.0) l3.is_torn d e in
     then_stops (Part (length l.state.stack + 1)) (IsSegmentBegun chip change l.state) before l l3 a d e _ c.from_residual-in_err-end_segment.result c.from_residual-in_err-end_segment.ensures.1
     (does_then own turned.0 l l2 l3 a b d c.in_ok-segment.ensures.order turned.2) (subst P deep c.in_err-end_segment.ensures.stops)
-    (λ ys part. ends turned.0 ys turned.1 part refl)
+    (λ ys part. ends turned.0 ys turned.1.0 part refl)

@@ -1,6 +1,7 @@
 use Rattle.std.proofs.Common.{sym, subst}
 use Rattle.stm_session.specs.declared.command.Command.{Command}
 use Rattle.stm_session.specs.Answers.{outcome_data}
+use Rattle.stm_session.specs.ChangeOrder.{Keeping}
 use Rattle.stm_session.specs.OneCommand.{DoesCommand}
 use Rattle.stm_session.specs.Came.{TellsWhatCame}
 use Rattle.stm_session.specs.Meaning.{command_data, erases, is_change, writes}
@@ -10,6 +11,7 @@ use Rattle.stm_session.specs.RunOrder.{IsDoneTelling}
 use Rattle.std.proofs.Common.{ap}
 use Rattle.stm_session.specs.RunOrder.{IsBegunBy, IsBegunTelling, StopsTelling}
 use Rattle.stm_session.proofs.Arrivals.{change_stops}
+use Rattle.stm_session.proofs.KeptErased.{done_only, reads_kept}
 use Rattle.stm_session.proofs.SentChanges.{change_puts}
 use Rattle.stm_session.proofs.one_command.run_command.Goals as goal
 
@@ -40,26 +42,26 @@ returns-in-Read-clause-honest g c flashes steady chip =
 pub returns-in-Write-clause-order : goal.returns-in-Write-clause-order
 returns-in-Write-clause-order g c =
     let V = g.R.Rig.view in
-    let P : Command → Type 0 = λ k. IfOk c.write_image.result (λ said. Follows (IsDoneTelling c.args.chip.now (command_data k) c.args.journal.now.state (outcome_data said)) c.args.journal.now c.write_image.new.journal (V c.args.rig.now) (V c.write_image.new.rig)) in
+    let P : Command → Type 0 = λ k. IfOk c.write_image.result (λ said. Follows (Keeping c.write_image.new.journal.state (IsDoneTelling c.args.chip.now (command_data k) c.args.journal.now.state (outcome_data said))) c.args.journal.now c.write_image.new.journal (V c.args.rig.now) (V c.write_image.new.rig)) in
     subst P (sym c.in-Write.is) c.write_image.ensures.order
 
 pub returns-in-Erase-clause-order : goal.returns-in-Erase-clause-order
 returns-in-Erase-clause-order g c =
     let V = g.R.Rig.view in
-    let P : Command → Type 0 = λ k. IfOk c.erase_pages.result (λ said. Follows (IsDoneTelling c.args.chip.now (command_data k) c.args.journal.now.state (outcome_data said)) c.args.journal.now c.erase_pages.new.journal (V c.args.rig.now) (V c.erase_pages.new.rig)) in
+    let P : Command → Type 0 = λ k. IfOk c.erase_pages.result (λ said. Follows (Keeping c.erase_pages.new.journal.state (IsDoneTelling c.args.chip.now (command_data k) c.args.journal.now.state (outcome_data said))) c.args.journal.now c.erase_pages.new.journal (V c.args.rig.now) (V c.erase_pages.new.rig)) in
     subst P (sym c.in-Erase.is) c.erase_pages.ensures.order
 
 pub returns-in-Verify-clause-order : goal.returns-in-Verify-clause-order
 returns-in-Verify-clause-order g c =
     let V = g.R.Rig.view in
-    let P : Command → Type 0 = λ k. IfOk c.verify_image.result (λ said. Follows (IsDoneTelling c.args.chip.now (command_data k) c.args.journal.now.state (outcome_data said)) c.args.journal.now c.args.journal.now (V c.args.rig.now) (V c.verify_image.new.rig)) in
-    subst P (sym c.in-Verify.is) (c.verify_image.ensures.order c.args.journal.now)
+    let P : Command → Type 0 = λ k. IfOk c.verify_image.result (λ said. Follows (Keeping c.args.journal.now.state (IsDoneTelling c.args.chip.now (command_data k) c.args.journal.now.state (outcome_data said))) c.args.journal.now c.args.journal.now (V c.args.rig.now) (V c.verify_image.new.rig)) in
+    subst P (sym c.in-Verify.is) (reads_kept c.args.chip.now c.args.journal.now _ (V c.args.rig.now) (V c.verify_image.new.rig) c.verify_image.result (c.verify_image.ensures.order c.args.journal.now))
 
 pub returns-in-Read-clause-order : goal.returns-in-Read-clause-order
 returns-in-Read-clause-order g c =
     let V = g.R.Rig.view in
-    let P : Command → Type 0 = λ k. IfOk c.read_part_of.result (λ said. Follows (IsDoneTelling c.args.chip.now (command_data k) c.args.journal.now.state (outcome_data said)) c.args.journal.now c.args.journal.now (V c.args.rig.now) (V c.read_part_of.new.rig)) in
-    subst P (sym c.in-Read.is) (c.read_part_of.ensures.order c.args.journal.now)
+    let P : Command → Type 0 = λ k. IfOk c.read_part_of.result (λ said. Follows (Keeping c.args.journal.now.state (IsDoneTelling c.args.chip.now (command_data k) c.args.journal.now.state (outcome_data said))) c.args.journal.now c.args.journal.now (V c.args.rig.now) (V c.read_part_of.new.rig)) in
+    subst P (sym c.in-Read.is) (reads_kept c.args.chip.now c.args.journal.now _ (V c.args.rig.now) (V c.read_part_of.new.rig) c.read_part_of.result (c.read_part_of.ensures.order c.args.journal.now))
 
 pub returns-in-Write-clause-stops : goal.returns-in-Write-clause-stops
 returns-in-Write-clause-stops g c =
@@ -101,7 +103,9 @@ returns-in-Write-clause-puts g c =
     let chip = c.args.chip.now in
     let image = writes c.in-Write.image in
     change_puts c.laying_by_parts.ensures.length chip c.keeps_limits.ensures.chip image (λ said. TellsWhatCame chip image (outcome_data said))
-    c.args.journal.now c.write_image.new.journal (V c.args.rig.now) (V c.write_image.new.rig) c.write_image.result c.write_image.ensures.order c.write_image.ensures.stops
+    c.args.journal.now c.write_image.new.journal (V c.args.rig.now) (V c.write_image.new.rig) c.write_image.result
+    (done_only c.write_image.new.journal.state (λ said. IsDoneTelling chip image c.args.journal.now.state (outcome_data said)) c.args.journal.now c.write_image.new.journal (V c.args.rig.now) (V c.write_image.new.rig) c.write_image.result c.write_image.ensures.order)
+    c.write_image.ensures.stops
 
 pub returns-in-Erase-clause-puts : goal.returns-in-Erase-clause-puts
 returns-in-Erase-clause-puts g c =
@@ -109,4 +113,6 @@ returns-in-Erase-clause-puts g c =
     let chip = c.args.chip.now in
     let pages = erases c.in-Erase.pages.items in
     change_puts c.laying_by_parts.ensures.length chip c.keeps_limits.ensures.chip pages (λ said. TellsWhatCame chip pages (outcome_data said))
-    c.args.journal.now c.erase_pages.new.journal (V c.args.rig.now) (V c.erase_pages.new.rig) c.erase_pages.result c.erase_pages.ensures.order c.erase_pages.ensures.stops
+    c.args.journal.now c.erase_pages.new.journal (V c.args.rig.now) (V c.erase_pages.new.rig) c.erase_pages.result
+    (done_only c.erase_pages.new.journal.state (λ said. IsDoneTelling chip pages c.args.journal.now.state (outcome_data said)) c.args.journal.now c.erase_pages.new.journal (V c.args.rig.now) (V c.erase_pages.new.rig) c.erase_pages.result c.erase_pages.ensures.order)
+    c.erase_pages.ensures.stops

@@ -24,8 +24,8 @@ returns-clause-honest g c flashes steady chip =
 pub returns-clause-order : goal.returns-clause-order
 returns-clause-order g c =
     let done = c.in_ok-segment.ensures.order in
-    let by : IsDoneBy c.args.chip.now (writes c.args.image.now) c.args.journal.now.state done.0 = (change.Write c.args.image, refl, done.1) in
-    (done.0, (by, tt), done.2)
+    let by : IsDoneBy c.args.chip.now (writes c.args.image.now) c.args.journal.now.state done.0 = (change.Write c.args.image, refl, done.1.0) in
+    (done.0, ((by, tt), done.1.1), done.2)
 
 pub returns-in_err-segment-clause-stops : goal.returns-in_err-segment-clause-stops
 returns-in_err-segment-clause-stops g c =

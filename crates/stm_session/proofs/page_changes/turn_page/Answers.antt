@@ -17,6 +17,7 @@ use Rattle.stm_session.proofs.CutShort.{begin_after, memory_stops, then_stops}
 use Rattle.stm_session.proofs.Exits.{goes_fault, read_stops, reads_page}
 use Rattle.stm_session.proofs.Going.{asks_fail, asks_on, goes_as, goes_nowhere, goes_ok}
 use Rattle.stm_session.proofs.Going.{goes_refused, goes_then, page_held}
+use Rattle.stm_session.proofs.KeptErased.{keep_turn}
 use Rattle.stm_session.proofs.Orders.{does_nothing, does_then}
 use Rattle.stm_session.proofs.Restorings.{page_read}
 use Rattle.stm_session.proofs.Turns.{given_on}
@@ -180,7 +181,7 @@ returns-clause-honest g c flashes steady chip =
 pub returns-then-not-touches-clause-order : goal.returns-then-not-touches-clause-order
 returns-then-not-touches-clause-order g c =
     let left : IsTurnOf c.args.kept c.args.chip.now c.args.change.now c.args.n false [] = inl (record { same = c.touches.ensures.same c.if-not-touches.true; unchanged = refl; is = refl }) in
-    ([], left, does_nothing c.args.journal.now (g.R.Rig.view c.args.rig.now))
+    ([], (left, tt), does_nothing c.args.journal.now (g.R.Rig.view c.args.rig.now))
 
 pub returns-clause-order : goal.returns-clause-order
 returns-clause-order g c =
@@ -210,7 +211,7 @@ returns-clause-order g c =
       is = refl;
     }) in (
       steps,
-      turned,
+      (turned, keep_turn c.change_page.new.journal.state c.args.kept chip c.args.change.now n c.in_ok-changed.changed steps c.in_ok-changed.ensures.turned.keeps turned),
       does_then reads later.0 l l c.change_page.new.journal (V c.args.rig.now)
           (V c.read_range.new.rig) (V c.change_page.new.rig) read later.2,
     )

@@ -12,6 +12,7 @@ use Rattle.stm_session.proofs.Turns.{LayLaws, begun_next, counted_more, free_nex
 use Rattle.std.proofs.Common.{true}
 use Rattle.stm_session.specs.ChangeOrder.{AreAllTurned, AreTurned, none}
 use Rattle.stm_session.proofs.ChangeOrders.{all_turned}
+use Rattle.stm_session.proofs.KeptErased.{keep_still, keep_then}
 use Rattle.stm_session.proofs.Orders.{does_nothing, does_then}
 use Rattle.stm_session.specs.ChangeOrder.{AreBegunTurns, IsPageTurn}
 use Rattle.stm_session.specs.Order.{Step, Begin}
@@ -29,7 +30,7 @@ loop-n-init g c =
       has = λ h more. absurd (Rattle.std.proofs.lemmas.Bool.false≢true h);
       begun = λ le. refl;
       small = omega arith;
-      order = ([], none, does_nothing c.args.journal.now (V c.args.rig.now));
+      order = ([], (none, tt), does_nothing c.args.journal.now (V c.args.rig.now));
       line = refl;
       journal = refl;
       stays = λ h. h;
@@ -94,7 +95,10 @@ loop-n-preserved g c =
           let before = so_far.order in
           let own = c.in_ok-changed.ensures.order in (
             before.0 ++ own.0,
-            all_turned c.args.chip.now c.args.change.now n c.loop-n.first kept changed c.after_page-first.result before.0 own.0 c.is_kept-kept.ensures next_is before.1 own.1,
+            (
+              all_turned c.args.chip.now c.args.change.now n c.loop-n.first kept changed c.after_page-first.result before.0 own.0 c.is_kept-kept.ensures next_is before.1.0 own.1.0,
+              keep_then s2 before.0 own.0 (keep_still s s2 before.0 turned.still before.1.1) own.1.1,
+            ),
             does_then before.0 own.0 c.args.journal.now c.loop-n.journal c.turn_page.new.journal (V c.args.rig.now) (V c.loop-n.rig) (V c.turn_page.new.rig) before.2 own.2,
           );
       line = c.in_ok-changed.ensures.cause.line_done ∙ so_far.line;
@@ -158,8 +162,8 @@ returns-clause-order g c =
     let all : c.loop-n.n ≡ page_count k = omega (arith, c.loop-n-test.false, c.loop-n.auto.n-end, c.pages-n-end.ensures) in
     let done = c.loop-n.invariant.order in
     let P : ℕ → Type 0 = λ m. AreTurned k c.args.change.now m c.loop-n.first done.0 in
-    let turned : AreAllTurned k c.args.change.now done.0 = (c.loop-n.first, subst P all done.1) in
-    (done.0, turned, done.2)
+    let turned : AreAllTurned k c.args.change.now done.0 = (c.loop-n.first, subst P all done.1.0) in
+    (done.0, (turned, done.1.1), done.2)
 
 pub returns-in_err-changed-clause-stops : goal.returns-in_err-changed-clause-stops
 returns-in_err-changed-clause-stops g c =
@@ -174,4 +178,4 @@ returns-in_err-changed-clause-stops g c =
     so_far.2 c.in_err-changed.ensures.stops
     (λ ys begun.
     let P : Bool → Type 0 = λ k. Begin (Turn k) ys in
-    record { page = n; exists = here; first = c.loop-n.first; before = so_far.0; are_turned = so_far.1; own = ys; is_begun = subst P c.is_kept-kept.ensures begun; is = refl })
+    record { page = n; exists = here; first = c.loop-n.first; before = so_far.0; are_turned = so_far.1.0; own = ys; is_begun = subst P c.is_kept-kept.ensures begun; is = refl })

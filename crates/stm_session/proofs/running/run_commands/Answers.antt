@@ -103,7 +103,7 @@ loop-command-preserved g c =
           let S : List OutcomeData → Type 0 = λ os. AreDoneInOrder c.args.chip.now (commands_in (take i cs) ++ command_data next ∷ []) os l.state l3.state steps in
           let said : map outcome_data c.loop-command.outcomes.items ++ outcome_data one ∷ [] ≡ after =
           sym (ap (map outcome_data) pushed ∙ map-append outcome_data c.loop-command.outcomes.items (one ∷ [])) in
-          let done = more (commands_in (take i cs)) (command_data next) (map outcome_data c.loop-command.outcomes.items) (outcome_data one) l.state l2.state l3.state before.0 own.0 before.1 own.1 c.in_ok-outcome.ensures.depth in
+          let done = more (commands_in (take i cs)) (command_data next) (map outcome_data c.loop-command.outcomes.items) (outcome_data one) l.state l2.state l3.state before.0 own.0 before.1 own.1.0 c.in_ok-outcome.ensures.depth in
           (steps, subst O (sym (taken_next cs i next lt c.command-item.is)) (subst S said done), does_then before.0 own.0 l l2 l3 a b d before.2 own.2);
       honest = λ flashes steady chip.
           let xs = commands_in (take i cs) in

@@ -1,0 +1,97 @@
+-- The part of an image that lies in the pages which the newest segment keeps, page by page.
+use Rattle.std.proofs.Common.{◌≡◌, ◌≢◌, ◌⊎◌, inl, inr, ℕ, zero, suc, ◌+◌, ◌<◌, ◌≤◌, ◌&&◌, Bool, true, false, IsTrue, List, [], ◌∷◌, length, sum, Option, Some, None, refl, sym, ap₂, ◌∙◌, subst, arith}
+use Rattle.std.specs.Prelude.{Contains, is_some}
+use Rattle.std.specs.List.{list_all}
+use Rattle.std.proofs.lemmas.Bool.{and_parts, cases_lt, false≢true}
+use Rattle.std.proofs.lemmas.List.Sums.{sum_by_more}
+use Rattle.stm_image.specs.Layout.{IsAmong}
+use Rattle.stm_image.specs.Pairs.{Pairs}
+use Rattle.stm_image.specs.Part.{IsWithPart, StandsIn}
+use Rattle.stm_wire.specs.Chip.{ChipData, is_inside, page_count, page_offset, page_size}
+use Rattle.stm_journal.specs.declared.kept.PagePlace.{PagePlace}
+use Rattle.stm_journal.specs.KeptPlaces.{page_place}
+use Rattle.stm_journal.specs.States.{StateData, newest_keeps}
+use Rattle.stm_session.specs.declared.command.Command.TheVariants as command
+use Rattle.stm_session.specs.declared.outcome.Outcome.{Outcome}
+use Rattle.stm_session.specs.declared.outcome.Outcome.TheVariants as outcome
+use Rattle.stm_session.specs.Answers.{outcome_data, was_verified}
+use Rattle.stm_session.specs.Order.{page_address}
+use Rattle.stm_session.specs.Refusals.{image_fits}
+use Rattle.stm_session.specs.Running.{IsKindOf}
+use Rattle.stm_session.proofs.Work.{no_place_keeps}
+
+-- the pages below one were gone through
+pub record IsPartSoFar (chip : ChipData) (s : StateData) (image : Pairs) (n : ℕ) (part : Pairs) : Type 0 where
+  pub among : IsAmong part image
+  pub behind : (p : ℕ × ℕ) → Contains part p → p.0 < page_address chip n
+  pub has : (m : ℕ) → m < n → IsTrue (newest_keeps m s) → (p : ℕ × ℕ) → StandsIn image (page_address chip m) (page_size chip m) p → Contains part p
+
+pub part_nothing : (chip : ChipData) (s : StateData) (image part : Pairs) → part ≡ [] → IsPartSoFar chip s image 0 part
+part_nothing chip s image part is =
+    let none : (p : ℕ × ℕ) → Contains part p → ⊥ = λ p held. let C : Pairs → Type 0 = λ xs. Contains xs p in let at = subst C is held in omega (arith, at.1) in
+    record { among = λ p held. absurd (none p held); behind = λ p held. absurd (none p held); has = λ m lt. absurd (omega (arith, lt)) }
+
+module _ (chip : ChipData) (s : StateData) (image : Pairs) (n : ℕ) (here : n < page_count chip) (part : Pairs) (so_far : IsPartSoFar chip s image n part) where
+  next : page_address chip (n + 1) ≡ page_address chip n + page_size chip n
+  next = let offset : page_offset chip (n + 1) ≡ page_offset chip n + page_size chip n = sum_by_more (λ x. x) chip.sizes n 0 here in omega (arith, offset)
+
+  -- a page that isn't kept
+  pub part_left : newest_keeps n s ≡ false → IsPartSoFar chip s image (n + 1) part
+  part_left none =
+      record {
+        among = so_far.among;
+        behind = λ p held. let below = so_far.behind p held in omega (arith, next, below);
+        has = λ m lt keeps p there. elim (cases_lt m n) [
+          | inl less ↦ so_far.has m less keeps p there
+          | inr more ↦
+              let same : m ≡ n = omega (arith, lt, more) in
+              let K : ℕ → Type 0 = λ k. IsTrue (newest_keeps k s) in
+              absurd (false≢true (sym none ∙ subst K same keeps))
+        ];
+      }
+
+  -- one that is
+  pub part_kept : (more : Pairs) → IsWithPart part image (page_address chip n) (page_size chip n) more → IsPartSoFar chip s image (n + 1) more
+  part_kept more with =
+      record {
+        among = λ p held. elim (with.among p held) [ inl was ↦ so_far.among p was | inr there ↦ there.held ];
+        behind = λ p held. elim (with.among p held) [
+          | inl was ↦ let below = so_far.behind p was in omega (arith, next, below)
+          | inr there ↦ let within = there.within in omega (arith, next, within)
+        ];
+        has = λ m lt keeps p there. elim (cases_lt m n) [
+          | inl less ↦ with.keeps p (so_far.has m less keeps p there)
+          | inr other ↦
+              let same : m ≡ n = omega (arith, lt, other) in
+              let S : ℕ → Type 0 = λ k. StandsIn image (page_address chip k) (page_size chip k) p in
+              with.adds p (subst S same there)
+        ];
+      }
+
+-- a page that has no place isn't kept
+pub unplaced : (s : StateData) (newest n : ℕ) (o : Option PagePlace) → newest ≡ length s.stack → o ≡ page_place s newest n → is_some o ≡ false → newest_keeps n s ≡ false
+unplaced s newest n None is place none = no_place_keeps s newest n is place
+unplaced s newest n (Some at) is place none = absurd (false≢true (sym none))
+
+-- a part fits where its image does
+pub part_fits : (chip : ChipData) (image part : Pairs) → IsAmong part image → image_fits chip image ≡ true → image_fits chip part ≡ true
+part_fits chip image part among fits = all_of part (λ p held. list_all_contains (λ pair. is_inside chip pair.0) image p (among p held) fits)
+  where
+    list_all_contains : (test : ℕ × ℕ → Bool) (xs : Pairs) (p : ℕ × ℕ) → Contains xs p → list_all test xs ≡ true → test p ≡ true
+    list_all_contains test [] p held all = absurd (omega (arith, held.1))
+    list_all_contains test (x ∷ xs) p (zero, lt, is) all = let e : x ≡ p = is in subst (λ (q : ℕ × ℕ). test q ≡ true) e (and_parts (test x) (list_all test xs) all).0
+    list_all_contains test (x ∷ xs) p (suc i, lt, is) all = list_all_contains test xs p (i, omega (arith, lt), is) (and_parts (test x) (list_all test xs) all).1
+
+    all_of : (xs : Pairs) → ((p : ℕ × ℕ) → Contains xs p → is_inside chip p.0 ≡ true) → list_all (λ pair. is_inside chip pair.0) xs ≡ true
+    all_of [] each = refl
+    all_of (x ∷ xs) each =
+        let first = each x (zero, omega arith, refl) in
+        let rest = all_of xs (λ p held. each p (suc held.0, omega (arith, held.1), held.2)) in
+        ap₂ (λ (p q : Bool). p && q) first rest
+
+-- what a verify answers
+pub verified_only : (part : Pairs) (said : Outcome) → IsKindOf (command.Verify part) said → outcome_data said ≡ was_verified
+verified_only part (outcome.Written segment pages) is = absurd is
+verified_only part (outcome.Erased segment pages) is = absurd is
+verified_only part outcome.Verified is = refl
+verified_only part (outcome.Read bytes) is = absurd is
