@@ -25,7 +25,7 @@ use Rattle.stm_journal.specs.Added.{HasAdded}
 use Rattle.stm_journal.specs.Journals.{Loaded, IsLoaded, LeavesLoaded, added_bytes, loaded_after}
 use Rattle.stm_journal.specs.Calls.{Appends, AppendsOnce, InText}
 use Rattle.stm_session.specs.declared.fault.Fault.{Fault}
-use Rattle.stm_session.specs.Fault.{fault_of, fault_of_journal}
+use Rattle.stm_session.specs.Fault.{fault_of, fault_of_journal, of_call, of_command}
 use Rattle.stm_session.specs.Order.{Step, Adds, Are, Begin, Sends}
 use Rattle.stm_session.specs.Performs.{Performs}
 use Rattle.stm_session.specs.StepLaws.{StepLaws}
@@ -35,7 +35,7 @@ use Rattle.stm_session.proofs.CutShort.{line_stops, sent_stops}
 use Rattle.stm_session.proofs.Going.{IsStep, frame_goes, frame_fails, goes_ok, line_fails, line_goes}
 use Rattle.stm_session.proofs.Keeping.{good_at, keeps_pages, keeps_text}
 use Rattle.stm_session.proofs.Orders.{does_add, does_erase}
-use Rattle.stm_session.proofs.Performing.{of_call, of_command, performs_then}
+use Rattle.stm_session.proofs.Performing.{performs_then}
 
 pub is_under : (n : ℕ) (i : Intent) (old new : StateData) → HasIntended n i old new → IsUnder n i new
 is_under n i old new has = record { kept = has.keeps; newest = has.newest; unfinished = has.unfinished }

@@ -97,3 +97,5 @@ pub mod Unprotections
 pub mod Unasked
 pub mod UnaskedBoards
 pub mod Performing
+pub mod DeedRuns
+pub mod OneDeed

@@ -2,14 +2,12 @@
 use Rattle.std.proofs.Common.{◌≡◌, ◌++◌, ℕ, List, [], Result, Ok, Err, IsErrAnd, append-nil, refl}
 use Rattle.std.proofs.Common.{subst, sym}
 use Rattle.std.specs.Prelude.{OnOk}
-use Rattle.stm_wire.specs.declared.fault.WireFault.{WireFault}
 use Rattle.stm_wire.specs.Rig.{RigState, IsModel}
 use Rattle.stm_journal.specs.declared.entry.Entry.{Entry}
-use Rattle.stm_journal.specs.declared.fault.JournalFault.{JournalFault}
 use Rattle.stm_journal.specs.Journals.{Loaded}
 use Rattle.stm_session.specs.declared.fault.Fault.{Fault}
 use Rattle.stm_session.specs.declared.fault.Fault.TheVariants.{Memory}
-use Rattle.stm_session.specs.Fault.{cause_of, fault_of, fault_of_journal, of_memory}
+use Rattle.stm_session.specs.Fault.{cause_of, of_memory}
 use Rattle.stm_session.specs.Moments.{SameMake}
 use Rattle.stm_session.specs.Order.{Step, Are, Begin, DoesSteps, Follows, FaultEnds, StopsBy}
 use Rattle.stm_session.specs.Performs.{Performs}
@@ -20,15 +18,6 @@ use Rattle.stm_session.proofs.CutShort.{stop_after}
 use Rattle.stm_session.proofs.Going.{at_exit, goes_as, goes_failed, goes_nowhere, goes_ok}
 use Rattle.stm_session.proofs.Going.{goes_refused, goes_then}
 use Rattle.stm_session.proofs.Orders.{does_as, does_nothing, does_then}
-
--- the answers of a command and of a call of the journal, as those of a session
-abbrev pub of_command : {T : Type 0} → Result T WireFault → Result T Fault
-of_command (Ok x) = Ok x
-of_command (Err e) = Err (fault_of e)
-
-abbrev pub of_call : {T : Type 0} → Result T JournalFault → Result T Fault
-of_call (Ok x) = Ok x
-of_call (Err e) = Err (fault_of_journal e)
 
 -- what has to hold of the second of two where the first was done
 pub record Joins {U : Type 0} (xs ys zs : List Entry) (May : Type 0)

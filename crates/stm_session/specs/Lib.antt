@@ -52,4 +52,5 @@ pub mod ToldBoard
 pub mod AskedBoard
 pub mod Boards
 pub mod Performs
+pub mod Deeds
 pub mod lemmas

@@ -15,6 +15,8 @@ mod comparing;
 mod confirming;
 mod contact;
 mod content;
+mod deed;
+mod deeds;
 mod erasing;
 mod fault;
 mod go_and_protect;
@@ -33,6 +35,7 @@ mod opening;
 mod outcome;
 mod page_at_work;
 mod page_changes;
+
 mod programming;
 mod reading;
 mod reading_again;

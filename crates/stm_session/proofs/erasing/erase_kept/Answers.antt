@@ -6,7 +6,8 @@ use Rattle.stm_journal.specs.declared.entry.Entry.TheVariants.{Erases}
 use Rattle.stm_session.specs.Order.{Step, Are, Sends, erase_steps}
 use Rattle.stm_session.specs.Performs.{Performs}
 use Rattle.stm_session.proofs.Erasings.{erase_performs, erases_step, says, says_then}
-use Rattle.stm_session.proofs.Performing.{of_command, performs_cut, performs_out, performs_past}
+use Rattle.stm_session.specs.Fault.{of_command}
+use Rattle.stm_session.proofs.Performing.{performs_cut, performs_out, performs_past}
 use Rattle.stm_session.proofs.erasing.erase_kept.Given.{Over}
 use Rattle.stm_session.proofs.erasing.erase_kept.Goals.{After-erase_page}
 use Rattle.stm_session.proofs.erasing.erase_kept.Goals as goal
