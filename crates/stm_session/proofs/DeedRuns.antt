@@ -44,6 +44,26 @@ module _ (chip : ChipData) where
   suit_behind [] ys flash suit = suit
   suit_behind (x ∷ xs) ys flash suit = suit_behind xs ys (flash_with chip flash x) suit.1
 
+  pub suit_both : (xs ys : List Deed) (flash : List ℕ) → AllSuit chip flash xs
+      → AllSuit chip (fold (flash_with chip) flash xs) ys → AllSuit chip flash (xs ++ ys)
+  suit_both [] ys flash first then = then
+  suit_both (x ∷ xs) ys flash first then =
+      (first.0, suit_both xs ys (flash_with chip flash x) first.1 then)
+
+  pub may_both : (xs ys : List Deed) (s : StateData) → MayDoAll chip xs s
+      → ((s2 : StateData) → HasDoneAll xs s s2 → MayDoAll chip ys s2) → MayDoAll chip (xs ++ ys) s
+  may_both [] ys s may next = next s refl
+  may_both (x ∷ xs) ys s may next = (
+    may.0,
+    λ s2 has. may_both xs ys s2 (may.1 s2 has) (λ s3 done. next s3 (s2, has, done)),
+  )
+
+pub done_both : (xs ys : List Deed) (s s3 : StateData) → HasDoneAll (xs ++ ys) s s3
+    → (s2 : StateData) × HasDoneAll xs s s2 × HasDoneAll ys s2 s3
+done_both [] ys s s3 done = (s, refl, done)
+done_both (x ∷ xs) ys s s3 (t, has, rest) =
+    let both = done_both xs ys t s3 rest in (both.0, (t, has, both.1), both.2)
+
 done_more : (xs : List Deed) (d : Deed) (s s2 s3 : StateData) → HasDoneAll xs s s2
     → HasDone d s2 s3 → HasDoneAll (xs ++ d ∷ []) s s3
 done_more [] d s s2 s3 same has =

@@ -99,3 +99,4 @@ pub mod UnaskedBoards
 pub mod Performing
 pub mod DeedRuns
 pub mod OneDeed
+pub mod Rewritings

@@ -2,18 +2,21 @@
 -- state and of the flash, and when it may be done.
 use Rattle.std.specs.Prelude.{◌≡◌, ℕ, ◌+◌, ◌<◌, List, [], ◌∷◌, length, take, drop, map, flat_map, fold}
 use Rattle.std.specs.Prelude.{IsTrue, Result}
+use Rattle.std.specs.Borrow.{Bor}
 use Rattle.hex.specs.Hex.{IsBytes}
 use Rattle.stm_wire.specs.declared.intent.Intent.TheVariants.{Erase, Program}
 use Rattle.stm_wire.specs.Chip.{ChipData, IsErasedAt, erased_page, page_count, page_of}
 use Rattle.stm_wire.specs.Chip.{page_offset, page_size, with_bytes, with_page}
 use Rattle.stm_wire.specs.Frames.{erase_turns}
 use Rattle.stm_wire.specs.Rig.{RigState}
+use Rattle.stm_chip.specs.declared.plan.Frame.{Frame}
 use Rattle.stm_chip.specs.Plan.{IsFrameOfPlan}
 use Rattle.stm_journal.specs.declared.entry.Entry.{Entry}
 use Rattle.stm_journal.specs.declared.entry.Entry.TheVariants.{Keeps, Erases, Programs}
 use Rattle.stm_journal.specs.Journals.{Loaded}
-use Rattle.stm_journal.specs.Newest.{HasIntended}
-use Rattle.stm_journal.specs.States.{StateData, newest_keeps, newest_may_keep}
+use Rattle.stm_journal.specs.Newest.{HasIntended, KeepsSame}
+use Rattle.stm_journal.specs.States.{StateData, newest_is_open, newest_keeps}
+use Rattle.stm_journal.specs.States.{newest_may_keep}
 use Rattle.stm_session.specs.declared.deed.Deed.{Deed}
 use Rattle.stm_session.specs.declared.deed.Deed.TheVariants as deed
 use Rattle.stm_session.specs.declared.fault.Fault.{Fault}
@@ -100,3 +103,23 @@ DoesDeeds chip deeds l l2 old new result =
     Performs (Are (map (step_of_deed chip) deeds)) (flat_map lines_of_deed deeds)
     ((old.device.chip ≡ chip) × AllSuit chip old.device.flash deeds)
     (λ _. new.device.flash ≡ fold (flash_with chip) old.device.flash deeds) l l2 old new result
+
+-- Plans:
+
+-- these frames of a page's new bytes are written
+abbrev pub write_deeds : ℕ → Bor (List ℕ) → List Frame → List Deed
+write_deeds n page frames = map (λ frame. deed.Write n frame page) frames
+
+-- a page that is kept is erased, and where there are frames written, each under its intent
+abbrev pub rewrite_deeds : ℕ → Bor (List ℕ) → List Frame → List Deed
+rewrite_deeds n page [] = deed.IntendErase n ∷ deed.Erase n ∷ []
+rewrite_deeds n page (f ∷ frames) = deed.IntendErase n ∷ deed.Erase n ∷ deed.IntendProgram n
+    ∷ write_deeds n page (f ∷ frames)
+
+-- Such deeds were done, and then the lines of a rewrite were added: the newest segment keeps what it
+-- kept behind them.
+pub record IsRewrittenBehind (first : List Deed) (old new : StateData) : Type 0 where
+  pub between : StateData
+  pub done : HasDoneAll first old between
+  pub same : KeepsSame between new
+  pub is_open : newest_is_open new ≡ newest_is_open between

@@ -69,7 +69,7 @@ fn rewrite_line<R: Rig>(
     let mut page = Vec::from_elem(alloc, 0, size as usize)?;
     journal.fetch_page(rig, place, &mut page)?;
     let frames = page_frames(alloc, &page, chip.erased())?;
-    rewrite_kept(rig, journal, chip, n, &page, &frames)?;
+    rewrite_kept(alloc, rig, journal, chip, &[], n, &page, &frames)?;
     Ok(())
 }
 
