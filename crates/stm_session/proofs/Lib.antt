@@ -26,9 +26,7 @@ pub mod Keeping
 pub mod Standing
 pub mod Going
 pub mod Exits
-pub mod Erasings
 pub mod Frames
-pub mod Programmings
 pub mod SentParts
 pub mod SentSteps
 pub mod SentPages
@@ -100,3 +98,4 @@ pub mod Performing
 pub mod DeedRuns
 pub mod OneDeed
 pub mod Rewritings
+pub mod Firsts

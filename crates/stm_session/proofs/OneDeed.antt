@@ -1,4 +1,15 @@
 -- One deed: a line that is added, or a frame that is sent under an intent.
+use Rattle.std.proofs.Common.{true, false, not}
+use Rattle.std.proofs.lemmas.Bool.{false≢true}
+use Rattle.hex.specs.Hex.{IsBytes}
+use Rattle.stm_wire.specs.Chip.{page_of}
+use Rattle.stm_journal.specs.declared.entry.Entry.TheVariants.{Keeps, Erases, Programs}
+use Rattle.stm_journal.specs.lemmas.CallEntries.{allowed-keep_page, allowed-intend_erase, allowed-intend_program}
+use Rattle.stm_journal.specs.States.{StateData, newest_keeps, newest_may_keep, newest_is_open, newest_has, is_ended_stage, is_open_stage, is_unfinished, IsSound, SegmentData}
+use Rattle.stm_journal.specs.declared.stage.Stage.{Stage}
+use Rattle.stm_journal.specs.declared.stage.Stage.TheVariants.{Open, Ended, Returning}
+use Rattle.stm_session.specs.Undoable.{has_companion}
+use Rattle.stm_session.proofs.Keeping.{keeps_keeping, may_keep_text, keeps_pages}
 use Rattle.std.proofs.Common.{◌≡◌, ◌⊎◌, ◌∙◌, ℕ, ◌+◌, ◌-◌, ◌<◌, ◌≤◌, List, [], ◌∷◌, length, take, drop}
 use Rattle.std.proofs.Common.{replicate, Some, Result, Ok, Err, IsTrue, inl, inr, ap, ap₂, arith, refl}
 use Rattle.std.proofs.Common.{subst, sym}
@@ -45,6 +56,63 @@ use Rattle.stm_session.proofs.Going.{IsStep, frame_fails, frame_goes, goes_ok, l
 use Rattle.stm_session.proofs.Keeping.{good_at, keeps_text, unfinished_text}
 use Rattle.stm_session.proofs.Orders.{does_add, order_sent}
 use Rattle.stm_session.proofs.Settlings.{intent_text}
+
+-- an open segment is unfinished
+pub open_unfinished : (s : StateData) → IsTrue (newest_is_open s) → is_unfinished s ≡ true
+open_unfinished s is_open = at s.stack is_open
+  where
+    stage : (x : Stage) → is_open_stage x ≡ true → not (is_ended_stage x) ≡ true
+    stage (Open i) h = refl
+    stage Ended h = absurd (false≢true h)
+    stage (Returning i) h = refl
+
+    at : (stack : List SegmentData) → newest_has (λ segment. is_open_stage segment.stage) stack ≡ true → newest_has (λ segment. not (is_ended_stage segment.stage)) stack ≡ true
+    at [] h = h
+    at (segment ∷ below) h = stage segment.stage h
+
+-- a page that was read may be kept next
+module _ (laws : StepLaws) (flashes : List (List ℕ)) (l : Loaded) (n : ℕ) (chip : ChipData) (held : List ℕ) (old : RigState) (model : IsModel old) (steady : IsSteady flashes l old) where
+  pub keeps_step : n ≤ 65535 → IsTrue (newest_may_keep n l.state) → (n ≡ 1 → IsTrue (has_companion chip) → IsTrue (newest_keeps 257 l.state)) → old.device.chip ≡ chip → n < page_count chip
+      → length held ≡ page_size chip n → 0 < length held → IsBytes held → held ≡ page_of chip old.device.flash n → IsStep (Keeps n held) flashes (state_at old.journal) old.device
+  keeps_step small may companion chip_is exists size some bytes read =
+      let sound : IsSound (state_at old.journal) = laws.sound old.journal (state_at old.journal) (good_at l old.journal steady.loaded) in
+      let there : IsTrue (newest_may_keep n (state_at old.journal)) = sym (may_keep_text l old.journal n steady.loaded) ∙ may in
+      let E : ChipData → Type 0 = λ c. n < page_count c in
+      let S : ChipData → Type 0 = λ c. length held ≡ page_size c n in
+      let R : ChipData → Type 0 = λ c. held ≡ page_of c old.device.flash n in
+      let C : ChipData → Type 0 = λ c. IsTrue (has_companion c) in
+      record {
+        allowed = (allowed-keep_page n held (state_at old.journal) sound there).0;
+        printable = (small, (some, bytes));
+        keeps = λ s has.
+            keeps_keeping laws.keeping flashes old.device (state_at old.journal) s n held model.device steady.keeps has (subst E (sym chip_is) exists) (subst R (sym chip_is) read) (subst S (sym chip_is) size) there
+            (λ one has_one. sym (keeps_text l old.journal 257 steady.loaded) ∙ companion one (subst C chip_is has_one));
+        unfinished = λ s has. open_unfinished s has.is_open;
+      }
+
+-- an intent may stand next
+module _ (laws : StepLaws) (flashes : List (List ℕ)) (l : Loaded) (n : ℕ) (old : RigState) (steady : IsSteady flashes l old) (small : n ≤ 65535) (kept : IsTrue (newest_keeps n l.state)) where
+  sound : IsSound (state_at old.journal)
+  sound = laws.sound old.journal (state_at old.journal) (good_at l old.journal steady.loaded)
+
+  pub kept_there : IsTrue (newest_keeps n (state_at old.journal))
+  kept_there = sym (keeps_text l old.journal n steady.loaded) ∙ kept
+
+  pub erases_step : IsStep (Erases n) flashes (state_at old.journal) old.device
+  erases_step = record {
+    allowed = (allowed-intend_erase n (state_at old.journal) sound kept_there).0;
+    printable = small;
+    keeps = λ s has. keeps_pages flashes old.device (state_at old.journal) s has.same steady.keeps;
+    unfinished = λ s has. has.unfinished;
+  }
+
+  pub programs_step : IsStep (Programs n) flashes (state_at old.journal) old.device
+  programs_step = record {
+    allowed = (allowed-intend_program n (state_at old.journal) sound kept_there).0;
+    printable = small;
+    keeps = λ s has. keeps_pages flashes old.device (state_at old.journal) s has.same steady.keeps;
+    unfinished = λ s has. has.unfinished;
+  }
 
 -- by its variant
 pub as_deed : {chip : ChipData} {l l2 : Loaded} {a b : RigState} {x y : Deed}

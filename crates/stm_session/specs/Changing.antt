@@ -1,7 +1,7 @@
 -- How a page changes in a command: what is kept first, and the lines of it.
 use Rattle.std.specs.Prelude.{◌≡◌, ◌≢◌, ℕ, Bool, true, false, ◌&&◌, ◌==◌, if◌then◌else◌, List, []}
 use Rattle.std.specs.Prelude.{◌∷◌, ◌++◌, length, bytes_eq, IsTrue}
-use Rattle.std.specs.Prelude.{Result, Vec, IfOk}
+use Rattle.std.specs.Prelude.{Result, Vec, IfOk, vec_len}
 use Rattle.std.specs.declared.alloc.Global.{Global}
 use Rattle.stm_wire.specs.Chip.{ChipData, page_of, page_size}
 use Rattle.stm_wire.specs.Rig.{RigState}
@@ -74,7 +74,7 @@ AreReadsIf due chip n steps = (held : List ℕ) × (due ≡ true → length held
 
 pub record ReadsIf (due : Bool) (chip : ChipData) (n : ℕ) (l : Loaded) (old new : RigState)
     (result : Result (Vec ℕ Global) Fault) : Type 0 where
-  pub size : IfOk result (λ held. due ≡ true → length held.items ≡ page_size chip n)
+  pub size : IfOk result (λ held. due ≡ true → vec_len held ≡ page_size chip n)
   pub order : IfOk result (λ held. DoesSteps (reads_if due chip n held.items) l l old new)
   pub stops : FaultEnds (Begin (AreReadsIf due chip n)) l.is_torn old new result
   pub honest : (flashes : List (List ℕ)) → IsSteady flashes l old → old.device.chip ≡ chip

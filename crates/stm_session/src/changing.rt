@@ -63,8 +63,9 @@ pub fn change_page<R: Rig>(
         PagePlan::Same => Ok(false),
         PagePlan::Erase(frames) => {
             let due = is_due(chip, n, kept);
-            let other = read_companion(alloc, rig, chip, due)?;
-            let keeps = [Deed::Keep(257, &other), Deed::Keep(n, held)];
+            let came = read_companion(alloc, rig, chip, due)?;
+            let other = came.as_slice();
+            let keeps = [Deed::Keep(257, other), Deed::Keep(n, held)];
             let first = &keeps[left_out(due, kept)..];
             rewrite_kept(alloc, rig, journal, chip, first, n, page, &frames)?;
             Ok(true)

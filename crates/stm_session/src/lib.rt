@@ -17,7 +17,6 @@ mod contact;
 mod content;
 mod deed;
 mod deeds;
-mod erasing;
 mod fault;
 mod go_and_protect;
 mod greeting;
@@ -36,7 +35,6 @@ mod outcome;
 mod page_at_work;
 mod page_changes;
 
-mod programming;
 mod reading;
 mod reading_again;
 mod returned;

@@ -1,8 +1,7 @@
 use Rattle.std.proofs.Common.{◌∙◌, ◌+◌, ap, arith, inl, inr, rules}
 use Rattle.stm_journal.specs.declared.entry.Entry.TheVariants.{Erases, Keeps, Programs}
-use Rattle.stm_session.proofs.Erasings.{erases_step, programs_step}
-use Rattle.stm_session.proofs.OneDeed.{as_deed, erase_does, says, write_does}
-use Rattle.stm_session.proofs.Savings.{keeps_step}
+use Rattle.stm_session.proofs.OneDeed.{as_deed, erase_does, erases_step, keeps_step}
+use Rattle.stm_session.proofs.OneDeed.{programs_step, says, write_does}
 use Rattle.stm_session.proofs.deeds.perform_one.Goals as goal
 
 pub returns-in-Keep-clause-does : goal.returns-in-Keep-clause-does
