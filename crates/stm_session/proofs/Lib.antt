@@ -27,9 +27,7 @@ pub mod Keeping
 pub mod Standing
 pub mod Going
 pub mod Exits
-pub mod Erasings
 pub mod Frames
-pub mod Programmings
 pub mod SentParts
 pub mod SentSteps
 pub mod SentPages
@@ -101,3 +99,7 @@ pub mod Unprotections
 pub mod Unasked
 pub mod UnaskedBoards
 pub mod Performing
+pub mod DeedRuns
+pub mod OneDeed
+pub mod Rewritings
+pub mod Firsts

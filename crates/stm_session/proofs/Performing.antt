@@ -2,33 +2,22 @@
 use Rattle.std.proofs.Common.{◌≡◌, ◌++◌, ℕ, List, [], Result, Ok, Err, IsErrAnd, append-nil, refl}
 use Rattle.std.proofs.Common.{subst, sym}
 use Rattle.std.specs.Prelude.{OnOk}
-use Rattle.stm_wire.specs.declared.fault.WireFault.{WireFault}
 use Rattle.stm_wire.specs.Rig.{RigState, IsModel}
 use Rattle.stm_journal.specs.declared.entry.Entry.{Entry}
-use Rattle.stm_journal.specs.declared.fault.JournalFault.{JournalFault}
 use Rattle.stm_journal.specs.Journals.{Loaded}
 use Rattle.stm_session.specs.declared.fault.Fault.{Fault}
 use Rattle.stm_session.specs.declared.fault.Fault.TheVariants.{Memory}
-use Rattle.stm_session.specs.Fault.{cause_of, fault_of, fault_of_journal, of_memory}
+use Rattle.stm_session.specs.Fault.{cause_of, of_memory}
 use Rattle.stm_session.specs.Moments.{SameMake}
 use Rattle.stm_session.specs.Order.{Step, Are, Begin, DoesSteps, Follows, FaultEnds, StopsBy}
 use Rattle.stm_session.specs.Performs.{Performs}
 use Rattle.stm_session.specs.StepLaws.{StepLaws}
 use Rattle.stm_session.specs.Steps.{Goes, IsSteady}
 use Rattle.stm_session.proofs.CutShort.{begin_after, begin_on, by_fault, halts_first, part_stops}
-use Rattle.stm_session.proofs.CutShort.{stop_after}
+use Rattle.stm_session.proofs.CutShort.{stop_after, stop_as}
 use Rattle.stm_session.proofs.Going.{at_exit, goes_as, goes_failed, goes_nowhere, goes_ok}
 use Rattle.stm_session.proofs.Going.{goes_refused, goes_then}
 use Rattle.stm_session.proofs.Orders.{does_as, does_nothing, does_then}
-
--- the answers of a command and of a call of the journal, as those of a session
-abbrev pub of_command : {T : Type 0} → Result T WireFault → Result T Fault
-of_command (Ok x) = Ok x
-of_command (Err e) = Err (fault_of e)
-
-abbrev pub of_call : {T : Type 0} → Result T JournalFault → Result T Fault
-of_call (Ok x) = Ok x
-of_call (Err e) = Err (fault_of_journal e)
 
 -- what has to hold of the second of two where the first was done
 pub record Joins {U : Type 0} (xs ys zs : List Entry) (May : Type 0)
@@ -141,6 +130,43 @@ module _ {T : Type 0} {xs : List Entry} {M : Type 0} {D : T → Type 0} {l l2 : 
           → OnOk r (Follows (Are steps) l l2 a b)
       done (Ok y) does = (steps, refl, does)
       done (Err e) does = tt
+
+  -- the same steps, lines and aims, spelled otherwise
+  pub performs_as : {P Q : List Step → Type 0} {zs : List Entry} {N : Type 0} {F : T → Type 0} → Performs P xs M D l l2 a b result
+      → ((ss : List Step) → P ss → Q ss) → xs ≡ zs → (a.is_honest → N → M)
+      → (a.is_honest → N → (y : T) → D y → F y) → Performs Q zs N F l l2 a b result
+  performs_as {P} {Q} {zs} {N} {F} all made lines may gives =
+      record {
+        order = order_as result all.order;
+        stops = stops_as result all.stops;
+        honest = λ flashes steady n.
+            goes_as flashes xs zs l2 a b result lines
+            (goes_more result (all.honest flashes steady (may steady.honest n))
+            (gives steady.honest n));
+      }
+    where
+      order_as : (r : Result T Fault) → OnOk r (Follows P l l2 a b) → OnOk r (Follows Q l l2 a b)
+      order_as (Ok y) order = (order.0, made order.0 order.1, order.2)
+      order_as (Err e) order = tt
+
+      stops_as : (r : Result T Fault) → FaultEnds (Begin P) l.is_torn a b r
+          → FaultEnds (Begin Q) l.is_torn a b r
+      stops_as (Ok y) stops = tt
+      stops_as (Err e) stops =
+          stop_as (Begin P) (Begin Q) (cause_of e) l.is_torn a b
+          (λ ss more. (more.0, made (ss ++ more.0) more.1)) stops
+
+      goes_more : {flashes : List (List ℕ)} (r : Result T Fault) → Goes flashes xs l2 a b r D
+          → ((y : T) → D y → F y) → Goes flashes xs l2 a b r F
+      goes_more {flashes} (Ok y) goes gives = goes_ok flashes xs l2 a b y y goes (gives y)
+      goes_more {flashes} (Err e) goes gives = record {
+        moments = goes.moments;
+        fails = goes.fails;
+        honest = goes.honest;
+        steady = tt;
+        lines = tt;
+        done = tt;
+      }
 
 pub does_of : {steps : List Step} {l l2 : Loaded} {a b : RigState} → Follows (Are steps) l l2 a b
     → DoesSteps steps l l2 a b

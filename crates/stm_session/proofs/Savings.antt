@@ -1,7 +1,22 @@
 -- Pages are kept before they change.
 use Rattle.std.proofs.Common.{◌≡◌, ℕ, ◌<◌, ◌≤◌, ◌==◌, ◌&&◌, Bool, true, false, arith, not, if◌then◌else◌, List, [], ◌∷◌, length, refl, sym, ◌∙◌, ap, subst, IsTrue}
 use Rattle.std.proofs.lemmas.Bool.{false≢true}
+use Rattle.std.proofs.Common.{◌+◌, ◌/◌, ◌%◌, Result, Ok, Err, append-nil}
+use Rattle.std.specs.Prelude.{IfOk, Vec, vec_len}
+use Rattle.std.specs.declared.alloc.Global.{Global}
 use Rattle.hex.specs.Hex.{IsBytes}
+use Rattle.stm_session.specs.Running.{bytes_at}
+use Rattle.stm_wire.specs.Device.{IsSettled}
+use Rattle.stm_wire.specs.Dialogue.{GoesOn}
+use Rattle.stm_wire.specs.Intents.{InPage}
+use Rattle.stm_session.specs.declared.fault.Fault.{Fault}
+use Rattle.stm_session.specs.Asking.{Asks}
+use Rattle.stm_session.specs.Changing.{AreReadsIf, ReadsIf}
+use Rattle.stm_session.specs.Order.{AreReadsOf, Begin, FaultEnds, IsInOrder, page_address, page_reads, read_steps}
+use Rattle.stm_session.proofs.Exits.{read_stops, reads_page}
+use Rattle.stm_session.proofs.Going.{asks_fail, asks_go, goes_nowhere}
+use Rattle.stm_session.proofs.Orders.{does_nothing}
+use Rattle.stm_session.proofs.Restorings.{page_read}
 use Rattle.stm_wire.specs.Chip.{ChipData, page_count, page_of, page_size}
 use Rattle.stm_wire.specs.Rig.{RigState, IsModel}
 use Rattle.stm_journal.specs.declared.entry.Entry.{Entry}
@@ -18,46 +33,6 @@ use Rattle.stm_session.specs.Steps.{IsSteady}
 use Rattle.stm_session.specs.Undoable.{has_companion, state_at}
 use Rattle.stm_session.proofs.Going.{IsStep}
 use Rattle.stm_session.proofs.Keeping.{good_at, keeps_keeping, keeps_text, may_keep_text}
-
-pub saved : (n : ℕ) (bytes : List ℕ) (old new : StateData) → HasKept n bytes old new → HasSaved n old new
-saved n bytes old new has = record { depth = has.depth; is_open = has.is_open; keeps = has.keeps; still = has.still; free = has.free }
-
--- an open segment is unfinished
-pub open_unfinished : (s : StateData) → IsTrue (newest_is_open s) → is_unfinished s ≡ true
-open_unfinished s is_open = at s.stack is_open
-  where
-    stage : (x : Stage) → is_open_stage x ≡ true → not (is_ended_stage x) ≡ true
-    stage (Open i) h = refl
-    stage Ended h = absurd (false≢true h)
-    stage (Returning i) h = refl
-
-    at : (stack : List SegmentData) → newest_has (λ segment. is_open_stage segment.stage) stack ≡ true → newest_has (λ segment. not (is_ended_stage segment.stage)) stack ≡ true
-    at [] h = h
-    at (segment ∷ below) h = stage segment.stage h
-
--- a page that was read may be kept next
-module _ (laws : StepLaws) (flashes : List (List ℕ)) (l : Loaded) (n : ℕ) (chip : ChipData) (held : List ℕ) (old : RigState) (model : IsModel old) (steady : IsSteady flashes l old) where
-  pub keeps_step : n ≤ 65535 → IsTrue (newest_may_keep n l.state) → (n ≡ 1 → IsTrue (has_companion chip) → IsTrue (newest_keeps 257 l.state)) → old.device.chip ≡ chip → n < page_count chip
-      → length held ≡ page_size chip n → 0 < length held → IsBytes held → held ≡ page_of chip old.device.flash n → IsStep (Keeps n held) flashes (state_at old.journal) old.device
-  keeps_step small may companion chip_is exists size some bytes read =
-      let sound : IsSound (state_at old.journal) = laws.sound old.journal (state_at old.journal) (good_at l old.journal steady.loaded) in
-      let there : IsTrue (newest_may_keep n (state_at old.journal)) = sym (may_keep_text l old.journal n steady.loaded) ∙ may in
-      let E : ChipData → Type 0 = λ c. n < page_count c in
-      let S : ChipData → Type 0 = λ c. length held ≡ page_size c n in
-      let R : ChipData → Type 0 = λ c. held ≡ page_of c old.device.flash n in
-      let C : ChipData → Type 0 = λ c. IsTrue (has_companion c) in
-      record {
-        allowed = (allowed-keep_page n held (state_at old.journal) sound there).0;
-        printable = (small, (some, bytes));
-        keeps = λ s has.
-            keeps_keeping laws.keeping flashes old.device (state_at old.journal) s n held model.device steady.keeps has (subst E (sym chip_is) exists) (subst R (sym chip_is) read) (subst S (sym chip_is) size) there
-            (λ one has_one. sym (keeps_text l old.journal 257 steady.loaded) ∙ companion one (subst C chip_is has_one));
-        unfinished = λ s has. open_unfinished s has.is_open;
-      }
-
--- page 1 may be kept after page 257 was
-pub may_still : (a b : StateData) → HasSaved 257 a b → IsTrue (newest_may_keep 1 a) → IsTrue (newest_may_keep 1 b)
-may_still a b first may = first.free 1 (λ e. omega (arith, e)) ∙ may
 
 -- page 257 and then page 1
 pub both_saved : (chip : ChipData) (a b c : StateData) → HasSaved 257 a b → HasSaved 1 b c → HasAllSaved false chip 1 a c
@@ -100,3 +75,65 @@ module _ (kept : Bool) (chip : ChipData) (flash : List ℕ) (n : ℕ) where
       ap (λ (bytes : List ℕ). let e : Entry = Keeps 257 (page_of chip flash 257) in e ∷ Keeps 1 bytes ∷ []) read
       ∙ sym (ap (λ (b : Bool). if b then Keeps 257 (page_of chip flash 257) ∷ Keeps 1 (page_of chip flash 1) ∷ [] else Keeps n (page_of chip flash n) ∷ []) both)
       ∙ some_lines fresh
+
+-- a page is read where it is due
+pub reads_none : (laws : StepLaws) (chip : ChipData) (n : ℕ) (l : Loaded) (a : RigState) (due : Bool)
+    → (a.is_honest → IsModel a) → due ≡ false → (none : Vec ℕ Global)
+    → ReadsIf due chip n l a a (Ok none)
+reads_none laws chip n l a due model idle none =
+    let D : Bool → Type 0 = λ b. ReadsIf b chip n l a a (Ok none) in
+    subst D (sym idle)
+    (record {
+      size = λ t. absurd (false≢true t);
+      order = does_nothing l a;
+      stops = tt;
+      honest = λ flashes steady same.
+          goes_nowhere laws flashes l a none _ (model steady.honest) steady
+          (refl, λ t. absurd (false≢true t));
+    })
+
+module _ (chip : ChipData) (n start size : ℕ) (exists : n < page_count chip)
+    (at : start ≡ page_address chip n) (whole : size ≡ page_size chip n) (even : size % 256 ≡ 0)
+    (laws : StepLaws) (l : Loaded) (a b : RigState) where
+  pub reads_due : (due : Bool) → due ≡ true → (r : Result (Vec ℕ Global) Fault)
+      → IfOk r (λ held. vec_len held ≡ size)
+      → ((page : ℕ) → InPage chip page start size → size % 256 ≡ 0 → (torn : Bool)
+      → IfOk r (λ held.
+      GoesOn (IsInOrder torn (read_steps start (size / 256) held.items)) a.calls b.calls))
+      → ((page : ℕ) → InPage chip page start size → size % 256 ≡ 0 → (torn : Bool)
+      → FaultEnds (Begin (AreReadsOf start size)) torn a b r)
+      → (a.is_honest → IsSettled a.device → a.device.chip ≡ chip
+      → Asks a b r (λ held. held.items ≡ bytes_at chip a.device.flash start size))
+      → ReadsIf due chip n l a b r
+  reads_due due is r long order stops honest =
+      let D : Bool → Type 0 = λ d. ReadsIf d chip n l a b r in
+      subst D (sym is) (by_answer r long order stops honest)
+    where
+      by_answer : (r : Result (Vec ℕ Global) Fault) → IfOk r (λ held. vec_len held ≡ size)
+          → ((page : ℕ) → InPage chip page start size → size % 256 ≡ 0 → (torn : Bool)
+          → IfOk r (λ held.
+          GoesOn (IsInOrder torn (read_steps start (size / 256) held.items)) a.calls b.calls))
+          → ((page : ℕ) → InPage chip page start size → size % 256 ≡ 0 → (torn : Bool)
+          → FaultEnds (Begin (AreReadsOf start size)) torn a b r)
+          → (a.is_honest → IsSettled a.device → a.device.chip ≡ chip
+          → Asks a b r (λ held. held.items ≡ bytes_at chip a.device.flash start size))
+          → ReadsIf true chip n l a b r
+      by_answer (Ok held) long order stops honest = record {
+        size = λ t. long ∙ whole;
+        order = reads_page chip n start size exists at whole l held.items held.items a b even order refl;
+        stops = tt;
+        honest = λ flashes steady same.
+            let asks = honest steady.honest steady.settled same in
+            asks_go laws flashes l a b steady held held asks
+            (λ done. (asks.same, λ t. done ∙ page_read chip a.device.flash n start size at whole));
+      }
+      by_answer (Err e) long order stops honest = record {
+        size = tt;
+        order = tt;
+        stops = read_stops chip n start size exists at whole {U = Vec ℕ Global} (AreReadsIf true chip n) l.is_torn a b e
+            (Err e) refl even (λ held many. ([], (held, λ t. many, append-nil (page_reads chip n held))))
+            stops;
+        honest = λ flashes steady same.
+            asks_fail laws flashes l a b steady [] l e (Err e)
+            (honest steady.honest steady.settled same) refl;
+      }

@@ -1,7 +1,14 @@
 -- How a page changes in a command: what is kept first, and the lines of it.
 use Rattle.std.specs.Prelude.{◌≡◌, ◌≢◌, ℕ, Bool, true, false, ◌&&◌, ◌==◌, if◌then◌else◌, List, []}
 use Rattle.std.specs.Prelude.{◌∷◌, ◌++◌, length, bytes_eq, IsTrue}
-use Rattle.stm_wire.specs.Chip.{ChipData, page_of}
+use Rattle.std.specs.Prelude.{Result, Vec, IfOk, vec_len}
+use Rattle.std.specs.declared.alloc.Global.{Global}
+use Rattle.stm_wire.specs.Chip.{ChipData, page_of, page_size}
+use Rattle.stm_wire.specs.Rig.{RigState}
+use Rattle.stm_journal.specs.Journals.{Loaded}
+use Rattle.stm_session.specs.declared.fault.Fault.{Fault}
+use Rattle.stm_session.specs.Order.{Step, Begin, DoesSteps, FaultEnds, page_reads}
+use Rattle.stm_session.specs.Steps.{Goes, IsSteady}
 use Rattle.stm_journal.specs.declared.entry.Entry.{Entry}
 use Rattle.stm_journal.specs.declared.entry.Entry.TheVariants.{Keeps}
 use Rattle.stm_journal.specs.States.{StateData, newest_is_open, newest_keeps, newest_may_keep}
@@ -57,3 +64,20 @@ pub record HasTurned (kept changed : Bool) (chip : ChipData) (n : ℕ)
   pub alone : n ≢ 257 → n ≢ 1 → newest_may_keep 257 new ≡ newest_may_keep 257 old
   pub keeps : changed ≡ true → IsTrue (newest_keeps n new)
   pub none : changed ≡ false → newest_may_keep 257 new ≡ newest_may_keep 257 old
+
+-- A page is read where it is due; otherwise nothing is done.
+abbrev pub reads_if : Bool → ChipData → ℕ → List ℕ → List Step
+reads_if due chip n held = if due then page_reads chip n held else []
+
+abbrev pub AreReadsIf : Bool → ChipData → ℕ → List Step → Type 0
+AreReadsIf due chip n steps = (held : List ℕ) × (due ≡ true → length held ≡ page_size chip n)
+    × (steps ≡ reads_if due chip n held)
+
+pub record ReadsIf (due : Bool) (chip : ChipData) (n : ℕ) (l : Loaded) (old new : RigState)
+    (result : Result (Vec ℕ Global) Fault) : Type 0 where
+  pub size : IfOk result (λ held. due ≡ true → vec_len held ≡ page_size chip n)
+  pub order : IfOk result (λ held. DoesSteps (reads_if due chip n held.items) l l old new)
+  pub stops : FaultEnds (Begin (AreReadsIf due chip n)) l.is_torn old new result
+  pub honest : (flashes : List (List ℕ)) → IsSteady flashes l old → old.device.chip ≡ chip
+      → Goes flashes [] l old new result (λ held. (new.device ≡ old.device)
+      × (due ≡ true → held.items ≡ page_of chip old.device.flash n))

@@ -1,5 +1,5 @@
 -- The faults of a session, and what they say of a Rig on any line.
-use Rattle.std.specs.Prelude.{◌≡◌, ◌≤◌, Result, OnOk, IfErr}
+use Rattle.std.specs.Prelude.{◌≡◌, ◌≤◌, Result, Ok, Err, OnOk, IfErr}
 use Rattle.stm_wire.specs.declared.fault.WireFault.{WireFault}
 use Rattle.stm_wire.specs.declared.fault.WireFault.TheVariants as wire
 use Rattle.stm_wire.specs.Rig.{RigState, Rises}
@@ -22,6 +22,15 @@ fault_of_journal (journal.Bad line) = fault.BadJournal line
 fault_of_journal journal.OtherDevice = fault.OtherDevice
 fault_of_journal journal.OtherBoard = fault.OtherBoard
 fault_of_journal journal.Memory = fault.Memory
+
+-- the answers of a command and of a call of the journal, as those of a session
+abbrev pub of_command : {T : Type 0} → Result T WireFault → Result T Fault
+of_command (Ok x) = Ok x
+of_command (Err e) = Err (fault_of e)
+
+abbrev pub of_call : {T : Type 0} → Result T JournalFault → Result T Fault
+of_call (Ok x) = Ok x
+of_call (Err e) = Err (fault_of_journal e)
 
 -- What a fault comes of: the line failed, the device doesn't follow the protocol, the file of the
 -- journal or memory failed; or the journal has a segment that must be ended or undone first; or

@@ -11,9 +11,10 @@ ghost use Rattle.stm_session.specs.Performs.{Performs};
 ghost use Rattle.stm_session.specs.Changing.{HasTurned, change_entries};
 
 use crate::Fault;
+use crate::deed::Deed;
 use crate::laws_of_steps::step_laws;
 use crate::rewriting::rewrite_kept;
-use crate::saving::save_pages;
+use crate::saving::{is_due, left_out, read_companion};
 use std::alloc::Global;
 use stm_chip::{PagePlan, page_plan};
 use stm_journal::Journal;
@@ -61,8 +62,12 @@ pub fn change_page<R: Rig>(
     match plan {
         PagePlan::Same => Ok(false),
         PagePlan::Erase(frames) => {
-            save_pages(alloc, rig, journal, chip, n, held, kept)?;
-            rewrite_kept(rig, journal, chip, n, page, &frames)?;
+            let due = is_due(chip, n, kept);
+            let came = read_companion(alloc, rig, chip, due)?;
+            let other = came.as_slice();
+            let keeps = [Deed::Keep(257, other), Deed::Keep(n, held)];
+            let first = &keeps[left_out(due, kept)..];
+            rewrite_kept(alloc, rig, journal, chip, first, n, page, &frames)?;
             Ok(true)
         }
     }

@@ -15,7 +15,8 @@ mod comparing;
 mod confirming;
 mod contact;
 mod content;
-mod erasing;
+mod deed;
+mod deeds;
 mod fault;
 mod go_and_protect;
 mod greeting;
@@ -33,7 +34,7 @@ mod opening;
 mod outcome;
 mod page_at_work;
 mod page_changes;
-mod programming;
+
 mod reading;
 mod reading_again;
 mod returned;

@@ -17,6 +17,7 @@ ghost use Rattle.stm_session.specs.Work.{beside, kept_at_work, kept_of, pages_at
 ghost use Rattle.stm_session.specs.Work.{with_work};
 
 use crate::Fault;
+use crate::deed::Deed;
 use crate::laws_of_steps::step_laws;
 use crate::rewriting::rewrite_kept;
 use std::alloc::Global;
@@ -69,7 +70,8 @@ fn rewrite_line<R: Rig>(
     let mut page = Vec::from_elem(alloc, 0, size as usize)?;
     journal.fetch_page(rig, place, &mut page)?;
     let frames = page_frames(alloc, &page, chip.erased())?;
-    rewrite_kept(rig, journal, chip, n, &page, &frames)?;
+    let kept = [Deed::Keep(n, &page)];
+    rewrite_kept(alloc, rig, journal, chip, &kept[1..], n, &page, &frames)?;
     Ok(())
 }
 

@@ -28,6 +28,10 @@ use Rattle.stm_session.proofs.CutShort.{begin_as, memory_stops, then_stops}
 use Rattle.stm_session.proofs.Orders.{does_nothing}
 use Rattle.stm_session.proofs.ToldPages.{some_calls}
 use Rattle.stm_session.proofs.UndoOrders.{journal_stops, some_rewrite}
+use Rattle.stm_session.proofs.Performing.{does_of}
+use Rattle.std.proofs.Common.{refl}
+use Rattle.stm_journal.specs.Newest.{KeepsSame}
+use Rattle.stm_journal.specs.States.{StateData}
 use Rattle.stm_session.proofs.page_at_work.rewrite_line.Given as given
 use Rattle.stm_session.proofs.page_at_work.rewrite_line.Goals as goal
 use Rattle.stm_session.proofs.page_at_work.rewrite_line.Goals.{After-rewrite_kept}
@@ -35,17 +39,17 @@ use Rattle.stm_session.proofs.page_at_work.rewrite_line.Goals.{After-rewrite_kep
 -- What the exits behind rewrite_kept share.
 
 page_size_is : (g : given.Over) (c : goal.After-rewrite_kept g)
-    → length c.deref-2.result.now ≡ page_size c.args.chip.now c.args.n
+    → length c.deref-3.result.now ≡ page_size c.args.chip.now c.args.n
 page_size_is g c = search rules
 
 -- it gets what was fetched
 page_same : (g : given.Over) (c : goal.After-rewrite_kept g)
-    → c.deref-2.result.now ≡ c.fetch_page.new.buf
+    → c.deref-3.result.now ≡ c.fetch_page.new.buf
 page_same g c =
     let buf = c.fetch_page.new.buf in
     let many : length buf ≡ c.in_ok-page.page.len =
     omega (arith, c.fetch_page.auto.buf, c.deref_mut.ensures.len) in
-    c.deref-2.ensures.value
+    c.deref-3.ensures.value
     ∙ ap (λ (z : ℕ). take z (buf ++ drop (length buf) c.in_ok-page.page.items)) (sym many)
     ∙ take-append_seam buf _
 
@@ -53,7 +57,7 @@ page_same g c =
 was_told : (g : given.Over) (c : goal.After-rewrite_kept g) (P : List Call → Type 0)
     → GoesOn P (g.R.Rig.view c.fetch_page.new.rig).calls (g.R.Rig.view c.rewrite_kept.new.rig).calls
     → ToldIn g.R.Rig.view c.args.journal.now.is_torn (g.R.Rig.view c.args.rig.now)
-    (g.R.Rig.view c.rewrite_kept.new.rig) [] c.deref-2.result.now
+    (g.R.Rig.view c.rewrite_kept.new.rig) [] c.deref-3.result.now
 was_told g c P rest =
     let V = g.R.Rig.view in
     let l = c.args.journal.now in
@@ -71,12 +75,12 @@ was_told g c P rest =
 
 -- the frames are those of the page
 framed : (g : given.Over) (c : goal.After-rewrite_kept g)
-    → c.deref-3.result.now ≡ frames_of (erased_byte c.args.chip.now) c.deref-2.result.now
-    (length c.deref-2.result.now / 256)
+    → c.deref-4.result.now ≡ frames_of (erased_byte c.args.chip.now) c.deref-3.result.now
+    (length c.deref-3.result.now / 256)
 framed g c =
-    c.deref-3.ensures.value ∙ c.in_ok-frames.ensures.frames
+    c.deref-4.ensures.value ∙ c.in_ok-frames.ensures.frames
     ∙ ap₂ (λ (e : ℕ) (bytes : List ℕ). frames_of e bytes (length bytes / 256))
-    c.erased.ensures.byte (c.deref.ensures.value ∙ sym c.deref-2.ensures.value)
+    c.erased.ensures.byte (c.deref.ensures.value ∙ sym c.deref-3.ensures.value)
 
 -- the lines are those of the kept page, whatever rewrite_kept answers
 rewritten : (g : given.Over) (c : goal.After-rewrite_kept g) (flashes : List (List ℕ)) (k i : ℕ)
@@ -86,11 +90,11 @@ rewritten : (g : given.Over) (c : goal.After-rewrite_kept g) (flashes : List (Li
     → place_of kept ≡ c.args.place → kept.page ≡ c.args.n → (r : Result (Unit {0}) Fault)
     → (IsSteady flashes c.args.journal.now (g.R.Rig.view c.fetch_page.new.rig)
     → (g.R.Rig.view c.fetch_page.new.rig).device.chip ≡ c.args.chip.now
-    → Goes flashes (Erases c.args.n ∷ program_entries c.args.n c.deref-3.result.now)
+    → Goes flashes (Erases c.args.n ∷ program_entries c.args.n c.deref-4.result.now)
     c.rewrite_kept.new.journal (g.R.Rig.view c.fetch_page.new.rig)
     (g.R.Rig.view c.rewrite_kept.new.rig) r
     (λ y. (g.R.Rig.view c.rewrite_kept.new.rig).device.flash ≡ with_page c.args.chip.now c.args.n
-    c.deref-2.result.now (g.R.Rig.view c.fetch_page.new.rig).device.flash))
+    c.deref-3.result.now (g.R.Rig.view c.fetch_page.new.rig).device.flash))
     → Goes flashes (rewrite_entries c.args.chip.now kept.page kept.bytes)
     c.rewrite_kept.new.journal (g.R.Rig.view c.args.rig.now) (g.R.Rig.view c.rewrite_kept.new.rig) r
     (λ y. (g.R.Rig.view c.rewrite_kept.new.rig).device.flash ≡ with_page c.args.chip.now kept.page
@@ -109,9 +113,9 @@ rewritten g c flashes k i kept steady chip entry place number r gives =
     let model_b = g.met.R.Rig.model c.fetch_page.new.rig first.honest in
     let still = ap (λ (x : Device). x.chip) fetches.same_device ∙ chip in
     let good = good_at l a.journal steady.loaded in
-    let page_is : c.deref-2.result.now ≡ kept.bytes =
+    let page_is : c.deref-3.result.now ≡ kept.bytes =
     page_same g c ∙ fetches.bytes (state_at a.journal) k i kept good entry place in
-    let own = Erases c.args.n ∷ program_entries c.args.n c.deref-3.result.now in
+    let own = Erases c.args.n ∷ program_entries c.args.n c.deref-4.result.now in
     let lines : own ≡ rewrite_entries c.args.chip.now kept.page kept.bytes =
     ap (λ (fs : List Frame). Erases c.args.n ∷ program_entries c.args.n fs) (framed g c)
     ∙ ap₂ (λ (n : ℕ) (bytes : List ℕ). rewrite_entries c.args.chip.now n bytes) (sym number)
@@ -155,6 +159,12 @@ returns-in_err-frames-clause-honest g c flashes k i kept steady chip entry place
     goes_refused flashes [] own l l a b (tt {0}) c.from_residual-in_err-frames.result
     (fetch_goes c.step_laws.ensures flashes l c.args.place c.fetch_page.new.buf a b (g.met.R.Rig.model c.args.rig.now steady.honest) steady (tt {0}) (λ (z : Unit {0}). Unit {0}) fetches tt) c.from_residual-in_err-frames.ensures.1
 
+pub returns-clause-same : goal.returns-clause-same
+returns-clause-same g c =
+    let done = c.in_ok-rewrite_kept.ensures.done in
+    let P : StateData → Type 0 = λ s. KeepsSame s c.rewrite_kept.new.journal.state in
+    subst P done.done done.same
+
 pub returns-in_err-rewrite_kept-clause-honest : goal.returns-in_err-rewrite_kept-clause-honest
 returns-in_err-rewrite_kept-clause-honest g c flashes k i kept steady chip entry place number =
     let V = g.R.Rig.view in
@@ -163,7 +173,7 @@ returns-in_err-rewrite_kept-clause-honest g c flashes k i kept steady chip entry
     goes_fault flashes (rewrite_entries c.args.chip.now kept.page kept.bytes) l2 l2
     (V c.args.rig.now) (V c.rewrite_kept.new.rig) _ c.from_residual-in_err-rewrite_kept.result
     (rewritten g last flashes k i kept steady chip entry place number _
-    (c.in_err-rewrite_kept.ensures.honest flashes)) c.from_residual-in_err-rewrite_kept.ensures.1
+    (λ steady chip. c.in_err-rewrite_kept.ensures.performs.honest flashes steady (chip, tt, refl))) c.from_residual-in_err-rewrite_kept.ensures.1
 
 pub returns-clause-honest : goal.returns-clause-honest
 returns-clause-honest g c flashes k i kept steady chip entry place number =
@@ -172,7 +182,7 @@ returns-clause-honest g c flashes k i kept steady chip entry place number =
     goes_ok flashes (rewrite_entries c.args.chip.now kept.page kept.bytes)
     c.rewrite_kept.new.journal (V c.args.rig.now) (V c.rewrite_kept.new.rig) _ (tt {0})
     (rewritten g last flashes k i kept steady chip entry place number _
-    (c.in_ok-rewrite_kept.ensures.honest flashes)) (λ p. p)
+    (λ steady chip. c.in_ok-rewrite_kept.ensures.performs.honest flashes steady (chip, tt, refl))) (λ p. p)
 
 pub returns-clause-order : goal.returns-clause-order
 returns-clause-order g c =
@@ -182,19 +192,19 @@ returns-clause-order g c =
     let l = c.args.journal.now in
     let a = V c.args.rig.now in
     let b = V c.fetch_page.new.rig in
-    let page = c.deref-2.result.now in
-    let own = rewrite_steps chip n page c.deref-3.result.now in
+    let page = c.deref-3.result.now in
+    let own = rewrite_steps chip n page c.deref-4.result.now in
     let last = (goal.at.returns-clause-order g c).After-rewrite_kept in
     let is = ap (λ (fs : List Frame). rewrite_steps chip n page fs) (framed g last) in
     let Own : List Call → Type 0 = λ calls. IsInOrder l.is_torn own calls in
-    let told = was_told g last Own c.in_ok-rewrite_kept.ensures.order.acts in
+    let told = was_told g last Own (does_of c.in_ok-rewrite_kept.ensures.performs.order).acts in
     let Told = ToldIn V l.is_torn a (V c.rewrite_kept.new.rig) in
     let rewritten : IsRewritten chip Told n own =
     record { page = page; size = page_size_is g last; told = told; is = is } in (
       own,
       rewritten,
       does_then [] own l l c.rewrite_kept.new.journal a b (V c.rewrite_kept.new.rig)
-          (does_fetch l a b c.in_ok-fetch_page.ensures.calls) c.in_ok-rewrite_kept.ensures.order,
+          (does_fetch l a b c.in_ok-fetch_page.ensures.calls) (does_of c.in_ok-rewrite_kept.ensures.performs.order),
     )
 
 pub returns-in_err-page-clause-stops : goal.returns-in_err-page-clause-stops
@@ -241,19 +251,19 @@ returns-in_err-rewrite_kept-clause-stops g c =
     let l = c.args.journal.now in
     let a = V c.args.rig.now in
     let b = V c.fetch_page.new.rig in
-    let page = c.deref-2.result.now in
+    let page = c.deref-3.result.now in
     let last = (goal.at.returns-in_err-rewrite_kept-clause-stops g c).After-rewrite_kept in
-    let Own = Are (rewrite_steps chip n page c.deref-3.result.now) in
+    let Own = Are (rewrite_steps chip n page c.deref-4.result.now) in
     let same = ap (λ (fs : List Frame). rewrite_steps chip n page fs) (framed g last) in
     let many = page_size_is g last in
     let d = V c.rewrite_kept.new.rig in
     let cause = cause_of c.in_err-rewrite_kept.field-0.0 in
     let Cut : List Call → Type 0 =
     λ calls. AreCutShort (Begin Own) cause l.is_torn (acts_of calls) in
-    let told = was_told g last Cut c.in_err-rewrite_kept.ensures.stops in
+    let told = was_told g last Cut c.in_err-rewrite_kept.ensures.performs.stops in
     let Told = ToldIn V l.is_torn a d in
     then_stops (Begin Own) (BeginTold (λ T. IsRewritten chip T n) Told) [] l l a b d _
     c.from_residual-in_err-rewrite_kept.result c.from_residual-in_err-rewrite_kept.ensures.1
-    (does_fetch l a b c.in_ok-fetch_page.ensures.calls) c.in_err-rewrite_kept.ensures.stops
+    (does_fetch l a b c.in_ok-fetch_page.ensures.calls) c.in_err-rewrite_kept.ensures.performs.stops
     (λ ys. begin_as Own (IsRewritten chip (so_far (length ys) Told) n)
     (λ xs is. record { page = page; size = many; told = λ lt. told; is = is ∙ same }) ys)
