@@ -7,7 +7,7 @@ use std::alloc::{AllocError, Global};
 use std::fs::Files;
 use stm_chip::Table;
 use stm_files::{foreign_form, read_file};
-use stm_image::{Image, read_hex, read_raw};
+use stm_image::{Image, Unjoined, join, read_hex, read_raw};
 use stm_session::{Fault, info};
 use stm_wire::Rig;
 use stm_words::{ImageFile, Range, UsageFault};
@@ -30,8 +30,64 @@ pub enum Content {
     AtBase(Vec<u8>),
 }
 
+/// Reads the files of images whole: what they hold together. Of several each has its place, where
+/// the table's chips have one for raw bytes that have none.
+pub fn read_images<'a, R: Files + AllocGlobal>(
+    rt: &R,
+    table: &Table,
+    images: &[ImageFile<'a>],
+) -> Result<Content, Failure<'a>>
+    ensures { IfOk result (ComeOfFiles table.now images.now) }
+{
+    if let [image] = images {
+        return read_content(rt, image);
+    }
+    let mut placed = Vec::new(rt.alloc());
+    for image in images {
+        placed.push(read_placed(rt, table, image)?)?;
+    }
+    match join(rt.alloc(), &placed) {
+        Ok(image) => Ok(Content::Placed(image)),
+        Err(
+            Unjoined::Differ {
+                first,
+                second,
+                address,
+            },
+        ) => { Err(Failure::ImagesDiffer(images[first].name, images[second].name, address)) }
+        Err(Unjoined::Memory) => Err(Failure::Memory),
+    }
+}
+
+/// Reads the file of one image among several.
+fn read_placed<'a, R: Files + AllocGlobal>(
+    rt: &R,
+    table: &Table,
+    image: &ImageFile<'a>,
+) -> Result<Image, Failure<'a>>
+    ensures { IfOk result (PlacedOfFile table.now image.now) }
+{
+    match (read_content(rt, image)?, flash_base(table)) {
+        (Content::Placed(image), _) => Ok(image),
+        (Content::AtBase(bytes), Some(base)) => Ok(read_raw(rt.alloc(), bytes.as_slice(), base)?),
+        _ => Err(Failure::Usage(UsageFault::GivePlace(image.name))),
+    }
+}
+
+/// Where the flash of each chip of a table begins, if that is one address.
+fn flash_base(table: &Table) -> Option<u32>
+    ensures { IfSome result (IsBaseOf table.now) }
+{
+    let base = table.chips().first()?.base();
+    if table.chips().iter().all(|chip| chip.base() == base) {
+        Some(base)
+    } else {
+        None
+    }
+}
+
 /// Reads the file of an image whole.
-pub fn read_content<'a, R: Files + AllocGlobal>(
+fn read_content<'a, R: Files + AllocGlobal>(
     rt: &R,
     image: &ImageFile<'a>,
 ) -> Result<Content, Failure<'a>>
