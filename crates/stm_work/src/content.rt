@@ -1,6 +1,9 @@
-// The image that a file holds, as far as it can be read before the device is known.
-ghost use Rattle.std.specs.Prelude.{◌≡◌, Ok, IfOk, IfErr, List, ℕ};
-ghost use Rattle.stm_work.specs.Content.{ComesOf, ImageOn, IsCopy, IsNoPlace, LiesFrom, has_room, is_hex};
+// The image that files hold, as far as it can be read before the device is known.
+ghost use Rattle.std.specs.Prelude.{◌≡◌, IfErr, IfOk, IfSome, length};
+ghost use Rattle.stm_image.specs.Joined.{all_pairs_of};
+ghost use Rattle.stm_image.specs.Pairs.{IsSetOf};
+ghost use Rattle.stm_work.specs.Content.{ArePlacedOf, ComeOfFilesBy, ComesOf, ComesOfFile, ImageOn, IsBaseOf};
+ghost use Rattle.stm_work.specs.Content.{IsCopy, IsNoPlace, IsPlacedBy, LiesFrom, TellUnlike, has_room, is_hex};
 
 use crate::failure::Failure;
 use std::alloc::{AllocError, Global};
@@ -30,48 +33,58 @@ pub enum Content {
     AtBase(Vec<u8>),
 }
 
-/// Reads the files of images whole: what they hold together. Of several each has its place, where
-/// the table's chips have one for raw bytes that have none.
+/// Reads the files of images whole: what they hold together, which for one alone may have no place yet.
 pub fn read_images<'a, R: Files + AllocGlobal>(
     rt: &R,
     table: &Table,
-    images: &[ImageFile<'a>],
+    files: &[ImageFile<'a>],
 ) -> Result<Content, Failure<'a>>
-    ensures { IfOk result (ComeOfFiles table.now images.now) }
+    ensures { IfOk result (ComeOfFilesBy table.now files.now) }
 {
-    if let [image] = images {
-        return read_content(rt, image);
+    if let [file] = files {
+        return read_content(rt, file);
     }
-    let mut placed = Vec::new(rt.alloc());
-    for image in images {
-        placed.push(read_placed(rt, table, image)?)?;
-    }
-    match join(rt.alloc(), &placed) {
-        Ok(image) => Ok(Content::Placed(image)),
+    let images = read_placed(rt, table, files)?;
+    Ok(Content::Placed(join_files(rt.alloc(), files, &images)?))
+}
+
+/// The images in files as one. Two that differ are told.
+pub fn join_files<'a>(
+    alloc: Global,
+    files: &[ImageFile<'a>],
+    images: &[Image],
+) -> Result<Image, Failure<'a>>
+    requires { length files.now ≡ length images.now }
+    ensures ok { IfOk result (λ image. IsSetOf image (all_pairs_of images.now)) }
+    ensures err { IfErr result (TellUnlike files.now images.now) }
+{
+    match join(alloc, images) {
+        Ok(image) => Ok(image),
         Err(
             Unjoined::Differ {
                 first,
                 second,
                 address,
             },
-        ) => { Err(Failure::ImagesDiffer(images[first].name, images[second].name, address)) }
+        ) => Err(Failure::ImagesDiffer(files[first].name, files[second].name, address)),
         Err(Unjoined::Memory) => Err(Failure::Memory),
     }
 }
 
-/// Reads the file of one image among several.
+/// Reads the files of several images, each of which has its place.
 fn read_placed<'a, R: Files + AllocGlobal>(
     rt: &R,
     table: &Table,
-    image: &ImageFile<'a>,
-) -> Result<Image, Failure<'a>>
-    ensures { IfOk result (PlacedOfFile table.now image.now) }
+    files: &[ImageFile<'a>],
+) -> Result<Vec<Image>, Failure<'a>>
+    ensures { IfOk result (λ images. ArePlacedOf table.now files.now images.items) }
 {
-    match (read_content(rt, image)?, flash_base(table)) {
-        (Content::Placed(image), _) => Ok(image),
-        (Content::AtBase(bytes), Some(base)) => Ok(read_raw(rt.alloc(), bytes.as_slice(), base)?),
-        _ => Err(Failure::Usage(UsageFault::GivePlace(image.name))),
+    let mut images = Vec::new(rt.alloc());
+    for file in files {
+        let content = read_content(rt, file)?;
+        images.push(content.among(rt.alloc(), table, file.name)?)?;
     }
+    Ok(images)
 }
 
 /// Where the flash of each chip of a table begins, if that is one address.
@@ -91,8 +104,7 @@ fn read_content<'a, R: Files + AllocGlobal>(
     rt: &R,
     image: &ImageFile<'a>,
 ) -> Result<Content, Failure<'a>>
-    ensures { IfOk result (λ content. (bytes : List ℕ)
-        × ComesOf (is_hex image.now.is_raw bytes) image.now.range bytes (Ok content)) }
+    ensures { IfOk result (ComesOfFile image.now) }
 {
     let bytes = match read_file(rt, image.name, HEX) {
         Ok(bytes) => bytes,
@@ -177,6 +189,20 @@ impl Content {
                 alloc,
                 bytes.as_slice(),
             )?)),
+        }
+    }
+
+    /// The image where others are written with it. Raw bytes without a place begin where the flash of
+    /// each chip of the table does.
+    fn among<'a>(self, alloc: Global, table: &Table, name: &'a str) -> Result<Image, Failure<'a>>
+        ensures { IfOk result (IsPlacedBy table.now self) }
+    {
+        match self {
+            Content::Placed(image) => Ok(image),
+            Content::AtBase(bytes) => match flash_base(table) {
+                Some(base) => Ok(read_raw(alloc, bytes.as_slice(), base)?),
+                None => Err(Failure::Usage(UsageFault::GivePlace(name))),
+            },
         }
     }
 
