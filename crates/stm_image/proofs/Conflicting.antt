@@ -41,7 +41,7 @@ has_byte text pairs stop place reads clash =
     record { records = reads.records; rest = reads.rest; follows = reads.follows; within = omega arith }
 
 -- the front of some pairs
-agree_front : (front back : Pairs) → Agree (front ++ back) → Agree front
+pub agree_front : (front back : Pairs) → Agree (front ++ back) → Agree front
 agree_front front back agree = agree_among (front ++ back) front (λ q. Contains-append_left front back q) agree
 
 agree_taken : (n : ℕ) (pairs : Pairs) → Agree pairs → Agree (take n pairs)

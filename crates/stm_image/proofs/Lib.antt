@@ -1,3 +1,4 @@
+pub mod Alike
 pub mod Canonical
 pub mod Clashing
 pub mod Conflicting

@@ -132,16 +132,16 @@ set_agreeing set bytes list rises among covers agree = record { rises = rises; s
         ]
 
 -- where it does not, the pairs do not agree
-pub pairs_differ : (set : Pairs) (bytes : List ℕ) (list : List Piece) → IsAmong set (pairs_at bytes list) → HasDifference set bytes list → Agree (pairs_at bytes list) → ⊥
-pairs_differ set bytes list among has agree =
+pub pairs_differ : (set : Pairs) (bytes : List ℕ) (list : List Piece) (place : ℕ) → IsAmong set (pairs_at bytes list) → HasDifference set bytes list place → Agree (pairs_at bytes list) → ⊥
+pairs_differ set bytes list place among has agree =
     let p = has.piece in
     let d = has.differs in
     let from = d.from in
     let within = d.within in
-    let i = has.place - p.first in
-    let at : p.first + i ≡ has.place = omega arith in
+    let i = place - p.first in
+    let at : p.first + i ≡ place = omega arith in
     let own = rw at at (raw_holds p.first (piece_bytes bytes p) i (omega arith)) in
-    d.differs (agree has.place (slice_index (piece_bytes bytes p) i) d.byte (holds_piece bytes list p (has.place, slice_index (piece_bytes bytes p) i) has.held own) (among (has.place, d.byte) (held_at set has.place d.byte d.held)))
+    d.differs (agree place (slice_index (piece_bytes bytes p) i) d.byte (holds_piece bytes list p (place, slice_index (piece_bytes bytes p) i) has.held own) (among (place, d.byte) (held_at set place d.byte d.held)))
 
 -- pieces in another order have the same pairs
 pub pairs_moved : (bytes : List ℕ) (xs ys : List Piece) (q : ℕ × ℕ) → IsPermutation xs ys → Contains (pairs_at bytes xs) q → Contains (pairs_at bytes ys) q

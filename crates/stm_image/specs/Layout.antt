@@ -21,11 +21,10 @@ Covers set pairs = (q : ℕ × ℕ) → Contains pairs q → (b : ℕ) × Contai
 abbrev pub AllAgree : Pairs → List ℕ → List Piece → Type 0
 AllAgree set bytes list = (p : Piece) → Contains list p → AgreesWith set p.first (piece_bytes bytes p)
 
--- it has another byte than some piece
-pub record HasDifference (set : Pairs) (bytes : List ℕ) (list : List Piece) : Type 0 where
+-- it has another byte than some piece, at a place
+pub record HasDifference (set : Pairs) (bytes : List ℕ) (list : List Piece) (place : ℕ) : Type 0 where
   pub piece : Piece
   pub held : Contains list piece
-  pub place : ℕ
   pub differs : DiffersAt set piece.first (piece_bytes bytes piece) place
 
 -- what was laid out of some pairs so far: one more than the last address is `next`, and from

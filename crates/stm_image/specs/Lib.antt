@@ -1,6 +1,7 @@
 pub mod Canon
 pub mod Clash
 pub mod Digits
+pub mod Joined
 pub mod Lay
 pub mod Layout
 pub mod Pairs

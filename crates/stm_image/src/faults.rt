@@ -45,3 +45,16 @@ pub enum RawFault {
     #[error("out of memory")]
     Memory,
 }
+
+/// Why several images aren't one.
+#[derive(Debug, Drop, Clone, Copy, PartialEq, Eq)]
+pub enum Unjoined {
+    /// Two of them, which are counted from 0, have another byte at an address.
+    Differ {
+        first: usize,
+        second: usize,
+        address: u32,
+    },
+    /// There was no memory for the image.
+    Memory,
+}

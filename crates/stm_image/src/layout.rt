@@ -1,5 +1,5 @@
 //! The set of pieces that may overlap.
-ghost use Rattle.std.specs.Prelude.{◌≡◌, IfOk, IsTrue, MatchBool, MatchResult, length};
+ghost use Rattle.std.specs.Prelude.{◌≡◌, IfOk, IsTrue, MatchOption, MatchResult, length};
 ghost use Rattle.std.specs.List.Sorted.{IsNonDecreasingBy, IsPermutation};
 ghost use Rattle.stm_image.specs.Clash.{IsClash};
 ghost use Rattle.stm_image.specs.Layout.{AllAgree, AllWithin, Covers, HasDifference, IsAmong};
@@ -38,11 +38,11 @@ fn sorted_set(alloc: Global, mut pieces: Pieces) -> Result<Result<Image, usize>,
     let list = pieces.list.as_slice();
     let set = lay_out(alloc, bytes, list)?;
     set.rises();
-    if all_agree(&set, bytes, list) {
-        return Ok(Ok(set));
+    if let Some(_place) = first_unlike(&set, bytes, list) {
+        sort_back(&mut pieces.list);
+        return Ok(Err(first_clash(set, &pieces)));
     }
-    sort_back(&mut pieces.list);
-    Ok(Err(first_clash(set, &pieces)))
+    Ok(Ok(set))
 }
 
 // Whether each piece begins after a gap behind the one before it.
@@ -97,17 +97,17 @@ fn lay_out(alloc: Global, bytes: &[u8], list: &[Piece]) -> Result<Image, AllocEr
     Ok(Image::from_runs(laid))
 }
 
-// Whether the set has the bytes of each piece, wherever it names their places.
-fn all_agree(set: &Image, bytes: &[u8], list: &[Piece]) -> bool
+/// Where the set has another byte than the first piece that differs from it.
+pub fn first_unlike(set: &Image, bytes: &[u8], list: &[Piece]) -> Option<u32>
     requires { AllWithin (length bytes.now) list.now }
-    ensures { MatchBool result (AllAgree set.now bytes.now list.now)
+    ensures { MatchOption result (AllAgree set.now bytes.now list.now)
         (HasDifference set.now bytes.now list.now) }
 {
     for piece in list {
         match set.first_difference(piece.first, piece.bytes_in(bytes)) {
-            Some(_place) => return false,
+            Some(place) => return Some(place),
             None => {}
         }
     }
-    true
+    None
 }

@@ -6,6 +6,7 @@ mod conflict;
 mod data;
 mod digit_table;
 mod faults;
+mod joining;
 mod laws;
 mod laying;
 mod layout;
@@ -20,7 +21,8 @@ mod set;
 mod step;
 mod writer;
 
-pub use faults::{HexFault, RawFault};
+pub use faults::{HexFault, RawFault, Unjoined};
+pub use joining::join;
 pub use laws::{
     canonical_text_means_the_image, every_text_has_a_verdict, laying_by_parts, laying_keeps_places,
     laying_nothing_new, verdict_is_unique,

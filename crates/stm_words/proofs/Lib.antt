@@ -1,3 +1,4 @@
+pub mod NamedImages
 pub mod NamedPages
 pub mod Subcommands
 pub mod Simple

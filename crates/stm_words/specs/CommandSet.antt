@@ -59,6 +59,10 @@ flag_rule name = record (new_rule name) { long = Some name; action = Some SetTru
 abbrev pub needed_rule : Text → Rule
 needed_rule id = record (new_rule id) { required = true }
 
+-- further words, of which one has to be given
+abbrev pub needed_repeated_rule : Text → Rule
+needed_repeated_rule id = record (needed_rule id) { action = Some Append }
+
 -- any number of further words
 abbrev pub repeated_rule : Text → Rule
 repeated_rule id = record (new_rule id) { action = Some Append }
@@ -128,11 +132,11 @@ write_app e = with_rule (with_rule (with_rule (with_rule (with_rule (with_rule (
     (on_board e (codes "write"))
     (letter_rule (codes "force") 102)) (letter_rule (codes "check") 118)) range_rule)
     (flag_rule (codes "keep"))) (option_rule (codes "keep-to"))) (option_rule (codes "go")))
-    (option_rule (codes "again"))) (needed_rule (codes "IMAGE"))
+    (option_rule (codes "again"))) (needed_repeated_rule (codes "IMAGE"))
 
 abbrev pub verify_app : Environment → App
 verify_app e = with_rule (with_rule (with_rule (on_board e (codes "verify"))
-    (letter_rule (codes "force") 102)) range_rule) (needed_rule (codes "IMAGE"))
+    (letter_rule (codes "force") 102)) range_rule) (needed_repeated_rule (codes "IMAGE"))
 
 abbrev pub erase_app : Environment → App
 erase_app e =

@@ -15,6 +15,7 @@ use Rattle.stm_words.specs.declared.image_file.ImageFile.{ImageFile}
 use Rattle.stm_words.specs.declared.kept.Kept.{Kept}
 use Rattle.stm_words.specs.declared.options.Options.{Options}
 use Rattle.stm_words.specs.declared.progress.Progress.TheVariants.{Lines, OnTerminal, Silent}
+use Rattle.stm_words.specs.declared.range.Range.{Range}
 use Rattle.stm_words.specs.declared.request.Request.{Request}
 use Rattle.stm_words.specs.declared.request.Request.TheVariants.{Use, Log, Keep, Serve}
 use Rattle.stm_words.specs.declared.sequel.Sequel.{Sequel}
@@ -29,6 +30,7 @@ use Rattle.stm_words.specs.CommandSet.{TakesKinds, command_set}
 use Rattle.stm_words.specs.Given.{Gives, GivesOrZero, NamesText, are_board_digits, are_unique_digits, cut_at, has}
 use Rattle.stm_words.specs.Given.{chip_id_of, is_of_simulator, is_word, mode_of, number_to, range_of}
 use Rattle.stm_words.specs.Given.{simulator_of, texts_of, word_range_of}
+use Rattle.stm_words.specs.Images.{AreNamed}
 use Rattle.stm_words.specs.Number.{word_number}
 use Rattle.stm_words.specs.Pages.{NameAll}
 
@@ -83,11 +85,11 @@ pub record AreOptions (e : Environment) (given : Found) (o : Options) : Type 0 w
       else (if has given (codes "progress") then Lines else OnTerminal))
   pub stop : Gives word_number given (codes "stop") o.stop
 
--- the image that words name, and where it lies if it is raw bytes
-pub record IsImageFile (given : Found) (image : ImageFile) : Type 0 where
-  pub name : first_value given (codes "IMAGE") ≡ Some image.name.now
-  pub raw : image.is_raw ≡ has given (codes "force")
-  pub range : Gives range_of given (codes "range") image.range
+-- the images that words name, and where they lie if they are raw bytes
+pub record AreImageFiles (given : Found) (images : List ImageFile) : Type 0 where
+  pub range : Option Range
+  pub is_range : Gives range_of given (codes "range") range
+  pub named : AreNamed (has given (codes "force")) range (texts_of given (codes "IMAGE")) images
 
 -- what is read is written as HEX: the flag says so, or the end of the file's name
 abbrev pub wants_hex : Found → List ℕ → Bool
@@ -112,9 +114,9 @@ IsTask name given (ReadHex range out skips) = (name ≡ codes "read")
     × (first_value given (codes "OUT") ≡ Some out.now) × (wants_hex given out.now ≡ true)
     × (skips ≡ has given (codes "skip-blank"))
 IsTask name given (Sum range) = (name ≡ codes "crc") × Gives word_range_of given (codes "range") range
-IsTask name given (Write image verifies) = (name ≡ codes "write") × IsImageFile given image
+IsTask name given (Write images verifies) = (name ≡ codes "write") × AreImageFiles given images.items
     × (verifies ≡ has given (codes "check"))
-IsTask name given (Verify image) = (name ≡ codes "verify") × IsImageFile given image
+IsTask name given (Verify images) = (name ≡ codes "verify") × AreImageFiles given images.items
 IsTask name given (Erase is_all pages) = (name ≡ codes "erase")
     × (is_all ≡ has given (codes "all")) × NameAll (texts_of given (codes "PAGE")) pages.items
 IsTask name given (Undo extent verifies) = (name ≡ codes "undo") × NamesExtent given extent

@@ -3,7 +3,7 @@ ghost use Rattle.std.specs.Prelude.{◌≡◌, false, option_map};
 ghost use Rattle.clap.specs.Words.{new_rule, rule_of};
 ghost use Rattle.stm_words.specs.CommandSet.{TakesKinds, default_option_rule};
 ghost use Rattle.stm_words.specs.CommandSet.{flag_rule, kind_rule, letter_rule, needed_option_rule};
-ghost use Rattle.stm_words.specs.CommandSet.{needed_rule, option_rule, range_rule, repeated_option_rule, repeated_rule};
+ghost use Rattle.stm_words.specs.CommandSet.{needed_repeated_rule, needed_rule, option_rule, range_rule, repeated_option_rule, repeated_rule};
 ghost use Rattle.stm_words.specs.CommandSet.{spare_option_rule, standing_option_rule};
 
 use crate::help;
@@ -137,6 +137,14 @@ pub fn needed<'a>(alloc: Global, id: &'a str, help: &'a str) -> Arg<'a>
     ensures local { result.global ≡ false }
 {
     Arg::new(alloc, id).required(true).help(help)
+}
+
+/// Further words, of which one has to be given.
+pub fn needed_repeated<'a>(alloc: Global, id: &'a str, help: &'a str) -> Arg<'a>
+    ensures rule { rule_of result ≡ needed_repeated_rule id.entry.now }
+    ensures local { result.global ≡ false }
+{
+    needed(alloc, id, help).action(ArgAction::Append)
 }
 
 /// Any number of further words.

@@ -8,8 +8,8 @@ ghost use Rattle.stm_words.specs.CommandSet.{wait_word, with_places, with_table,
 ghost use Rattle.stm_words.specs.CommandSet.{write_app};
 
 use crate::argument::{
-    default_option, flag, hidden_flag, kind, letter, needed, needed_option, option, range,
-    repeated, repeated_option, spare, spare_option, standing_option,
+    default_option, flag, hidden_flag, kind, letter, needed, needed_option, needed_repeated,
+    option, range, repeated, repeated_option, spare, spare_option, standing_option,
 };
 use crate::environment::Environment;
 use crate::help;
@@ -153,7 +153,7 @@ fn write<'a>(alloc: Global, environment: Environment<'a>) -> Result<Command<'a>,
         .arg(option(alloc, "keep-to", "TO", help::WRITE_KEEP_TO))?
         .arg(option(alloc, "go", "ADDRESS", help::WRITE_GO))?
         .arg(option(alloc, "again", "N", help::AGAIN))?
-        .arg(needed(alloc, "IMAGE", help::IMAGE))
+        .arg(needed_repeated(alloc, "IMAGE", help::IMAGE))
 }
 
 fn verify<'a>(alloc: Global, environment: Environment<'a>) -> Result<Command<'a>, AllocError>
@@ -162,7 +162,7 @@ fn verify<'a>(alloc: Global, environment: Environment<'a>) -> Result<Command<'a>
     on_board(alloc, environment, "verify", help::VERIFY)?
         .arg(letter(alloc, "force", 'f', help::FORCE))?
         .arg(range(alloc, help::IMAGE_RANGE))?
-        .arg(needed(alloc, "IMAGE", help::IMAGE))
+        .arg(needed_repeated(alloc, "IMAGE", help::IMAGE))
 }
 
 fn erase<'a>(alloc: Global, environment: Environment<'a>) -> Result<Command<'a>, AllocError>

@@ -110,7 +110,7 @@ pub const IMAGE_RANGE: &str =
     "Where a raw image lies: address[:length]; without it, from the flash's first byte on";
 
 pub const IMAGE: &str =
-    "The file of the image: Intel HEX where its first byte is a colon, and raw bytes otherwise";
+    "The files of images: HEX where the first byte is a colon, else raw; NAME@RANGE is -S of one alone";
 
 pub const ALL: &str = "Erases every page";
 

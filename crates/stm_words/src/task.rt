@@ -33,13 +33,13 @@ pub enum Task<'a> {
     },
     /// Tells the CRC of the whole flash or of a part of it, which is whole words.
     Sum(Option<Range>),
-    /// Writes an image, and verifies it where that is asked for.
+    /// Writes images as one, and verifies it where that is asked for.
     Write {
-        image: ImageFile<'a>,
+        images: Vec<ImageFile<'a>>,
         verifies: bool,
     },
-    /// Compares the flash with an image.
-    Verify(ImageFile<'a>),
+    /// Compares the flash with images.
+    Verify(Vec<ImageFile<'a>>),
     /// Erases pages: all, or these.
     Erase {
         is_all: bool,
@@ -75,10 +75,10 @@ impl<'a> Task<'a> {
             "read" => Task::parse_read(given),
             "crc" => Ok(Task::Sum(word_range(given)?)),
             "write" => Ok(Task::Write {
-                image: ImageFile::parse(given)?,
+                images: ImageFile::parse_all(alloc, given)?,
                 verifies: flag(given, "check"),
             }),
-            "verify" => Ok(Task::Verify(ImageFile::parse(given)?)),
+            "verify" => Ok(Task::Verify(ImageFile::parse_all(alloc, given)?)),
             "erase" => Ok(Task::Erase {
                 is_all: flag(given, "all"),
                 pages: pages(alloc, given, "PAGE")?,

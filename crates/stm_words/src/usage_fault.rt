@@ -47,6 +47,9 @@ pub enum UsageFault<'a> {
     /// A place is named for an image that isn't raw.
     #[error("usage: -S needs a raw image")]
     RangeNeedsRaw,
+    /// A raw image among others has no place, and the table's chips don't begin at one address.
+    #[error("usage: give {0}@ADDRESS")]
+    GivePlace(&'a str),
     /// A stop is asked for, and the device is no simulator in the process.
     #[error("usage: --stop needs a simulator")]
     StopNeedsSimulator,

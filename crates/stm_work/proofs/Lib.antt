@@ -1,5 +1,6 @@
 pub mod Telling
 pub mod OneCall
+pub mod PlacedFiles
 pub mod WholeCalls
 pub mod Acts
 pub mod Tried

@@ -30,7 +30,6 @@ use Rattle.stm_session.specs.Promises.{UndoContract}
 use Rattle.stm_session.specs.Refusal.{RefusesUnsent, open_refusal}
 use Rattle.stm_session.specs.Sending.{IsLeaving, SendsAsUndo, is_whole_at}
 use Rattle.stm_words.specs.declared.extent.Extent.{Extent}
-use Rattle.stm_words.specs.declared.image_file.ImageFile.{ImageFile}
 use Rattle.stm_words.specs.declared.task.Task.{Task}
 use Rattle.stm_words.specs.declared.task.Task.TheVariants as task
 use Rattle.stm_work.specs.declared.action.Action.{Action}
@@ -44,17 +43,12 @@ use Rattle.stm_work.specs.declared.failure.Failure.{Failure}
 use Rattle.stm_work.specs.declared.way_back.WayBack.{WayBack}
 use Rattle.stm_work.specs.declared.failure.Failure.TheVariants.{Session}
 use Rattle.stm_work.specs.Conduct.{PromisesInfo, AsksThenGoesOn, ErasesAll, Identifies, RunsIfRoom, RunsTold}
-use Rattle.stm_work.specs.Content.{ComesOf, ImageOn, IsCopy, is_hex}
+use Rattle.stm_work.specs.Content.{ComeOfFiles, ImageOn, IsCopy}
 use Rattle.stm_work.specs.Protections.{protection_of}
 use Rattle.stm_work.specs.ReadingFor.{ReadsAsHex, SumsUp}
 use Rattle.stm_work.specs.Reading.{ReadsRange}
 use Rattle.stm_work.specs.Unprotecting.{UnprotectsBegun}
 use Rattle.stm_work.specs.WayBack.{FindsWay, beside_way, undo_of}
-
--- some bytes mean it, by the words that name the image's file
-abbrev pub ComesOfFile : ImageFile → Content → Type 0
-ComesOfFile image content = (bytes : List ℕ)
-    × ComesOf (is_hex image.is_raw bytes) image.range bytes (Ok content)
 
 -- the action that a task asks for; of an undo the journal says which it is
 abbrev pub IsFor : Task → Action → Type 0
@@ -62,12 +56,12 @@ IsFor (task.Info is_raw) does = does ≡ action.Info
 IsFor (task.Read range out) does = does ≡ action.Read range
 IsFor (task.ReadHex range out skips) does = does ≡ action.Read range
 IsFor (task.Sum range) does = does ≡ action.Read range
-IsFor (task.Write image true) does = (content : Content) × (does ≡ action.WriteAndVerify content)
-    × ComesOfFile image content
-IsFor (task.Write image false) does = (content : Content) × (does ≡ action.Write content)
-    × ComesOfFile image content
-IsFor (task.Verify image) does = (content : Content) × (does ≡ action.Verify content)
-    × ComesOfFile image content
+IsFor (task.Write images true) does = (content : Content) × (does ≡ action.WriteAndVerify content)
+    × ComeOfFiles images.items content
+IsFor (task.Write images false) does = (content : Content) × (does ≡ action.Write content)
+    × ComeOfFiles images.items content
+IsFor (task.Verify images) does = (content : Content) × (does ≡ action.Verify content)
+    × ComeOfFiles images.items content
 IsFor (task.Erase true pages) does = does ≡ action.EraseAll
 IsFor (task.Erase false pages) does = does ≡ action.Erase pages
 IsFor (task.Undo extent is_verified) does = ⊥

@@ -6,7 +6,7 @@ ghost use Rattle.stm_work.specs.WayBack.{undo_of};
 
 use crate::answer::Answer;
 use crate::changing::{erase, erase_all, verify, write, write_and_verify};
-use crate::content::{Content, read_content};
+use crate::content::{Content, read_images};
 use crate::failure::Failure;
 use crate::protection::protection;
 use crate::reading::read;
@@ -51,8 +51,12 @@ pub enum Action {
 }
 
 impl Action {
-    /// What a task asks for, but an undo. The file of an image is read.
-    pub fn of<'a, R: Files + AllocGlobal>(rt: &R, task: Task<'a>) -> Result<Action, Failure<'a>>
+    /// What a task asks for, but an undo. The files of images are read.
+    pub fn of<'a, R: Files + AllocGlobal>(
+        rt: &R,
+        table: &Table,
+        task: Task<'a>,
+    ) -> Result<Action, Failure<'a>>
         ensures { IfOk result (IsFor task.entry) }
     {
         match task {
@@ -60,15 +64,15 @@ impl Action {
             Task::Read { range, .. } | Task::ReadHex { range, .. } | Task::Sum(range) => {
                 Ok(Action::Read(range))
             }
-            Task::Write { image, verifies } => {
-                let content = read_content(rt, &image)?;
+            Task::Write { images, verifies } => {
+                let content = read_images(rt, table, &images)?;
                 if verifies {
                     Ok(Action::WriteAndVerify(content))
                 } else {
                     Ok(Action::Write(content))
                 }
             }
-            Task::Verify(image) => Ok(Action::Verify(read_content(rt, &image)?)),
+            Task::Verify(images) => Ok(Action::Verify(read_images(rt, table, &images)?)),
             Task::Erase { is_all, pages } => Ok(if is_all {
                 Action::EraseAll
             } else {

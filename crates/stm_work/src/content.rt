@@ -1,13 +1,16 @@
-// The image that a file holds, as far as it can be read before the device is known.
-ghost use Rattle.std.specs.Prelude.{◌≡◌, Ok, IfOk, IfErr, List, ℕ};
-ghost use Rattle.stm_work.specs.Content.{ComesOf, ImageOn, IsCopy, IsNoPlace, LiesFrom, has_room, is_hex};
+// The image that files hold, as far as it can be read before the device is known.
+ghost use Rattle.std.specs.Prelude.{◌≡◌, IfErr, IfOk, IfSome, length};
+ghost use Rattle.stm_image.specs.Joined.{all_pairs_of};
+ghost use Rattle.stm_image.specs.Pairs.{IsSetOf};
+ghost use Rattle.stm_work.specs.Content.{ArePlacedOf, ComeOfFilesBy, ComesOf, ComesOfFile, ImageOn, IsBaseOf};
+ghost use Rattle.stm_work.specs.Content.{IsCopy, IsNoPlace, IsPlacedBy, LiesFrom, TellUnlike, has_room, is_hex};
 
 use crate::failure::Failure;
 use std::alloc::{AllocError, Global};
 use std::fs::Files;
 use stm_chip::Table;
 use stm_files::{foreign_form, read_file};
-use stm_image::{Image, read_hex, read_raw};
+use stm_image::{Image, Unjoined, join, read_hex, read_raw};
 use stm_session::{Fault, info};
 use stm_wire::Rig;
 use stm_words::{ImageFile, Range, UsageFault};
@@ -30,13 +33,78 @@ pub enum Content {
     AtBase(Vec<u8>),
 }
 
+/// Reads the files of images whole: what they hold together, which for one alone may have no place yet.
+pub fn read_images<'a, R: Files + AllocGlobal>(
+    rt: &R,
+    table: &Table,
+    files: &[ImageFile<'a>],
+) -> Result<Content, Failure<'a>>
+    ensures { IfOk result (ComeOfFilesBy table.now files.now) }
+{
+    if let [file] = files {
+        return read_content(rt, file);
+    }
+    let images = read_placed(rt, table, files)?;
+    Ok(Content::Placed(join_files(rt.alloc(), files, &images)?))
+}
+
+/// The images in files as one. Two that differ are told.
+pub fn join_files<'a>(
+    alloc: Global,
+    files: &[ImageFile<'a>],
+    images: &[Image],
+) -> Result<Image, Failure<'a>>
+    requires { length files.now ≡ length images.now }
+    ensures ok { IfOk result (λ image. IsSetOf image (all_pairs_of images.now)) }
+    ensures err { IfErr result (TellUnlike files.now images.now) }
+{
+    match join(alloc, images) {
+        Ok(image) => Ok(image),
+        Err(
+            Unjoined::Differ {
+                first,
+                second,
+                address,
+            },
+        ) => Err(Failure::ImagesDiffer(files[first].name, files[second].name, address)),
+        Err(Unjoined::Memory) => Err(Failure::Memory),
+    }
+}
+
+/// Reads the files of several images, each of which has its place.
+fn read_placed<'a, R: Files + AllocGlobal>(
+    rt: &R,
+    table: &Table,
+    files: &[ImageFile<'a>],
+) -> Result<Vec<Image>, Failure<'a>>
+    ensures { IfOk result (λ images. ArePlacedOf table.now files.now images.items) }
+{
+    let mut images = Vec::new(rt.alloc());
+    for file in files {
+        let content = read_content(rt, file)?;
+        images.push(content.among(rt.alloc(), table, file.name)?)?;
+    }
+    Ok(images)
+}
+
+/// Where the flash of each chip of a table begins, if that is one address.
+fn flash_base(table: &Table) -> Option<u32>
+    ensures { IfSome result (IsBaseOf table.now) }
+{
+    let base = table.chips().first()?.base();
+    if table.chips().iter().all(|chip| chip.base() == base) {
+        Some(base)
+    } else {
+        None
+    }
+}
+
 /// Reads the file of an image whole.
-pub fn read_content<'a, R: Files + AllocGlobal>(
+fn read_content<'a, R: Files + AllocGlobal>(
     rt: &R,
     image: &ImageFile<'a>,
 ) -> Result<Content, Failure<'a>>
-    ensures { IfOk result (λ content. (bytes : List ℕ)
-        × ComesOf (is_hex image.now.is_raw bytes) image.now.range bytes (Ok content)) }
+    ensures { IfOk result (ComesOfFile image.now) }
 {
     let bytes = match read_file(rt, image.name, HEX) {
         Ok(bytes) => bytes,
@@ -121,6 +189,20 @@ impl Content {
                 alloc,
                 bytes.as_slice(),
             )?)),
+        }
+    }
+
+    /// The image where others are written with it. Raw bytes without a place begin where the flash of
+    /// each chip of the table does.
+    fn among<'a>(self, alloc: Global, table: &Table, name: &'a str) -> Result<Image, Failure<'a>>
+        ensures { IfOk result (IsPlacedBy table.now self) }
+    {
+        match self {
+            Content::Placed(image) => Ok(image),
+            Content::AtBase(bytes) => match flash_base(table) {
+                Some(base) => Ok(read_raw(alloc, bytes.as_slice(), base)?),
+                None => Err(Failure::Usage(UsageFault::GivePlace(name))),
+            },
         }
     }
 

@@ -37,6 +37,9 @@ pub enum Failure<'a> {
     /// The file of an image is no raw image, by how it begins.
     #[error("image is not raw: {0}")]
     NotRaw(Foreign),
+    /// Two images have another byte at an address.
+    #[error("images {0} and {1} differ at {2:08X}")]
+    ImagesDiffer(&'a str, &'a str, u32),
     /// There was no memory for what the program keeps.
     #[error("out of memory")]
     Memory,

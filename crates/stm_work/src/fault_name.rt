@@ -16,6 +16,7 @@ impl Failure<'_> {
             Failure::Hex(_) => "bad_hex",
             Failure::Raw(_) => "bad_raw",
             Failure::NotRaw(_) => "not_raw",
+            Failure::ImagesDiffer(..) => "images_differ",
             Failure::Memory => "out_of_memory",
             Failure::CannotRead(_) | Failure::CannotReadLine(_) | Failure::CannotReadBoard(_) =>
                 "cannot_read",

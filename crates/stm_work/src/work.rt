@@ -59,8 +59,12 @@ pub enum Next {
 }
 
 impl Work {
-    /// What a task asks for. The file of an image is read.
-    pub fn of<'a, R: Files + AllocGlobal>(rt: &R, task: Task<'a>) -> Result<Work, Failure<'a>>
+    /// What a task asks for. The files of images are read.
+    pub fn of<'a, R: Files + AllocGlobal>(
+        rt: &R,
+        table: &Table,
+        task: Task<'a>,
+    ) -> Result<Work, Failure<'a>>
         ensures { IfOk result (IsWorkFor task.entry) }
     {
         match task {
@@ -72,7 +76,7 @@ impl Work {
                 ..
             } => Ok(Work::ReadHex { range, skips_blank }),
             Task::Undo { extent, verifies } => Ok(Work::Undo { extent, verifies }),
-            task => Ok(Work::Act(Action::of(rt, task)?)),
+            task => Ok(Work::Act(Action::of(rt, table, task)?)),
         }
     }
 

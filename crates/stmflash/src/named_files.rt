@@ -1,8 +1,9 @@
 // The files that the words of one use name.
-ghost use Rattle.std.specs.Prelude.{◌≡◌, is_some};
+ghost use Rattle.std.specs.Prelude.{◌≡◌, IfOk, is_some};
 ghost use Rattle.stmflash.specs.TaskUse.{is_filed};
 
 use crate::tables::is_table;
+use std::alloc::{AllocError, Global};
 use std::fs;
 use std::fs::Files;
 use std::io::ErrorKind;
@@ -14,35 +15,43 @@ use stm_work::Failure;
 const STANDARD: &str = "-";
 
 /// The files that the words of one use name.
-#[derive(Clone, Copy)]
+#[derive(Drop)]
 pub struct NamedFiles<'a> {
     table: TableNames<'a>,
     journal: &'a str,
     device: Device<'a>,
-    image: Option<&'a str>,
+    images: Vec<&'a str>,
     out: Option<&'a str>,
     trusts_others: bool,
 }
 
 impl<'a> NamedFiles<'a> {
     /// Those of a task and its options.
-    pub fn of(options: &Options<'a>, task: &Task<'a>) -> NamedFiles<'a>
-        ensures { is_some result.out ≡ is_filed task.now }
+    pub fn of(
+        alloc: Global,
+        options: &Options<'a>,
+        task: &Task<'a>,
+    ) -> Result<NamedFiles<'a>, AllocError>
+        ensures { IfOk result (λ files. is_some files.out ≡ is_filed task.now) }
     {
-        let (image, out) = match task {
-            Task::Read { out, .. } if *out != STANDARD => (None, Some(*out)),
-            Task::ReadHex { out, .. } if *out != STANDARD => (None, Some(*out)),
-            Task::Write { image, .. } | Task::Verify(image) => (Some(image.name), None),
-            _ => (None, None),
+        let out = match task {
+            Task::Read { out, .. } | Task::ReadHex { out, .. } if *out != STANDARD => Some(*out),
+            _ => None,
         };
-        NamedFiles {
+        let mut images = Vec::new(alloc);
+        if let Task::Write { images: named, .. } | Task::Verify(named) = task {
+            for image in named {
+                images.push(image.name)?;
+            }
+        }
+        Ok(NamedFiles {
             table: options.table,
             journal: options.journal,
             device: options.device,
-            image,
+            images,
             out,
             trusts_others: options.trusts_others,
-        }
+        })
     }
 
     /// The same beside another journal.
@@ -132,15 +141,13 @@ impl<'a> NamedFiles<'a> {
         Ok(names.check(rt)?)
     }
 
-    /// Whether the name is that of a table or of the image.
+    /// Whether the name is that of a table or of an image.
     fn is_read<R: Files + AllocGlobal>(&self, rt: &R, name: &str) -> bool {
-        if is_table(rt, name, self.table) {
-            return true;
-        }
-        match self.image {
-            Some(image) => is_same_file(rt, name, image),
-            None => false,
-        }
+        is_table(rt, name, self.table)
+            || self
+                .images
+                .iter()
+                .any(|image| is_same_file(rt, name, image))
     }
 
     /// Whether the name is that of one of a simulator's files, or of the device's socket.

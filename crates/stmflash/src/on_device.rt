@@ -52,8 +52,8 @@ impl<'a> Prepared<'a> {
         ensures { IfOk result (IsPrepared task.entry) }
     {
         let tables = ChipTables::read(rt, options.table)?;
-        let files = NamedFiles::of(options, &task);
-        let work = Work::of(rt, task)?;
+        let files = NamedFiles::of(rt.alloc(), options, &task)?;
+        let work = Work::of(rt, tables.chips(), task)?;
         files.check(rt)?;
         Ok(Prepared {
             tables,

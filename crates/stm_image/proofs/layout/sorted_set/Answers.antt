@@ -14,20 +14,20 @@ lay_out-requires-clause-within c =
     let pieces = c.args.pieces in
     rw c.as_slice-bytes.ensures.value (rw c.as_slice-list.ensures.value (within_moved (length pieces.bytes.items) pieces.list.items c.sort_pieces.new.list.items c.requires c.sort_pieces.ensures.moved))
 
-pub all_agree-requires : goal.all_agree-requires
-all_agree-requires c =
+pub first_unlike-requires : goal.first_unlike-requires
+first_unlike-requires c =
     let pieces = c.args.pieces in
     rw c.as_slice-bytes.ensures.value (rw c.as_slice-list.ensures.value (within_moved (length pieces.bytes.items) pieces.list.items c.sort_pieces.new.list.items c.requires c.sort_pieces.ensures.moved))
 
 -- the set has each byte of the pieces
-pub returns-then-all_agree : goal.returns-then-all_agree
-returns-then-all_agree c =
+pub returns : goal.returns
+returns c =
     let pieces = c.args.pieces in
     let bytes = c.as_slice-bytes.result.now in
     let list = c.as_slice-list.result.now in
     let set = c.in_ok-set.set in
     let found = c.in_ok-set.ensures in
-    let is = set_agreeing set bytes list c.rises.ensures.rises found.among found.covers c.if-all_agree.ensures in
+    let is = set_agreeing set bytes list c.rises.ensures.rises found.among found.covers c.in_default.ensures in
     let same : pairs_at bytes list ≡ pairs_at pieces.bytes.items c.sort_pieces.new.list.items = ap₂ pairs_at c.as_slice-bytes.ensures.value c.as_slice-list.ensures.value in
     let whole = set_moved set pieces.bytes.items pieces.list.items c.sort_pieces.new.list.items c.sort_pieces.ensures.moved (rw same at is) in
     (whole, agree_from_set set _ whole)
@@ -53,10 +53,10 @@ first_clash-requires-clause-differs c agree =
     let bytes = c.as_slice-bytes.result.now in
     let list = c.as_slice-list.result.now in
     let same : pairs_at bytes list ≡ pairs_at pieces.bytes.items c.sort_pieces.new.list.items = ap₂ pairs_at c.as_slice-bytes.ensures.value c.as_slice-list.ensures.value in
-    pairs_differ c.in_ok-set.set bytes list c.in_ok-set.ensures.among c.if-all_agree.ensures (rw same (agree_moved pieces.bytes.items c.sort_back.new.list.items c.sort_pieces.new.list.items (IsPermutation-sym _ _ c.sort_back.ensures.moved) agree))
+    pairs_differ c.in_ok-set.set bytes list c.in-Some._place c.in_ok-set.ensures.among c.in-Some.ensures (rw same (agree_moved pieces.bytes.items c.sort_back.new.list.items c.sort_pieces.new.list.items (IsPermutation-sym _ _ c.sort_back.ensures.moved) agree))
 
-pub returns : goal.returns
-returns c =
+pub returns-in-Some : goal.returns-in-Some
+returns-in-Some c =
     let pieces = c.args.pieces in
     let back = sorted_back (length pieces.bytes.items) pieces.list.items c.sort_back.new.list.items c.requires (IsPermutation-trans _ _ _ c.sort_pieces.ensures.moved c.sort_back.ensures.moved) c.sort_back.ensures.order in
     subst (λ (l : List Piece). IsClash (pairs_at pieces.bytes.items l) c.first_clash.result) back c.first_clash.ensures

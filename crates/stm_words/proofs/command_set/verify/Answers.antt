@@ -1,7 +1,7 @@
 use Rattle.std.proofs.Common.{codes}
 use Rattle.std.proofs.lemmas.Result.{IfOk-weaker}
 use Rattle.clap.specs.Words.{App, with_rule}
-use Rattle.stm_words.specs.CommandSet.{Makes, letter_rule, needed_rule, on_board, range_rule}
+use Rattle.stm_words.specs.CommandSet.{Makes, letter_rule, needed_repeated_rule, on_board, range_rule}
 use Rattle.stm_words.proofs.Subcommands.{adds}
 use Rattle.stm_words.proofs.command_set.verify.Goals as goal
 
@@ -16,4 +16,4 @@ returns c =
     let m2 : Makes a2 c.in_ok-arg-2.field-0 =
     adds a1 (range_rule) c.in_ok-arg.field-0 c.range.result c.in_ok-arg-2.field-0 m1 c.range.ensures.rule c.range.ensures.local c.in_ok-arg-2.ensures in
     IfOk-weaker c.arg-3.result _ _
-    (λ r h. adds a2 (needed_rule (codes "IMAGE")) c.in_ok-arg-2.field-0 c.needed.result r m2 c.needed.ensures.rule c.needed.ensures.local h) c.arg-3.ensures
+    (λ r h. adds a2 (needed_repeated_rule (codes "IMAGE")) c.in_ok-arg-2.field-0 c.needed_repeated.result r m2 c.needed_repeated.ensures.rule c.needed_repeated.ensures.local h) c.arg-3.ensures

@@ -1,7 +1,7 @@
 use Rattle.std.proofs.Common.{codes}
 use Rattle.std.proofs.lemmas.Result.{IfOk-weaker}
 use Rattle.clap.specs.Words.{App, with_rule}
-use Rattle.stm_words.specs.CommandSet.{Makes, flag_rule, letter_rule, needed_rule, on_board, option_rule, range_rule}
+use Rattle.stm_words.specs.CommandSet.{Makes, flag_rule, letter_rule, needed_repeated_rule, on_board, option_rule, range_rule}
 use Rattle.stm_words.proofs.Subcommands.{adds}
 use Rattle.stm_words.proofs.command_set.write.Goals as goal
 
@@ -31,4 +31,4 @@ returns c =
     let m7 : Makes a7 c.in_ok-arg-7.field-0 =
     adds a6 (option_rule (codes "again")) c.in_ok-arg-6.field-0 c.option-3.result c.in_ok-arg-7.field-0 m6 c.option-3.ensures.rule c.option-3.ensures.local c.in_ok-arg-7.ensures in
     IfOk-weaker c.arg-8.result _ _
-    (λ r h. adds a7 (needed_rule (codes "IMAGE")) c.in_ok-arg-7.field-0 c.needed.result r m7 c.needed.ensures.rule c.needed.ensures.local h) c.arg-8.ensures
+    (λ r h. adds a7 (needed_repeated_rule (codes "IMAGE")) c.in_ok-arg-7.field-0 c.needed_repeated.result r m7 c.needed_repeated.ensures.rule c.needed_repeated.ensures.local h) c.arg-8.ensures

@@ -5,7 +5,7 @@ use Rattle.std.proofs.lemmas.List.Elements.{Contains-get_or}
 use Rattle.stm_image.specs.Lay.{AgreesWith}
 use Rattle.stm_image.specs.Pieces.{piece_bytes}
 use Rattle.stm_image.specs.declared.pieces.Piece.{Piece}
-use Rattle.stm_image.proofs.layout.all_agree.Goals as goal
+use Rattle.stm_image.proofs.layout.first_unlike.Goals as goal
 
 pub bytes_in-requires : goal.bytes_in-requires
 bytes_in-requires c = c.requires _ (Contains-get_or c.args.list.now c.loop-piece.piece-index _ c.loop-piece-test.true)
