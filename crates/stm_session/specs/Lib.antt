@@ -53,4 +53,5 @@ pub mod AskedBoard
 pub mod Boards
 pub mod Performs
 pub mod VerifiedWrite
+pub mod Seen
 pub mod lemmas
