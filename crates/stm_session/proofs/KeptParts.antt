@@ -1,7 +1,6 @@
 -- The part of an image that lies in the pages which the newest segment keeps, page by page.
 use Rattle.std.proofs.Common.{◌≡◌, ◌≢◌, ◌⊎◌, inl, inr, ℕ, zero, suc, ◌+◌, ◌<◌, ◌≤◌, ◌&&◌, Bool, true, false, IsTrue, List, [], ◌∷◌, length, sum, Option, Some, None, refl, sym, ap₂, ◌∙◌, subst, arith}
 use Rattle.std.specs.Prelude.{Contains, is_some}
-use Rattle.std.specs.List.{list_all}
 use Rattle.std.proofs.lemmas.Bool.{and_parts, cases_lt, false≢true}
 use Rattle.std.proofs.lemmas.List.Sums.{sum_by_more}
 use Rattle.stm_image.specs.Layout.{IsAmong}
@@ -73,21 +72,19 @@ pub unplaced : (s : StateData) (newest n : ℕ) (o : Option PagePlace) → newes
 unplaced s newest n None is place none = no_place_keeps s newest n is place
 unplaced s newest n (Some at) is place none = absurd (false≢true (sym none))
 
--- a part fits where its image does
-pub part_fits : (chip : ChipData) (image part : Pairs) → IsAmong part image → image_fits chip image ≡ true → image_fits chip part ≡ true
-part_fits chip image part among fits = all_of part (λ p held. list_all_contains (λ pair. is_inside chip pair.0) image p (among p held) fits)
-  where
-    list_all_contains : (test : ℕ × ℕ → Bool) (xs : Pairs) (p : ℕ × ℕ) → Contains xs p → list_all test xs ≡ true → test p ≡ true
-    list_all_contains test [] p held all = absurd (omega (arith, held.1))
-    list_all_contains test (x ∷ xs) p (zero, lt, is) all = let e : x ≡ p = is in subst (λ (q : ℕ × ℕ). test q ≡ true) e (and_parts (test x) (list_all test xs) all).0
-    list_all_contains test (x ∷ xs) p (suc i, lt, is) all = list_all_contains test xs p (i, omega (arith, lt), is) (and_parts (test x) (list_all test xs) all).1
+-- each place of an image that fits lies in the flash, and a part fits where its image does
+pub place_inside : (chip : ChipData) (image : Pairs) (p : ℕ × ℕ) → Contains image p → image_fits chip image ≡ true → is_inside chip p.0 ≡ true
+place_inside chip [] p held fits = absurd (omega (arith, held.1))
+place_inside chip (x ∷ image) p (zero, lt, is) fits = let e : x ≡ p = is in subst (λ (q : ℕ × ℕ). is_inside chip q.0 ≡ true) e (and_parts (is_inside chip x.0) (image_fits chip image) fits).0
+place_inside chip (x ∷ image) p (suc i, lt, is) fits = place_inside chip image p (i, omega (arith, lt), is) (and_parts (is_inside chip x.0) (image_fits chip image) fits).1
 
-    all_of : (xs : Pairs) → ((p : ℕ × ℕ) → Contains xs p → is_inside chip p.0 ≡ true) → list_all (λ pair. is_inside chip pair.0) xs ≡ true
-    all_of [] each = refl
-    all_of (x ∷ xs) each =
-        let first = each x (zero, omega arith, refl) in
-        let rest = all_of xs (λ p held. each p (suc held.0, omega (arith, held.1), held.2)) in
-        ap₂ (λ (p q : Bool). p && q) first rest
+all_inside : (chip : ChipData) (part : Pairs) → ((p : ℕ × ℕ) → Contains part p → is_inside chip p.0 ≡ true) → image_fits chip part ≡ true
+all_inside chip [] each = refl
+all_inside chip (x ∷ part) each =
+    ap₂ (λ (p q : Bool). p && q) (each x (zero, omega arith, refl)) (all_inside chip part (λ p held. each p (suc held.0, omega (arith, held.1), held.2)))
+
+pub part_fits : (chip : ChipData) (image part : Pairs) → IsAmong part image → image_fits chip image ≡ true → image_fits chip part ≡ true
+part_fits chip image part among fits = all_inside chip part (λ p held. place_inside chip image p (among p held) fits)
 
 -- what a verify answers
 pub verified_only : (part : Pairs) (said : Outcome) → IsKindOf (command.Verify part) said → outcome_data said ≡ was_verified

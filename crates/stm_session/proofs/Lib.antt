@@ -63,6 +63,8 @@ pub mod Undone
 pub mod SentReturns
 pub mod SentUndo
 pub mod Savings
+pub mod SeenBytes
+pub mod SeenImages
 pub mod SentChanges
 pub mod ChangeOrders
 pub mod Changes

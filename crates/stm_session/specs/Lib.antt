@@ -54,4 +54,5 @@ pub mod Boards
 pub mod Performs
 pub mod VerifiedWrite
 pub mod Deeds
+pub mod Seen
 pub mod lemmas

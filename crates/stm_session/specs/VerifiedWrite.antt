@@ -1,12 +1,12 @@
 -- What a write promises that is verified: it reads again just what it may have changed, and what
 -- else its image names it had read before, and found right.
-use Rattle.std.specs.Prelude.{◌≡◌, ℕ, ◌+◌, ◌<◌, IsTrue, Contains, List, [], ◌∷◌, ◌++◌, length}
+use Rattle.std.specs.Prelude.{◌≡◌, ℕ, ◌+◌, ◌<◌, true, IsTrue, Contains, List, [], ◌∷◌, ◌++◌, length}
 use Rattle.std.specs.Prelude.{Result, IfErr, IfOk, OnOk}
 use Rattle.std.specs.List.{AllByRecursion}
 use Rattle.stm_image.specs.Layout.{IsAmong}
-use Rattle.stm_image.specs.Pairs.{Pairs}
+use Rattle.stm_image.specs.Pairs.{Pairs, IsImage}
 use Rattle.stm_image.specs.Part.{StandsIn}
-use Rattle.stm_wire.specs.Chip.{ChipData, page_count, page_size}
+use Rattle.stm_wire.specs.Chip.{ChipData, IsChip, page_count, page_size}
 use Rattle.stm_wire.specs.Dialogue.{GoesOn}
 use Rattle.stm_wire.specs.Rig.{RigState}
 use Rattle.stm_journal.specs.Calls.{AreFetches}
@@ -25,6 +25,7 @@ use Rattle.stm_session.specs.Fault.{HasSessionCause}
 use Rattle.stm_session.specs.Meaning.{CommandData, verifies, writes}
 use Rattle.stm_session.specs.Order.{Step, page_address}
 use Rattle.stm_session.specs.Promises.{RunContract}
+use Rattle.stm_session.specs.Refusals.{image_fits}
 use Rattle.stm_session.specs.RunOrder.{IsDoneTelling, RunDoes, RunStops, RunsInOrder}
 use Rattle.stm_session.specs.Sending.{SendsAsRun, is_whole}
 
@@ -48,6 +49,10 @@ outcomes_seen told = was_written told.segment told.pages ∷ (was_verified ∷ [
 -- a part of it is read: in each block came its bytes.
 pub record IsWrittenAndSeen (chip : ChipData) (image part : Pairs) (outcomes : List OutcomeData)
     (s last : StateData) (steps : List Step) : Type 0 where
+  pub limits : IsChip chip
+  pub image_is : IsImage image
+  pub part_is : IsImage part
+  pub fits : image_fits chip image ≡ true
   pub said : OutcomeData
   pub written : List Step
   pub is_written : IsDoneTelling chip (writes image) s said written

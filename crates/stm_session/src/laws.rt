@@ -1,6 +1,7 @@
 //! Laws of what can be undone: each is the contract of a function that does nothing.
 ghost use Rattle.std.specs.Prelude.{◌≡◌, ◌⊎◌, ℕ, List, [], Result, Some, None, false, true};
 ghost use Rattle.std.specs.List.{list_all};
+ghost use Rattle.stm_image.specs.Pairs.{Pairs};
 ghost use Rattle.stm_wire.specs.Chip.{ChipData};
 ghost use Rattle.stm_wire.specs.Device.{Device, IsDevice, IsReady, reset};
 ghost use Rattle.stm_wire.specs.Dialogue.{GoesOn};
@@ -13,7 +14,7 @@ ghost use Rattle.stm_session.specs.declared.command.Command.{Command};
 ghost use Rattle.stm_session.specs.declared.fault.Fault.{Fault};
 ghost use Rattle.stm_session.specs.declared.outcome.Report.{Report};
 ghost use Rattle.stm_session.specs.declared.returned.Returned.{Returned};
-ghost use Rattle.stm_session.specs.Answers.{outcomes_in};
+ghost use Rattle.stm_session.specs.Answers.{OutcomeData, outcomes_in};
 ghost use Rattle.stm_session.specs.Boards.{IsForeign, IsOfItsBoard, OnlyAsks};
 ghost use Rattle.stm_session.specs.Events.{OutcomesAreTheRun};
 ghost use Rattle.stm_session.specs.Kept.{RunKeeps, RunStopsKept, UndoPutsBack, UndoStopsBack};
@@ -34,13 +35,15 @@ ghost use Rattle.stm_session.specs.Refusals.{is_in_flash, run_refusal};
 ghost use Rattle.stm_session.specs.Running.{RunsReads, is_reading};
 ghost use Rattle.stm_session.specs.RunOrder.{RunStops, RunsInOrder};
 ghost use Rattle.stm_session.specs.Runs.{Runs};
+ghost use Rattle.stm_session.specs.Seen.{SeesImage};
 ghost use Rattle.stm_session.specs.ToldBoard.{IsPartOf};
 ghost use Rattle.stm_session.specs.Unasked.{unasked_refusal};
+ghost use Rattle.stm_session.specs.VerifiedWrite.{WritesAndSees};
 ghost use Rattle.stm_session.specs.Undoable.{IsJournalOf, Undoable, has_companion};
 ghost use Rattle.stm_session.specs.Undoable.{is_unfinished_at, state_at};
 ghost use Rattle.stm_session.specs.Work.{pages_at_work, pages_of_intent};
 
-use stm_image::laying_by_parts;
+use stm_image::{laying_by_parts, laying_keeps_places};
 use stm_journal::{a_journal_is_sound, changes_of_kept_pages_keep_the_flashes};
 use stm_wire::{
     Rig, greeting_is_kept, harmless_is_kept, pages_are_the_flash, sending_is_harmless,
@@ -191,6 +194,17 @@ pub fn a_run_keeps_pages_before_it_changes_them<R: Rig>()
         → RunStopsKept table (R.view old) (R.view new) fault }
 {
     laying_by_parts();
+}
+
+/// On any line: where a write answers Ok that is verified, each byte of its image was read in the
+/// session, and was the image's, after the last frame that erased or wrote in its page.
+pub fn a_verified_write_saw_each_byte<R: Rig>()
+    ensures { (table : List ChipData) (image part : Pairs) (outcomes : List OutcomeData)
+        (old new : R) → WritesAndSees table image part outcomes (R.view old) (R.view new)
+        → SeesImage table image (R.view old) (R.view new) }
+{
+    laying_by_parts();
+    laying_keeps_places();
 }
 
 /// On any line, whatever it answers, an undo erases and writes only pages that the newest segment

@@ -72,9 +72,9 @@ pub use laws::{
     a_reset_keeps_what_can_be_undone, a_run_is_known_by_its_outcomes,
     a_run_keeps_pages_before_it_changes_them, a_run_of_reads_begins_no_segment,
     a_session_changes_only_its_own_board, a_stopped_command_may_be_greeted,
-    an_undo_changes_only_pages_that_it_undoes, an_unrefused_journal_can_be_undone,
-    asking_keeps_what_can_be_undone, lost_bytes_keep_what_can_be_undone,
-    reads_in_the_flash_are_not_refused,
+    a_verified_write_saw_each_byte, an_undo_changes_only_pages_that_it_undoes,
+    an_unrefused_journal_can_be_undone, asking_keeps_what_can_be_undone,
+    lost_bytes_keep_what_can_be_undone, reads_in_the_flash_are_not_refused,
 };
 pub use outcome::{Outcome, Report, VerifiedWrite};
 pub use returned::Returned;

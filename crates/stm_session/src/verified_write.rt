@@ -68,6 +68,7 @@ fn write_then_verify<R: Rig>(
     step_laws();
     laying_by_parts();
     chip.keeps_limits();
+    image.rises();
     let Outcome::Written { segment, pages } = write_image(alloc, rig, journal, chip, image)? else {
         unreachable!()
     };

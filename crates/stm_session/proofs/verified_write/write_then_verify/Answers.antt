@@ -209,7 +209,7 @@ returns g c =
     let read = c.in_ok-verify_image.ensures.order l2 in
     let outs = was_written c.in-Written.segment c.in-Written.pages ∷ (was_verified ∷ []) in
     let seen : IsWrittenAndSeen chip image part outs l.state l2.state (done.0 ++ read.0) =
-    record { said = was_written c.in-Written.segment c.in-Written.pages; written = done.0; is_written = done.1.0; keeps = done.1.1; deeper = c.in_ok-segment.ensures.depth; has_kept = c.in_ok-part.ensures.kept; read = read.0; is_read = read.1; told = refl; is = refl } in (
+    record { limits = c.keeps_limits.ensures.chip; image_is = c.rises.ensures; part_is = c.len-again.ensures.image; fits = c.requires.fits; said = was_written c.in-Written.segment c.in-Written.pages; written = done.0; is_written = done.1.0; keeps = done.1.1; deeper = c.in_ok-segment.ensures.depth; has_kept = c.in_ok-part.ensures.kept; read = read.0; is_read = read.1; told = refl; is = refl } in (
       part,
       record {
         among = c.in_ok-part.ensures.among;
