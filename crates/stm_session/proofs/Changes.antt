@@ -1,9 +1,22 @@
 -- A page changes in a command.
-use Rattle.std.proofs.Common.{◌≡◌, ◌≢◌, ◌/◌, ℕ, ◌&&◌, Bool, true, false, not, if◌then◌else◌, List, [], ◌∷◌, ◌++◌, length, refl, sym, ◌∙◌, ap, ap₂, ⊎_elim}
+use Rattle.std.proofs.Common.{Ok, ◌≡◌, ◌≢◌, ◌/◌, ℕ, ◌&&◌, Bool, true, false, not, if◌then◌else◌, List, [], ◌∷◌, ◌++◌, length, refl, sym, ◌∙◌, ap, ap₂, subst, ⊎_elim}
 use Rattle.std.specs.Prelude.{bytes_eq}
 use Rattle.std.proofs.lemmas.Bool.{cases_Bool, true≢false}
 use Rattle.std.proofs.lemmas.Slice.Eq.{bytes_eq-Decides}
-use Rattle.stm_wire.specs.Chip.{ChipData, erased_byte, page_of}
+use Rattle.stm_wire.specs.Chip.{ChipData, erased_byte, page_of, with_page}
+use Rattle.stm_wire.specs.Rig.{RigState, IsModel}
+use Rattle.stm_journal.specs.Journals.{Loaded}
+use Rattle.stm_session.specs.ChangeOrder.{IsChanged}
+use Rattle.stm_session.specs.Performs.{Performs}
+use Rattle.stm_session.specs.StepLaws.{StepLaws}
+use Rattle.stm_session.proofs.ChangeOrders.{changed_none}
+use Rattle.stm_session.proofs.Going.{page_held}
+use Rattle.stm_session.proofs.Performing.{performs_none}
+use Rattle.std.specs.Prelude.{Vec}
+use Rattle.std.specs.declared.alloc.Global.{Global}
+use Rattle.stm_chip.specs.declared.plan.PagePlan.{PagePlan}
+use Rattle.stm_chip.specs.declared.plan.PagePlan.TheVariants.{Erase}
+use Rattle.stm_chip.specs.Plan.{IsPlan}
 use Rattle.stm_chip.specs.declared.plan.Frame.{Frame}
 use Rattle.stm_chip.specs.Plan.{frames_of}
 use Rattle.stm_journal.specs.declared.entry.Entry.{Entry}
@@ -73,3 +86,26 @@ told_same held page same = ap (λ (b : Bool). not b) (sym ((bytes_eq-Decides hel
 pub told_other : (held page : List ℕ) → held ≢ page → true ≡ not (bytes_eq held page)
 told_other held page other =
     ap (λ (b : Bool). not b) (sym (⊎_elim (λ same. absurd (other ((bytes_eq-Decides held page).0 same))) (λ none. none) (cases_Bool (bytes_eq held page))))
+
+-- the plan of a page that is to change
+pub planned : {e : ℕ} (chip : ChipData) {held page : List ℕ} {plan : PagePlan}
+    {frames : Vec Frame Global} → plan ≡ Erase frames → IsPlan e held page plan
+    → e ≡ erased_byte chip → (held ≢ page)
+    × (frames.items ≡ frames_of (erased_byte chip) page (length page / 256))
+planned {e} chip {held} {page} is plan byte =
+    let P : PagePlan → Type 0 = λ p. IsPlan e held page p in
+    let own = subst P is plan in
+    (own.0, own.1 ∙ ap (λ (x : ℕ). frames_of x page (length page / 256)) byte)
+
+-- a page that holds its bytes is left
+pub performs_same : (laws : StepLaws) (kept : Bool) (chip : ChipData) (n : ℕ)
+    {held page : List ℕ} {l : Loaded} {a : RigState} → (a.is_honest → IsModel a) → held ≡ page
+    → Performs (IsChanged kept chip n held page) (change_entries kept chip a.device.flash n page)
+    ((a.device.chip ≡ chip) × (held ≡ page_of chip a.device.flash n))
+    (λ y. a.device.flash ≡ with_page chip n page a.device.flash) l l a a (Ok false)
+performs_same laws kept chip n {held} {page} {a = a} model same =
+    performs_none laws model false (changed_none kept chip n held page same)
+    (λ h may. (
+      same_lines_of kept chip a.device.flash n held page may.1 same,
+      page_held chip n page a.device (model h).device may.0 (sym same ∙ may.1),
+    ))

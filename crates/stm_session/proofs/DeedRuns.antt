@@ -1,10 +1,10 @@
 -- Deeds, one after another: those that were done, the one that comes, and those behind it.
-use Rattle.std.proofs.Common.{◌≡◌, ◌∙◌, ℕ, ◌+◌, ◌<◌, List, [], ◌∷◌, ◌++◌, length, map, take, drop}
+use Rattle.std.proofs.Common.{◌≡◌, ◌∙◌, ℕ, ◌+◌, ◌<◌, ◌≤◌, List, [], ◌∷◌, ◌++◌, length, map, take, drop}
 use Rattle.std.proofs.Common.{get_or, Result, Ok, Err, IsErrAnd, refl, sym, ap, ap₂, subst}
 use Rattle.std.proofs.Common.{append_assoc}
 use Rattle.std.specs.Prelude.{flat_map, fold}
 use Rattle.std.proofs.lemmas.Grind.{flat_map-append}
-use Rattle.std.proofs.lemmas.List.{map-append, take-append-drop, take_more}
+use Rattle.std.proofs.lemmas.List.{map-append, take-append-drop, take_all, take_more}
 use Rattle.std.proofs.lemmas.List.Sums.{fold-append}
 use Rattle.stm_wire.specs.Chip.{ChipData}
 use Rattle.stm_wire.specs.Rig.{RigState, IsModel}
@@ -14,8 +14,10 @@ use Rattle.stm_session.specs.declared.deed.Deed.{Deed}
 use Rattle.stm_session.specs.declared.fault.Fault.{Fault}
 use Rattle.stm_session.specs.Deeds.{AllSuit, DoesDeeds, HasDone, HasDoneAll, MayDo, MayDoAll, Suits}
 use Rattle.stm_session.specs.Deeds.{flash_with, lines_of_deed, step_of_deed}
+use Rattle.stm_session.specs.Fault.{HasSessionCause}
 use Rattle.stm_session.specs.Order.{Step}
-use Rattle.stm_session.proofs.Performing.{performs_cut, performs_then}
+use Rattle.stm_session.specs.StepLaws.{StepLaws}
+use Rattle.stm_session.proofs.Performing.{performs_cut, performs_none, performs_then}
 
 -- how far they are done
 pub record IsDoneSoFar (chip : ChipData) (deeds : List Deed) (l l2 : Loaded)
@@ -39,7 +41,7 @@ module _ (chip : ChipData) where
   suit_front [] ys flash suit = tt
   suit_front (x ∷ xs) ys flash suit = (suit.0, suit_front xs ys (flash_with chip flash x) suit.1)
 
-  pub suit_behind : (xs ys : List Deed) (flash : List ℕ) → AllSuit chip flash (xs ++ ys)
+  suit_behind : (xs ys : List Deed) (flash : List ℕ) → AllSuit chip flash (xs ++ ys)
       → AllSuit chip (fold (flash_with chip) flash xs) ys
   suit_behind [] ys flash suit = suit
   suit_behind (x ∷ xs) ys flash suit = suit_behind xs ys (flash_with chip flash x) suit.1
@@ -82,7 +84,7 @@ module _ (chip : ChipData) (ds : List Deed) (i : ℕ) (d : Deed) (lt : i < lengt
       ∙ take-append-drop (i + 1) ds in
       may_behind chip (take i ds) behind (get_or ds i d) s s2 (subst P (sym whole) may) done
 
-  pub done_next : (s s2 s3 : StateData) → HasDoneAll (take i ds) s s2
+  done_next : (s s2 s3 : StateData) → HasDoneAll (take i ds) s s2
       → HasDone (get_or ds i d) s2 s3 → HasDoneAll (take (i + 1) ds) s s3
   done_next s s2 s3 first has =
       let P : List Deed → Type 0 = λ xs. HasDoneAll xs s s3 in
@@ -91,7 +93,7 @@ module _ (chip : ChipData) (ds : List Deed) (i : ℕ) (d : Deed) (lt : i < lengt
   module _ {l l2 l3 : Loaded} {a b c : RigState}
       (first : DoesDeeds {T = Unit {0}} chip (take i ds) l l2 a b (Ok tt))
       (model : b.is_honest → IsModel b) where
-    pub does_next : {r : Result (Unit {0}) Fault}
+    does_next : {r : Result (Unit {0}) Fault}
         → DoesDeeds chip (get_or ds i d ∷ []) l2 l3 b c r
         → DoesDeeds chip (take (i + 1) ds) l l3 a c r
     does_next {r} own =
@@ -132,3 +134,35 @@ module _ (chip : ChipData) (ds : List Deed) (i : ℕ) (d : Deed) (lt : i < lengt
           (may.0, suit_front chip xs ys a.device.flash may.1),
           (flat_map lines_of_deed ys, sym (flat_map-append lines_of_deed xs ys)),
         )))
+
+-- at the start, and one more
+pub done_none : (laws : StepLaws) (chip : ChipData) (l : Loaded) (a : RigState)
+    → (a.is_honest → IsModel a) → IsDoneSoFar chip [] l l a a
+done_none laws chip l a model = record {
+  line = refl;
+  journal = refl;
+  stays = λ h. h;
+  done = refl;
+  does = performs_none laws model (tt {0}) refl (λ h may. (refl, refl));
+}
+
+pub done_more_of : (chip : ChipData) (ds : List Deed) (i : ℕ) (d : Deed) → i < length ds
+    → {l l2 l3 : Loaded} {a b c : RigState} → IsDoneSoFar chip (take i ds) l l2 a b
+    → (b.is_honest → IsModel b) → HasDone (get_or ds i d) l2.state l3.state
+    → HasSessionCause {T = Unit {0}} b c (Ok tt)
+    → DoesDeeds {T = Unit {0}} chip (get_or ds i d ∷ []) l2 l3 b c (Ok tt)
+    → IsDoneSoFar chip (take (i + 1) ds) l l3 a c
+done_more_of chip ds i d lt {l} {l2} {l3} so_far model done cause does = record {
+  line = cause.line_done ∙ so_far.line;
+  journal = cause.journal_done ∙ so_far.journal;
+  stays = λ h. cause.honest (so_far.stays h);
+  done = done_next chip ds i d lt l.state l2.state l3.state so_far.done done;
+  does = does_next chip ds i d lt so_far.does model does;
+}
+
+pub done_all : (chip : ChipData) (ds : List Deed) (i : ℕ) → length ds ≤ i
+    → {l l2 : Loaded} {a b : RigState} → IsDoneSoFar chip (take i ds) l l2 a b
+    → DoesDeeds {T = Unit {0}} chip ds l l2 a b (Ok tt)
+done_all chip ds i past {l} {l2} {a} {b} so_far =
+    let P : List Deed → Type 0 = λ xs. DoesDeeds chip xs l l2 a b (Ok tt) in
+    subst P (take_all i ds past) so_far.does

@@ -24,24 +24,6 @@ goes_fault flashes xs l2 l3 a b e result goes is =
     goes_as flashes (xs ++ []) xs l3 a b result (append-nil xs)
     (goes_failed flashes xs [] l2 l3 a b e result goes is)
 
-module _ {T U : Type 0} {Done : U → Type 0} {flashes : List (List ℕ)} {xs : List Entry}
-    {l2 : Loaded}
-    {a b : RigState} {made : Result T Fault} {Done1 : T → Type 0} where
-  -- past it
-  pub goes_past : {x : T} (y : U) → made ≡ Ok x → Goes flashes xs l2 a b made Done1
-      → (Done1 x → Done y) → Goes flashes xs l2 a b (Ok y) Done
-  goes_past {x = x} y is goes gives =
-      let G : Result T Fault → Type 0 = λ r. Goes flashes xs l2 a b r Done1 in
-      goes_ok flashes xs l2 a b x y (subst G is goes) gives
-
-  -- out by its fault
-  pub goes_out : {e : Fault} (l3 : Loaded) (result : Result U Fault) → made ≡ Err e
-      → Goes flashes xs l2 a b made Done1 → IsErrAnd result (λ x. x ≡ e)
-      → Goes flashes xs l3 a b result Done
-  goes_out {e = e} l3 result is goes same =
-      let G : Result T Fault → Type 0 = λ r. Goes flashes xs l2 a b r Done1 in
-      goes_fault flashes xs l2 l3 a b e result (subst G is goes) same
-
 -- a page that is read whole
 module _ (chip : ChipData) (n start size : ℕ) (exists : n < page_count chip)
     (at : start ≡ page_address chip n) (whole : size ≡ page_size chip n) where

@@ -13,7 +13,9 @@ use Rattle.stm_wire.specs.Chip.{ChipData, erased_byte, page_count, page_of, page
 use Rattle.stm_wire.specs.Device.{Device}
 use Rattle.stm_wire.specs.Rig.{RigState, IsModel}
 use Rattle.stm_chip.specs.declared.plan.Frame.{Frame}
-use Rattle.stm_chip.specs.Plan.{frames_of}
+use Rattle.stm_chip.specs.declared.plan.PagePlan.{PagePlan}
+use Rattle.stm_chip.specs.declared.plan.PagePlan.TheVariants.{Erase}
+use Rattle.stm_chip.specs.Plan.{IsPlan, frames_of}
 use Rattle.stm_journal.specs.declared.entry.Entry.{Entry}
 use Rattle.stm_journal.specs.declared.entry.Entry.TheVariants.{Erases, Keeps}
 use Rattle.stm_journal.specs.Journals.{Loaded}
@@ -31,10 +33,10 @@ use Rattle.stm_session.specs.Order.{Step, Adds, Are, page_reads, rewrite_steps}
 use Rattle.stm_session.specs.Performs.{Performs}
 use Rattle.stm_session.specs.Undoable.{has_companion}
 use Rattle.stm_session.proofs.ChangeOrders.{changed_some, saved_both, saved_none, saved_one}
-use Rattle.stm_session.proofs.Changes.{change_lines}
-use Rattle.stm_session.proofs.Performing.{performs_are, performs_cut, performs_of}
-use Rattle.stm_session.proofs.Performing.{performs_then}
-use Rattle.stm_session.proofs.Savings.{both_lines, both_saved, is_first, none_lines, one_lines}
+use Rattle.stm_session.proofs.Changes.{change_lines, planned as plan_is}
+use Rattle.stm_session.proofs.Performing.{performs_are, performs_cut, performs_of, performs_out}
+use Rattle.stm_session.proofs.Performing.{performs_past, performs_then}
+use Rattle.stm_session.proofs.Savings.{both_lines, is_first, none_lines, one_lines}
 
 second : (a b : Bool) → (a && b) ≡ true → b ≡ true
 second true b h = h
@@ -96,40 +98,6 @@ module _ (chip : ChipData) (n : ℕ) (other held : Bor (List ℕ)) where
     λ s2 saved. tt,
   )
 
-  pub firsts_saved : (kept both : Bool) (s s2 : StateData) → (n == 1 && has_companion chip) ≡ both
-      → (kept ≡ true → IsTrue (newest_keeps n s)) → HasDoneAll (firsts kept both) s s2
-      → HasAllSaved kept chip n s s2
-  firsts_saved true both s s2 is kept same =
-      let P : StateData → Type 0 = λ t. HasAllSaved true chip n s t in
-      subst P (sym same)
-      (record {
-        depth = refl;
-        is_open = λ h. h;
-        keeps = kept refl;
-        still = λ m h. h;
-        free = λ m one two. refl;
-        companion = λ fresh one has. absurd (true≢false fresh);
-        alone = λ one two. refl;
-      })
-  firsts_saved false true s s2 is kept (t, first, (u, next, last)) =
-      let one = is_first n (has_companion chip) is in
-      let Q : ℕ → Type 0 = λ m. HasSaved m t u in
-      let R : ℕ → Type 0 = λ m. HasAllSaved false chip m s u in
-      let S : StateData → Type 0 = λ x. HasAllSaved false chip n s x in
-      subst S (sym last) (subst R (sym one) (both_saved chip s t u first (subst Q one next)))
-  firsts_saved false false s s2 is kept (t, saved, last) =
-      let S : StateData → Type 0 = λ x. HasAllSaved false chip n s x in
-      subst S (sym last)
-      (record {
-        depth = saved.depth;
-        is_open = λ h. saved.is_open;
-        keeps = saved.keeps;
-        still = saved.still;
-        free = λ m one two. saved.free m one;
-        companion = λ fresh one has. absurd (apart is one has);
-        alone = λ one two. saved.free 257 (λ e. one (sym e));
-      })
-
   firsts_steps : (kept both : Bool) → (n == 1 && has_companion chip) ≡ both
       → ((not kept && both) ≡ true → length other.now ≡ page_size chip 257)
       → IsSaved kept chip n held.now (reads_if (not kept && both) chip 257 other.now
@@ -189,14 +157,8 @@ module _ (chip : ChipData) (n : ℕ) (other held : Bor (List ℕ)) where
         (firsts_may kept (n == 1 && has_companion chip) s refl exists size bytes others
         (λ t. long (due_is ∙ t)) may companion)
 
-    pub first_saved : (s s2 : StateData) → (kept ≡ true → IsTrue (newest_keeps n s))
-        → HasDoneAll first s s2 → HasAllSaved kept chip n s s2
-    first_saved s s2 already done =
-        let P : List Deed → Type 0 = λ ds. HasDoneAll ds s s2 in
-        firsts_saved kept (n == 1 && has_companion chip) s s2 refl already (subst P are done)
-
     -- the page is read, kept, and rewritten
-    pub change_performs : {U : Type 0} {page : List ℕ} {frames : List Frame} {came : Vec ℕ Global}
+    change_performs : {U : Type 0} {page : List ℕ} {frames : List Frame} {came : Vec ℕ Global}
         {l l2 : Loaded} {a b d : RigState} {r : Result U Fault}
         → ReadsIf due chip 257 l a b (Ok came) → other.now ≡ came.items → length other.now ≡ vec_len came
         → Performs (Are (map (step_of_deed chip) first ++ rewrite_steps chip n page frames))
@@ -204,14 +166,14 @@ module _ (chip : ChipData) (n : ℕ) (other held : Bor (List ℕ)) where
         ((b.device.chip ≡ chip) × AllSuit chip b.device.flash first
         × (fold (flash_with chip) b.device.flash first ≡ b.device.flash))
         (λ y. d.device.flash ≡ with_page chip n page b.device.flash) l l2 b d r
-        → (b.is_honest → IsModel b) → held.now ≢ page
-        → frames ≡ frames_of (erased_byte chip) page (length page / 256)
+        → (b.is_honest → IsModel b) → (held.now ≢ page)
+        × (frames ≡ frames_of (erased_byte chip) page (length page / 256))
         → Performs (IsChanged kept chip n held.now page)
         (change_entries kept chip a.device.flash n page)
         ((a.device.chip ≡ chip) × (held.now ≡ page_of chip a.device.flash n))
         (λ y. d.device.flash ≡ with_page chip n page a.device.flash) l l2 a d r
     change_performs {page = page} {frames = frames} {came = came} {a = a} {b = b} {d = d} read same whole own
-        model apart framed =
+        model (apart, framed) =
         let both = n == 1 && has_companion chip in
         let tail = rewrite_steps chip n page frames in
         let reads : List Step = reads_if due chip 257 came.items in
@@ -251,15 +213,49 @@ module _ (chip : ChipData) (n : ℕ) (other held : Bor (List ℕ)) where
           gives = λ y is. is ∙ ap (λ (f : List ℕ). with_page chip n page f) flash_is;
         })
 
+    -- its exits
+    module _ {T : Type 0} (page : List ℕ) (frames : List Frame) {came : Vec ℕ Global} {e : ℕ}
+        {l l2 : Loaded} {a b d : RigState} {r : Result T Fault} {plan : PagePlan}
+        {planned : Vec Frame Global} (read : ReadsIf due chip 257 l a b (Ok came))
+        (same : other.now ≡ came.items) (whole : length other.now ≡ vec_len came)
+        (own : Performs (Are (map (step_of_deed chip) first ++ rewrite_steps chip n page frames))
+        (flat_map lines_of_deed first ++ Erases n ∷ program_entries n frames)
+        ((b.device.chip ≡ chip) × AllSuit chip b.device.flash first
+        × (fold (flash_with chip) b.device.flash first ≡ b.device.flash))
+        (λ y. d.device.flash ≡ with_page chip n page b.device.flash) l l2 b d r)
+        (model : b.is_honest → IsModel b) (is : plan ≡ Erase planned)
+        (plans : IsPlan e held.now page plan) (byte : e ≡ erased_byte chip)
+        (framed : frames ≡ planned.items) where
+      changed : Performs (IsChanged kept chip n held.now page)
+          (change_entries kept chip a.device.flash n page)
+          ((a.device.chip ≡ chip) × (held.now ≡ page_of chip a.device.flash n))
+          (λ y. d.device.flash ≡ with_page chip n page a.device.flash) l l2 a d r
+      changed =
+          let plan = plan_is chip is plans byte in
+          change_performs read same whole own model (plan.0, framed ∙ plan.1)
+
+      pub change_out : {U : Type 0} {F : U → Type 0} {fault : Fault} {result : Result U Fault}
+          → r ≡ Err fault → IsErrAnd result (λ x. x ≡ fault)
+          → Performs (IsChanged kept chip n held.now page)
+          (change_entries kept chip a.device.flash n page)
+          ((a.device.chip ≡ chip) × (held.now ≡ page_of chip a.device.flash n)) F l l2 a d result
+      change_out was out = performs_out changed was out
+
+      pub change_past : {x : T} → r ≡ Ok x → Performs (IsChanged kept chip n held.now page)
+          (change_entries kept chip a.device.flash n page)
+          ((a.device.chip ≡ chip) × (held.now ≡ page_of chip a.device.flash n))
+          (λ y. d.device.flash ≡ with_page chip n page a.device.flash) l l2 a d (Ok true)
+      change_past was = performs_past true changed was (λ p. p)
+
 -- the companion can't be read
 pub change_cut : {U : Type 0} {F : U → Type 0} (kept due : Bool) (chip : ChipData) (n : ℕ)
     (held : Bor (List ℕ)) {page : List ℕ} {frames : List Frame} {l l2 : Loaded} {a b : RigState}
     {e : Fault} {result : Result U Fault} → due ≡ (not kept && (n == 1 && has_companion chip))
-    → ReadsIf due chip 257 l a b (Err e) → IsErrAnd result (λ x. x ≡ e) → held.now ≢ page
-    → frames ≡ frames_of (erased_byte chip) page (length page / 256)
+    → ReadsIf due chip 257 l a b (Err e) → IsErrAnd result (λ x. x ≡ e) → (held.now ≢ page)
+    × (frames ≡ frames_of (erased_byte chip) page (length page / 256))
     → Performs (IsChanged kept chip n held.now page) (change_entries kept chip a.device.flash n page)
     ((a.device.chip ≡ chip) × (held.now ≡ page_of chip a.device.flash n)) F l l2 a b result
-change_cut {F = F} kept due chip n held {page} {frames} {a = a} due_is read is apart framed =
+change_cut {F = F} kept due chip n held {page} {frames} {a = a} due_is read is (apart, framed) =
     performs_cut
     (performs_of {P = AreReadsIf due chip 257} tt read.stops
     (λ flashes steady same. read.honest flashes steady same))

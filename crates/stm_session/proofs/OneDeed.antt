@@ -18,6 +18,9 @@ use Rattle.std.specs.Prelude.{IfErr, IfOk, OnOk}
 use Rattle.std.proofs.lemmas.Bool.Decides.{nat_tests}
 use Rattle.std.proofs.lemmas.List.{places}
 use Rattle.stm_wire.specs.declared.chip.EraseKind.{EraseKind}
+use Rattle.stm_wire.specs.declared.chip.EraseKind.TheVariants.{Page, Extended}
+use Rattle.stm_wire.specs.Chip.{page_limit}
+use Rattle.stm_session.specs.Deeds.{AllSuit, Suits}
 use Rattle.stm_wire.specs.declared.fault.WireFault.{WireFault}
 use Rattle.stm_wire.specs.declared.intent.Intent.{Intent}
 use Rattle.stm_wire.specs.declared.intent.Intent.TheVariants.{Erase, Program}
@@ -57,8 +60,23 @@ use Rattle.stm_session.proofs.Keeping.{good_at, keeps_text, unfinished_text}
 use Rattle.stm_session.proofs.Orders.{does_add, order_sent}
 use Rattle.stm_session.proofs.Settlings.{intent_text}
 
+-- the deeds that are lines
+abbrev pub IsLine : Deed → Type 0
+IsLine (deed.Keep n held) = 0 < length held.now
+IsLine (deed.IntendErase n) = Unit {0}
+IsLine (deed.Erase n) = ⊥
+IsLine (deed.IntendProgram n) = Unit {0}
+IsLine (deed.Write n frame page) = ⊥
+
+abbrev pub entry_of_deed : Deed → Entry
+entry_of_deed (deed.Keep n held) = Keeps n held.now
+entry_of_deed (deed.IntendErase n) = Erases n
+entry_of_deed (deed.Erase n) = Erases n
+entry_of_deed (deed.IntendProgram n) = Programs n
+entry_of_deed (deed.Write n frame page) = Programs n
+
 -- an open segment is unfinished
-pub open_unfinished : (s : StateData) → IsTrue (newest_is_open s) → is_unfinished s ≡ true
+open_unfinished : (s : StateData) → IsTrue (newest_is_open s) → is_unfinished s ≡ true
 open_unfinished s is_open = at s.stack is_open
   where
     stage : (x : Stage) → is_open_stage x ≡ true → not (is_ended_stage x) ≡ true
@@ -70,49 +88,58 @@ open_unfinished s is_open = at s.stack is_open
     at [] h = h
     at (segment ∷ below) h = stage segment.stage h
 
--- a page that was read may be kept next
-module _ (laws : StepLaws) (flashes : List (List ℕ)) (l : Loaded) (n : ℕ) (chip : ChipData) (held : List ℕ) (old : RigState) (model : IsModel old) (steady : IsSteady flashes l old) where
-  pub keeps_step : n ≤ 65535 → IsTrue (newest_may_keep n l.state) → (n ≡ 1 → IsTrue (has_companion chip) → IsTrue (newest_keeps 257 l.state)) → old.device.chip ≡ chip → n < page_count chip
-      → length held ≡ page_size chip n → 0 < length held → IsBytes held → held ≡ page_of chip old.device.flash n → IsStep (Keeps n held) flashes (state_at old.journal) old.device
-  keeps_step small may companion chip_is exists size some bytes read =
-      let sound : IsSound (state_at old.journal) = laws.sound old.journal (state_at old.journal) (good_at l old.journal steady.loaded) in
-      let there : IsTrue (newest_may_keep n (state_at old.journal)) = sym (may_keep_text l old.journal n steady.loaded) ∙ may in
+-- a line that may come next
+module _ (laws : StepLaws) (chip : ChipData) (few : page_count chip ≤ page_limit chip.kind)
+    (flashes : List (List ℕ)) (l : Loaded) (a : RigState) (model : IsModel a)
+    (steady : IsSteady flashes l a) (same : a.device.chip ≡ chip) where
+  abbrev state : StateData
+  state = state_at a.journal
+
+  sound : IsSound state
+  sound = laws.sound a.journal state (good_at l a.journal steady.loaded)
+
+  small : (n : ℕ) → n < page_count chip → n ≤ 65535
+  small n exists = at chip.kind few
+    where
+      at : (kind : EraseKind) → page_count chip ≤ page_limit kind → n ≤ 65535
+      at Page few = omega (arith, few, exists)
+      at Extended few = omega (arith, few, exists)
+
+  kept_there : (n : ℕ) → IsTrue (newest_keeps n l.state) → IsTrue (newest_keeps n state)
+  kept_there n kept = sym (keeps_text l a.journal n steady.loaded) ∙ kept
+
+  line_step : (d : Deed) → MayDo chip d l.state → Suits chip a.device.flash d
+      → IsLine d → IsStep (entry_of_deed d) flashes state a.device
+  line_step (deed.Keep n held) may suits some =
+      let there : IsTrue (newest_may_keep n state) =
+      sym (may_keep_text l a.journal n steady.loaded) ∙ may.3 in
       let E : ChipData → Type 0 = λ c. n < page_count c in
-      let S : ChipData → Type 0 = λ c. length held ≡ page_size c n in
-      let R : ChipData → Type 0 = λ c. held ≡ page_of c old.device.flash n in
+      let S : ChipData → Type 0 = λ c. length held.now ≡ page_size c n in
+      let R : ChipData → Type 0 = λ c. held.now ≡ page_of c a.device.flash n in
       let C : ChipData → Type 0 = λ c. IsTrue (has_companion c) in
       record {
-        allowed = (allowed-keep_page n held (state_at old.journal) sound there).0;
-        printable = (small, (some, bytes));
+        allowed = (allowed-keep_page n held.now state sound there).0;
+        printable = (small n may.0, (some, may.2));
         keeps = λ s has.
-            keeps_keeping laws.keeping flashes old.device (state_at old.journal) s n held model.device steady.keeps has (subst E (sym chip_is) exists) (subst R (sym chip_is) read) (subst S (sym chip_is) size) there
-            (λ one has_one. sym (keeps_text l old.journal 257 steady.loaded) ∙ companion one (subst C chip_is has_one));
+            keeps_keeping laws.keeping flashes a.device state s n held.now model.device steady.keeps has
+            (subst E (sym same) may.0) (subst R (sym same) suits) (subst S (sym same) may.1) there
+            (λ one has_one. kept_there 257 (may.4 one (subst C same has_one)));
         unfinished = λ s has. open_unfinished s has.is_open;
       }
-
--- an intent may stand next
-module _ (laws : StepLaws) (flashes : List (List ℕ)) (l : Loaded) (n : ℕ) (old : RigState) (steady : IsSteady flashes l old) (small : n ≤ 65535) (kept : IsTrue (newest_keeps n l.state)) where
-  sound : IsSound (state_at old.journal)
-  sound = laws.sound old.journal (state_at old.journal) (good_at l old.journal steady.loaded)
-
-  pub kept_there : IsTrue (newest_keeps n (state_at old.journal))
-  kept_there = sym (keeps_text l old.journal n steady.loaded) ∙ kept
-
-  pub erases_step : IsStep (Erases n) flashes (state_at old.journal) old.device
-  erases_step = record {
-    allowed = (allowed-intend_erase n (state_at old.journal) sound kept_there).0;
-    printable = small;
-    keeps = λ s has. keeps_pages flashes old.device (state_at old.journal) s has.same steady.keeps;
+  line_step (deed.IntendErase n) may suits is = record {
+    allowed = (allowed-intend_erase n state sound (kept_there n may.1)).0;
+    printable = small n may.0;
+    keeps = λ s has. keeps_pages flashes a.device state s has.same steady.keeps;
     unfinished = λ s has. has.unfinished;
   }
-
-  pub programs_step : IsStep (Programs n) flashes (state_at old.journal) old.device
-  programs_step = record {
-    allowed = (allowed-intend_program n (state_at old.journal) sound kept_there).0;
-    printable = small;
-    keeps = λ s has. keeps_pages flashes old.device (state_at old.journal) s has.same steady.keeps;
+  line_step (deed.Erase n) may suits is = absurd is
+  line_step (deed.IntendProgram n) may suits is = record {
+    allowed = (allowed-intend_program n state sound (kept_there n may.1)).0;
+    printable = small n may.0;
+    keeps = λ s has. keeps_pages flashes a.device state s has.same steady.keeps;
     unfinished = λ s has. has.unfinished;
   }
+  line_step (deed.Write n frame page) may suits is = absurd is
 
 -- by its variant
 pub as_deed : {chip : ChipData} {l l2 : Loaded} {a b : RigState} {x y : Deed}
@@ -125,7 +152,7 @@ as_deed {chip} {l} {l2} {a} {b} {x} {s = s} is answers may does =
     subst R (sym answers) (subst D (sym is) (does (subst M is may)))
 
 -- a line
-pub says : (laws : StepLaws) (e : Entry) {May : Type 0} {l l2 : Loaded} {a b : RigState}
+says : (laws : StepLaws) (e : Entry) {May : Type 0} {l l2 : Loaded} {a b : RigState}
     → (a.is_honest → IsModel a)
     → ((flashes : List (List ℕ)) → IsSteady flashes l a → May
     → IsStep e flashes (state_at a.journal) a.device)
@@ -163,8 +190,46 @@ says laws e {l = l} {l2 = l2} {a = a} {b = b} model step (Err fault) calls call 
           l2 fault (Err (fault_of_journal fault)) (call steady.honest steady.loaded) left refl;
     }
 
+pub line_does : (laws : StepLaws) (chip : ChipData) {l l2 : Loaded} {a b : RigState} {x d : Deed}
+    {r : Result (Unit {0}) JournalFault} {made : Result (Unit {0}) Fault}
+    → page_count chip ≤ page_limit chip.kind → (a.is_honest → IsModel a) → MayDo chip x l.state
+    → x ≡ d → IsLine d → made ≡ of_call r
+    → GoesOn (AppendsOnce (added_bytes l.is_torn (entry_of_deed d ∷ [])) r) a.calls b.calls
+    → (a.is_honest → IsLoaded l a.journal → Appends (entry_of_deed d ∷ []) l l2 a b r)
+    → OnOk r (l2 ≡ loaded_after (entry_of_deed d ∷ []) l) → IfErr r (LeavesLoaded l l2)
+    → (a.is_honest → IsLoaded l a.journal
+    → OnOk r (InText (HasAdded (entry_of_deed d)) a.journal b.journal))
+    → DoesDeeds chip (x ∷ []) l l2 a b made
+line_does laws chip {l} {l2} {a} {b} {d = d} {r = r} few model may is line answers calls call after left
+    text =
+    as_deed is answers may
+    (λ may. by_deed d may line
+    (says laws (entry_of_deed d) model
+    (λ flashes steady fits.
+    line_step laws chip few flashes l a (model steady.honest) steady fits.0 d may fits.1.0 line) r
+    calls call after left text))
+  where
+    by_deed : (d : Deed) → MayDo chip d l.state → IsLine d
+        → Performs (Are (Adds (entry_of_deed d ∷ []) ∷ [])) (entry_of_deed d ∷ [])
+        ((a.device.chip ≡ chip) × AllSuit chip a.device.flash (d ∷ []))
+        (λ y. b.device.flash ≡ a.device.flash) l l2 a b (of_call r)
+        → DoesDeeds chip (d ∷ []) l l2 a b (of_call r)
+    by_deed (deed.Keep n held) may line does = does
+    by_deed (deed.IntendErase n) may line does = does
+    by_deed (deed.Erase n) may line does = absurd line
+    by_deed (deed.IntendProgram n) may line does = does
+    by_deed (deed.Write n frame page) may line does = absurd line
+
+under_text : (flashes : List (List ℕ)) (l : Loaded) (n : ℕ) (i : Intent) (a : RigState)
+    → IsSteady flashes l a → IsUnder n i l.state → IsUnder n i (state_at a.journal)
+under_text flashes l n i a steady under = record {
+  kept = sym (keeps_text l a.journal n steady.loaded) ∙ under.kept;
+  newest = sym (intent_text l a.journal steady.loaded) ∙ under.newest;
+  unfinished = sym (unfinished_text l a.journal steady.loaded) ∙ under.unfinished;
+}
+
 -- a frame: of the device it makes this
-pub sends : (laws : StepLaws) (n : ℕ) (i : Intent) (frame : List ℕ) {turns : List Turn} {May : Type 0}
+sends : (laws : StepLaws) (n : ℕ) (i : Intent) (frame : List ℕ) {turns : List Turn} {May : Type 0}
     {l : Loaded} {a b : RigState} (after : List ℕ) → (a.is_honest → IsModel a)
     → (b.is_honest → IsModel b) → (i ≡ Erase n) ⊎ (i ≡ Program n) → IsUnder n i l.state
     → (r : Result (Unit {0}) WireFault) → OnOk r (IsHeldToEnd frame turns a b)
@@ -172,47 +237,30 @@ pub sends : (laws : StepLaws) (n : ℕ) (i : Intent) (frame : List ℕ) {turns :
     → (a.is_honest → IsSettled a.device → May → IsFrameUnder a.device.chip (Some i) frame
     × Does r (λ y. IsSettled b.device × (b.device.flash ≡ after)))
     → Performs (Are (Sends turns ∷ [])) [] May (λ y. b.device.flash ≡ after) l l a b (of_command r)
-sends laws n i frame {turns} {l = l} {a = a} {b = b} after model later of under r held broken can =
-    by_answer r held broken can
-  where
-    under_text : {flashes : List (List ℕ)} → IsSteady flashes l a → IsUnder n i (state_at a.journal)
-    under_text steady = record {
-      kept = sym (keeps_text l a.journal n steady.loaded) ∙ under.kept;
-      newest = sym (intent_text l a.journal steady.loaded) ∙ under.newest;
-      unfinished = sym (unfinished_text l a.journal steady.loaded) ∙ under.unfinished;
+sends laws n i frame {turns} {l = l} {a = a} {b = b} after model later of under (Ok x) held broken can =
+    record {
+      order = (
+        Sends turns ∷ [],
+        refl,
+        record { acts = order_sent l.is_torn turns a.calls b.calls held.recorded; torn = refl },
+      );
+      stops = tt;
+      honest = λ flashes steady may.
+          let own = can steady.honest steady.settled may in
+          frame_goes laws flashes l n i frame a b (model steady.honest) steady
+          (under_text flashes l n i a steady under) of own.0 x _ held later own.1.done.0 own.1.done.1;
     }
-
-    by_answer : {May : Type 0} (r : Result (Unit {0}) WireFault) → OnOk r (IsHeldToEnd frame turns a b)
-        → IfErr r (λ fault. BreaksOff fault frame turns a b)
-        → (a.is_honest → IsSettled a.device → May → IsFrameUnder a.device.chip (Some i) frame
-        × Does r (λ y. IsSettled b.device × (b.device.flash ≡ after)))
-        → Performs (Are (Sends turns ∷ [])) [] May (λ y. b.device.flash ≡ after) l l a b
-        (of_command r)
-    by_answer (Ok x) held broken can =
-        record {
-          order = (
-            Sends turns ∷ [],
-            refl,
-            record { acts = order_sent l.is_torn turns a.calls b.calls held.recorded; torn = refl },
-          );
-          stops = tt;
-          honest = λ flashes steady may.
-              let here = model steady.honest in
-              let own = can steady.honest steady.settled may in
-              frame_goes laws flashes l n i frame a b here steady (under_text steady) of own.0 x _ held
-              later own.1.done.0 own.1.done.1;
-        }
-    by_answer (Err fault) held broken can =
-        record {
-          order = tt;
-          stops = sent_stops (Begin (Are (Sends turns ∷ []))) l.is_torn fault turns a b ([], refl)
-              broken.recorded;
-          honest = λ flashes steady may.
-              let here = model steady.honest in
-              let own = can steady.honest steady.settled may in
-              frame_fails laws flashes l n i frame a b here steady (under_text steady) of own.0 [] l
-              (Err (fault_of fault)) broken own.1.fails refl;
-        }
+sends laws n i frame {turns} {l = l} {a = a} {b = b} after model later of under (Err e) held broken can =
+    record {
+      order = tt;
+      stops = sent_stops (Begin (Are (Sends turns ∷ []))) l.is_torn e turns a b ([], refl)
+          broken.recorded;
+      honest = λ flashes steady may.
+          let own = can steady.honest steady.settled may in
+          frame_fails laws flashes l n i frame a b (model steady.honest) steady
+          (under_text flashes l n i a steady under) of own.0 [] l (Err (fault_of e)) broken
+          own.1.fails refl;
+    }
 
 gives : {P Q : Unit {0} → Type 0} (r : Result (Unit {0}) WireFault) → ((y : Unit {0}) → P y → Q y)
     → Does r P → Does r Q

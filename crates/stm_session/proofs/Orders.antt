@@ -100,11 +100,6 @@ acts-calls turns = acts-line (calls_of turns) (calls_of-are_line turns)
 pub order_sent : (torn : Bool) (turns : List Turn) (a b : Option (List Call)) → AddsCalls (calls_of turns) a b → GoesOn (IsInOrder torn (Sends turns ∷ [])) a b
 order_sent torn turns a b adds = GoesOn-adds (IsInOrder torn (Sends turns ∷ [])) (calls_of turns) a b adds (acts-calls turns ∙ sym (append-nil (calls_of turns)))
 
-pub does_erase : (chip : ChipData) (n : ℕ) (kind : EraseKind) (l : Loaded) (a b : RigState) → kind ≡ chip.kind → AddsCalls (calls_of (erase_turns kind n)) a.calls b.calls → DoesSteps (Sends (erase_turns chip.kind n) ∷ []) l l a b
-does_erase chip n kind l a b is adds =
-    let P : EraseKind → Type 0 = λ k. AddsCalls (calls_of (erase_turns k n)) a.calls b.calls in
-    record { acts = order_sent l.is_torn (erase_turns chip.kind n) a.calls b.calls (subst P is adds); torn = refl }
-
 -- reads leave a torn tail
 pub torn-reads : (torn : Bool) (address blocks : ℕ) (bytes : List ℕ) → torn_behind torn (read_steps address blocks bytes) ≡ torn
 torn-reads torn address zero bytes = refl
@@ -117,21 +112,6 @@ does_reads l address blocks bytes a b p = record { acts = p; torn = sym (torn-re
 pub torn-writes : (chip : ChipData) (n : ℕ) (page : List ℕ) (torn : Bool) (frames : List Frame) → torn_behind torn (write_steps chip n page frames) ≡ torn
 torn-writes chip n page torn [] = refl
 torn-writes chip n page torn (f ∷ frames) = torn-writes chip n page torn frames
-
-pub does_writes : (chip : ChipData) (n : ℕ) (page : List ℕ) (l : Loaded) (frames : List Frame) (a b : RigState) → GoesOn (IsInOrder l.is_torn (write_steps chip n page frames)) a.calls b.calls
-    → DoesSteps (write_steps chip n page frames) l l a b
-does_writes chip n page l frames a b p = record { acts = p; torn = sym (torn-writes chip n page l.is_torn frames) }
-
-pub writes_next : (chip : ChipData) (n : ℕ) (page : List ℕ) (torn : Bool) (frames : List Frame) (d : Frame) (i : ℕ) (a b c : Option (List Call)) → i < length frames
-    → GoesOn (IsInOrder torn (write_steps chip n page (take i frames))) a b → GoesOn (IsInOrder torn (write_step chip n page (get_or frames i d) ∷ [])) b c
-    → GoesOn (IsInOrder torn (write_steps chip n page (take (i + 1) frames))) a c
-writes_next chip n page torn frames d i a b c lt p q =
-    let before = write_steps chip n page (take i frames) in
-    let own = write_step chip n page (get_or frames i d) ∷ [] in
-    let Q : Bool → Type 0 = λ t. GoesOn (IsInOrder t own) b c in
-    let P : List Step → Type 0 = λ steps. GoesOn (IsInOrder torn steps) a c in
-    subst P (sym (ap (λ (fs : List Frame). write_steps chip n page fs) (take_more frames i d lt) ∙ map-append (write_step chip n page) (take i frames) (get_or frames i d ∷ [])))
-    (order_then torn before own a b c p (subst Q (sym (torn-writes chip n page torn (take i frames))) q))
 
 -- pages are put back, one after another
 pub returned_next : (again : Bool) (chip : ChipData) (Told : Tells) (pages : List Kept) (i : ℕ) (kept : Kept) (xs ys : List Step) → slice_get pages i ≡ Some kept → AreGivenBack again chip Told (take i pages) xs → IsGivenBack again chip (tells_behind xs Told) kept.page ys
@@ -231,19 +211,6 @@ fetched_and way Then a b c p q =
 
 pub fetched_then : (way : Way) (torn : Bool) (steps : List Step) (a b c : Option (List Call)) → GoesOn AreFetches a b → GoesOn (SettlesFirst way torn steps) b c → GoesOn (SettlesFirst way torn steps) a c
 fetched_then way torn steps a b c p q = fetched_and way (λ rest. rest ≡ acts_of_steps torn steps) a b c p q
-
--- the frame that writes a part of a page
-pub order_written : (chip : ChipData) (n : ℕ) (page : List ℕ) (f : Frame) (torn : Bool) (address : ℕ) → address ≡ page_address chip n + f.offset → (bytes : List ℕ) → bytes ≡ take f.length (drop f.offset page) → (a b : Option (List Call))
-    → AddsCalls (calls_of (write_turns address bytes)) a b → GoesOn (IsInOrder torn (write_step chip n page f ∷ [])) a b
-order_written chip n page f torn address at bytes part a b adds =
-    let P : ℕ → Type 0 = λ k. AddsCalls (calls_of (write_turns k bytes)) a b in
-    let Q : List ℕ → Type 0 = λ xs. AddsCalls (calls_of (write_turns (page_address chip n + f.offset) xs)) a b in
-    order_sent torn (write_turns (page_address chip n + f.offset) (take f.length (drop f.offset page))) a b (subst Q part (subst P at adds))
-
--- a page has frames to be written, or none
-pub some_program : (chip : ChipData) (n : ℕ) (page : List ℕ) (frames : List Frame) → (length frames ≡ 0 → ⊥) → Adds (Programs n ∷ []) ∷ write_steps chip n page frames ≡ program_steps chip n page frames
-some_program chip n page [] some = absurd (some refl)
-some_program chip n page (f ∷ frames) some = refl
 
 -- blocks that were read don't change by what is read behind them
 block_before : (n : ℕ) (bytes more : List ℕ) → n + 256 ≤ length bytes → take 256 (drop n (bytes ++ more)) ≡ take 256 (drop n bytes)

@@ -34,19 +34,6 @@ use Rattle.stm_session.specs.Undoable.{has_companion, state_at}
 use Rattle.stm_session.proofs.Going.{IsStep}
 use Rattle.stm_session.proofs.Keeping.{good_at, keeps_keeping, keeps_text, may_keep_text}
 
--- page 257 and then page 1
-pub both_saved : (chip : ChipData) (a b c : StateData) → HasSaved 257 a b → HasSaved 1 b c → HasAllSaved false chip 1 a c
-both_saved chip a b c first second =
-    record {
-      depth = second.depth ∙ first.depth;
-      is_open = λ h. second.is_open;
-      keeps = second.keeps;
-      still = λ m h. second.still m (first.still m h);
-      free = λ m one two. second.free m one ∙ first.free m two;
-      companion = λ fresh one has. second.still 257 first.keeps;
-      alone = λ other first_page. absurd (first_page refl);
-    }
-
 -- page 1
 and-left : (a b : Bool) → (a && b) ≡ true → a ≡ true
 and-left true b h = refl
