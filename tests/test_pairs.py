@@ -23,8 +23,9 @@ HEADERS = (b"stmjournal 3 0410 %s\n" % UNIQUE.encode(), b"stmjournal 2 0410\n")
 JOURNAL = b"open 1\npage 2 %s\nend 1\n" % (b"AA" * 256)
 PLACE, FOLDER = "journal", f"journals/{UNIQUE}.journal"
 ON = ("--table", "table", "--device", "sim:0410:flash")
+IMAGES = "image", "image@0x08000140"
 # each subcommand: what it is called with, and what stands behind the flags
-CALLS = {"info": (ON, ()), "read": (ON, ("out",)), "crc": (ON, ()), "write": (ON, ("image",)), "verify": (ON, ("image",)), "erase": (ON, ("1",)),
+CALLS = {"info": (ON, ()), "read": (ON, ("out",)), "crc": (ON, ()), "write": (ON, IMAGES), "verify": (ON, IMAGES), "erase": (ON, ("1",)),
          "undo": (ON, ()), "go": (ON, ("0x08000000",)), "protect": (ON, ("write-unprotect",)), "log": ((), ()), "keep": ((), ())}
 # each flag: the words that ask for it. One that asks for more is no flag without that
 FLAGS = {"--table": (), "--device": (), "--journal": (), "--journals": ("--journals", "journals"), "--no-lock": ("--no-lock",),

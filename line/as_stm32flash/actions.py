@@ -135,7 +135,7 @@ class Actions:
         options += [*["-v"] * self.words.verify, *sequel]
         show = self.told.progress(("Wrote", what), part, self.chip)
         if data is None:
-            return self.board.use("write", *options, image.path, show=show)
+            return self.board.use("write", *options, f"{image.path}@", show=show)
         held = os.memfd_create("image")
         with open(held, "r+b") as file:
             file.write(data)

@@ -159,6 +159,8 @@ class Story:
         use.is_fresh = chance.random() < 0.1
         if image is not None:
             self.write("I", image)
+        if use.second is not None:
+            self.write("K", use.second[1])
         if chance.random() < 0.4:
             use.stop = self.draw_stop(use)
         self.compare(use)

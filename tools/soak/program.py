@@ -92,7 +92,7 @@ class World:
         """The exit status, standard output, standard error, and the rig of the first session, where there was one."""
         try:
             check_words(use)
-            image = read_image(use, self.files.get("I"))
+            image = read_images(use, self.files.get("I"))
             self.check_new(use)
             if use.again is not None:
                 return self.run_again(use, image)
@@ -298,19 +298,30 @@ def check_words(use):
             raise Usage(text)
 
 
-def read_image(use, text):
-    """The image, or the raw bytes whose start isn't known yet."""
+def read_images(use, text):
+    """The image, or the raw bytes whose start isn't known yet. Two are one, unless they differ."""
     if use.image is None:
         return None
     if text is None:
         raise Fault("cannot read I")
-    if text.startswith(b":") and not use.force:
-        if use.range is not None:
+    image = read_image(text, use.force, use.range)
+    if use.second is None:
+        return image
+    start, data = use.second
+    for address, byte in sorted(read_image(data, use.force, (start, None)).items()):
+        if image.setdefault(address, byte) != byte:
+            raise Fault("images I and K differ at %08X" % address)
+    return image
+
+
+def read_image(text, force, place):
+    if text.startswith(b":") and not force:
+        if place is not None:
             raise Usage("-S needs a raw image")
         return read_hex(text)
-    if use.range is None:
+    if place is None:
         return text
-    start, length = use.range
+    start, length = place
     image = read_raw(text, start)
     if length is not None and length < len(text):
         raise Fault(session.OUT_OF_FLASH)

@@ -230,6 +230,10 @@ def draw_task(chance, chip, flash, unfinished, is_gone, allowed, file):
     if name in drawn:
         return drawn[name](chance, chip), None
     text, given = draw_image(chance, chip, flash)
+    is_placed = given.get("range") or text.startswith(b":") and not given.get("force")
+    if is_placed and chance.random() < 0.2:
+        start = draw_address(chance, chip)
+        given["second"] = start, draw_piece(chance, chip, flash, start)
     if name == "write":
         given.update(draw_sequel(chance, chip, is_gone, file), verify=chance.random() < 0.3)
     return Use(name, image="I", **given), text

@@ -1,9 +1,10 @@
 """One use of the program: a subcommand, its options and further words, by name."""
 
 
-# what a use may have beside its name, and what stands there where it hasn't; `file` is that of the simulator's flash
+# what a use may have beside its name, and what stands there where it hasn't; `file` is that of the simulator's flash,
+# and `second` where a second image lies, and its bytes
 GIVEN = {**dict.fromkeys(("force", "verify", "keep", "hex", "skip_blank", "all", "trusts", "to_change", "no_board", "is_fresh"), False),
-         **dict.fromkeys(("range", "to", "go", "again", "out", "image", "pages", "count", "address", "kind", "stop", "number", "board")), "file": "F"}
+         **dict.fromkeys(("range", "to", "go", "again", "out", "image", "pages", "count", "address", "kind", "stop", "number", "board", "second")), "file": "F"}
 
 
 class Use:
@@ -39,6 +40,8 @@ class Use:
             found.append(self.out)
         if self.image is not None:
             found.append("I")
+        if self.second is not None:
+            found.append("K@0x%08x" % self.second[0])
         found += [str(page) for page in self.pages or []]
         if self.count is not None:
             found.append(str(self.count))

@@ -21,19 +21,19 @@ named_by word name (Some own) is_bare range = (name, Some own)
 named_by word name None true range = (name, range)
 named_by word name None false range = (word, range)
 
-abbrev pub Names : List ℕ → Option Range → List ℕ × Option Range → Type 0
-Names word range said = (HasNoAt word × (said ≡ (word, range)))
+abbrev pub NamesFile : List ℕ → Option Range → List ℕ × Option Range → Type 0
+NamesFile word range said = (HasNoAt word × (said ≡ (word, range)))
     ⊎ ((name place : List ℕ) × IsCutAtLast word name place
     × (said ≡ named_by word name (range_of place) (length place == 0) range))
 
 -- the image that a word names
 pub record IsImageNamed (is_raw : Bool) (range : Option Range) (word : List ℕ) (image : ImageFile) : Type 0 where
   pub raw : image.is_raw ≡ is_raw
-  pub names : Names word range (image.name.now, image.range)
+  pub names : NamesFile word range (image.name.now, image.range)
 
 -- those that words name, in their order
-abbrev pub AreNamed : Bool → Option Range → List (List ℕ) → List ImageFile → Type 0
-AreNamed is_raw range [] [] = Unit {0}
-AreNamed is_raw range (word ∷ words) (image ∷ images) =
-    IsImageNamed is_raw range word image × AreNamed is_raw range words images
-AreNamed is_raw range _ _ = ⊥
+abbrev pub AreImagesNamed : Bool → Option Range → List (List ℕ) → List ImageFile → Type 0
+AreImagesNamed is_raw range [] [] = Unit {0}
+AreImagesNamed is_raw range (word ∷ words) (image ∷ images) =
+    IsImageNamed is_raw range word image × AreImagesNamed is_raw range words images
+AreImagesNamed is_raw range _ _ = ⊥

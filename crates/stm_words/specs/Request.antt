@@ -30,7 +30,7 @@ use Rattle.stm_words.specs.CommandSet.{TakesKinds, command_set}
 use Rattle.stm_words.specs.Given.{Gives, GivesOrZero, NamesText, are_board_digits, are_unique_digits, cut_at, has}
 use Rattle.stm_words.specs.Given.{chip_id_of, is_of_simulator, is_word, mode_of, number_to, range_of}
 use Rattle.stm_words.specs.Given.{simulator_of, texts_of, word_range_of}
-use Rattle.stm_words.specs.Images.{AreNamed}
+use Rattle.stm_words.specs.Images.{AreImagesNamed}
 use Rattle.stm_words.specs.Number.{word_number}
 use Rattle.stm_words.specs.Pages.{NameAll}
 
@@ -89,7 +89,7 @@ pub record AreOptions (e : Environment) (given : Found) (o : Options) : Type 0 w
 pub record AreImageFiles (given : Found) (images : List ImageFile) : Type 0 where
   pub range : Option Range
   pub is_range : Gives range_of given (codes "range") range
-  pub named : AreNamed (has given (codes "force")) range (texts_of given (codes "IMAGE")) images
+  pub named : AreImagesNamed (has given (codes "force")) range (texts_of given (codes "IMAGE")) images
 
 -- what is read is written as HEX: the flag says so, or the end of the file's name
 abbrev pub wants_hex : Found → List ℕ → Bool

@@ -1,7 +1,7 @@
 // An image, as words name it.
 ghost use Rattle.std.specs.Prelude.{IfOk, MatchOption, map};
 ghost use Rattle.clap.specs.Words.{found_of};
-ghost use Rattle.stm_words.specs.Images.{AreNamed, HasNoAt, IsCutAtLast, IsImageNamed};
+ghost use Rattle.stm_words.specs.Images.{AreImagesNamed, HasNoAt, IsCutAtLast, IsImageNamed};
 ghost use Rattle.stm_words.specs.Request.{AreImageFiles};
 
 use crate::given::{flag, range};
@@ -23,10 +23,7 @@ pub struct ImageFile<'a> {
 
 impl<'a> ImageFile<'a> {
     /// The images that the words of a subcommand name.
-    pub fn parse_all(
-        alloc: Global,
-        given: &ArgMatches<'a>,
-    ) -> Result<Vec<ImageFile<'a>>, Unfit<'a>>
+    pub fn parse_all(alloc: Global, given: &ArgMatches<'a>) -> Result<Vec<ImageFile<'a>>, Unfit<'a>>
         ensures { IfOk result (λ images. AreImageFiles (found_of given.now) images.items) }
     {
         let is_raw = flag(given, "force");
@@ -79,7 +76,7 @@ fn images_of<'a>(
     is_raw: bool,
     range: Option<Range>,
 ) -> Result<Vec<ImageFile<'a>>, Unfit<'a>>
-    ensures { IfOk result (λ images. AreNamed is_raw range (map (λ w. w.now) words.now) images.items) }
+    ensures { IfOk result (λ images. AreImagesNamed is_raw range (map (λ w. w.now) words.now) images.items) }
 {
     let mut images = Vec::new(alloc);
     for word in words {
