@@ -1,7 +1,7 @@
 use Rattle.std.proofs.Common.{◌∙◌, ap}
-use Rattle.stmflash.proofs.ProtectedPages.{fed_connected}
-use Rattle.stmflash.proofs.protected_pages.ProtectedPages.fed.Goals as goal
-use Rattle.stmflash.specs.ProtectedPages.{fed_behind}
+use Rattle.stmflash.proofs.Protections.{fed_connected}
+use Rattle.stmflash.proofs.protections.Protections.fed.Goals as goal
+use Rattle.stmflash.specs.Protections.{fed_behind}
 
 pub returns-in-Some : goal.returns-in-Some
 returns-in-Some c =

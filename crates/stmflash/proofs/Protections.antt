@@ -10,7 +10,7 @@ use Rattle.stm_wire.specs.Exchange.{after_address, all_exist, all_verdict, at_en
 use Rattle.stm_wire.specs.Device.{Device, Phase, Fresh, Connected, Gone}
 use Rattle.stm_files.specs.Replies.{telling_begun, telling}
 use Rattle.stm_files.specs.Serving.{fed_all}
-use Rattle.stmflash.specs.ProtectedPages.{Serves, Spares, all_check, changes_any, check_due, completes_change, erase_check, extended_check, fed_behind, fed_in, fed_while_protected, guarding, is_check, write_check}
+use Rattle.stmflash.specs.Protections.{Serves, Spares, all_check, changes_any, check_due, completes_change, erase_check, extended_check, fed_behind, fed_in, fed_while_protected, guarding, is_check, write_check}
 
 -- of two tests, the first passes where the verdict is done
 done-first : (a b : Bool) → Some (done_if (a && b)) ≡ Some Done → a ≡ true

@@ -1,7 +1,7 @@
 use Rattle.std.proofs.Common.{◌≡◌, take}
 use Rattle.stm_files.specs.Replies.{telling_begun}
-use Rattle.stmflash.specs.ProtectedPages.{guarding}
-use Rattle.stmflash.proofs.protected_pages.ProtectedPages.tell_all.Given as goal
+use Rattle.stmflash.specs.Protections.{guarding}
+use Rattle.stmflash.proofs.protections.Protections.tell_all.Given as goal
 
 abbrev pub invariant-loop-byte : goal.invariant-loop-byte
 invariant-loop-byte l =
