@@ -1,5 +1,5 @@
 pub mod Typed
-pub mod Protections
+pub mod Protecting
 pub mod DeviceUse
 pub mod WriteUse
 pub mod TaskUse

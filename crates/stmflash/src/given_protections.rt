@@ -1,5 +1,5 @@
 // What the words of `sim` protect.
-ghost use Rattle.std.specs.Prelude.{◌≡◌, IfOk};
+ghost use Rattle.std.specs.Prelude.{◌≡◌, IfOk, false};
 
 use crate::protections::Protections;
 use std::alloc::Global;

@@ -1,6 +1,6 @@
 // The protections of a served simulator, which follows the model, and that knows none: where a byte
 // would complete what one forbids, it is fed the complement, a wrong check, and refuses by itself.
-ghost use Rattle.std.specs.Prelude.{◌≡◌, ◌↔◌, ℕ, List, [], IsTrue, fold, bit_xor, length};
+ghost use Rattle.std.specs.Prelude.{◌≡◌, IsTrue, false, fold, bit_xor, length};
 ghost use Rattle.stm_wire.specs.Effect.{change_of, erase_change, extended_change, write_change};
 ghost use Rattle.stm_wire.specs.Exchange.{is_listed, two_byte_numbers, xor};
 ghost use Rattle.stm_files.specs.Replies.{telling_begun, completes};
@@ -264,7 +264,7 @@ impl Protections {
     }
 
     /// What the simulator is fed in the place of a byte.
-    #[tactic(auto, using(crate::proofs::Protections::fed_connected, crate::proofs::Protections::fed_apart))]
+    #[tactic(auto, using(crate::proofs::Protecting::fed_connected, crate::proofs::Protecting::fed_apart))]
     fn fed(&self, sim: &Simulator, byte: u8) -> u8
         ensures { result ≡ fed_while_protected self.now sim.now byte }
     {
@@ -292,7 +292,7 @@ impl Protections {
     /// What the simulator is fed in the place of a byte that comes: no list of bytes that ends so is
     /// done and changes a protected page; while the flash is readout-protected, no code passes that
     /// this forbids.
-    #[tactic(auto, using(crate::proofs::Protections::spares, crate::proofs::Protections::bars))]
+    #[tactic(auto, using(crate::proofs::Protecting::spares, crate::proofs::Protecting::bars))]
     pub fn feed(&mut self, sim: &Simulator, byte: u8) -> u8
         ensures fed { result ≡ fed_while_protected self.old sim.now byte }
         ensures spares { Spares self.old.pages sim.now.chip sim.now.phase result }

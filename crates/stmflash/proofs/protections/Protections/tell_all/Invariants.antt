@@ -5,5 +5,5 @@ use Rattle.stmflash.proofs.protections.Protections.tell_all.Given as goal
 
 abbrev pub invariant-loop-byte : goal.invariant-loop-byte
 invariant-loop-byte l =
-    record { pages = l.self; telling = record { device = l.sim; told = l.told.items } }
-    ≡ guarding (record { pages = l.fn.self; telling = telling_begun l.fn.sim }) (take l.byte-index l.bytes)
+    record { protected = l.self; telling = record { device = l.sim; told = l.told.items } }
+    ≡ guarding (record { protected = l.fn.self; telling = telling_begun l.fn.sim }) (take l.byte-index l.bytes)
