@@ -31,12 +31,12 @@ PATIENCE = 120
 class PtyBoard:
     """One board: a pseudo-terminal at `name`, joined to a simulator whose flash is `name`.flash."""
 
-    def __init__(self, program, name, chip="0412", table=None, baud=None, hold=0.0):
+    def __init__(self, program, name, chip="0412", table=None, baud=None, hold=0.0, more=()):
         self.name = name
         self.byte_time, self.hold = 11 / baud if baud else 0.0, hold
         self.behind = name + ".board"
         files = ["--table", table or os.path.join(TOP, "chips.toml"), "--id", chip, "--flash", name + ".flash"]
-        words = [program, "sim", *files, "--socket", self.behind, "--clients", "1000000"]
+        words = [program, "sim", *files, "--socket", self.behind, "--clients", "1000000", *more]
         self.simulator = subprocess.Popen(words, stdin=subprocess.DEVNULL)
         self.device = None
         self.master = None

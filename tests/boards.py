@@ -61,11 +61,11 @@ class LinePlace(Place):
         super().tearDown()
         self.assertEqual(os.listdir(self.path("temporary")), [])
 
-    def board(self, name="ttyUSB0", chip="0412", flash=None):
-        """A port of this name with a simulated board behind it, in whose flash this stands where it is given."""
+    def board(self, name="ttyUSB0", chip="0412", flash=None, more=()):
+        """A port of this name with a simulated board behind it, by these words too, in whose flash this stands where it is given."""
         if flash is not None:
             self.store(name + ".flash", flash)
-        made = pty_boards.PtyBoard(program(), self.path(name), chip, self.path("table"))
+        made = pty_boards.PtyBoard(program(), self.path(name), chip, self.path("table"), more=more)
         self.addCleanup(made.stop)
         return made
 

@@ -1,5 +1,5 @@
 """`sim --protected`: a served simulator with write-protected pages, frame by frame, and a write that they refuse undone as each
-hint says."""
+hint says. `sim --readout-protection`: what is refused from a Readout Protect to a Readout Unprotect."""
 
 import json
 
@@ -16,6 +16,7 @@ THEN = "If so: protect write-unprotect --in-session, undo 1"
 NOT_ERASED = f"page 4: the device refused to erase it: is it write-protected? {THEN}"
 NOW_UNDO = "the board resets itself; now: undo 1"
 IN_SESSION = "to undo what a write-protected page refuses: protect write-unprotect --in-session, undo 1"
+UNREAD = "the device refused to read: is its flash readout-protected?"
 WIDE_TABLE = b'[[chip]]\nid = 0x412\nbase = 0x08000000\npages = [[32, 1024]]\nerase = "extended"\n'
 
 
@@ -44,6 +45,9 @@ ACK, NACK = b"\x79", b"\x1f"
 # an address is acknowledged too
 DONE, REFUSED = 2 * ACK, ACK + NACK
 WRITTEN, UNWRITTEN = 3 * ACK, 2 * ACK + NACK
+GET_ID = b"\x79\x01\x04\x12\x79"
+# the codes that readout protection forbids
+FORBIDDEN = (0x11, 0x21, 0x31, 0x43, 0x44, 0x63, 0x73)
 # what is sent to a simulator whose pages 4 to 7 and 9 are protected, what comes, and which pages are erased, or which bytes written
 ROWS = (
     (erase(3), DONE, (3,), None),
@@ -77,7 +81,7 @@ ROWS = (
     (write_to(6 * PAGE, b"\x00\x00", more=0xFF), UNWRITTEN, (), None),
     # what is no change passes, also where it looks like one
     (b"\x11\xee" + write_to(4 * PAGE, b"\x00")[2:7] + b"\x00\xff", WRITTEN + COUNTING[4 * PAGE:4 * PAGE + 1], (), None),
-    (b"\x02\xfd", b"\x79\x01\x04\x12\x79", (), None),
+    (b"\x02\xfd", GET_ID, (), None),
     (b"\x01\xfe", b"\x79\x22\x00\x00\x79", (), None),
     (b"\x31\xcd", NACK, (), None),
     (b"\x73\x8d", NACK, (), None),
@@ -143,7 +147,7 @@ class Protected(Served):
                     client = self.connect()
                     client.sendall(rest[known:] + b"\x02\xfd")
                     came = b""
-                    while not came.endswith(NACK + b"\x79\x01\x04\x12\x79"):
+                    while not came.endswith(NACK + GET_ID):
                         more = client.recv(4096)
                         self.assertNotEqual(more, b"")
                         came += more
@@ -223,3 +227,60 @@ class Protected(Served):
         self.leave(client)
         self.ended(simulator)
         self.assertFile("flash", ERASED[:16 * PAGE])
+
+    # ---- readout protection
+
+    def test_each_code_while_the_flash_is_readout_protected(self):
+        """Also where its client goes behind the code. The pages stay protected all the while."""
+        for code, version, table in ((0x43, 0x22, TABLE), (0x44, 0x31, WIDE_TABLE)):
+            with self.subTest(erase=code):
+                self.store_all({"flash": COUNTING, "flash.line": None, "table": table})
+                self.serve(2, more=("--protected", "4", "--readout-protection"))
+                client = self.connect()
+                first = b"\x11\xee" + BASE.to_bytes(4, "big") + b"\x08\x00\xff"
+                self.assertReplies(client, b"\x7f" + first, ACK + 3 * ACK + b"\x00")
+                self.assertReplies(client, b"\x82\x7d\x7f", 2 * ACK + ACK)
+                for forbidden in FORBIDDEN:
+                    for sent in (forbidden ^ 0xff, forbidden, 0x7f):
+                        self.assertReplies(client, bytes([forbidden, sent]), NACK)
+                    self.assertReplies(client, b"\x02\xfd", GET_ID)
+                self.assertReplies(client, b"\x01\xfe", bytes([0x79, version, 0, 0, 0x79]))
+                codes = bytes([0, 1, 2, 0x11, 0x21, 0x31, code, 0x73, 0x82, 0x92])
+                self.assertReplies(client, b"\x00\xff", bytes([0x79, 10, version, *codes, 0x79]))
+                self.assertReplies(client, b"\x82\x7d\x7f", 2 * ACK + ACK)
+                client.sendall(b"\x11")
+                self.leave(client)
+                client = self.connect()
+                self.assertReplies(client, b"\xee\x02\xfd", NACK + GET_ID)
+                self.assertFile("flash", COUNTING)
+                self.assertReplies(client, b"\x92\x6d\x7f" + first, 2 * ACK + ACK + 3 * ACK + b"\xff")
+                self.assertReplies(client, erase(4, width=code - 0x42) + b"\x73\x8c\x7f" + write_to(4 * PAGE, b"\x00"),
+                                   REFUSED + 3 * ACK + WRITTEN)
+                self.assertServed(client, holds=(ERASED[:4 * PAGE] + b"\x00" + ERASED[4 * PAGE + 1:], b"idle\n"))
+
+    def at_board(self, name, *words, journal="journal"):
+        return self.use(name, "--wait", WAIT, *words, device="board", journal=journal)
+
+    def test_what_is_said_while_the_flash_is_readout_protected(self):
+        self.store_all({"flash": COUNTING, "image": IMAGE})
+        self.serve(14, more=["--readout-protection"])
+        self.assertTold(self.at_board("write", "-S", f"{AT:#x}", "image"), "segment 1: 3 pages written\n")
+        told, written = self.at_board("info").out, self.held("flash")
+        self.assertSilent(self.at_board("protect", "readout-protect", journal="protects"))
+        for name, *words in (("read", "out"), ("crc",), ("verify", "image"), ("write", "image"), ("erase", "4"), ("undo",)):
+            with self.subTest(name):
+                journal = "journal" if name == "undo" else name
+                self.assertFault(self.at_board(name, *words, journal=journal), DEVICE, hint=UNREAD, flash=written, out=None)
+        for name, word in (("go", f"{BASE:#x}"), ("protect", "write-unprotect")):
+            self.assertFault(self.at_board(name, word, journal="protects"), DEVICE, flash=written)
+        self.assertTold(self.at_board("info"), told.decode())
+        self.assertSilent(self.at_board("protect", "readout-unprotect", journal="protects"))
+        self.assertSilent(self.at_board("read", "out"), flash=ERASED, out=ERASED)
+        self.assertServed()
+
+    def test_readout_protect_without_the_word(self):
+        self.store("flash", COUNTING)
+        self.protect(2, "4")
+        self.assertSilent(self.at_board("protect", "readout-protect"))
+        self.assertSilent(self.at_board("read", "out"), out=COUNTING)
+        self.assertServed()

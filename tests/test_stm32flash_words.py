@@ -437,6 +437,15 @@ class TakingBack(Words):
         self.assertEqual(self.reset(board).store(), ERASED)
         self.fails(NOTHING, "--undo")
 
+    def test_a_readout_protection_is_put_on_and_off(self):
+        board = self.board(flash=COUNTING, more=["--readout-protection"])
+        self.assertIn(b"Read-Protecting flash\nDone.\n", self.well("-j").out)
+        for words in (("-r", "out"), ("-w", "image"), ("-o",), ("-C",)):
+            self.refused(b"is its flash readout-protected?", words=words)
+        self.leaves(board, ERASED, "-k")
+        self.well("-r", "out")
+        self.assertFile("out", ERASED)
+
     def test_another_chip_begins_a_journal_of_its_own(self):
         self.flash(COUNTING)
         for held, told in ((KEPT, b"is put aside"), (b"open 1\nend 1\n", b"has changed nothing, and is removed")):

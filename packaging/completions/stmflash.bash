@@ -47,7 +47,7 @@ _stmflash() {
         protect) _stmflash_words "$word" "$asked --yes --in-session -h" ;;
         log) _stmflash_words "$word" "--journal --check --json --help -h" ;;
         keep) _stmflash_words "$word" "--journal --no-lock --trust-journal --last --json --help -h" ;;
-        sim) _stmflash_words "$word" "--table --id --flash --unique --size --protected --no-lock --socket --clients --mode --help -h" ;;
+        sim) _stmflash_words "$word" "--table --id --flash --unique --size --protected --readout-protection --no-lock --socket --clients --mode --help -h" ;;
     esac
 }
 

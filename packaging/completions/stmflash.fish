@@ -66,6 +66,7 @@ complete -c stmflash -n "__stmflash_in sim" -l flash -r -F -d 'The file that hol
 complete -c stmflash -n "__stmflash_in sim" -l unique -x -d 'The unique id that it gets'
 complete -c stmflash -n "__stmflash_in sim" -l size -x -d 'How many KiB of flash it gets'
 complete -c stmflash -n "__stmflash_in sim" -l protected -x -d 'Pages that are write-protected, as 4-7'
+complete -c stmflash -n "__stmflash_in sim" -l readout-protection -d 'Lets Readout Protect take effect'
 complete -c stmflash -n "__stmflash_in sim" -l socket -r -F -d 'The socket that is made'
 complete -c stmflash -n "__stmflash_in sim" -l clients -x -d 'How many clients are served'
 complete -c stmflash -n "__stmflash_in sim" -l mode -x -a '600 660 666' -d "The socket's permissions"

@@ -155,7 +155,7 @@ FAULTS = {
         "test_socket.Socket.test_serving_takes_no_more_and_more_memory"),
     "what a write took in part is lost": ("stmflash/serving", "writer.write_all(rooms.told.as_slice()).is_ok()",
         "writer.write(rooms.told.as_slice()).is_ok()", "test_socket.Socket.test_serves_a_client_however_long"),
-    "the bytes of a protected page's number are the other way round": ("stmflash/protected_pages", "u16::from(*high) * 256 + u16::from(*low)",
+    "the bytes of a protected page's number are the other way round": ("stmflash/protections", "u16::from(*high) * 256 + u16::from(*low)",
         "u16::from(*low) * 256 + u16::from(*high)", "test_protected.Protected.test_each_frame_of_a_chip_with_long_numbers"),
     "only the first word of --protected counts": ("stm_words/served", '        let protected = pages(alloc, given, "protected")?;\n',
         '        let mut protected = pages(alloc, given, "protected")?;\n        if @on {\n            protected.truncate(1);\n        }\n',

@@ -192,10 +192,11 @@ protect_app e kinds =
 
 abbrev pub sim_app : Environment → App
 sim_app e = with_rule (with_rule (with_rule (with_rule (with_rule (with_rule (with_rule (with_rule
-    (with_rule (with_table e (codes "sim"))
+    (with_rule (with_rule (with_table e (codes "sim"))
     (needed_option_rule (codes "id"))) (needed_option_rule (codes "flash")))
     (option_rule (codes "unique"))) (option_rule (codes "size")))
     (repeated_option_rule (codes "protected")))
+    (flag_rule (codes "readout-protection")))
     (flag_rule (codes "no-lock")))
     (needed_option_rule (codes "socket")))
     (default_option_rule (codes "mode") (codes "600")))

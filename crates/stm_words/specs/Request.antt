@@ -156,6 +156,7 @@ pub record NamesServed (e : Environment) (given : Found) (served : Served) : Typ
   pub digits : IfSome served.unique (λ text. IsTrue (are_unique_digits text.now))
   pub size : Gives (number_to 65534) given (codes "size") served.size
   pub protected : NameAll (texts_of given (codes "protected")) served.protected.items
+  pub readout_protection : served.readout_protection ≡ has given (codes "readout-protection")
   pub socket : first_value given (codes "socket") ≡ Some served.socket.now
   pub mode : Gives mode_of given (codes "mode") (Some served.mode)
   pub clients : Gives (number_to 1000000) given (codes "clients") (Some served.clients)

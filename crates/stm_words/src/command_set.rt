@@ -263,6 +263,7 @@ fn sim<'a>(alloc: Global, environment: Environment<'a>) -> Result<Command<'a>, A
         .arg(option(alloc, "unique", "HEX", help::UNIQUE))?
         .arg(option(alloc, "size", "KIB", help::SIZE))?
         .arg(repeated_option(alloc, "protected", "PAGE", help::PROTECTED))?
+        .arg(flag(alloc, "readout-protection", help::READOUT_PROTECTION))?
         .arg(flag(alloc, "no-lock", help::NO_LOCK))?
         .arg(needed_option(alloc, "socket", "PATH", help::SOCKET))?
         .arg(default_option(alloc, "mode", "MODE", "600", help::MODE))?

@@ -150,6 +150,9 @@ pub const PROTECTED: &str =
     "Pages that are write-protected, by their numbers or ranges of them, as 4-7; \
     it may be given several times";
 
+pub const READOUT_PROTECTION: &str =
+    "Lets Readout Protect take effect: what it forbids is refused until Readout Unprotect";
+
 pub const SOCKET: &str = "The socket that is made, and removed at the end";
 
 pub const MODE: &str = "Who may connect: the mode of the socket, 1 to 3 octal digits";

@@ -30,6 +30,8 @@ pub struct Served<'a> {
     pub size: Option<u32>,
     /// The numbers of the pages that are write-protected, as the words name them.
     pub protected: Vec<u16>,
+    /// Whether Readout Protect takes effect.
+    pub readout_protection: bool,
     /// The path of the socket.
     pub socket: &'a str,
     /// The mode of the socket: who may connect.
@@ -71,6 +73,7 @@ impl<'a> Served<'a> {
             unique,
             size,
             protected,
+            readout_protection: flag(given, "readout-protection"),
             socket,
             mode,
             clients: number_to(given, "clients", 1_000_000)?,

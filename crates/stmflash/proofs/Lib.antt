@@ -1,5 +1,5 @@
 pub mod Typed
-pub mod ProtectedPages
+pub mod Protecting
 pub mod DeviceUse
 pub mod WriteUse
 pub mod TaskUse

@@ -1,5 +1,5 @@
 pub mod Confirmation
-pub mod ProtectedPages
+pub mod Protections
 pub mod Variable
 pub mod Variables
 pub mod Standing

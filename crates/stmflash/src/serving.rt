@@ -1,11 +1,11 @@
 // A simulator behind a Unix socket.
 ghost use Rattle.std.specs.Prelude.{◌≡◌, ◌<◌, ◌≤◌, ℕ, List, IsTrue, length, take};
 ghost use Rattle.std.specs.Io.KnownBytes.{Appends, Consumes};
-ghost use Rattle.stmflash.specs.ProtectedPages.{Serves};
+ghost use Rattle.stmflash.specs.Protections.{Serves};
 
 use crate::given_board::given_board;
-use crate::given_pages::given_pages;
-use crate::protected_pages::ProtectedPages;
+use crate::given_protections::given_protections;
+use crate::protections::Protections;
 use crate::tables::is_table;
 use std::fs::Files;
 use std::io::{ErrorKind, Read, Write};
@@ -59,19 +59,13 @@ pub struct Rooms {
     told: Vec<u8>,
 }
 
-/// Feeds bytes to a simulator with protected pages, or with none, and puts into `told` what their
+/// Feeds bytes to a simulator with protections, or without, and puts into `told` what their
 /// client is told. False where memory is refused.
-#[tactic(auto, using(crate::proofs::ProtectedPages::serves_none, crate::proofs::ProtectedPages::serves_some))]
-fn tell(
-    sim: &mut Simulator,
-    protected: &mut ProtectedPages,
-    bytes: &[u8],
-    rooms: &mut Rooms,
-) -> bool
+fn tell(sim: &mut Simulator, protected: &mut Protections, bytes: &[u8], rooms: &mut Rooms) -> bool
     ensures { IsTrue result → Serves protected.old sim.old bytes.now protected.new sim.new
         rooms.new.told.items }
 {
-    if protected.is_empty() {
+    if protected.is_unprotected() {
         tell_all(sim, bytes, &mut rooms.reply, &mut rooms.told)
     } else {
         protected.tell_all(
@@ -88,7 +82,7 @@ fn tell(
 /// `told`. False at the end of input, or where a read, a write or a step failed.
 pub fn serve_bytes<R: Read, W: Write>(
     sim: &mut Simulator,
-    protected: &mut ProtectedPages,
+    protected: &mut Protections,
     reader: &mut R,
     writer: &mut W,
     rooms: &mut Rooms,
@@ -127,7 +121,7 @@ fn serve_chip<'a, R: Locks + Net + AllocGlobal>(
     let mut files = SimulatorFiles::open(rt, served.flash, served.without_lock)?;
     let board = given_board(rt, chip, served)?;
     let mut sim = load(rt, chip, &board, &mut files)?;
-    let mut protected = given_pages(rt.alloc(), sim.chip(), served)?;
+    let mut protected = given_protections(rt.alloc(), sim.chip(), served)?;
     serve_socket(rt, &mut sim, &mut protected, &board, &mut files, served)?;
     Ok(Answer::Nothing)
 }
@@ -153,7 +147,7 @@ fn load<'a, R: Locks + AllocGlobal>(
 fn serve_socket<'a, R: Locks + Net + AllocGlobal>(
     rt: &R,
     sim: &mut Simulator,
-    protected: &mut ProtectedPages,
+    protected: &mut Protections,
     board: &Option<SimulatedBoard>,
     files: &mut SimulatorFiles<'_, 'a, R>,
     served: &Served<'a>,
@@ -210,7 +204,7 @@ fn check<'a, R: Files + AllocGlobal>(rt: &R, served: &Served<'a>) -> Result<(), 
 fn serve_clients<'a, R: Locks + AllocGlobal>(
     rt: &R,
     sim: &mut Simulator,
-    protected: &mut ProtectedPages,
+    protected: &mut Protections,
     listener: &UnixListener,
     files: &mut SimulatorFiles<'_, 'a, R>,
     served: &Served<'a>,

@@ -1,11 +1,11 @@
--- Pages of a served simulator that are write-protected. The device that it is knows no protection:
--- where a byte would complete an erase of such a page, or a write into one, it is fed a wrong check
--- in its place.
-use Rattle.std.specs.Prelude.{◌≡◌, ℕ, ◌+◌, ◌*◌, Bool, false, true, ◌&&◌, nat_lt, ◌==◌}
+-- The protections of a served simulator. The device that it is knows none: where a byte would
+-- complete an erase of a write-protected page, or a write into one, or the code of a command that
+-- readout protection forbids, it is fed the complement in its place.
+use Rattle.std.specs.Prelude.{◌≡◌, ℕ, ◌+◌, ◌*◌, Bool, false, true, ◌&&◌, not, nat_lt, ◌==◌}
 use Rattle.std.specs.Prelude.{if◌then◌else◌, List, [], ◌∷◌, ◌++◌, length, fold, Option, Some, None}
 use Rattle.std.specs.Prelude.{IsTrue}
 use Rattle.std.specs.List.{list_any}
-use Rattle.stm_wire.specs.declared.verdict.Verdict.TheVariants.{Done}
+use Rattle.stm_wire.specs.declared.verdict.Verdict.TheVariants.{Done, Refused}
 use Rattle.stm_wire.specs.Chip.{ChipData, page_count, page_offset, page_size}
 use Rattle.stm_wire.specs.Device.{Device, Phase, Connected}
 use Rattle.stm_wire.specs.Effect.{Change, Nothing, ErasePages, EraseAll, Write, change_of}
@@ -78,22 +78,55 @@ abbrev pub completes_change : List ℕ → ChipData → List ℕ → ℕ → Boo
 completes_change pages chip rest byte =
     is_check (check_due rest) byte && changes_any chip (change_of rest) pages
 
--- what a device with these bytes since its last verdict is fed in the place of a byte
+-- what a device with these bytes since its last verdict is fed in the place of a byte, for its pages
 abbrev pub fed_behind : List ℕ → ChipData → List ℕ → ℕ → ℕ
 fed_behind pages chip rest byte =
     if completes_change pages chip rest byte then complement byte else byte
 
-abbrev pub fed_in : List ℕ → ChipData → Phase → ℕ → ℕ
-fed_in pages chip (Connected rest) byte = fed_behind pages chip rest byte
-fed_in pages chip phase byte = byte
+-- readout protection forbids Read Memory, Go, Write Memory, both erases, Write Protect and Write
+-- Unprotect (AN3155)
+abbrev pub is_barred : ℕ → Bool
+is_barred code = is_listed (0x11 ∷ 0x21 ∷ 0x31 ∷ 0x43 ∷ 0x44 ∷ 0x63 ∷ 0x73 ∷ []) code
 
--- what a device is fed in the place of a byte, while these pages are protected
-abbrev pub fed_while_protected : List ℕ → Device → ℕ → ℕ
-fed_while_protected pages d byte = fed_in pages d.chip d.phase byte
+-- the byte would complete the code of such a command
+abbrev pub completes_barred : List ℕ → ℕ → Bool
+completes_barred (code ∷ []) byte = is_barred code && byte == complement code
+completes_barred rest byte = false
 
--- which pages are protected behind it: Write Unprotect frees all
-abbrev pub protected_behind : List ℕ → Device → ℕ → List ℕ
-protected_behind pages d byte = if completes 0x73 0x8C d.phase byte then [] else pages
+-- what the device is fed for its readout protection
+abbrev pub fed_unreadable : Bool → List ℕ → ℕ → ℕ
+fed_unreadable on rest byte = if on && completes_barred rest byte then complement byte else byte
+
+-- which protections a device has: the pages that are write-protected; whether Readout Protect takes
+-- effect; and whether it did
+pub record Protected : Type 0 where
+  pub pages : List ℕ
+  pub has_readout : Bool
+  pub is_unreadable : Bool
+
+-- nothing is protected, nor will be
+abbrev pub is_unprotected : Protected → Bool
+is_unprotected p = length p.pages == 0 && (not p.has_readout && not p.is_unreadable)
+
+abbrev pub fed_in : Protected → ChipData → Phase → ℕ → ℕ
+fed_in p chip (Connected rest) byte = fed_behind p.pages chip rest (fed_unreadable p.is_unreadable rest byte)
+fed_in p chip phase byte = byte
+
+-- what a device is fed in the place of a byte
+abbrev pub fed_while_protected : Protected → Device → ℕ → ℕ
+fed_while_protected p d byte = fed_in p d.chip d.phase byte
+
+-- the protections behind what it is fed: Write Unprotect frees all pages, Readout Protect and Readout
+-- Unprotect begin and end the other
+abbrev pub protected_behind : Protected → Device → ℕ → Protected
+protected_behind p d byte =
+    record {
+      pages = if completes 0x73 0x8C d.phase byte then [] else p.pages;
+      has_readout = p.has_readout;
+      is_unreadable =
+          if completes 0x82 0x7D d.phase byte then p.has_readout
+          else (if completes 0x92 0x6D d.phase byte then false else p.is_unreadable);
+    }
 
 -- no list of bytes that ends so is done and changes a page of these
 abbrev pub Spares : List ℕ → ChipData → Phase → ℕ → Type 0
@@ -102,30 +135,37 @@ Spares pages chip (Connected rest) byte = (codes : List ℕ)
     → IsTrue (changes_any chip (change_of (rest ++ byte ∷ [])) pages) → ⊥
 Spares pages chip phase byte = Unit {0}
 
--- a device with protected pages, and what its client was told
+-- while the flash is readout-protected, this byte behind the code of a command that it forbids is
+-- refused
+abbrev pub Bars : Bool → ChipData → Phase → ℕ → Type 0
+Bars on chip (Connected (code ∷ [])) byte = (codes : List ℕ) → IsTrue on → IsTrue (is_barred code)
+    → verdict chip codes (code ∷ byte ∷ []) ≡ Some Refused
+Bars on chip phase byte = Unit {0}
+
+-- a device with protections, and what its client was told
 pub record Guarded : Type 0 where
-  pub pages : List ℕ
+  pub protected : Protected
   pub telling : Telling
 
 -- it gets a byte
 abbrev pub guard_one : Guarded → ℕ → Guarded
 guard_one g byte =
+    let fed : ℕ = fed_while_protected g.protected g.telling.device byte in
     record {
-      pages = protected_behind g.pages g.telling.device byte;
-      telling = tell_one g.telling (fed_while_protected g.pages g.telling.device byte);
+      protected = protected_behind g.protected g.telling.device fed;
+      telling = tell_one g.telling fed;
     }
 
 -- the same, after these bytes, one after the other
 abbrev pub guarding : Guarded → List ℕ → Guarded
 guarding g bytes = fold guard_one g bytes
 
--- a device with these protected pages got these bytes, and became this one; with none it is fed
--- just these bytes
-abbrev pub Serves : List ℕ → Device → List ℕ → List ℕ → Device → List ℕ → Type 0
-Serves [] old bytes pages new told =
-    (pages ≡ [])
+-- a device with these protections got these bytes, and became this one; with none it is fed just
+-- these bytes
+abbrev pub Serves : Protected → Device → List ℕ → Protected → Device → List ℕ → Type 0
+Serves p old bytes left new told =
+    (IsTrue (is_unprotected p) → (left ≡ p)
     × (new ≡ record (fed_all old bytes) { owed = new.owed })
-    × (record { device = new; told = told } ≡ telling (telling_begun old) bytes)
-Serves (n ∷ rest) old bytes pages new told =
-    record { pages = pages; telling = record { device = new; told = told } }
-    ≡ guarding (record { pages = n ∷ rest; telling = telling_begun old }) bytes
+    × (record { device = new; told = told } ≡ telling (telling_begun old) bytes))
+    × (IsTrue (not (is_unprotected p)) → record { protected = left; telling = record { device = new; told = told } }
+    ≡ guarding (record { protected = p; telling = telling_begun old }) bytes)

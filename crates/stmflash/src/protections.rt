@@ -1,22 +1,19 @@
-// Pages of a served simulator that are write-protected. The simulator follows the model, which knows
-// no protection: where a byte would complete an erase of such a page, or a write into one, it is fed
-// a wrong check in its place, and refuses the frame by itself.
-ghost use Rattle.std.specs.Prelude.{◌≡◌, ◌↔◌, ℕ, List, [], IsTrue, fold, bit_xor, length};
+// The protections of a served simulator, which follows the model, and that knows none: where a byte
+// would complete what one forbids, it is fed the complement, a wrong check, and refuses by itself.
+ghost use Rattle.std.specs.Prelude.{◌≡◌, IsTrue, false, fold, bit_xor, length};
 ghost use Rattle.stm_wire.specs.Effect.{change_of, erase_change, extended_change, write_change};
 ghost use Rattle.stm_wire.specs.Exchange.{is_listed, two_byte_numbers, xor};
 ghost use Rattle.stm_files.specs.Replies.{telling_begun, completes};
-ghost use Rattle.stmflash.specs.ProtectedPages.{Spares, changes_any, changes_page, check_due, fed_behind};
-ghost use Rattle.stmflash.specs.ProtectedPages.{all_check, completes_change, erase_check};
-ghost use Rattle.stmflash.specs.ProtectedPages.{extended_check, fed_while_protected, guarding, is_check};
-ghost use Rattle.stmflash.specs.ProtectedPages.{protected_behind, reaches, write_check};
+ghost use Rattle.stmflash.specs.Protections.{Bars, Protected, Spares, changes_any, changes_page};
+ghost use Rattle.stmflash.specs.Protections.{all_check, check_due, completes_barred, completes_change};
+ghost use Rattle.stmflash.specs.Protections.{erase_check, extended_check, fed_behind};
+ghost use Rattle.stmflash.specs.Protections.{fed_unreadable, fed_while_protected, guarding, is_check};
+ghost use Rattle.stmflash.specs.Protections.{is_unprotected, protected_behind, reaches, write_check};
 
 use std::marker::Model;
 use stm_files::tell_all;
 use stm_sim::Simulator;
 use stm_wire::{Chip, part};
-
-/// The code of Write Unprotect and its complement (AN3155, section 3.10).
-const WRITE_UNPROTECT: (u8, u8) = (0x73, 0x8C);
 
 /// The exclusive-or of a byte and these.
 fn xor_from(first: u8, bytes: &[u8]) -> u8
@@ -171,43 +168,72 @@ fn changes_page(chip: &Chip, bytes: &[u8], n: u16) -> bool
     }
 }
 
-/// The pages of a simulator that are write-protected, by their numbers.
+/// Whether a byte would complete the code of a command that readout protection forbids.
+fn completes_barred(rest: &[u8], byte: u8) -> bool
+    ensures { result ≡ completes_barred rest.now byte }
+{
+    match rest {
+        [code] => {
+            matches!(*code, 0x11 | 0x21 | 0x31 | 0x43 | 0x44 | 0x63 | 0x73) && byte == !*code
+        }
+        _ => false,
+    }
+}
+
+/// The protections of a simulator.
 #[derive(Drop)]
-pub struct ProtectedPages {
+pub struct Protections {
+    /// The numbers of the pages that are write-protected.
     pages: Vec<u16>,
+    /// Whether Readout Protect takes effect.
+    has_readout: bool,
+    /// Whether it did, so that the flash is readout-protected.
+    is_unreadable: bool,
 }
 
-impl Model for ProtectedPages {
-    ghost Value = { List ℕ };
+impl Model for Protections {
+    ghost Value = { Protected };
 
-    ghost view = { λ p. p.pages.items };
+    ghost view = { λ p. record {
+      pages = p.pages.items;
+      has_readout = p.has_readout;
+      is_unreadable = p.is_unreadable;
+    } };
 }
 
-impl ProtectedPages {
-    /// These pages.
-    pub fn new(pages: Vec<u16>) -> ProtectedPages
-        ensures { result ≡ pages.items }
+impl Protections {
+    /// These pages are write-protected, and the flash can be read.
+    pub fn new(pages: Vec<u16>, has_readout: bool) -> Protections
+        ensures { result ≡ record {
+          pages = pages.items;
+          has_readout = has_readout;
+          is_unreadable = false;
+        } }
     {
-        ProtectedPages { pages }
+        Protections {
+            pages,
+            has_readout,
+            is_unreadable: false,
+        }
     }
 
-    /// Whether no page is protected.
-    pub fn is_empty(&self) -> bool
-        ensures { IsTrue result ↔ (self.now ≡ []) }
+    /// Whether nothing is protected, nor will be.
+    pub fn is_unprotected(&self) -> bool
+        ensures { result ≡ is_unprotected self.now }
     {
-        self.pages.is_empty()
+        self.pages.is_empty() && !self.has_readout && !self.is_unreadable
     }
 
     /// Whether bytes ask for a change of a protected page.
     fn are_changed(&self, chip: &Chip, bytes: &[u8]) -> bool
-        ensures { result ≡ changes_any chip.now (change_of bytes.now) self.now }
+        ensures { result ≡ changes_any chip.now (change_of bytes.now) self.now.pages }
     {
         self.pages.iter().any(|n| changes_page(chip, bytes, *n))
     }
 
     /// Whether a byte would complete a change of a protected page, behind these bytes.
     fn is_completed(&self, chip: &Chip, rest: &[u8], byte: u8) -> bool
-        ensures { result ≡ completes_change self.now chip.now rest.now byte }
+        ensures { result ≡ completes_change self.now.pages chip.now rest.now byte }
     {
         match check_due(rest) {
             Some(check) => byte == check && self.are_changed(chip, rest),
@@ -215,10 +241,20 @@ impl ProtectedPages {
         }
     }
 
-    /// What a device with these bytes since its last verdict is fed in the place of a byte: the byte
-    /// itself, or a wrong check where it would complete a change of a protected page.
+    /// What a device with these bytes since its last verdict is fed for its readout protection.
+    fn fed_unreadable(&self, rest: &[u8], byte: u8) -> u8
+        ensures { result ≡ fed_unreadable self.now.is_unreadable rest.now byte }
+    {
+        if self.is_unreadable && completes_barred(rest, byte) {
+            !byte
+        } else {
+            byte
+        }
+    }
+
+    /// The same for its protected pages.
     fn fed_behind(&self, chip: &Chip, rest: &[u8], byte: u8) -> u8
-        ensures { result ≡ fed_behind self.now chip.now rest.now byte }
+        ensures { result ≡ fed_behind self.now.pages chip.now rest.now byte }
     {
         if self.is_completed(chip, rest, byte) {
             !byte
@@ -228,37 +264,43 @@ impl ProtectedPages {
     }
 
     /// What the simulator is fed in the place of a byte.
-    #[tactic(auto, using(crate::proofs::ProtectedPages::fed_connected, crate::proofs::ProtectedPages::fed_apart))]
+    #[tactic(auto, using(crate::proofs::Protecting::fed_connected, crate::proofs::Protecting::fed_apart))]
     fn fed(&self, sim: &Simulator, byte: u8) -> u8
         ensures { result ≡ fed_while_protected self.now sim.now byte }
     {
         match sim.rest() {
-            Some(rest) => self.fed_behind(sim.chip(), rest, byte),
+            Some(rest) => self.fed_behind(sim.chip(), rest, self.fed_unreadable(rest, byte)),
             None => byte,
         }
     }
 
-    /// Frees all pages, where the byte completes Write Unprotect.
-    fn free(&mut self, sim: &Simulator, byte: u8)
-        ensures { self.new ≡ protected_behind self.old sim.now byte }
+    /// Takes protections off or on, where what is fed completes Write Unprotect, Readout Protect or
+    /// Readout Unprotect (AN3155, sections 3.10 to 3.12).
+    fn follow(&mut self, sim: &Simulator, fed: u8)
+        ensures { self.new ≡ protected_behind self.old sim.now fed }
     {
         if let Some([code]) = sim.rest() {
-            if *code == WRITE_UNPROTECT.0 && byte == WRITE_UNPROTECT.1 {
-                self.pages.clear();
+            match (*code, fed) {
+                (0x73, 0x8C) => self.pages.clear(),
+                (0x82, 0x7D) => self.is_unreadable = self.has_readout,
+                (0x92, 0x6D) => self.is_unreadable = false,
+                _ => {}
             }
         }
     }
 
     /// What the simulator is fed in the place of a byte that comes: no list of bytes that ends so is
-    /// done and changes a protected page. Write Unprotect frees all pages.
-    #[tactic(auto, using(crate::proofs::ProtectedPages::spares))]
+    /// done and changes a protected page; while the flash is readout-protected, no code passes that
+    /// this forbids.
+    #[tactic(auto, using(crate::proofs::Protecting::spares, crate::proofs::Protecting::bars))]
     pub fn feed(&mut self, sim: &Simulator, byte: u8) -> u8
         ensures fed { result ≡ fed_while_protected self.old sim.now byte }
-        ensures spares { Spares self.old sim.now.chip sim.now.phase result }
-        ensures left { self.new ≡ protected_behind self.old sim.now byte }
+        ensures spares { Spares self.old.pages sim.now.chip sim.now.phase result }
+        ensures bars { Bars self.old.is_unreadable sim.now.chip sim.now.phase result }
+        ensures left { self.new ≡ protected_behind self.old sim.now result }
     {
         let fed = self.fed(sim, byte);
-        self.free(sim, byte);
+        self.follow(sim, fed);
         fed
     }
 
@@ -274,10 +316,10 @@ impl ProtectedPages {
         told: &mut Vec<u8>,
     ) -> bool
         ensures { IsTrue result → record {
-          pages = self.new;
+          protected = self.new;
           telling = record { device = sim.new; told = told.new.items };
         }
-            ≡ guarding (record { pages = self.old; telling = telling_begun sim.old }) bytes.now }
+            ≡ guarding (record { protected = self.old; telling = telling_begun sim.old }) bytes.now }
     {
         told.clear();
         for byte in bytes {

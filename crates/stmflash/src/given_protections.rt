@@ -1,7 +1,7 @@
-// The pages that the words of `sim` protect.
-ghost use Rattle.std.specs.Prelude.{◌≡◌, IfOk};
+// What the words of `sim` protect.
+ghost use Rattle.std.specs.Prelude.{◌≡◌, IfOk, false};
 
-use crate::protected_pages::ProtectedPages;
+use crate::protections::Protections;
 use std::alloc::Global;
 use stm_wire::Chip;
 use stm_words::{Served, UsageFault};
@@ -18,17 +18,21 @@ fn missing_page(chip: &Chip, pages: &[u16]) -> Option<u16> {
     None
 }
 
-/// The pages that words protect of a simulator of this chip, which has each of them.
-pub fn given_pages<'a>(
+/// What words protect of a simulator of this chip, which has each page of them.
+pub fn given_protections<'a>(
     alloc: Global,
     chip: &Chip,
     served: &Served<'a>,
-) -> Result<ProtectedPages, Failure<'a>>
-    ensures { IfOk result (λ protected. protected ≡ served.now.protected.items) }
+) -> Result<Protections, Failure<'a>>
+    ensures { IfOk result (λ protected. protected ≡ record {
+      pages = served.now.protected.items;
+      has_readout = served.now.readout_protection;
+      is_unreadable = false;
+    }) }
 {
     if let Some(page) = missing_page(chip, &served.protected) {
         return Err(Failure::Usage(UsageFault::NoPage(served.id, page)));
     }
     let pages = Vec::from_slice(alloc, &served.protected)?;
-    Ok(ProtectedPages::new(pages))
+    Ok(Protections::new(pages, served.readout_protection))
 }

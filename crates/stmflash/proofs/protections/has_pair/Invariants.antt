@@ -1,6 +1,6 @@
 use Rattle.std.proofs.Common.{◌≡◌, length}
 use Rattle.stm_wire.specs.Exchange.{is_listed, two_byte_numbers}
-use Rattle.stmflash.proofs.protected_pages.has_pair.Given as goal
+use Rattle.stmflash.proofs.protections.has_pair.Given as goal
 
 abbrev pub invariant-loop-rest : goal.invariant-loop-rest
 invariant-loop-rest l = is_listed (two_byte_numbers l.pages) l.n ≡ is_listed (two_byte_numbers l.rest) l.n

@@ -8,9 +8,7 @@ use Rattle.stm_wire.specs.Chip.{ChipData, fits_inside, is_inside}
 use Rattle.stm_wire.specs.Effect.{Change, Nothing, ErasePages, EraseAll, Write, change_of, erase_change, extended_change, write_change}
 use Rattle.stm_wire.specs.Exchange.{after_address, all_exist, all_verdict, at_end, command_verdict, complement, done_if, erase_verdict, extended_verdict, is_listed, number_of, pair_of, two_byte_numbers, pages_verdict, verdict, write_verdict, xor}
 use Rattle.stm_wire.specs.Device.{Device, Phase, Fresh, Connected, Gone}
-use Rattle.stm_files.specs.Replies.{telling_begun, telling}
-use Rattle.stm_files.specs.Serving.{fed_all}
-use Rattle.stmflash.specs.ProtectedPages.{Serves, Spares, all_check, changes_any, check_due, completes_change, erase_check, extended_check, fed_behind, fed_in, fed_while_protected, guarding, is_check, write_check}
+use Rattle.stmflash.specs.Protections.{Bars, Protected, Spares, all_check, changes_any, check_due, completes_barred, completes_change, erase_check, extended_check, fed_behind, fed_in, fed_unreadable, fed_while_protected, is_barred, is_check, write_check}
 
 -- of two tests, the first passes where the verdict is done
 done-first : (a b : Bool) → Some (done_if (a && b)) ≡ Some Done → a ≡ true
@@ -227,34 +225,43 @@ pub fed_spares : (pages : List ℕ) (chip : ChipData) (codes rest : List ℕ) (b
 fed_spares pages chip codes rest byte e =
     refused pages chip codes rest byte (completes_change pages chip rest byte) refl (lacked (fed_behind pages chip rest byte) chip codes rest e)
 
--- the same of a device in any phase
-pub spares : (pages : List ℕ) (chip : ChipData) (phase : Phase) (byte x : ℕ) → x ≡ fed_in pages chip phase byte → Spares pages chip phase x
-spares pages chip Fresh byte x is = tt
-spares pages chip Gone byte x is = tt
-spares pages chip (Connected rest) byte x is =
-    let P : ℕ → Type 0 = λ y. Spares pages chip (Connected rest) y in
-    subst P (sym is) (λ codes done changed. fed_spares pages chip codes rest byte done changed)
+-- the same of a device in any phase, whichever byte its readout protection makes of it
+pub spares : (p : Protected) (chip : ChipData) (phase : Phase) (byte x : ℕ) → x ≡ fed_in p chip phase byte → Spares p.pages chip phase x
+spares p chip Fresh byte x is = tt
+spares p chip Gone byte x is = tt
+spares p chip (Connected rest) byte x is =
+    let P : ℕ → Type 0 = λ y. Spares p.pages chip (Connected rest) y in
+    subst P (sym is) (λ codes done changed. fed_spares p.pages chip codes rest (fed_unreadable p.is_unreadable rest byte) done changed)
 
--- with no protected page, and with some
-pub serves_none : (pages bytes told : List ℕ) (old new : Device) → pages ≡ [] → new ≡ record (fed_all old bytes) { owed = new.owed }
-    → record { device = new; told = told } ≡ telling (telling_begun old) bytes → Serves pages old bytes pages new told
-serves_none [] bytes told old new none fed said = (refl, fed, said)
-serves_none (n ∷ pages) bytes told old new none fed said = absurd (cc)
+-- what is fed in the place of a code's complement is none
+differs : (code byte : ℕ) (t u : Bool) → (byte == complement code) ≡ t → ((if t then complement byte else byte) == complement code) ≡ u → u ≡ false
+differs code byte false u is fed = sym fed ∙ is
+differs code byte true false is fed = refl
+differs code byte true true is fed = absurd (not-own byte (eqb-true byte (complement code) is ∙ sym (eqb-true (complement byte) (complement code) fed)))
 
-pub serves_some : (pages left bytes told : List ℕ) (old new : Device) → (pages ≡ [] → ⊥)
-    → record { pages = left; telling = record { device = new; told = told } } ≡ guarding (record { pages = pages; telling = telling_begun old }) bytes
-    → Serves pages old bytes left new told
-serves_some [] left bytes told old new some said = absurd (some refl)
-serves_some (n ∷ pages) left bytes told old new some said = said
+-- while the flash is readout-protected, no code passes that this forbids
+pub bars : (p : Protected) (chip : ChipData) (phase : Phase) (byte x : ℕ) → x ≡ fed_in p chip phase byte → Bars p.is_unreadable chip phase x
+bars p chip Fresh byte x is = tt
+bars p chip Gone byte x is = tt
+bars p chip (Connected []) byte x is = tt
+bars p chip (Connected (code ∷ k ∷ rest)) byte x is = tt
+bars p chip (Connected (code ∷ [])) byte x is = λ codes on forbidden.
+    let fed : x ≡ (if byte == complement code then complement byte else byte) =
+    is ∙ (ap (λ t. fed_unreadable t (code ∷ []) byte) on ∙ ap (λ t. if t && byte == complement code then complement byte else byte) forbidden) in
+    let none : (x == complement code) ≡ false =
+    ap (λ y. y == complement code) fed
+    ∙ differs code byte (byte == complement code) ((if byte == complement code then complement byte else byte) == complement code) refl refl in
+    ap (λ t. if t && is_listed codes code then command_verdict chip code [] else Some Refused) none
 
 -- what a device is fed by its phase
-pub fed_connected : (pages : List ℕ) (d : Device) (rest : List ℕ) (byte : ℕ) → d.phase ≡ Connected rest → fed_behind pages d.chip rest byte ≡ fed_while_protected pages d byte
-fed_connected pages d rest byte here = ap (λ p. fed_in pages d.chip p byte) (sym here)
+pub fed_connected : (p : Protected) (d : Device) (rest : List ℕ) (byte : ℕ) → d.phase ≡ Connected rest
+    → fed_behind p.pages d.chip rest (fed_unreadable p.is_unreadable rest byte) ≡ fed_while_protected p d byte
+fed_connected p d rest byte here = ap (λ phase. fed_in p d.chip phase byte) (sym here)
 
-apart : (pages : List ℕ) (chip : ChipData) (phase : Phase) (byte : ℕ) → ((rest : List ℕ) → phase ≡ Connected rest → ⊥) → byte ≡ fed_in pages chip phase byte
-apart pages chip Fresh byte away = refl
-apart pages chip Gone byte away = refl
-apart pages chip (Connected rest) byte away = absurd (away rest refl)
+apart : (p : Protected) (chip : ChipData) (phase : Phase) (byte : ℕ) → ((rest : List ℕ) → phase ≡ Connected rest → ⊥) → byte ≡ fed_in p chip phase byte
+apart p chip Fresh byte away = refl
+apart p chip Gone byte away = refl
+apart p chip (Connected rest) byte away = absurd (away rest refl)
 
-pub fed_apart : (pages : List ℕ) (d : Device) (byte : ℕ) → ((rest : List ℕ) → d.phase ≡ Connected rest → ⊥) → byte ≡ fed_while_protected pages d byte
-fed_apart pages d byte away = apart pages d.chip d.phase byte away
+pub fed_apart : (p : Protected) (d : Device) (byte : ℕ) → ((rest : List ℕ) → d.phase ≡ Connected rest → ⊥) → byte ≡ fed_while_protected p d byte
+fed_apart p d byte away = apart p d.chip d.phase byte away
