@@ -18,6 +18,7 @@ use Rattle.stm_session.specs.Moments.{SameMake}
 use Rattle.stm_session.specs.Promises.{UndoContract}
 use Rattle.stm_session.specs.Refusal.{open_refusal}
 use Rattle.stm_session.specs.ReturnedBytes.{segments_of}
+use Rattle.stm_session.specs.VerifiedWrite.{written_then}
 use Rattle.stm_work.specs.declared.action.Action.{Action}
 use Rattle.stm_work.specs.declared.action.Action.TheVariants as action
 use Rattle.stm_work.specs.declared.answer.Answer.{Answer}
@@ -186,7 +187,7 @@ module _ {R : Type 0} (view : R → RigState) (laws : Laws view) where
     does-goes (action.Write content) old new result at can places =
         placed-goes content _ old new result at places (λ image mid said then done. told-goes (writes image ∷ []) mid new said then done)
     does-goes (action.WriteAndVerify content) old new result at can places =
-        placed-goes content _ old new result at places (λ image mid said then done. room-goes (writes image ∷ verifies image ∷ []) mid new said then done)
+        placed-goes content _ old new result at places (λ image mid said then done. told-goes (written_then image done.part) mid new said then done.runs)
     does-goes (action.Verify content) old new result at can places =
         placed-goes content _ old new result at places (λ image mid said then done. told-goes (verifies image ∷ []) mid new said then done)
     does-goes (action.Erase pages) old new result at can (said, runs, hands) = told-goes _ old new said at runs

@@ -1,9 +1,9 @@
 -- One call of the program, step behind step.
 use Rattle.std.proofs.Common.{◌≡◌, ℕ, Bool, true, false, List, [], ◌∷◌, length, Option, Some, None}
 use Rattle.std.proofs.Common.{IsTrue, Result, Ok, Err, MatchResult, refl, sym, ◌∙◌, ap, subst}
-use Rattle.std.proofs.Common.{arith, ⊎_elim}
-use Rattle.stm_image.specs.Lay.{AgreesWith, lay}
-use Rattle.stm_image.specs.Pairs.{Pairs, raw_pairs}
+use Rattle.std.proofs.Common.{◌+◌, ◌-◌, ◌<◌, arith, slice_index}
+use Rattle.stm_image.specs.Lay.{AgreesWith, laid_byte, lay}
+use Rattle.stm_image.specs.Pairs.{Pairs, byte_at, raw_pairs}
 use Rattle.stm_wire.specs.Chip.{ChipData}
 use Rattle.stm_wire.specs.Device.{Device, IsDevice, IsReady, IsReadyPhase, IsSettled, Phase}
 use Rattle.stm_wire.specs.Rig.{IsModel, RigState}
@@ -12,14 +12,13 @@ use Rattle.stm_journal.specs.Flashes.{flashes_before_segments}
 use Rattle.stm_journal.specs.Journals.{journal_of}
 use Rattle.stm_session.specs.declared.fault.Fault.{Fault}
 use Rattle.stm_session.specs.declared.information.Info.{Info}
-use Rattle.stm_session.specs.Answers.{NoDifferenceAgrees, OutcomeData, first_difference}
-use Rattle.stm_session.specs.Answers.{in_front_of, verified_or}
-use Rattle.stm_session.specs.Meaning.{CommandData, verifies, writes}
+use Rattle.stm_session.specs.Meaning.{CommandData}
 use Rattle.stm_session.specs.Moments.{IsSafe, IsUnbegun}
 use Rattle.stm_session.specs.Refusal.{open_refusal}
 use Rattle.stm_session.specs.Refusals.{run_refusal}
 use Rattle.stm_session.specs.Runs.{Runs}
 use Rattle.stm_session.specs.Undoable.{Undoable, state_at}
+use Rattle.stm_session.specs.VerifiedWrite.{written_then}
 use Rattle.stm_words.specs.declared.sequel.Sequel.{Sequel}
 use Rattle.stm_files.specs.Ending.{EndsJournal}
 use Rattle.stm_work.specs.declared.action.Action.TheVariants as action
@@ -32,7 +31,7 @@ use Rattle.stm_work.specs.declared.failure.Failure.TheVariants.{Session}
 use Rattle.stm_work.specs.declared.steps.Steps.{Steps}
 use Rattle.stm_work.specs.Action.{Calls, DoesAction, GoesTo, HandsOn}
 use Rattle.stm_work.specs.Answer.{outcomes_told}
-use Rattle.stm_work.specs.Conduct.{PromisesInfo, RunsIfRoom, RunsTold}
+use Rattle.stm_work.specs.Conduct.{PromisesInfo, RunsTold, WritesVerified}
 use Rattle.stm_work.specs.Content.{ImageOn, IsRawImage}
 use Rattle.stm_work.specs.OneCall.{CallsEndAsAsked, CanCall, EndsAsAsked, EndsLetGo, HasGone, IsJournalKept}
 use Rattle.stm_work.specs.OneCall.{IsWritten, image_on}
@@ -46,13 +45,9 @@ pub record Laws {R : Type 0} (view : R → RigState) : Type 0 where
       → run_refusal (journal_of journal) d table commands ≡ None
       → Undoable (flashes_before_segments d.chip (state_at journal).stack d.flash) d journal
   pub ready : (d : Device) → IsDevice d → IsReady d → IsSafe d
-  pub agrees : NoDifferenceAgrees
-
--- a write and a verify told an outcome each: the verify found no difference
-verified : (o : Option ℕ) (said : OutcomeData) (outcomes : List OutcomeData)
-    → in_front_of (Ok said) (in_front_of (verified_or o) (Ok [])) ≡ Ok outcomes → o ≡ None
-verified None said outcomes e = refl
-verified (Some address) said outcomes e = absurd (cc)
+  pub long : (set : Pairs) (address : ℕ) (bytes : List ℕ) → length (lay set address bytes) ≡ length bytes
+  pub laid : (set : Pairs) (address : ℕ) (bytes : List ℕ) (i : ℕ) → i < length bytes
+      → slice_index (lay set address bytes) i ≡ laid_byte (byte_at set (address + i)) (slice_index bytes i)
 
 -- an answer
 abbrev okay : {A : Type 0} → A → Result A Failure
@@ -122,18 +117,31 @@ module _ {R : Type 0} (view : R → RigState) (laws : Laws view) where
               image_is = is ∙ ap (λ (n : ℕ). raw_pairs n bytes.items) base;
             })
 
+    -- an image agrees with bytes over which it was laid
+    laid-agrees : (image : Pairs) (base : ℕ) (bytes : List ℕ) → AgreesWith image base (lay image base bytes)
+    laid-agrees image base bytes place d =
+        let long = laws.long image base bytes in
+        let from = d.from in
+        let within = d.within in
+        let at : base + (place - base) ≡ place = omega (arith, from) in
+        d.differs (laws.laid image base bytes (place - base) (omega (arith, from, within, long))
+        ∙ ap (λ o. laid_byte o (slice_index bytes (place - base))) (ap (byte_at image) at ∙ d.held))
+
     -- the run of the write and the verify answered Ok
     ran : (image : Pairs) (old new : R) (said : Answer) → CanCall table (view old)
-        → RunsTold table (writes image ∷ (verifies image ∷ [])) (view old) (view new) (Ok said)
+        → WritesVerified table image (view old) (view new) (Ok said)
         → IsWritten view table image (view old).device.chip (view old).device.flash new
-    ran image old new said can runs = by-refusal
+    ran image old new said can verified = by-refusal
         (run_refusal (journal_of (view old).journal) d table commands) refl
       where
         d : Device
         d = (view old).device
 
         commands : List CommandData
-        commands = writes image ∷ (verifies image ∷ [])
+        commands = written_then image verified.part
+
+        runs : RunsTold table (written_then image verified.part) (view old) (view new) (Ok said)
+        runs = verified.runs
 
         by-refusal : (o : Option Fault)
             → run_refusal (journal_of (view old).journal) d table commands ≡ o
@@ -147,17 +155,16 @@ module _ {R : Type 0} (view : R → RigState) (laws : Laws view) where
             laws.unrefused table commands d (view old).journal can.safe can.knows e in
             let r : Runs commands flashes (view old) (view new) (Ok said) outcomes_told =
             runs.promised.runs can.honest flashes u can.knows e in
-            let none = verified (first_difference image d.chip.base (lay image d.chip.base d.flash))
-            _ (outcomes_told said) r.outcomes in
             let A : List ℕ → Type 0 = λ f. AgreesWith image d.chip.base f in
             record {
               begun = old;
               chip_found = refl;
               flash_found = refl;
+              part = verified.part;
               done = runs.order;
+              seen = verified.seen;
               flash_is = r.done.flash;
-              agrees = subst A (sym r.done.flash)
-                  (laws.agrees image d.chip.base (lay image d.chip.base d.flash) none);
+              agrees = subst A (sym r.done.flash) (laid-agrees image d.chip.base d.flash);
               chip_is = r.done.make.chip;
               settled = r.settled;
               finished = r.done.finished;
@@ -176,29 +183,24 @@ module _ {R : Type 0} (view : R → RigState) (laws : Laws view) where
             (view old).device.flash new
 
         by-run : (image : Pairs) → IsPlaced content old does.mid image
-            → (runs : Result Answer Fault)
-            → RunsIfRoom view table (writes image ∷ (verifies image ∷ [])) does.mid new runs
+            → (runs : Result Answer Fault) → WritesVerified table image (view does.mid) (view new) runs
             → HandsOn (λ (x : Answer). x) runs (Ok said) → I
-        by-run image is (Err fault) room hands = absurd (cc)
-        by-run image is (Ok told) room hands =
-            ⊎_elim
-            (λ runs.
-            let w = ran image does.mid new told is.can runs in
+        by-run image is (Err fault) done hands = absurd (cc)
+        by-run image is (Ok told) done hands =
+            let w = ran image does.mid new told is.can done in
             let W : Pairs → ChipData → List ℕ → Type 0 = λ i c f. IsWritten view table i c f new in
             let W1 : ChipData → Type 0 = λ c. W image c (view does.mid).device.flash in
             let W2 : List ℕ → Type 0 = λ f. W image (view old).device.chip f in
             let W3 : Pairs → Type 0 = λ i. W i (view old).device.chip (view old).device.flash in
-            subst W3 is.image_is (subst W2 is.flash (subst W1 is.chip w)))
-            (λ lacks. absurd (cc))
-            room
+            subst W3 is.image_is (subst W2 is.flash (subst W1 is.chip w))
 
         by-image : (image : Result Pairs Failure) → ImageOn view table content old does.mid image
             → MatchResult image (λ image. Calls (λ (x : Answer). x)
-            (RunsIfRoom view table (writes image ∷ (verifies image ∷ []))) does.mid new
+            (λ a b runs. WritesVerified table image (view a) (view b) runs) does.mid new
             (Ok said)) (λ failure. (new ≡ does.mid) × (okay said ≡ Err failure)) → I
         by-image (Err failure) places (same, failed) = absurd (cc)
-        by-image (Ok image) places (runs, room, hands) =
-            by-run image (placed content old does.mid image can places) runs room hands
+        by-image (Ok image) places (runs, done, hands) =
+            by-run image (placed content old does.mid image can places) runs done hands
 
     -- the journal was kept, or stays
     record HasKept (keeps : Bool) (written kept : R) : Type 0 where

@@ -6,7 +6,7 @@ use Rattle.stm_wire.specs.Chip.{ChipData}
 use Rattle.stm_wire.specs.Rig.{RigState}
 use Rattle.stm_session.specs.declared.fault.Fault.{Fault}
 use Rattle.stm_session.specs.declared.command.Command.{Command}
-use Rattle.stm_session.specs.declared.command.Command.TheVariants.{Write, Verify}
+use Rattle.stm_session.specs.declared.command.Command.TheVariants.{Verify}
 use Rattle.stm_session.specs.declared.outcome.Outcome.{Outcome}
 use Rattle.stm_session.specs.declared.outcome.Outcome.TheVariants.{Written, Erased, Verified, Read}
 use Rattle.stm_session.specs.Answers.{OutcomeData}
@@ -95,7 +95,7 @@ only_is c outcomes (first ∷ rest) said e kinds =
     let Kinds : List Outcome → Type 0 = λ os. AreKindsOf (c ∷ []) os in
     absurd (none_of rest said (subst Kinds e kinds).1)
 
--- the outcomes of a verify, and of a write with a verify
+-- the outcomes of a verify
 pub verified_is : (image : Pairs) (outcomes : List Outcome) → AreKindsOf (Verify image ∷ []) outcomes → outcomes ≡ Verified ∷ []
 verified_is image [] kinds = absurd kinds
 verified_is image (Verified ∷ []) kinds = refl
@@ -103,19 +103,6 @@ verified_is image (Verified ∷ (said ∷ outcomes)) kinds = absurd kinds.1
 verified_is image (Written segment pages ∷ outcomes) kinds = absurd kinds.0
 verified_is image (Erased segment pages ∷ outcomes) kinds = absurd kinds.0
 verified_is image (Read bytes ∷ outcomes) kinds = absurd kinds.0
-
-pub both_are : (image other : Pairs) (outcomes : List Outcome) → AreKindsOf (Write image ∷ (Verify other ∷ [])) outcomes → (segment : ℕ) × (pages : ℕ) × (outcomes ≡ Written segment pages ∷ (Verified ∷ []))
-both_are image other [] kinds = absurd kinds
-both_are image other (Written segment pages ∷ outcomes) kinds = (segment, pages, ap (λ rest. Written segment pages ∷ rest) (verified_is other outcomes kinds.1))
-both_are image other (Erased segment pages ∷ outcomes) kinds = absurd kinds.0
-both_are image other (Verified ∷ outcomes) kinds = absurd kinds.0
-both_are image other (Read bytes ∷ outcomes) kinds = absurd kinds.0
-
--- a run of the same commands
-pub same_commands : {T : Type 0} (table : List ChipData) (a b : List CommandData) → a ≡ b → (old new : RigState) (result : Result T Fault) (outcomes_of : T → List OutcomeData) → RunsJust table a old new result outcomes_of → RunsJust table b old new result outcomes_of
-same_commands table a b e old new result outcomes_of r =
-    let P : List CommandData → Type 0 = λ cs. RunsJust table cs old new result outcomes_of in
-    subst P e r
 
 -- n numbers and the next
 pub range_more : (a n : ℕ) → range_with_len a (suc n) ≡ range_with_len a n ++ (a + n) ∷ []

@@ -42,7 +42,7 @@ use Rattle.stm_work.specs.declared.content.Content.{Content}
 use Rattle.stm_work.specs.declared.failure.Failure.{Failure}
 use Rattle.stm_work.specs.declared.way_back.WayBack.{WayBack}
 use Rattle.stm_work.specs.declared.failure.Failure.TheVariants.{Session}
-use Rattle.stm_work.specs.Conduct.{PromisesInfo, AsksThenGoesOn, ErasesAll, Identifies, RunsIfRoom, RunsTold}
+use Rattle.stm_work.specs.Conduct.{PromisesInfo, AsksThenGoesOn, ErasesAll, Identifies, RunsTold, WritesVerified}
 use Rattle.stm_work.specs.Content.{ComeOfFiles, ImageOn, IsCopy}
 use Rattle.stm_work.specs.Protections.{protection_of}
 use Rattle.stm_work.specs.ReadingFor.{ReadsAsHex, SumsUp}
@@ -195,7 +195,7 @@ DoesAction view table (action.Write content) old new result =
     (λ image a b said. RunsTold table (writes image ∷ []) (view a) (view b) said) old new result
 DoesAction view table (action.WriteAndVerify content) old new result =
     PlacesFirst view table content
-    (λ image. RunsIfRoom view table (writes image ∷ (verifies image ∷ []))) old new result
+    (λ image a b said. WritesVerified table image (view a) (view b) said) old new result
 DoesAction view table (action.Verify content) old new result =
     PlacesFirst view table content
     (λ image a b said. RunsTold table (verifies image ∷ []) (view a) (view b) said) old new result

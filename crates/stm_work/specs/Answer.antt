@@ -15,9 +15,9 @@ outcomes_told (answer.Told info tried) = []
 outcomes_told (answer.Identified told table) = []
 outcomes_told (answer.Bytes bytes) = was_read bytes.items ∷ []
 outcomes_told (answer.Sum crc) = []
-outcomes_told (answer.Written segment pages bytes true) =
+outcomes_told (answer.Written segment pages bytes (Some again)) =
     was_written segment pages ∷ was_verified ∷ []
-outcomes_told (answer.Written segment pages bytes false) = was_written segment pages ∷ []
+outcomes_told (answer.Written segment pages bytes None) = was_written segment pages ∷ []
 outcomes_told (answer.Verified bytes) = was_verified ∷ []
 outcomes_told (answer.Erased segment pages) = was_erased segment pages ∷ []
 outcomes_told (answer.Undone count bytes) = []

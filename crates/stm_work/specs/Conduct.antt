@@ -2,6 +2,8 @@
 use Rattle.std.specs.Prelude.{◌≡◌, ◌⊎◌, Bool, List, [], ◌∷◌, length, None, Result, Err, IfErr, IfOk}
 use Rattle.std.specs.Prelude.{MatchResult, OnOk}
 use Rattle.std.specs.List.{range_with_len}
+use Rattle.stm_image.specs.Layout.{IsAmong}
+use Rattle.stm_image.specs.Pairs.{Pairs}
 use Rattle.stm_wire.specs.Chip.{ChipData}
 use Rattle.stm_wire.specs.Dialogue.{GoesOn}
 use Rattle.stm_wire.specs.Parts.{IsSession}
@@ -25,6 +27,8 @@ use Rattle.stm_session.specs.Reaching.{ReachesInOrder, StopsShort}
 use Rattle.stm_session.specs.Promises.{IdentifyContract, InfoContract, RunContract}
 use Rattle.stm_session.specs.RunOrder.{RunStops, RunsInOrder}
 use Rattle.stm_session.specs.Sending.{SendsAsRun, is_whole, most_calls}
+use Rattle.stm_session.specs.Seen.{SeesImage}
+use Rattle.stm_session.specs.VerifiedWrite.{written_then}
 use Rattle.stm_work.specs.declared.answer.Answer.{Answer}
 use Rattle.stm_work.specs.Answer.{outcomes_told}
 
@@ -47,6 +51,15 @@ LacksMemory old new result = (result ≡ Err Memory) × (new ≡ old)
 abbrev pub RunsTold : List ChipData → List CommandData → RigState → RigState
     → Result Answer Fault → Type 0
 RunsTold table commands old new result = RunsJust table commands old new result outcomes_told
+
+-- A write that is verified is a run of it and of the verify of a part of its image, told as an answer.
+-- At Ok each byte of the image was read, and was right, after the last change to its page.
+pub record WritesVerified (table : List ChipData) (image : Pairs) (old new : RigState)
+    (result : Result Answer Fault) : Type 0 where
+  pub part : Pairs
+  pub among : IsAmong part image
+  pub runs : RunsTold table (written_then image part) old new result
+  pub seen : OnOk result (SeesImage table image old new)
 
 abbrev pub RunsIfRoom : {R : Type 0} → (R → RigState) → List ChipData → List CommandData → R → R
     → Result Answer Fault → Type 0

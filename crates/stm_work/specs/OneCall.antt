@@ -3,9 +3,9 @@
 -- Here stands what these come to together. The way there:
 -- 1. The image is placed. Bytes without a place lie where the flash begins, which the device is
 --    asked; asking leaves its chip and its flash, and the table's chip is its own.
--- 2. The run of the write and the verify answered Ok. So nothing of it is refused, the journal
---    can be undone, and what `run` promises holds: the flash is the old one with the image
---    laid over it, and the verify found no place that differs.
+-- 2. The write, and the verify of what it kept, answered Ok. So nothing of them is refused, the
+--    journal can be undone, and what a run of both promises holds: the flash is the old one with
+--    the image laid over it; and each byte of the image was seen.
 -- 3. The journal is kept, or stays. The flash is the same, and the device waits for a command as
 --    it did behind the run, so that 7F does it no harm.
 -- 4. Go answered Ok. So the journal had no segment, and the frame was sent whole to a settled
@@ -23,10 +23,11 @@ use Rattle.stm_wire.specs.Rig.{RigState}
 use Rattle.stm_chip.specs.Document.{IsChipWith}
 use Rattle.stm_session.specs.declared.asking_board.Board.{Board}
 use Rattle.stm_session.specs.Leaving.{IsSettledThen, LeftByLeaving}
-use Rattle.stm_session.specs.Meaning.{verifies, writes}
 use Rattle.stm_session.specs.Moments.{IsSafe}
 use Rattle.stm_session.specs.RunOrder.{RunsInOrder}
+use Rattle.stm_session.specs.Seen.{SeesImage}
 use Rattle.stm_session.specs.Undoable.{is_unfinished_at}
+use Rattle.stm_session.specs.VerifiedWrite.{written_then}
 use Rattle.stm_words.specs.declared.sequel.Sequel.{Sequel}
 use Rattle.stm_files.specs.Ending.{EndsJournal}
 use Rattle.stm_work.specs.declared.action.Action.TheVariants as action
@@ -48,15 +49,17 @@ pub record CanCall (table : List ChipData) (old : RigState) : Type 0 where
   pub safe : IsSafe old.device
   pub knows : IsChipWith table old.device.chip.id old.device.chip
 
--- On a device of this chip with this flash an image was written, and read back: the image is in its
--- places, every other byte is as it was, each byte that was read is the image's, and the journal is
--- finished.
+-- On a device of this chip with this flash an image was written, and each byte of it was read, and
+-- was right, after the last change to its page: the image is in its places, every other byte is as it
+-- was, and the journal is finished.
 pub record IsWritten {R : Type 0} (view : R → RigState) (table : List ChipData) (image : Pairs)
     (chip : ChipData) (flash : List ℕ) (new : R) : Type 0 where
   pub begun : R
   pub chip_found : (view begun).device.chip ≡ chip
   pub flash_found : (view begun).device.flash ≡ flash
-  pub done : RunsInOrder table (writes image ∷ (verifies image ∷ [])) (view begun) (view new)
+  pub part : Pairs
+  pub done : RunsInOrder table (written_then image part) (view begun) (view new)
+  pub seen : SeesImage table image (view begun) (view new)
   pub flash_is : (view new).device.flash ≡ lay image chip.base flash
   pub agrees : AgreesWith image chip.base (view new).device.flash
   pub chip_is : (view new).device.chip ≡ chip

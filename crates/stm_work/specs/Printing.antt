@@ -1,5 +1,5 @@
 -- The text that each answer of the program is told by on standard output: lines, each ended by LF.
-use Rattle.std.specs.Prelude.{ℕ, ◌==◌, List, [], ◌++◌, codes, decimal, true, false}
+use Rattle.std.specs.Prelude.{ℕ, ◌==◌, List, [], ◌++◌, codes, decimal}
 use Rattle.std.specs.Prelude.{Option, Some, None, if◌then◌else◌, string_bytes}
 use Rattle.stm_session.specs.declared.asking_board.Board.{Board}
 use Rattle.stm_work.specs.declared.answer.Answer.{Answer}
@@ -24,6 +24,13 @@ erased_text segment pages = change_text segment pages (codes "erased")
 -- of how many bytes the flash has the image's
 abbrev pub verified_text : ℕ → List ℕ
 verified_text bytes = line_of_text (codes "verified " ++ decimal bytes ++ codes " bytes")
+
+-- the same of a write, which read so many of them again, where it didn't all
+abbrev pub seen_text : ℕ → ℕ → List ℕ
+seen_text bytes again =
+    if again == bytes then verified_text bytes
+    else line_of_text (codes "verified " ++ decimal bytes ++ codes " bytes, " ++ decimal again
+    ++ codes " of them again")
 
 -- a CRC
 abbrev pub sum_text : ℕ → List ℕ
@@ -69,9 +76,9 @@ answer_text (answer.Identified told (Some table)) = told_text told ++ table_text
 answer_text (answer.Identified told None) = told_text told
 answer_text (answer.Bytes bytes) = bytes.items
 answer_text (answer.Sum crc) = sum_text crc
-answer_text (answer.Written segment pages bytes true) =
-    written_text segment pages ++ verified_text bytes
-answer_text (answer.Written segment pages bytes false) = written_text segment pages
+answer_text (answer.Written segment pages bytes (Some again)) =
+    written_text segment pages ++ seen_text bytes again
+answer_text (answer.Written segment pages bytes None) = written_text segment pages
 answer_text (answer.Verified bytes) = verified_text bytes
 answer_text (answer.Erased segment pages) = erased_text segment pages
 answer_text (answer.Undone count bytes) = undone_text count bytes

@@ -1,5 +1,5 @@
 -- What a line of JSON tells of an answer, and of words that are refused.
-use Rattle.std.specs.Prelude.{ℕ, List, [], ◌++◌, codes, string_bytes, true, false}
+use Rattle.std.specs.Prelude.{ℕ, List, [], ◌++◌, codes, string_bytes}
 use Rattle.std.specs.Prelude.{◌≡◌, Option, Some, None, MatchOption}
 use Rattle.stm_session.specs.declared.asking_board.Board.{Board}
 use Rattle.stm_work.specs.declared.answer.Answer.{Answer}
@@ -24,8 +24,8 @@ answer_name (answer.Told info tried) = codes "info"
 answer_name (answer.Identified told table) = codes "identified"
 answer_name (answer.Bytes bytes) = codes "done"
 answer_name (answer.Sum crc) = codes "crc"
-answer_name (answer.Written segment pages bytes true) = codes "written_and_verified"
-answer_name (answer.Written segment pages bytes false) = codes "written"
+answer_name (answer.Written segment pages bytes (Some again)) = codes "written_and_verified"
+answer_name (answer.Written segment pages bytes None) = codes "written"
 answer_name (answer.Verified bytes) = codes "verified"
 answer_name (answer.Erased segment pages) = codes "erased"
 answer_name (answer.Undone count bytes) = undone_name bytes
@@ -37,6 +37,11 @@ answer_name (answer.Kept count left) = codes "kept"
 abbrev pub change_members : ℕ → ℕ → List ℕ
 change_members segment pages =
     number_member (codes "segment") segment ++ number_member (codes "pages") pages
+
+-- how many bytes of an image were read again, where that is told
+abbrev pub again_members : Option ℕ → List ℕ
+again_members None = []
+again_members (Some again) = number_member (codes "again") again
 
 -- how many segments were undone, and how many bytes were read again, where that is told
 abbrev pub undone_members : ℕ → Option ℕ → List ℕ
@@ -55,8 +60,8 @@ members_of (answer.Identified told (Some table)) =
 members_of (answer.Identified told None) = told_members told
 members_of (answer.Bytes bytes) = []
 members_of (answer.Sum crc) = text_member (codes "crc") (upper_hex 8 crc)
-members_of (answer.Written segment pages bytes is_verified) =
-    change_members segment pages ++ number_member (codes "bytes") bytes
+members_of (answer.Written segment pages bytes again) =
+    change_members segment pages ++ number_member (codes "bytes") bytes ++ again_members again
 members_of (answer.Verified bytes) = number_member (codes "bytes") bytes
 members_of (answer.Erased segment pages) = change_members segment pages
 members_of (answer.Undone count bytes) = undone_members count bytes

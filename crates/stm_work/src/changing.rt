@@ -1,14 +1,17 @@
 // Writing, verifying and erasing, and what is told of it.
-ghost use Rattle.std.specs.Prelude.{◌≡◌, ◌∷◌, ℕ, [], length, IfOk, true, false};
+ghost use Rattle.std.specs.Prelude.{◌≡◌, ◌∷◌, ℕ, [], length, IfOk, None, Some};
 ghost use Rattle.std.specs.List.{range_with_len};
 ghost use Rattle.stm_session.specs.Meaning.{erases, verifies, writes};
-ghost use Rattle.stm_work.specs.Conduct.{ErasesAll, RunsIfRoom, RunsTold};
+ghost use Rattle.stm_work.specs.Conduct.{ErasesAll, RunsTold, WritesVerified};
 
 use crate::answer::Answer;
 use std::alloc::{AllocError, Global};
 use stm_chip::Table;
 use stm_image::Image;
-use stm_session::{Command, Fault, Outcome, info, run};
+use stm_session::{
+    Command, Fault, Outcome, a_verified_write_saw_each_byte, info, run,
+    write_and_verify as session_write_and_verify,
+};
 use stm_wire::Rig;
 
 /// Writes an image.
@@ -38,15 +41,22 @@ pub fn write<L: Rig>(
     })
 }
 
-/// Writes an image, and compares the flash with what it changed in the same session.
+/// Writes an image, and compares the part of it with the flash that it may have changed, in the same
+/// session.
 pub fn write_and_verify<L: Rig>(
     alloc: Global,
     rig: &mut L,
     table: &Table,
     image: Image,
-) -> Result<Answer, Fault> {
+) -> Result<Answer, Fault>
+    ensures runs { let old = L.view rig.old in let new = L.view rig.new in
+        WritesVerified table.now image old new result }
+    ensures told { IfOk result (λ answer. (segment : ℕ) × (pages : ℕ) × (again : ℕ)
+        × (answer ≡ Answer.Written segment pages (length image) (Some again))) }
+{
+    a_verified_write_saw_each_byte::<L>();
     let bytes = image.len();
-    let written = stm_session::write_and_verify(alloc, rig, table, image)?;
+    let written = session_write_and_verify(alloc, rig, table, image)?;
     Ok(Answer::Written {
         segment: written.segment,
         pages: written.pages,

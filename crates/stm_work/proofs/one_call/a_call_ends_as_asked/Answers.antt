@@ -7,5 +7,6 @@ returns g c =
       model = g.met.L.Rig.model;
       unrefused = c.an_unrefused_journal_can_be_undone.ensures.run;
       ready = c.a_ready_device_can_begin.ensures.safe;
-      agrees = c.the_first_difference_is_the_first.ensures.none;
+      long = c.laying_by_parts.ensures.length;
+      laid = c.laying_keeps_places.ensures.each;
     })
