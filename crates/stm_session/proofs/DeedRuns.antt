@@ -12,7 +12,7 @@ use Rattle.stm_journal.specs.Journals.{Loaded}
 use Rattle.stm_journal.specs.States.{StateData}
 use Rattle.stm_session.specs.declared.deed.Deed.{Deed}
 use Rattle.stm_session.specs.declared.fault.Fault.{Fault}
-use Rattle.stm_session.specs.Deeds.{AllSuit, DoesDeeds, HasDone, HasDoneAll, MayDo, MayDoAll, Suits}
+use Rattle.stm_session.specs.Deeds.{AllSuit, DoesDeeds, HasDone, HasDoneAll, MayDo, MayDoAll}
 use Rattle.stm_session.specs.Deeds.{flash_with, lines_of_deed, step_of_deed}
 use Rattle.stm_session.specs.Fault.{HasSessionCause}
 use Rattle.stm_session.specs.Order.{Step}

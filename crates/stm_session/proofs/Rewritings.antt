@@ -1,6 +1,6 @@
 -- A page is erased and written, as a list of deeds.
 use Rattle.std.proofs.Common.{◌≡◌, ◌∙◌, ℕ, ◌+◌, ◌<◌, ◌≤◌, List, [], ◌∷◌, ◌++◌, length, map, take, drop}
-use Rattle.std.proofs.Common.{replicate, Result, Ok, Err, IsTrue, ap, ap₂, arith, refl, subst, sym}
+use Rattle.std.proofs.Common.{Result, Ok, Err, IsTrue, ap, arith, refl, subst, sym}
 use Rattle.std.specs.Borrow.{Bor}
 use Rattle.std.specs.Prelude.{OnOk, flat_map, fold}
 use Rattle.std.proofs.lemmas.Grind.{flat_map-append}
