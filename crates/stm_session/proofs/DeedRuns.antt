@@ -109,7 +109,7 @@ module _ (chip : ChipData) (ds : List Deed) (i : ℕ) (d : Deed) (lt : i < lengt
           may = (
             make.chip ∙ may.0,
             let S : List ℕ → Type 0 = λ f. AllSuit chip f one in
-            subst S (sym done) (suit_behind chip xs one a.device.flash may.1),
+                subst S (sym done) (suit_behind chip xs one a.device.flash may.1),
           );
           lines = sym (flat_map-append lines_of_deed xs one);
           gives = λ y is. is ∙ ap (λ (f : List ℕ). fold (flash_with chip) f one) done

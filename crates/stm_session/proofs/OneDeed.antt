@@ -289,7 +289,7 @@ module _ (laws : StepLaws) (chip : ChipData) (n : ℕ) {l : Loaded} {a b : RigSt
         gives r
             (λ y erased. (
               let S : Device → Type 0 = λ d. IsSettled d in
-              subst S (sym erased) (record { phase = settled.phase; owed = settled.owed }),
+                  subst S (sym erased) (record { phase = settled.phase; owed = settled.owed }),
               ap (λ (d : Device). d.flash) erased
                   ∙ ap (λ (c : ChipData). with_page c n (erased_page c n) a.device.flash) fits.0,
             ))
@@ -337,7 +337,7 @@ module _ (laws : StepLaws) (chip : ChipData) (n : ℕ) {l : Loaded} {a b : RigSt
         gives r
             (λ y has. (
               let S : Device → Type 0 = λ d. IsSettled d in
-              subst S (sym has.same) (record { phase = settled.phase; owed = settled.owed }),
+                  subst S (sym has.same) (record { phase = settled.phase; owed = settled.owed }),
               stored fits.0 many fits.1.0 has,
             ))
             (can h (record { settled = settled; inside = subst F (sym fits.0) there })),
