@@ -1,5 +1,5 @@
 -- A page changes in a command.
-use Rattle.std.proofs.Common.{Ok, ◌≡◌, ◌≢◌, ◌/◌, ℕ, ◌&&◌, Bool, true, false, not, if◌then◌else◌, List, [], ◌∷◌, ◌++◌, length, refl, sym, ◌∙◌, ap, ap₂, subst, ⊎_elim}
+use Rattle.std.proofs.Common.{Ok, ◌≡◌, ◌≢◌, ◌/◌, ℕ, Bool, false, not, if◌then◌else◌, List, [], ◌∷◌, ◌++◌, length, refl, sym, ◌∙◌, ap, subst, ⊎_elim}
 use Rattle.std.specs.Prelude.{bytes_eq}
 use Rattle.std.proofs.lemmas.Bool.{cases_Bool, true≢false}
 use Rattle.std.proofs.lemmas.Slice.Eq.{bytes_eq-Decides}
@@ -21,21 +21,9 @@ use Rattle.stm_chip.specs.declared.plan.Frame.{Frame}
 use Rattle.stm_chip.specs.Plan.{frames_of}
 use Rattle.stm_journal.specs.declared.entry.Entry.{Entry}
 use Rattle.stm_journal.specs.declared.entry.Entry.TheVariants.{Erases}
-use Rattle.stm_journal.specs.States.{StateData, SegmentData, is_open_stage, keeps, may_keep, newest_has, newest_is_open, newest_keeps, newest_may_keep}
-use Rattle.stm_journal.specs.Newest.{KeepsSame}
-use Rattle.stm_session.specs.Changing.{HasAllSaved, HasTurned, change_entries, save_entries}
+use Rattle.stm_journal.specs.States.{StateData}
+use Rattle.stm_session.specs.Changing.{HasTurned, change_entries, save_entries}
 use Rattle.stm_session.specs.Lines.{program_entries, rewrite_entries}
-
--- what a segment may keep, by what it keeps and whether it is open
-may_keep_parts : (m : ℕ) (s : StateData) → newest_may_keep m s ≡ (newest_is_open s && not (newest_keeps m s))
-may_keep_parts m s = at s.stack
-  where
-    at : (stack : List SegmentData) → newest_has (may_keep m) stack ≡ (newest_has (λ segment. is_open_stage segment.stage) stack && not (newest_has (λ segment. keeps segment m) stack))
-    at [] = refl
-    at (segment ∷ below) = refl
-
-may_keep_same : (m : ℕ) (a b : StateData) → KeepsSame a b → newest_is_open b ≡ newest_is_open a → newest_may_keep m b ≡ newest_may_keep m a
-may_keep_same m a b same is_open = may_keep_parts m b ∙ ap₂ (λ (x y : Bool). x && not y) is_open (same.keeps m) ∙ sym (may_keep_parts m a)
 
 -- a page that holds its bytes
 pub not_turned : (kept changed : Bool) (chip : ChipData) (n : ℕ) (s : StateData) → changed ≡ false → HasTurned kept changed chip n s s
@@ -49,21 +37,6 @@ not_turned kept changed chip n s same =
       alone = λ other first_page. refl;
       keeps = λ is. absurd (true≢false (sym is ∙ same));
       none = λ is. refl;
-    }
-
--- one that was kept and rewritten
-pub saved_turned : (kept changed : Bool) (chip : ChipData) (n : ℕ) (a b c : StateData) → changed ≡ true → HasAllSaved kept chip n a b → KeepsSame b c → newest_is_open c ≡ newest_is_open b
-    → HasTurned kept changed chip n a c
-saved_turned kept changed chip n a b c is_changed saved same is_open =
-    record {
-      depth = same.depth ∙ saved.depth;
-      is_open = λ h. is_open ∙ saved.is_open h;
-      still = λ m h. same.keeps m ∙ saved.still m h;
-      free = λ m one two. may_keep_same m b c same is_open ∙ saved.free m one two;
-      companion = λ is fresh one has. same.keeps 257 ∙ saved.companion fresh one has;
-      alone = λ other first_page. may_keep_same 257 b c same is_open ∙ saved.alone other first_page;
-      keeps = λ is. same.keeps n ∙ saved.keeps;
-      none = λ is. absurd (true≢false (sym is_changed ∙ is));
     }
 
 -- its lines
@@ -82,10 +55,6 @@ module _ (kept : Bool) (chip : ChipData) (flash : List ℕ) (n : ℕ) (held page
 
 pub told_same : (held page : List ℕ) → held ≡ page → false ≡ not (bytes_eq held page)
 told_same held page same = ap (λ (b : Bool). not b) (sym ((bytes_eq-Decides held page).1 same))
-
-pub told_other : (held page : List ℕ) → held ≢ page → true ≡ not (bytes_eq held page)
-told_other held page other =
-    ap (λ (b : Bool). not b) (sym (⊎_elim (λ same. absurd (other ((bytes_eq-Decides held page).0 same))) (λ none. none) (cases_Bool (bytes_eq held page))))
 
 -- the plan of a page that is to change
 pub planned : {e : ℕ} (chip : ChipData) {held page : List ℕ} {plan : PagePlan}

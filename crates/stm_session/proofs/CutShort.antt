@@ -1,16 +1,15 @@
 -- Steps that end with a fault: how the beginnings of steps join.
-use Rattle.std.proofs.Common.{◌≡◌, inl, inr, ⊎_elim, ℕ, zero, suc, ◌+◌, ◌-◌, ◌*◌, ◌/◌, ◌%◌, ◌<◌, ◌≤◌, Bool, List, [], ◌∷◌, ◌++◌, length, get_or, take, drop, replicate, Some, None, Result, Ok, Err, IsErrAnd, refl, sym, ◌∙◌, ap, ap₂, subst, arith, append_assoc, append-nil, length-append}
+use Rattle.std.proofs.Common.{◌≡◌, inl, inr, ⊎_elim, ℕ, zero, suc, ◌+◌, ◌-◌, ◌*◌, ◌/◌, ◌%◌, ◌≤◌, Bool, List, [], ◌∷◌, ◌++◌, length, take, drop, replicate, Some, None, Result, Ok, Err, IsErrAnd, refl, sym, ◌∙◌, ap, ap₂, subst, arith, append_assoc, append-nil, length-append}
 use Rattle.std.specs.Prelude.{IfErr}
-use Rattle.std.proofs.lemmas.List.{length-replicate, map-append, take-append-drop, take_more}
+use Rattle.std.proofs.lemmas.List.{length-replicate}
 use Rattle.stm_wire.specs.declared.fault.WireFault.{WireFault}
 use Rattle.stm_wire.specs.declared.fault.WireFault.TheVariants.{Line, Nack, Quiet, Garbled}
 use Rattle.stm_wire.specs.Call.{Call}
 use Rattle.stm_wire.specs.Chip.{ChipData, page_size}
 use Rattle.stm_wire.specs.Dialogue.{Turn, GoesOn, IsBrokenOff}
 use Rattle.stm_wire.specs.lemmas.DialogueLaws.{GoesOn-append, GoesOn-nothing, GoesOn-weaker, broken_off_is_cut_short}
-use Rattle.stm_wire.specs.Frames.{read_turns, write_turns}
+use Rattle.stm_wire.specs.Frames.{read_turns}
 use Rattle.stm_wire.specs.Rig.{RigState}
-use Rattle.stm_chip.specs.declared.plan.Frame.{Frame}
 use Rattle.stm_journal.specs.declared.entry.Entry.{Entry}
 use Rattle.stm_journal.specs.declared.fault.JournalFault.{JournalFault}
 use Rattle.stm_journal.specs.declared.fault.JournalFault.TheVariants.{File, Bad, OtherDevice, OtherBoard, Memory}
@@ -19,8 +18,8 @@ use Rattle.stm_journal.specs.Journals.{Loaded, added_bytes}
 use Rattle.stm_session.specs.declared.fault.Fault.{Fault}
 use Rattle.stm_session.specs.declared.fault.Fault.TheVariants as faults
 use Rattle.stm_session.specs.Fault.{Cause, of_memory, cause_of, fault_of, fault_of_journal}
-use Rattle.stm_session.specs.Order.{Step, FaultEnds, Adds, Are, Sends, AreCutShort, AreReadsOf, Begin, DoesSteps, StepFailsBy, IsInOrder, IsReadOf, StopsBy, acts_of, acts_of_steps, read_steps, step_in, page_address, page_reads, torn_behind, write_step, write_steps}
-use Rattle.stm_session.proofs.Orders.{acts-append, acts-line, does_reads, reads_next, reads_before, steps-append, torn-append, torn-writes}
+use Rattle.stm_session.specs.Order.{Step, FaultEnds, Adds, Sends, AreCutShort, AreReadsOf, Begin, DoesSteps, StepFailsBy, IsInOrder, IsReadOf, StopsBy, acts_of, acts_of_steps, read_steps, step_in, page_address, page_reads, torn_behind}
+use Rattle.stm_session.proofs.Orders.{acts-append, acts-line, does_reads, reads_next, reads_before, steps-append, torn-append}
 
 -- the fault that is answered
 pub by_fault : {U : Type 0} (P : Cause → Type 0) (e : Fault) (result : Result U Fault) → IsErrAnd result (λ x. x ≡ e) → P (cause_of e) → IfErr result (λ x. P (cause_of x))

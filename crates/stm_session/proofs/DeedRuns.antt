@@ -12,7 +12,7 @@ use Rattle.stm_journal.specs.Journals.{Loaded}
 use Rattle.stm_journal.specs.States.{StateData}
 use Rattle.stm_session.specs.declared.deed.Deed.{Deed}
 use Rattle.stm_session.specs.declared.fault.Fault.{Fault}
-use Rattle.stm_session.specs.Deeds.{AllSuit, DoesDeeds, HasDone, HasDoneAll, MayDo, MayDoAll, Suits}
+use Rattle.stm_session.specs.Deeds.{AllSuit, DoesDeeds, HasDone, HasDoneAll, MayDo, MayDoAll}
 use Rattle.stm_session.specs.Deeds.{flash_with, lines_of_deed, step_of_deed}
 use Rattle.stm_session.specs.Fault.{HasSessionCause}
 use Rattle.stm_session.specs.Order.{Step}
@@ -109,7 +109,7 @@ module _ (chip : ChipData) (ds : List Deed) (i : ℕ) (d : Deed) (lt : i < lengt
           may = (
             make.chip ∙ may.0,
             let S : List ℕ → Type 0 = λ f. AllSuit chip f one in
-            subst S (sym done) (suit_behind chip xs one a.device.flash may.1),
+                subst S (sym done) (suit_behind chip xs one a.device.flash may.1),
           );
           lines = sym (flat_map-append lines_of_deed xs one);
           gives = λ y is. is ∙ ap (λ (f : List ℕ). fold (flash_with chip) f one) done

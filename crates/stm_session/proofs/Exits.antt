@@ -1,7 +1,7 @@
 -- What the exits of a function share: a step's end, at each of the exits of its `?`, and a page
 -- that is read.
-use Rattle.std.proofs.Common.{◌≡◌, ◌<◌, ◌++◌, ◌/◌, ◌%◌, ℕ, Bool, List, [], Result, Ok, Err}
-use Rattle.std.proofs.Common.{IsErrAnd, length, append-nil, arith, subst}
+use Rattle.std.proofs.Common.{◌≡◌, ◌<◌, ◌++◌, ◌/◌, ◌%◌, ℕ, Bool, List, [], Result, Err}
+use Rattle.std.proofs.Common.{IsErrAnd, length, append-nil, arith}
 use Rattle.stm_wire.specs.Chip.{ChipData, page_count, page_size}
 use Rattle.stm_wire.specs.Dialogue.{GoesOn}
 use Rattle.stm_wire.specs.Intents.{InPage}
@@ -13,7 +13,7 @@ use Rattle.stm_session.specs.Fault.{Cause, cause_of}
 use Rattle.stm_session.specs.Order.{Step, AreReadsOf, Begin, DoesSteps, IsInOrder, FaultEnds, StopsBy, page_address, page_reads, read_steps}
 use Rattle.stm_session.specs.Steps.{Goes}
 use Rattle.stm_session.proofs.CutShort.{by_fault, page_stops, page_was_read}
-use Rattle.stm_session.proofs.Going.{goes_as, goes_failed, goes_ok}
+use Rattle.stm_session.proofs.Going.{goes_as, goes_failed}
 
 -- a fault of steps whose lines are all of them
 pub goes_fault : {T U : Type 0} {Done1 : T → Type 0} {Done : U → Type 0}

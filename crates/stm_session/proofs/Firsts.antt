@@ -19,14 +19,14 @@ use Rattle.stm_chip.specs.Plan.{IsPlan, frames_of}
 use Rattle.stm_journal.specs.declared.entry.Entry.{Entry}
 use Rattle.stm_journal.specs.declared.entry.Entry.TheVariants.{Erases, Keeps}
 use Rattle.stm_journal.specs.Journals.{Loaded}
-use Rattle.stm_journal.specs.States.{StateData, newest_keeps, newest_may_keep}
+use Rattle.stm_journal.specs.States.{StateData, newest_may_keep}
 use Rattle.stm_session.specs.declared.deed.Deed.{Deed}
 use Rattle.stm_session.specs.declared.deed.Deed.TheVariants as deed
 use Rattle.stm_session.specs.declared.fault.Fault.{Fault}
 use Rattle.stm_session.specs.ChangeOrder.{IsChanged, IsSaved}
-use Rattle.stm_session.specs.Changing.{AreReadsIf, HasAllSaved, HasSaved, ReadsIf}
+use Rattle.stm_session.specs.Changing.{AreReadsIf, ReadsIf}
 use Rattle.stm_session.specs.Changing.{change_entries, reads_if, save_entries}
-use Rattle.stm_session.specs.Deeds.{AllSuit, HasDoneAll, MayDoAll, flash_with, lines_of_deed}
+use Rattle.stm_session.specs.Deeds.{AllSuit, MayDoAll, flash_with, lines_of_deed}
 use Rattle.stm_session.specs.Deeds.{step_of_deed}
 use Rattle.stm_session.specs.Lines.{program_entries}
 use Rattle.stm_session.specs.Order.{Step, Adds, Are, page_reads, rewrite_steps}

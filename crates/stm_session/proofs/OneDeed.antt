@@ -1,7 +1,6 @@
 -- One deed: a line that is added, or a frame that is sent under an intent.
-use Rattle.std.proofs.Common.{true, false, not}
+use Rattle.std.proofs.Common.{true, not}
 use Rattle.std.proofs.lemmas.Bool.{false≢true}
-use Rattle.hex.specs.Hex.{IsBytes}
 use Rattle.stm_wire.specs.Chip.{page_of}
 use Rattle.stm_journal.specs.declared.entry.Entry.TheVariants.{Keeps, Erases, Programs}
 use Rattle.stm_journal.specs.lemmas.CallEntries.{allowed-keep_page, allowed-intend_erase, allowed-intend_program}
@@ -11,12 +10,11 @@ use Rattle.stm_journal.specs.declared.stage.Stage.TheVariants.{Open, Ended, Retu
 use Rattle.stm_session.specs.Undoable.{has_companion}
 use Rattle.stm_session.proofs.Keeping.{keeps_keeping, may_keep_text, keeps_pages}
 use Rattle.std.proofs.Common.{◌≡◌, ◌⊎◌, ◌∙◌, ℕ, ◌+◌, ◌-◌, ◌<◌, ◌≤◌, List, [], ◌∷◌, length, take, drop}
-use Rattle.std.proofs.Common.{replicate, Some, Result, Ok, Err, IsTrue, inl, inr, ap, ap₂, arith, refl}
+use Rattle.std.proofs.Common.{replicate, Some, Result, Ok, Err, IsTrue, inl, inr, ap, arith, refl}
 use Rattle.std.proofs.Common.{subst, sym}
 use Rattle.std.specs.Borrow.{Bor}
-use Rattle.std.specs.Prelude.{IfErr, IfOk, OnOk}
+use Rattle.std.specs.Prelude.{IfErr, OnOk}
 use Rattle.std.proofs.lemmas.Bool.Decides.{nat_tests}
-use Rattle.std.proofs.lemmas.List.{places}
 use Rattle.stm_wire.specs.declared.chip.EraseKind.{EraseKind}
 use Rattle.stm_wire.specs.declared.chip.EraseKind.TheVariants.{Page, Extended}
 use Rattle.stm_wire.specs.Chip.{page_limit}
@@ -28,7 +26,7 @@ use Rattle.stm_wire.specs.Chip.{ChipData, IsErasedAt, erased_byte, erased_page, 
 use Rattle.stm_wire.specs.Chip.{flash_size, page_count, page_offset, page_size, with_bytes, with_page}
 use Rattle.stm_wire.specs.Command.{CanErase, CanWrite, Does, HasWritten, with_pages_erased}
 use Rattle.stm_wire.specs.Device.{Device, IsSettled}
-use Rattle.stm_wire.specs.Dialogue.{Turn, GoesOn, Adds as AddsCalls, IsBrokenOff, calls_of}
+use Rattle.stm_wire.specs.Dialogue.{Turn, GoesOn}
 use Rattle.stm_wire.specs.Frames.{erase_frame, erase_turns, write_frame, write_turns}
 use Rattle.stm_wire.specs.Intents.{InPage}
 use Rattle.stm_wire.specs.lemmas.FlashLaws.{writes_erased}
@@ -37,7 +35,6 @@ use Rattle.stm_wire.specs.Rig.{RigState, IsModel}
 use Rattle.stm_wire.specs.Sending.{BreaksOff, IsHeldToEnd}
 use Rattle.stm_wire.specs.Stopped.{IsFrameUnder, erases, writes}
 use Rattle.stm_chip.specs.declared.plan.Frame.{Frame}
-use Rattle.stm_chip.specs.Plan.{IsFrameOfPlan}
 use Rattle.stm_journal.specs.declared.entry.Entry.{Entry}
 use Rattle.stm_journal.specs.declared.fault.JournalFault.{JournalFault}
 use Rattle.stm_journal.specs.Added.{HasAdded}
@@ -292,7 +289,7 @@ module _ (laws : StepLaws) (chip : ChipData) (n : ℕ) {l : Loaded} {a b : RigSt
         gives r
             (λ y erased. (
               let S : Device → Type 0 = λ d. IsSettled d in
-              subst S (sym erased) (record { phase = settled.phase; owed = settled.owed }),
+                  subst S (sym erased) (record { phase = settled.phase; owed = settled.owed }),
               ap (λ (d : Device). d.flash) erased
                   ∙ ap (λ (c : ChipData). with_page c n (erased_page c n) a.device.flash) fits.0,
             ))
@@ -340,7 +337,7 @@ module _ (laws : StepLaws) (chip : ChipData) (n : ℕ) {l : Loaded} {a b : RigSt
         gives r
             (λ y has. (
               let S : Device → Type 0 = λ d. IsSettled d in
-              subst S (sym has.same) (record { phase = settled.phase; owed = settled.owed }),
+                  subst S (sym has.same) (record { phase = settled.phase; owed = settled.owed }),
               stored fits.0 many fits.1.0 has,
             ))
             (can h (record { settled = settled; inside = subst F (sym fits.0) there })),

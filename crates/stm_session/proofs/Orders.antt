@@ -1,26 +1,24 @@
 -- Orders join.
 use Rattle.std.proofs.Common.{◌≡◌, ℕ, zero, suc, ◌+◌, ◌*◌, ◌<◌, ◌≤◌, Bool, false, List, [], ◌∷◌, ◌++◌, length, get_or, take, drop, Option, Some, None, Ok, refl, sym, ◌∙◌, ap, ap₂, subst, arith, append_assoc, append-nil}
 use Rattle.std.specs.Prelude.{slice_get}
-use Rattle.std.proofs.lemmas.List.{drop-append-le, length-drop, length-map, map-append, take-append-le, take_all, take_more}
+use Rattle.std.proofs.lemmas.List.{drop-append-le, length-drop, length-map, take-append-le, take_all}
 use Rattle.std.proofs.Math.Seq.{drop-append_seam}
-use Rattle.stm_wire.specs.declared.chip.EraseKind.{EraseKind}
 use Rattle.stm_wire.specs.Call.{Call, Put, Get, Append, Fetch}
 use Rattle.stm_wire.specs.Chip.{ChipData}
 use Rattle.stm_wire.specs.Dialogue.{Turn, Adds as AddsCalls, AreLineCalls, GoesOn, calls_of}
 use Rattle.stm_wire.specs.lemmas.DialogueLaws.{GoesOn-adds, GoesOn-append, GoesOn-nothing, GoesOn-weaker, calls_of-are_line}
-use Rattle.stm_wire.specs.Frames.{erase_turns, read_turns, write_turns}
+use Rattle.stm_wire.specs.Frames.{read_turns}
 use Rattle.stm_wire.specs.Rig.{RigState}
 use Rattle.stm_wire.specs.Settling.{SettlesWithin}
 use Rattle.stm_session.specs.Fresh.{EndsWell, Way, byte_of, limit_of}
 use Rattle.stm_chip.specs.declared.plan.Frame.{Frame}
 use Rattle.stm_journal.specs.declared.entry.Entry.{Entry}
-use Rattle.stm_journal.specs.declared.entry.Entry.TheVariants.{Programs}
 use Rattle.stm_journal.specs.declared.kept.Kept.{Kept}
 use Rattle.stm_journal.specs.Calls.{AppendsOnce, AreFetches}
 use Rattle.stm_journal.specs.Journals.{Loaded, added_bytes}
 use Rattle.stm_journal.specs.Newest.{pages_of_segments}
 use Rattle.stm_journal.specs.States.{SegmentData}
-use Rattle.stm_session.specs.Order.{Step, Adds, Sends, Tells, AreGivenBack, DoesSteps, IsInOrder, IsGivenBack, acts_of, acts_of_steps, tells_behind, page_address, program_steps, read_steps, torn_behind, write_step, write_steps}
+use Rattle.stm_session.specs.Order.{Step, Adds, Sends, Tells, AreGivenBack, DoesSteps, IsInOrder, IsGivenBack, acts_of, acts_of_steps, tells_behind, read_steps, torn_behind, write_steps}
 use Rattle.stm_session.specs.UndoOrder.{AreSegmentsUndone, IsSegmentUndone}
 use Rattle.stm_session.specs.Reaching.{SettlesFirst, SettlesThen}
 use Rattle.stm_session.specs.Undoable.{newest_kept}

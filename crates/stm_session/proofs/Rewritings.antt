@@ -1,6 +1,6 @@
 -- A page is erased and written, as a list of deeds.
 use Rattle.std.proofs.Common.{◌≡◌, ◌∙◌, ℕ, ◌+◌, ◌<◌, ◌≤◌, List, [], ◌∷◌, ◌++◌, length, map, take, drop}
-use Rattle.std.proofs.Common.{replicate, Result, Ok, Err, IsTrue, ap, ap₂, arith, refl, subst, sym}
+use Rattle.std.proofs.Common.{Result, Ok, Err, IsTrue, ap, arith, refl, subst, sym}
 use Rattle.std.specs.Borrow.{Bor}
 use Rattle.std.specs.Prelude.{OnOk, flat_map, fold}
 use Rattle.std.proofs.lemmas.Grind.{flat_map-append}
@@ -90,8 +90,7 @@ module _ (chip : ChipData) (n : ℕ) (page : Bor (List ℕ)) where
         let rest = writes_suit base whole frames (f.offset + 256) (framed page.now f held)
         (length-framed page.now held f same (from_zero from (length page.now) f frame)) are.1
         (erased_behind (erased_byte chip) from page.now held f same frame erased) in
-        let S : List ℕ → Type 0 = λ g. AllSuit chip g (write_deeds n page frames) in
-        (
+        let S : List ℕ → Type 0 = λ g. AllSuit chip g (write_deeds n page frames) in (
           (
             part_put (page_offset chip n) f.offset f.length held base fits
                 (omega (arith, frame.inside, frame.limit, same))

@@ -1,10 +1,9 @@
 -- Pages are kept before they change.
-use Rattle.std.proofs.Common.{◌≡◌, ℕ, ◌<◌, ◌≤◌, ◌==◌, ◌&&◌, Bool, true, false, arith, not, if◌then◌else◌, List, [], ◌∷◌, length, refl, sym, ◌∙◌, ap, subst, IsTrue}
+use Rattle.std.proofs.Common.{◌≡◌, ℕ, ◌<◌, ◌==◌, ◌&&◌, Bool, true, false, arith, if◌then◌else◌, List, [], ◌∷◌, refl, sym, ◌∙◌, ap, subst}
 use Rattle.std.proofs.lemmas.Bool.{false≢true}
-use Rattle.std.proofs.Common.{◌+◌, ◌/◌, ◌%◌, Result, Ok, Err, append-nil}
+use Rattle.std.proofs.Common.{◌/◌, ◌%◌, Result, Ok, Err, append-nil}
 use Rattle.std.specs.Prelude.{IfOk, Vec, vec_len}
 use Rattle.std.specs.declared.alloc.Global.{Global}
-use Rattle.hex.specs.Hex.{IsBytes}
 use Rattle.stm_session.specs.Running.{bytes_at}
 use Rattle.stm_wire.specs.Device.{IsSettled}
 use Rattle.stm_wire.specs.Dialogue.{GoesOn}
@@ -21,18 +20,10 @@ use Rattle.stm_wire.specs.Chip.{ChipData, page_count, page_of, page_size}
 use Rattle.stm_wire.specs.Rig.{RigState, IsModel}
 use Rattle.stm_journal.specs.declared.entry.Entry.{Entry}
 use Rattle.stm_journal.specs.declared.entry.Entry.TheVariants.{Keeps}
-use Rattle.stm_journal.specs.lemmas.CallEntries.{allowed-keep_page}
-use Rattle.stm_journal.specs.States.{StateData, newest_keeps, newest_may_keep, newest_is_open, newest_has, is_ended_stage, is_open_stage, is_unfinished, IsSound, SegmentData}
-use Rattle.stm_journal.specs.declared.stage.Stage.{Stage}
-use Rattle.stm_journal.specs.declared.stage.Stage.TheVariants.{Open, Ended, Returning}
 use Rattle.stm_journal.specs.Journals.{Loaded}
-use Rattle.stm_journal.specs.Newest.{HasKept}
-use Rattle.stm_session.specs.Changing.{HasSaved, HasAllSaved, both_entries, save_entries}
+use Rattle.stm_session.specs.Changing.{both_entries, save_entries}
 use Rattle.stm_session.specs.StepLaws.{StepLaws}
-use Rattle.stm_session.specs.Steps.{IsSteady}
-use Rattle.stm_session.specs.Undoable.{has_companion, state_at}
-use Rattle.stm_session.proofs.Going.{IsStep}
-use Rattle.stm_session.proofs.Keeping.{good_at, keeps_keeping, keeps_text, may_keep_text}
+use Rattle.stm_session.specs.Undoable.{has_companion}
 
 -- page 1
 and-left : (a b : Bool) → (a && b) ≡ true → a ≡ true

@@ -40,17 +40,6 @@ pub record HasSaved (n : ℕ) (old new : StateData) : Type 0 where
   pub still : (m : ℕ) → IsTrue (newest_keeps m old) → IsTrue (newest_keeps m new)
   pub free : (m : ℕ) → m ≢ n → newest_may_keep m new ≡ newest_may_keep m old
 
--- The newest segment keeps page n, which it may have lacked, and page 257 with page 1; of every
--- other page it is as it was.
-pub record HasAllSaved (kept : Bool) (chip : ChipData) (n : ℕ) (old new : StateData) : Type 0 where
-  pub depth : length new.stack ≡ length old.stack
-  pub is_open : IsTrue (newest_is_open old) → IsTrue (newest_is_open new)
-  pub keeps : IsTrue (newest_keeps n new)
-  pub still : (m : ℕ) → IsTrue (newest_keeps m old) → IsTrue (newest_keeps m new)
-  pub free : (m : ℕ) → m ≢ n → m ≢ 257 → newest_may_keep m new ≡ newest_may_keep m old
-  pub companion : kept ≡ false → n ≡ 1 → IsTrue (has_companion chip) → IsTrue (newest_keeps 257 new)
-  pub alone : n ≢ 257 → n ≢ 1 → newest_may_keep 257 new ≡ newest_may_keep 257 old
-
 -- Page n was changed or wasn't, and was kept before that: of every other page the newest segment is
 -- as it was, but for page 257 where page 1 was changed.
 pub record HasTurned (kept changed : Bool) (chip : ChipData) (n : ℕ)

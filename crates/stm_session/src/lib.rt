@@ -34,7 +34,6 @@ mod opening;
 mod outcome;
 mod page_at_work;
 mod page_changes;
-
 mod reading;
 mod reading_again;
 mod returned;

@@ -1,4 +1,4 @@
-use Rattle.std.proofs.Common.{Ok, take}
+use Rattle.std.proofs.Common.{take}
 use Rattle.stm_session.proofs.DeedRuns.{IsDoneSoFar}
 use Rattle.stm_session.proofs.deeds.perform.Given as goal
 
