@@ -17,8 +17,10 @@ class Handed(Words):
     def test_what_is_written(self):
         board = self.flash(COUNTING)
         os.symlink("/dev/stdin", self.path("linked"))
+        # which by stmflash is a place of an image
+        os.symlink("image", self.path("to@0x08000400"))
         with open(self.path("image"), "rb") as image:
-            for name in ("/dev/stdin", "/dev/fd/0", f"/dev/fd/{image.fileno()}", f"/proc/self/fd/{image.fileno()}", "linked"):
+            for name in ("/dev/stdin", "/dev/fd/0", f"/dev/fd/{image.fileno()}", f"/proc/self/fd/{image.fileno()}", "linked", "to@0x08000400"):
                 with self.subTest(name=name):
                     self.leaves(board, NEW, "-w", name, "-v", stdin=image, pass_fds=[image.fileno()])
                     self.leaves(board, COUNTING, "--undo")

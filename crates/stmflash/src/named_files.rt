@@ -35,7 +35,8 @@ impl<'a> NamedFiles<'a> {
         ensures { IfOk result (λ files. is_some files.out ≡ is_filed task.now) }
     {
         let out = match task {
-            Task::Read { out, .. } | Task::ReadHex { out, .. } if *out != STANDARD => Some(*out),
+            Task::Read { out, .. } if *out != STANDARD => Some(*out),
+            Task::ReadHex { out, .. } if *out != STANDARD => Some(*out),
             _ => None,
         };
         let mut images = Vec::new(alloc);
@@ -143,11 +144,12 @@ impl<'a> NamedFiles<'a> {
 
     /// Whether the name is that of a table or of an image.
     fn is_read<R: Files + AllocGlobal>(&self, rt: &R, name: &str) -> bool {
+        for image in &self.images {
+            if is_same_file(rt, name, image) {
+                return true;
+            }
+        }
         is_table(rt, name, self.table)
-            || self
-                .images
-                .iter()
-                .any(|image| is_same_file(rt, name, image))
     }
 
     /// Whether the name is that of one of a simulator's files, or of the device's socket.
