@@ -46,8 +46,6 @@ ACK, NACK = b"\x79", b"\x1f"
 DONE, REFUSED = 2 * ACK, ACK + NACK
 WRITTEN, UNWRITTEN = 3 * ACK, 2 * ACK + NACK
 GET_ID = b"\x79\x01\x04\x12\x79"
-# the codes that readout protection forbids
-FORBIDDEN = (0x11, 0x21, 0x31, 0x43, 0x44, 0x63, 0x73)
 # what is sent to a simulator whose pages 4 to 7 and 9 are protected, what comes, and which pages are erased, or which bytes written
 ROWS = (
     (erase(3), DONE, (3,), None),
@@ -194,10 +192,13 @@ class Protected(Served):
         self.assertServed(flash=ERASED)
 
     def test_other_pages_as_ever(self):
+        """And reads, where no word says that Readout Protect takes effect."""
         self.store_all({"flash": COUNTING, "image": IMAGE})
-        self.protect(2, "3", "7-31")
+        self.protect(4, "3", "7-31")
         self.assertTold(self.use("write", "--wait", WAIT, "-S", f"{AT:#x}", "image", device="board"), "segment 1: 3 pages written\n")
         self.assertTold(self.use("undo", "--wait", WAIT, device="board"), "undone 1\n")
+        self.assertSilent(self.at_board("protect", "readout-protect"))
+        self.assertSilent(self.at_board("read", "out"), out=COUNTING)
         self.assertServed(flash=COUNTING)
 
     def test_what_is_refused(self):
@@ -240,7 +241,7 @@ class Protected(Served):
                 first = b"\x11\xee" + BASE.to_bytes(4, "big") + b"\x08\x00\xff"
                 self.assertReplies(client, b"\x7f" + first, ACK + 3 * ACK + b"\x00")
                 self.assertReplies(client, b"\x82\x7d\x7f", 2 * ACK + ACK)
-                for forbidden in FORBIDDEN:
+                for forbidden in (0x11, 0x21, 0x31, 0x43, 0x44, 0x63, 0x73):
                     for sent in (forbidden ^ 0xff, forbidden, 0x7f):
                         self.assertReplies(client, bytes([forbidden, sent]), NACK)
                     self.assertReplies(client, b"\x02\xfd", GET_ID)
@@ -276,11 +277,4 @@ class Protected(Served):
         self.assertTold(self.at_board("info"), told.decode())
         self.assertSilent(self.at_board("protect", "readout-unprotect", journal="protects"))
         self.assertSilent(self.at_board("read", "out"), flash=ERASED, out=ERASED)
-        self.assertServed()
-
-    def test_readout_protect_without_the_word(self):
-        self.store("flash", COUNTING)
-        self.protect(2, "4")
-        self.assertSilent(self.at_board("protect", "readout-protect"))
-        self.assertSilent(self.at_board("read", "out"), out=COUNTING)
         self.assertServed()

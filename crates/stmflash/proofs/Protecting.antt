@@ -8,7 +8,7 @@ use Rattle.stm_wire.specs.Chip.{ChipData, fits_inside, is_inside}
 use Rattle.stm_wire.specs.Effect.{Change, Nothing, ErasePages, EraseAll, Write, change_of, erase_change, extended_change, write_change}
 use Rattle.stm_wire.specs.Exchange.{after_address, all_exist, all_verdict, at_end, command_verdict, complement, done_if, erase_verdict, extended_verdict, is_listed, number_of, pair_of, two_byte_numbers, pages_verdict, verdict, write_verdict, xor}
 use Rattle.stm_wire.specs.Device.{Device, Phase, Fresh, Connected, Gone}
-use Rattle.stmflash.specs.Protections.{Bars, Protected, Spares, all_check, changes_any, check_due, completes_barred, completes_change, erase_check, extended_check, fed_behind, fed_in, fed_unreadable, fed_while_protected, is_barred, is_check, write_check}
+use Rattle.stmflash.specs.Protections.{Bars, Protected, Spares, all_check, changes_any, check_due, completes_change, erase_check, extended_check, fed_behind, fed_in, fed_unreadable, fed_while_protected, is_check, write_check}
 
 -- of two tests, the first passes where the verdict is done
 done-first : (a b : Bool) → Some (done_if (a && b)) ≡ Some Done → a ≡ true

@@ -8,7 +8,6 @@ mod confirmation;
 mod cut_journal;
 mod first_question;
 mod given_board;
-mod given_protections;
 mod greeted_session;
 mod journal_folder;
 mod journal_tasks;

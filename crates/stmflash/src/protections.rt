@@ -1,6 +1,6 @@
 // The protections of a served simulator, which follows the model, and that knows none: where a byte
 // would complete what one forbids, it is fed the complement, a wrong check, and refuses by itself.
-ghost use Rattle.std.specs.Prelude.{◌≡◌, IsTrue, false, fold, bit_xor, length};
+ghost use Rattle.std.specs.Prelude.{◌≡◌, IfOk, IsTrue, false, fold, bit_xor, length};
 ghost use Rattle.stm_wire.specs.Effect.{change_of, erase_change, extended_change, write_change};
 ghost use Rattle.stm_wire.specs.Exchange.{is_listed, two_byte_numbers, xor};
 ghost use Rattle.stm_files.specs.Replies.{telling_begun, completes};
@@ -10,10 +10,13 @@ ghost use Rattle.stmflash.specs.Protections.{erase_check, extended_check, fed_be
 ghost use Rattle.stmflash.specs.Protections.{fed_unreadable, fed_while_protected, guarding, is_check};
 ghost use Rattle.stmflash.specs.Protections.{is_unprotected, protected_behind, reaches, write_check};
 
+use std::alloc::Global;
 use std::marker::Model;
 use stm_files::tell_all;
 use stm_sim::Simulator;
 use stm_wire::{Chip, part};
+use stm_words::{Served, UsageFault};
+use stm_work::Failure;
 
 /// The exclusive-or of a byte and these.
 fn xor_from(first: u8, bytes: &[u8]) -> u8
@@ -202,19 +205,28 @@ impl Model for Protections {
 }
 
 impl Protections {
-    /// These pages are write-protected, and the flash can be read.
-    pub fn new(pages: Vec<u16>, has_readout: bool) -> Protections
-        ensures { result ≡ record {
-          pages = pages.items;
-          has_readout = has_readout;
+    /// What words protect of a simulator of this chip, which has each page of them. Its flash can be
+    /// read.
+    pub fn given<'a>(
+        alloc: Global,
+        chip: &Chip,
+        served: &Served<'a>,
+    ) -> Result<Protections, Failure<'a>>
+        ensures { IfOk result (λ p. p ≡ record {
+          pages = served.now.protected.items;
+          has_readout = served.now.readout_protection;
           is_unreadable = false;
-        } }
+        }) }
     {
-        Protections {
-            pages,
-            has_readout,
-            is_unreadable: false,
+        let count = chip.pages();
+        if let Some(page) = served.protected.iter().find(|page| **page >= count) {
+            return Err(Failure::Usage(UsageFault::NoPage(served.id, *page)));
         }
+        Ok(Protections {
+            pages: Vec::from_slice(alloc, &served.protected)?,
+            has_readout: served.readout_protection,
+            is_unreadable: false,
+        })
     }
 
     /// Whether nothing is protected, nor will be.

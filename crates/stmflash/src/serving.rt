@@ -4,7 +4,6 @@ ghost use Rattle.std.specs.Io.KnownBytes.{Appends, Consumes};
 ghost use Rattle.stmflash.specs.Protections.{Serves};
 
 use crate::given_board::given_board;
-use crate::given_protections::given_protections;
 use crate::protections::Protections;
 use crate::tables::is_table;
 use std::fs::Files;
@@ -121,7 +120,7 @@ fn serve_chip<'a, R: Locks + Net + AllocGlobal>(
     let mut files = SimulatorFiles::open(rt, served.flash, served.without_lock)?;
     let board = given_board(rt, chip, served)?;
     let mut sim = load(rt, chip, &board, &mut files)?;
-    let mut protected = given_protections(rt.alloc(), sim.chip(), served)?;
+    let mut protected = Protections::given(rt.alloc(), sim.chip(), served)?;
     serve_socket(rt, &mut sim, &mut protected, &board, &mut files, served)?;
     Ok(Answer::Nothing)
 }
