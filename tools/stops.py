@@ -1,5 +1,5 @@
-"""What the tools share that stop the program, crash its PC, or take a board's power: chips, what a loss of power leaves of a page, and
-how many plays are done and told."""
+"""What the tools share that stop the program, crash its PC, or take a board's power: chips, what a loss of power leaves of a
+page, and how plays are done and told."""
 
 import collections
 import concurrent.futures
@@ -14,18 +14,19 @@ from device import Chip  # noqa: E402
 BASE = 0x08000000
 # a chip of a number that is greater by so much tells its board, so that a journal names that, and has void lines of pages
 TELLS = 0x1000
+CHIPS = {}
 # pages, bytes of a page, erased by 44 and not by 43, what an erased place holds
-CHIPS = {number + more: Chip(number + more, BASE, [size] * pages, extended, erased, *((0x1FFFF7E8, 12), None, b"%012X" % number) * bool(more))
-         for more in (0, TELLS) for number, pages, size, extended, erased in (
-    (0x0412, 4, 1024, False, 0xFF),
-    (0x0A02, 300, 256, True, 0xFF),
-    (0x0A03, 256, 256, False, 0xFF),
-    (0x0A04, 8, 256, False, 0x00),
-    (0x0A05, 4, 4096, True, 0x00),
-    (0x0A06, 4, 4096, False, 0x00),
-    (0x0A07, 4, 2048, False, 0xFF),
-    (0x0A08, 4, 2048, True, 0xFF),
-)}
+for number, pages, size, *more in (
+        (0x0412, 4, 1024, False, 0xFF),
+        (0x0A02, 300, 256, True, 0xFF),
+        (0x0A03, 256, 256, False, 0xFF),
+        (0x0A04, 8, 256, False, 0x00),
+        (0x0A05, 4, 4096, True, 0x00),
+        (0x0A06, 4, 4096, False, 0x00),
+        (0x0A07, 4, 2048, False, 0xFF),
+        (0x0A08, 4, 2048, True, 0xFF)):
+    CHIPS[number] = Chip(number, BASE, [size] * pages, *more)
+    CHIPS[number + TELLS] = Chip(number + TELLS, BASE, [size] * pages, *more, (0x1FFFF7E8, 12), unique=b"%012X" % number)
 # what an undo says of a page that isn't as its segment left it. A loss of power may have changed it, and no command was at work there
 OTHERWISE = re.compile(r"stmflash: page (\d+) isn't as segment \d+ left it; --trust-journal to undo all the same")
 
