@@ -68,9 +68,9 @@ def on(way, number):
     yield Story("keep-beside", way, number, [("keep", "kept")], [FIRST])
     yield Story("read", way, number, [("read", "out")], [FIRST])
     if tells:
-        # digits of the first CRC of a page, and of the last that stands behind `end`
-        yield Story("write-crc", way, number, [FIRST], pad=CROSSED - 10 - head, tail=b"")
+        # digits of the last CRC that stands behind `end`, and of the first page's
         yield Story("write-left", way, number, [FIRST], pad=CROSSED - 74 - head - 2 * page, tail=b"")
+        yield Story("write-crc", way, number, [FIRST], pad=CROSSED - 10 - head, tail=b"")
         yield BehindCrash("undo-torn-crc", write, -6, b"\ncrc ")
         yield BehindCrash("undo-torn-left", write, -6, b"left ")
 
