@@ -53,6 +53,10 @@ class Folder:
     def store(self, name, data):
         pathlib.Path(self.path(name)).write_bytes(data)
 
+    def store_all(self, files):
+        for name, held in files.items():
+            self.store(name, held)
+
     def held(self, name):
         return pathlib.Path(self.path(name)).read_bytes()
 

@@ -36,7 +36,7 @@ sys.path.insert(0, os.path.dirname(os.path.abspath(__file__)))
 from board import Unanswered, words_of  # noqa: E402
 from disk import Misunderstood  # noqa: E402
 from record import can_trace  # noqa: E402
-from sessions import BehindCrash, all_stories  # noqa: E402
+from sessions import BehindCrash, all_stories, drawn  # noqa: E402
 from story import Unrecorded  # noqa: E402
 from trial import State, draw, judge, top  # noqa: E402
 import plants  # noqa: E402
@@ -106,7 +106,7 @@ def run(given, stories, pool, folder):
     print("tools/crashes: seed %s" % given.seed, flush=True)
     name, *key = given.only.split(":") if given.only else [None]
     counts = race.BYTES if name is None else (int(key[0]),) if name == race.NAME else ()
-    chosen = [] if name == race.NAME else needed(stories, [name]) if name else list(stories.values())
+    chosen = needed(stories, [] if name == race.NAME else [name] if name else drawn(stories, given.seed))
     record_all(given.program, chosen, pool, folder)
     planted = plants.planted(given.plant, chosen)
     if given.only and not counts:

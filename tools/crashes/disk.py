@@ -31,11 +31,9 @@ class Misunderstood(Exception):
 def stale(kind, name, count):
     """Bytes of a former file."""
     chance = random.Random("%s %s" % (kind, name))
-    if kind == DIGITS:
-        return bytes(chance.choice(b"0123456789ABCDEF") for _ in range(count))
     if kind == LINES:
         return (b"0123\nend 1\nerase 0\n" * count)[:count]
-    return bytes(chance.choice(range(11, 256)) for _ in range(count))
+    return bytes(chance.choice(b"0123456789ABCDEF" if kind == DIGITS else range(11, 256)) for _ in range(count))
 
 
 class File:
@@ -88,11 +86,11 @@ class File:
         return bytes(held[:length]).ljust(length, b"\0")
 
     def draw(self, chance, kinds, is_hole):
-        """A length, and what each sector holds: of a hole the last as it was written, and one or all before it not."""
+        """A length, and what each sector holds: of a hole the last as it was written, and one or all before it not, or the last alone not."""
         least, most = self.lengths()
         count, newest = len(self.sectors()), str(len(self.versions) - 1)
         lost = [chance.choice(kinds) for _ in range(count)]
-        how = chance.randrange(4, 6) if is_hole and count > 1 else chance.randrange(5 if count > 1 else 4)
+        how = chance.randrange(4, 7) if is_hole and count > 1 else chance.randrange(5 if count > 1 else 4)
         if how == 0:
             return len(self.versions[0]), lost
         if how == 1:
@@ -104,6 +102,8 @@ class File:
             return most, [newest] * hole + lost[:1] + [newest] * (count - hole - 1)
         if how == 5:
             return most, lost[:-1] + [newest]
+        if how == 6:
+            return chance.choice((most, most - 1, chance.randint(least, most))), [newest] * (count - 1) + lost[-1:]
         mixed = [chance.choice((old, newest, str(chance.randrange(1, len(self.versions))))) for old in lost]
         return chance.choice((most, chance.randint(least, most))), mixed
 
@@ -141,18 +141,12 @@ class Disk:
         if kind == "make":
             self.files[words[1]] = File(sector=self.sector)
             self.changes.append((None, words[0], words[1]))
-        elif kind == "write":
-            self.files[words[0]].write(words[1], words[2])
-        elif kind == "cut":
-            self.files[words[0]].cut(words[1])
-        elif kind == "sync":
-            self.files[words[0]].sync()
-        elif kind == "link":
-            self.changes.append((None, words[1], self.now()[words[0]]))
+        elif kind in ("write", "cut", "sync"):
+            getattr(self.files[words[0]], kind)(*words[1:])
+        elif kind in ("link", "rename"):
+            self.changes.append((words[0] if kind == "rename" else None, words[1], self.now()[words[0]]))
         elif kind == "remove":
             self.changes.append((words[0], None, None))
-        elif kind == "rename":
-            self.changes.append((words[0], words[1], self.now()[words[0]]))
         elif kind == "sync folder":
             self.sync_folder(words[0])
 

@@ -9,11 +9,12 @@ import subprocess
 import tempfile
 import threading
 
-from board import CHIPS, Board, Device, flash_of
+from board import Board, Device, flash_of
 from line import connect, serve_each
-from simulator import PATIENCE
-from story import TRIES, Story, held, store
-from trial import LATE, fault_of, top
+from simulator import PATIENCE, Folder
+from stops import CHIPS, call, fault_of
+from story import TRIES, Story, held
+from trial import LATE, top
 
 NAME = "two-programs"
 NUMBER = 0x0412
@@ -67,8 +68,8 @@ def judge(program, count, locks=True):
     with tempfile.TemporaryDirectory(dir=top(), prefix="race-") as folder:
         room = os.path.join(folder, "room")
         os.makedirs(room)
-        store(room, {**story.files(), "flash": flash_of(chip)})
-        wrote = run(program, room, story.words(("write", "first")))
+        Folder(room).store_all({**story.files(), "flash": flash_of(chip)})
+        wrote = call([program, *story.words(("write", "first"))], room)
         if wrote.returncode != 0:
             return "the write before says: %s" % wrote.stderr.decode().strip()
         with Board(program, os.path.join(folder, "board"), Device(chip, held(room)["flash"])) as board:
@@ -79,19 +80,14 @@ def judge(program, count, locks=True):
                 first.kill()
                 return "the first program sends nothing: %s" % first.communicate()[1].decode().strip()
             unlocked = [] if locks else ["strace", "-o", os.devnull, "-e", "trace=flock", "-e", "inject=flock:retval=0"]
-            second = run(program, room, story.words(SECOND), unlocked)
+            second = call([*unlocked, program, *story.words(SECOND)], room)
             line.let_go.set()
             _, said = first.communicate()
             for _ in range(TRIES):
-                back = run(program, room, story.words(("undo",), board.socket))
+                back = call([program, *story.words(("undo",), board.socket)], room)
                 if fault_of(back.stderr.decode().strip()) not in LATE:
                     break
             if back.returncode == 0 and board.stored() == flash_of(chip):
                 return None
             return "undo says: %s; before it the second program said: %s; the first: %s" % tuple(
                 told.decode().strip() or "nothing" for told in (back.stdout + back.stderr, second.stdout + second.stderr, said))
-
-
-def run(program, room, words, before=()):
-    return subprocess.run([*before, program, *words], cwd=room, env={"PATH": os.environ["PATH"]}, stdin=subprocess.DEVNULL,
-                          capture_output=True)

@@ -5,12 +5,13 @@ import re
 import subprocess
 
 from disk import Misunderstood
+from stops import call
 
 CALL = re.compile(r"\d+ +(\w+)\((.*)\) += (-?\d+)(?: .*)?")
 TEXT = re.compile(r'"((?:\\x[0-9a-f]{2})*)"')
 # calls that are understood, and calls that would change files in ways that aren't
-UNDERSTOOD = """open openat close dup dup2 dup3 fcntl lseek read pread64 readv write writev pwrite64 ftruncate fsync fdatasync
-    rename renameat renameat2 link linkat unlink unlinkat flock socket connect sendto recvfrom""".split()
+UNDERSTOOD = """open openat close dup dup2 dup3 fcntl lseek read readv write writev pwrite64 ftruncate fsync fdatasync
+    rename renameat renameat2 link linkat unlink unlinkat flock socket sendto recvfrom""".split()
 FOREIGN = """creat truncate fallocate sync_file_range sync syncfs copy_file_range sendfile splice pwritev pwritev2 preadv preadv2
     msync mkdir mkdirat rmdir symlink symlinkat mknod mknodat sendmsg recvmsg io_uring_setup""".split()
 
@@ -153,13 +154,9 @@ class Reader:
     def do_socket(self, words, texts, result):
         self.open[result] = Opened("line")
 
-    def do_nothing(self, words, texts, result):
-        """It changes neither files nor what is told of them."""
-
 
 ALIKE = {"openat": "open", "dup2": "dup", "dup3": "dup", "readv": "read", "recvfrom": "read", "writev": "write", "sendto": "write",
-         "fdatasync": "fsync", "renameat": "rename", "renameat2": "rename", "linkat": "link", "unlinkat": "unlink", "pread64": "nothing",
-         "connect": "nothing"}
+         "fdatasync": "fsync", "renameat": "rename", "renameat2": "rename", "linkat": "link", "unlinkat": "unlink"}
 
 
 def run(words, room, record, inject=None):
@@ -167,8 +164,7 @@ def run(words, room, record, inject=None):
     traced = ["strace", "-f", "-xx", "-s", "100000000", "-o", record, "-e", "trace=" + ",".join(UNDERSTOOD + FOREIGN)]
     if inject is not None:
         traced += ["-e", "inject=" + inject]
-    return subprocess.run([*traced, *words], cwd=room, env={"PATH": os.environ["PATH"]}, stdin=subprocess.DEVNULL,
-                          capture_output=True)
+    return call([*traced, *words], room)
 
 
 def can_trace():

@@ -5,12 +5,12 @@ import copy
 import os
 import pathlib
 import random
-import subprocess
 import time
 
-from board import BASE, CHIPS, Board, Device, Served, flash_of, stand, table
+from board import Board, Device, Folder, Served, flash_of, stand
 from disk import Disk
 from record import Reader, run
+from stops import BASE, CHIPS, board_of, call, table
 
 # how long a recorded session waits until the line counts as quiet, in ms, and how often one is recorded anew that a busy machine
 # was too late for
@@ -57,9 +57,9 @@ class Story:
 
     def prepare(self, program, folder):
         """What stands before the session: the files, with those of the device."""
-        store(folder, self.files() if self.is_new else {**self.files(), "flash": self.flashes[0]})
+        Folder(folder).store_all({**self.files(), **board_of(self.chip.unique), **({} if self.is_new else {"flash": self.flashes[0]})})
         for use in self.before:
-            ran = subprocess.run([program, *self.words(use)], cwd=folder, env={}, capture_output=True)
+            ran = call([program, *self.words(use)], folder)
             if ran.returncode != (3 if "--stop" in use else 0):
                 raise Unrecorded("%s: before it, %s: %s" % (self.name, " ".join(use), ran.stderr.decode().strip()))
             self.flashes.append(held(folder)["flash"])
@@ -90,9 +90,9 @@ class Story:
         files = self.prepare(program, made)
         self.device = self.stands(files)
         if self.way == BOARD:
-            files = {name: held for name, held in files.items() if name not in ("flash", "flash.line")}
+            files = {name: held for name, held in files.items() if not name.startswith("flash")}
         self.start = files
-        store(room, files)
+        Folder(room).store_all(files)
         reader = Reader(room, Disk(files))
         with contextlib.ExitStack() as beside:
             board = beside.enter_context(Board(program, os.path.join(folder, "board"), self.device)) if self.way == BOARD else None
@@ -138,11 +138,7 @@ class Story:
     def note(self):
         """Notes how many bytes the device replied to each byte; behind how many events something isn't on the disk; and behind
         how many the journal was added to, and its bytes that aren't on the disk lie in more than one sector."""
-        device, self.replies = copy.deepcopy(self.device), []
-        for byte in self.sent():
-            device.feed(byte)
-            self.replies.append(len(device.owed))
-            device.owed.clear()
+        self.replies = list(map(len, replies(copy.deepcopy(self.device), self.sent())))
         disk, self.unsynced, self.crossed = Disk(self.start), [], []
         for moment, event in enumerate(self.events, 1):
             disk.do(event)
@@ -172,17 +168,16 @@ class Story:
 
     def device_at(self, count=None):
         """The device once it got so many bytes of the line, or all, and all that it replied until then."""
-        device, replies = copy.deepcopy(self.device), bytearray()
-        for byte in self.sent()[:count]:
-            device.feed(byte)
-            replies += bytes(device.owed)
-            device.owed.clear()
-        return device, bytes(replies)
+        device = copy.deepcopy(self.device)
+        return device, b"".join(replies(device, self.sent()[:count]))
 
 
-def store(folder, files):
-    for name, held in files.items():
-        pathlib.Path(folder, name).write_bytes(held)
+def replies(device, sent):
+    """What a device replies to each of these bytes."""
+    for byte in sent:
+        device.feed(byte)
+        yield bytes(device.owed)
+        device.owed.clear()
 
 
 def held(folder):

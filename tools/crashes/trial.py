@@ -5,33 +5,17 @@ import os
 import pathlib
 import random
 import re
-import subprocess
 import tempfile
 
 from board import Board
 from disk import BYTES, DIGITS, LINES, NUL, SECTOR, SECTORS, Disk
-from journal import Journal
+from journal import Journal, is_no_journal
+from stops import call, fault_of
 from story import BOARD, FILE
 
 # how long an undo waits until the line counts as quiet, in ms: where a reply was later than that, the next time longer
 WAITS = ("40", "300", "2000")
 LATE = ("stmflash: device does not follow the protocol", "stmflash: no answer from the device")
-# what a stopped append of a header leaves
-WORD = b"stmjournal "
-TORN = re.compile(b"(%s|%s([123]( [0-9A-F]{0,4})?|3 [0-9A-F]{4} [0-9A-F]{0,64})?)[\0!]*" % (
-    b"|".join(WORD[:end] for end in range(len(WORD))), WORD))
-
-
-def is_foreign(held):
-    """Whether a journal's file has bytes of a former file in the place of its header."""
-    *lines, tail = held.split(b"\n")
-    whole = [line for line in lines if not line.endswith(b"!")]
-    return not (whole[0].startswith(WORD) if whole else TORN.fullmatch(tail))
-
-
-def fault_of(said):
-    """What a session ended with, without the line behind it that tells what came."""
-    return said.split("\nhint: ")[0]
 
 
 class State:
@@ -84,7 +68,7 @@ def counts_at(story, moment):
 
 def draw(story, seed, number):
     """A state of a story. The second is of its end. Every other one is of a moment at which bytes of the journal in several
-    sectors aren't on the disk, each such moment in turn; the last of these sectors is there, and something before it isn't."""
+    sectors aren't on the disk, each such moment in turn; the last of these sectors is there, and something before it isn't, or it alone isn't."""
     chance = random.Random("%s %s %d" % (seed, story.name, number))
     kinds = (NUL, NUL, DIGITS, BYTES, LINES)
     is_hole = number % 2 == 0 and bool(story.crossed)
@@ -160,9 +144,8 @@ class Trial:
     def use(self, name, journal, *more):
         """What the program said; where a reply came too late for it, it is used again."""
         device = self.board.socket if self.board else "sim:%04X:flash" % self.story.chip.number
-        words = [self.program, name, "--table", "table", "--device", device, "--journal", journal, *more]
         for wait in self.waits:
-            ran = subprocess.run([*words, "--wait", wait], cwd=self.room, env={}, stdin=subprocess.DEVNULL, capture_output=True)
+            ran = self.run(name, "--table", "table", "--device", device, "--journal", journal, *more, "--wait", wait)
             said = ran.stderr.decode(errors="replace").strip()
             if ran.returncode == 0:
                 return ran.stdout.decode(errors="replace")
@@ -195,7 +178,8 @@ class Trial:
 
     def undo(self, name):
         """Reads the journal whole, undoes the newest segment, and then all that are left."""
-        if is_foreign(self.files[name]):
+        if is_no_journal(self.files[name]):
+            # bytes of a former file stand in the place of its header
             self.refused(name)
             return
         if self.is_readable(name):
@@ -232,7 +216,7 @@ class Trial:
         return is_read
 
     def run(self, *words):
-        return subprocess.run([self.program, *words], cwd=self.room, env={}, stdin=subprocess.DEVNULL, capture_output=True)
+        return call([self.program, *words], self.room)
 
     def recovered(self, name):
         """What a crash left at a journal's end is cut off by a word that the fault names, and kept beside: nothing that was on the

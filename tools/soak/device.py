@@ -76,8 +76,9 @@ class Chip:
 
     def entry(self):
         """Its entry in a chip table, where all pages are of one size."""
+        told = "unique = [0x%08X, %d]\n" % self.unique_at if self.unique_at else ""
         return (f"[[chip]]\nid = 0x{self.number:04X}\nbase = 0x{self.base:08X}\npages = [[{self.pages()}, {self.sizes[0]}]]\n"
-                f'erase = "{"extended" if self.extended else "page"}"\nerased = {self.erased}\n')
+                f'erase = "{"extended" if self.extended else "page"}"\nerased = {self.erased}\n{told}')
 
 
 def exclusive_or(numbers):
