@@ -10,14 +10,13 @@ use Rattle.stm_session.specs.Sending.{SendsAsRun, is_whole, most_of_command, mos
 use Rattle.stm_session.proofs.RunContracts.{contract_ran, contract_refused, contract_unopened, runs_err, runs_ok}
 use Rattle.stm_session.proofs.Sending.{same_fault}
 use Rattle.std.proofs.Common.{refl}
-use Rattle.stm_session.specs.Reaching.{IsConfirmedInPart, asking_steps}
-use Rattle.stm_session.proofs.Orders.{settled_then}
-use Rattle.std.proofs.Common.{inl, inr}
+use Rattle.std.proofs.Common.{inl}
 use Rattle.stm_session.specs.declared.fault.Fault.{Fault}
 use Rattle.stm_session.specs.declared.fault.Fault.TheVariants as faults
-use Rattle.stm_session.specs.RunOrder.{AreBegun, RunStops}
-use Rattle.stm_session.proofs.Reaching.{at_fault, reached_stops, told_stops}
-use Rattle.stm_session.proofs.Fitting.{unrefused-fits}
+use Rattle.stm_session.specs.RunOrder.{AreBegun, AreDoneInOrder, AreDoneSomehow, RunStops}
+use Rattle.stm_session.proofs.Reaching.{at_fault, told_stops}
+use Rattle.stm_journal.specs.States.{StateData}
+use Rattle.stm_session.proofs.VerifiedWrites.{session_does, session_stops}
 use Rattle.stm_session.proofs.running.run.Goals as goal
 
 no_commands : (commands : List Command) → commands_in commands ≡ [] → commands ≡ []
@@ -99,40 +98,20 @@ returns-clause-puts g c =
 pub returns-clause-order : goal.returns-clause-order
 returns-clause-order g c =
     let V = g.R.Rig.view in
-    let l = c.in_ok-opened.opened.journal in
-    let a = (V c.args.rig.now).calls in
-    let b = (V c.open.new.rig).calls in
-    let d = (V c.run_confirmed.new.rig).calls in
+    let opened = c.in_ok-opened.ensures in
     let done = c.in_ok-outcomes.ensures.order in
-    let reached = c.in_ok-opened.ensures.order l.is_torn in
-    record {
-      journal = l;
-      loaded = c.in_ok-opened.ensures.loaded;
-      sound = c.in_ok-check_commands.ensures.sound;
-      chip = c.in_ok-opened.opened.chip.now;
-      listed = c.in_ok-opened.ensures.coherent.chip;
-      board = (unrefused-fits c.in_ok-opened.opened.chip.now l.state c.in_ok-opened.ensures.coherent.fits).board;
-      does = (reached.0, reached.1, done.0, (done.1.0, done.1.1, (map outcome_data c.in_ok-outcomes.outcomes.items, c.run_confirmed.new.journal.state, done.1.2)), settled_then contact_way l.is_torn (asking_steps reached.0 reached.1 _) done.0 a b d refl reached.2 done.2.acts);
-    }
+    session_does c.args.table.now (V c.args.rig.now) (V c.open.new.rig) c.in_ok-opened.opened opened.coherent opened.loaded c.in_ok-check_commands.ensures.sound opened.order
+    (AreDoneSomehow (commands_in c.args.commands.now)) c.run_confirmed.new.journal (V c.run_confirmed.new.rig)
+    (done.0, (done.1.0, done.1.1, (map outcome_data c.in_ok-outcomes.outcomes.items, c.run_confirmed.new.journal.state, done.1.2)), done.2)
 
 pub returns-clause-told : goal.returns-clause-told
 returns-clause-told g c =
     let V = g.R.Rig.view in
-    let l = c.in_ok-opened.opened.journal in
-    let a = (V c.args.rig.now).calls in
-    let b = (V c.open.new.rig).calls in
-    let d = (V c.run_confirmed.new.rig).calls in
+    let opened = c.in_ok-opened.ensures in
     let done = c.in_ok-outcomes.ensures.order in
-    let reached = c.in_ok-opened.ensures.order l.is_torn in
-    record {
-      journal = l;
-      loaded = c.in_ok-opened.ensures.loaded;
-      sound = c.in_ok-check_commands.ensures.sound;
-      chip = c.in_ok-opened.opened.chip.now;
-      listed = c.in_ok-opened.ensures.coherent.chip;
-      board = (unrefused-fits c.in_ok-opened.opened.chip.now l.state c.in_ok-opened.ensures.coherent.fits).board;
-      does = (reached.0, reached.1, done.0, (done.1.0, done.1.1, (c.run_confirmed.new.journal.state, done.1.2)), settled_then contact_way l.is_torn (asking_steps reached.0 reached.1 _) done.0 a b d refl reached.2 done.2.acts);
-    }
+    session_does c.args.table.now (V c.args.rig.now) (V c.open.new.rig) c.in_ok-opened.opened opened.coherent opened.loaded c.in_ok-check_commands.ensures.sound opened.order
+    (λ k s steps. (last : StateData) × AreDoneInOrder k (commands_in c.args.commands.now) (map outcome_data c.in_ok-outcomes.outcomes.items) s last steps) c.run_confirmed.new.journal (V c.run_confirmed.new.rig)
+    (done.0, (done.1.0, done.1.1, (c.run_confirmed.new.journal.state, done.1.2)), done.2)
 
 pub returns-in_err-opened-clause-stops : goal.returns-in_err-opened-clause-stops
 returns-in_err-opened-clause-stops g c =
@@ -154,24 +133,13 @@ returns-in_err-check_commands-clause-stops g c =
 pub returns-in_err-outcomes-clause-stops : goal.returns-in_err-outcomes-clause-stops
 returns-in_err-outcomes-clause-stops g c =
     let V = g.R.Rig.view in
-    let l = c.in_ok-opened.opened.journal in
+    let opened = c.in_ok-opened.ensures in
     let a = V c.args.rig.now in
-    let b = V c.open.new.rig in
     let d = V c.run_confirmed.new.rig in
-    let chip = c.in_ok-opened.opened.chip.now in
     let cs = commands_in c.args.commands.now in
-    let reached = c.in_ok-opened.ensures.order l.is_torn in
     let P : Fault → Type 0 = λ e. RunStops c.args.table.now cs a d e in
     at_fault P _ c.from_residual-in_err-outcomes.result c.from_residual-in_err-outcomes.ensures.1
-    (inr (record {
-      journal = l;
-      loaded = c.in_ok-opened.ensures.loaded;
-      sound = c.in_ok-check_commands.ensures.sound;
-      chip = chip;
-      listed = c.in_ok-opened.ensures.coherent.chip;
-      board = (unrefused-fits c.in_ok-opened.opened.chip.now l.state c.in_ok-opened.ensures.coherent.fits).board;
-      does = (reached.0, reached.1, reached_stops contact_way chip.id reached.0 reached.1 (IsConfirmedInPart chip (AreBegun c.in_err-outcomes.field-0.0 chip cs l.state)) _ l.is_torn a b d reached.2 c.in_err-outcomes.ensures.stops);
-    }))
+    (session_stops c.args.table.now a (V c.open.new.rig) c.in_ok-opened.opened opened.coherent opened.loaded c.in_ok-check_commands.ensures.sound opened.order (λ k s. AreBegun c.in_err-outcomes.field-0.0 k cs s) d _ c.in_err-outcomes.ensures.stops)
 
 pub returns-in_err-opened-clause-puts : goal.returns-in_err-opened-clause-puts
 returns-in_err-opened-clause-puts g c =
