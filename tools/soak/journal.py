@@ -160,14 +160,21 @@ class Journal:
         return self.unique is not None and self.unique != unique
 
     def add(self, rig, line, chip=None):
-        """Adds a line in one append; with a chip before the first segment, the header too. The file adds the CRC behind a page."""
+        """Adds a line in one append; with a chip before the first segment, the header too. The file adds the CRC behind a page, and a second
+        mark where a torn line is closed."""
         text = b""
         if self.torn:
             text += b"!\n"
         header = header_of(chip) if chip is not None and self.number is None else None
         if header is not None:
             text += header + b"\n"
-        rig.append(text + line + b"\n")
+        begin = len(rig.journal)
+        try:
+            rig.append(text + line + b"\n")
+        finally:
+            added = bytes(rig.journal[begin:])
+            if added.startswith(b"!\n") and (self.version == 3 or added.startswith(b"!\nstmjournal 3 ")):
+                rig.journal[begin:begin] = b"!"
         if self.torn:
             self.lines += 1
             self.torn = False

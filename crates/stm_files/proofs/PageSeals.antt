@@ -117,9 +117,13 @@ none-sealed : (seals : Bool) → IsSealIf seals [] []
 none-sealed true = record { of_page = λ torn n page is same. absurd (some-added torn n page same); of_other = λ other. refl }
 none-sealed false = refl
 
+none-in : (seals : Bool) (old : Option (List ℕ)) → AppendsSealed seals old old []
+none-in true old = ([], none-sealed true, Appends-nil old)
+none-in false old = ([], none-sealed false, Appends-nil old)
+
 -- where nothing is added
 pub none-added : (seals : Bool) (added : List ℕ) (old : Option (List ℕ)) → added ≡ [] → AppendsSealed seals old old added
-none-added seals added old none = subst (λ (xs : List ℕ). AppendsSealed seals old old xs) (sym none) ([], none-sealed seals, Appends-nil old)
+none-added seals added old none = subst (λ (xs : List ℕ). AppendsSealed seals old old xs) (sym none) (none-in seals old)
 
 no-more : (xs : List ℕ) → (length xs == 0) ≡ true → xs ≡ []
 no-more [] is = refl

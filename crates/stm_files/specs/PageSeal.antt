@@ -1,5 +1,5 @@
 -- The void line behind a kept page in a journal that names its board: the CRC of the page's bytes.
-use Rattle.std.specs.Prelude.{◌≡◌, ℕ, ◌+◌, ◌-◌, ◌==◌, Bool, true, false, if◌then◌else◌, List, [], ◌∷◌, ◌++◌}
+use Rattle.std.specs.Prelude.{◌≡◌, ℕ, ◌+◌, ◌-◌, ◌==◌, ◌&&◌, Bool, true, false, if◌then◌else◌, List, [], ◌∷◌, ◌++◌}
 use Rattle.std.specs.Prelude.{length, take, drop, position, codes, decimal, bytes_eq, is_some}
 use Rattle.std.specs.Prelude.{Option, None, Some, option_and_then}
 use Rattle.std.specs.Int.{to_be_bytes, w32}
@@ -36,10 +36,15 @@ abbrev pub IsSealIf : Bool → List ℕ → List ℕ → Type 0
 IsSealIf true added seal = IsSeal added seal
 IsSealIf false added seal = seal ≡ []
 
--- bytes were added, and behind them what seals them
+-- what stands in front of an append that closes a torn tail, in a journal that has such lines
+abbrev pub second_mark : Bool → List ℕ → List ℕ
+second_mark seals added = if seals && is_some (behind (mark true) added) then 33 ∷ [] else []
+
+-- bytes were added, behind a second mark where they close a torn tail, and behind them what seals them
 abbrev pub AppendsSealed : Bool → Option (List ℕ) → Option (List ℕ) → List ℕ → Type 0
 AppendsSealed seals old new added =
-    (seal : List ℕ) × IsSealIf seals added seal × Appends old new (added ++ seal)
+    (seal : List ℕ) × IsSealIf seals added seal
+    × Appends old new (second_mark seals added ++ (added ++ seal))
 
 -- an append begins a journal that names its board
 abbrev pub names_board : List ℕ → Bool

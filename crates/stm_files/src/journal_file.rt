@@ -5,7 +5,7 @@ ghost use Rattle.std.specs.Io.KnownBytes.{IsAtEnd};
 ghost use Rattle.stm_files.specs.JournalFile.{JournalBytes, IsNew, IsNoted, ahead_of, is_failed, known_bytes};
 ghost use Rattle.stm_files.specs.JournalFile.{lock_of};
 ghost use Rattle.stm_files.specs.Locks.{IsHeld, IsHeldIfThere};
-ghost use Rattle.stm_files.specs.PageSeal.{AppendsSealed, IsSealIf, names_board};
+ghost use Rattle.stm_files.specs.PageSeal.{AppendsSealed, IsSealIf, names_board, second_mark};
 
 mod cut_off;
 mod ending;
@@ -15,7 +15,7 @@ use crate::disk_file::DiskFile;
 use crate::held::Held;
 use crate::journal_rig::Source;
 use crate::locks::Locks;
-use crate::page_seal::{names_board, seal_if};
+use crate::page_seal::{names_board, seal_if, second_mark};
 use crate::unusable::Unusable;
 pub use ending::is_moved;
 use making::open_held;
@@ -215,13 +215,14 @@ impl<'a, R: Locks + AllocGlobal> JournalFile<'a, R> {
         Ok(())
     }
 
-    /// The bytes of an append with what is to stand behind them.
+    /// The bytes of an append, with what is to stand before them and behind.
     fn sealed(&self, seals: bool, bytes: &[u8]) -> io::Result<Vec<u8>>
         ensures { IfOk result (λ text. (seal : List ℕ) × IsSealIf seals bytes.now seal
-            × (text.items ≡ bytes.now ++ seal)) }
+            × (text.items ≡ second_mark seals bytes.now ++ (bytes.now ++ seal))) }
     {
         let seal = seal_if(self.rt.alloc(), seals, bytes)?;
         let mut text = Vec::new(self.rt.alloc());
+        text.extend_from_slice(second_mark(seals, bytes))?;
         text.extend_from_slice(bytes)?;
         text.extend_from_slice(&seal)?;
         Ok(text)

@@ -2,7 +2,7 @@
 ghost use Rattle.std.specs.Prelude.{◌≡◌, ◌==◌, ℕ, List, None, Some, Ok, IfOk, MatchOption, position};
 ghost use Rattle.hex.specs.Hex.{decode_of};
 ghost use Rattle.stm_files.specs.PageSeal.{IsSeal, IsSealIf, digits_at, digits_of, names_board};
-ghost use Rattle.stm_files.specs.PageSeal.{left_line, sum_line, unmarked};
+ghost use Rattle.stm_files.specs.PageSeal.{left_line, second_mark, sum_line, unmarked};
 ghost use Rattle.stm_files.specs.PageSum.{page_sum};
 
 use crate::page_sum::page_sum;
@@ -57,6 +57,18 @@ fn unmarked(added: &[u8]) -> &[u8]
     match added.strip_prefix(b"!\n") {
         Some(rest) => rest,
         None => added,
+    }
+}
+
+/// A second mark in front of one that closes a torn tail, in a journal that names its board: what older
+/// bytes of the disk made whole of a torn CRC is none then.
+pub fn second_mark(seals: bool, added: &[u8]) -> &'static [u8]
+    ensures { result.now ≡ second_mark seals added.now }
+{
+    if seals && added.strip_prefix(b"!\n").is_some() {
+        b"!"
+    } else {
+        b""
     }
 }
 
