@@ -30,7 +30,7 @@ use Rattle.stm_session.specs.Meaning.{CommandData}
 use Rattle.stm_session.specs.Order.{Step, Adds, Sends, page_address, page_reads, program_steps, read_steps, rewrite_steps, write_steps}
 use Rattle.stm_session.specs.Reaching.{confirmed_at}
 use Rattle.stm_session.specs.RunOrder.{IsReading}
-use Rattle.stm_session.specs.Seen.{IsByteSeen, LeavesAlone}
+use Rattle.stm_session.specs.Seen.{IsByteSeen, SparesPage}
 use Rattle.stm_session.specs.Undoable.{has_companion}
 use Rattle.stm_session.specs.lemmas.FramesInside.{AreInside, bytes_inside, frames_inside}
 use Rattle.stm_session.proofs.Differences.{no-difference-agrees}
@@ -71,7 +71,7 @@ page_here chip a inside =
 -- Steps that leave a page alone.
 module _ (chip : ChipData) (n : ℕ) where
   abbrev pub Alone : List Step → Type 0
-  Alone xs = AllByRecursion (LeavesAlone chip n) xs
+  Alone xs = AllByRecursion (SparesPage chip n) xs
 
   pub alone_then : (xs ys : List Step) → Alone xs → Alone ys → Alone (xs ++ ys)
   alone_then [] ys p q = q
@@ -85,7 +85,7 @@ module _ (chip : ChipData) (n : ℕ) where
 
   pub alone_readings : (xs : List Step) → AllByRecursion (IsReading chip) xs → Alone xs
   alone_readings [] are = tt
-  alone_readings (x ∷ xs) (is, are) = let P : Step → Type 0 = λ s. LeavesAlone chip n s in (subst P (sym is.is) (reads is.address is.answer refl), alone_readings xs are)
+  alone_readings (x ∷ xs) (is, are) = let P : Step → Type 0 = λ s. SparesPage chip n s in (subst P (sym is.is) (reads is.address is.answer refl), alone_readings xs are)
 
   alone_writes : (m : ℕ) (page : List ℕ) (frames : List Frame) → m ≢ n → length page ≡ page_size chip m → AreInside (length page) frames → Alone (write_steps chip m page frames)
   alone_writes m page [] other size inside = tt

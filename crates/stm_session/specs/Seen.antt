@@ -12,9 +12,9 @@ use Rattle.stm_session.specs.Order.{Step, Adds, Sends}
 use Rattle.stm_session.specs.RunOrder.{RunDoes}
 
 -- a step erases and writes no other pages than some among which this one isn't
-abbrev pub LeavesAlone : ChipData → ℕ → Step → Type 0
-LeavesAlone chip n (Adds entries) = Unit {0}
-LeavesAlone chip n (Sends turns) = MaySend chip (λ m. m ≢ n) turns
+abbrev pub SparesPage : ChipData → ℕ → Step → Type 0
+SparesPage chip n (Adds entries) = Unit {0}
+SparesPage chip n (Sends turns) = MaySend chip (λ m. m ≢ n) turns
 
 -- Some block was read, in which this byte came at its place; from then on its page was left alone.
 pub record IsByteSeen (chip : ChipData) (p : ℕ × ℕ) (steps : List Step) : Type 0 where
@@ -27,7 +27,7 @@ pub record IsByteSeen (chip : ChipData) (p : ℕ × ℕ) (steps : List Step) : T
   pub within : p.0 < address + length answer
   pub came : slice_index answer (p.0 - address) ≡ p.1
   pub later : List Step
-  pub alone : AllByRecursion (LeavesAlone chip page) later
+  pub alone : AllByRecursion (SparesPage chip page) later
   pub is : steps ≡ before ++ Sends (read_turns address answer) ∷ later
 
 -- and so was each of an image, in one session

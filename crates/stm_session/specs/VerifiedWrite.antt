@@ -30,8 +30,8 @@ use Rattle.stm_session.specs.RunOrder.{IsDoneTelling, RunDoes, RunStops, RunsInO
 use Rattle.stm_session.specs.Sending.{SendsAsRun, is_whole}
 
 -- a part of an image has what the image has in each page that the newest segment keeps
-abbrev pub HasKept : ChipData → StateData → Pairs → Pairs → Type 0
-HasKept chip s image part = (n : ℕ) → n < page_count chip → IsTrue (newest_keeps n s)
+abbrev pub HoldsKept : ChipData → StateData → Pairs → Pairs → Type 0
+HoldsKept chip s image part = (n : ℕ) → n < page_count chip → IsTrue (newest_keeps n s)
     → (p : ℕ × ℕ) → StandsIn image (page_address chip n) (page_size chip n) p → Contains part p
 
 -- what the commands are that it does
@@ -58,7 +58,7 @@ pub record IsWrittenAndSeen (chip : ChipData) (image part : Pairs) (outcomes : L
   pub is_written : IsDoneTelling chip (writes image) s said written
   pub keeps : AllByRecursion (KeepsErased last) written
   pub deeper : length last.stack ≡ length s.stack + 1
-  pub has_kept : HasKept chip last image part
+  pub has_kept : HoldsKept chip last image part
   pub read : List Step
   pub is_read : IsDoneTelling chip (verifies part) last was_verified read
   pub told : outcomes ≡ said ∷ (was_verified ∷ [])

@@ -8,7 +8,7 @@ ghost use Rattle.stm_session.specs.Refusals.{image_fits};
 ghost use Rattle.stm_session.specs.Order.{IsAfter};
 ghost use Rattle.stm_session.specs.RunOrder.{AreBegun};
 ghost use Rattle.stm_session.specs.Sending.{most_of_command, most_of_confirming};
-ghost use Rattle.stm_session.specs.VerifiedWrite.{HasKept, IsWrittenAndSeen, VerifiesWrite};
+ghost use Rattle.stm_session.specs.VerifiedWrite.{HoldsKept, IsWrittenAndSeen, VerifiesWrite};
 ghost use Rattle.stm_session.specs.VerifiedWrite.{WritesThen, written_then};
 
 use crate::command_check::check_commands;
@@ -32,7 +32,7 @@ fn kept_part(
     image: &Image,
 ) -> Result<Image, AllocError>
     ensures among { IfOk result (λ part. IsAmong part image.now) }
-    ensures kept { IfOk result (HasKept chip.now journal.now.state image.now) }
+    ensures kept { IfOk result (HoldsKept chip.now journal.now.state image.now) }
 {
     chip.keeps_limits();
     let newest = journal.depth();

@@ -22,15 +22,11 @@ abbrev pub erased_text : ℕ → ℕ → List ℕ
 erased_text segment pages = change_text segment pages (codes "erased")
 
 -- of how many bytes the flash has the image's
-abbrev pub verified_text : ℕ → List ℕ
-verified_text bytes = line_of_text (codes "verified " ++ decimal bytes ++ codes " bytes")
+abbrev pub verified_head : ℕ → List ℕ
+verified_head bytes = codes "verified " ++ decimal bytes ++ codes " bytes"
 
--- the same of a write, which read so many of them again, where it didn't all
-abbrev pub seen_text : ℕ → ℕ → List ℕ
-seen_text bytes again =
-    if again == bytes then verified_text bytes
-    else line_of_text (codes "verified " ++ decimal bytes ++ codes " bytes, " ++ decimal again
-    ++ codes " of them again")
+abbrev pub verified_text : ℕ → List ℕ
+verified_text bytes = line_of_text (verified_head bytes)
 
 -- a CRC
 abbrev pub sum_text : ℕ → List ℕ
@@ -47,6 +43,17 @@ behind_text bytes = codes ", " ++ decimal bytes
 -- and what that was
 abbrev pub again_text : List ℕ
 again_text = line_of_text (codes " bytes verified")
+
+-- the same of a write's bytes, where it didn't read all again
+abbrev pub of_them_text : List ℕ
+of_them_text = line_of_text (codes " of them again")
+
+abbrev pub partly_text : ℕ → List ℕ
+partly_text again = behind_text again ++ of_them_text
+
+abbrev pub seen_text : ℕ → ℕ → List ℕ
+seen_text bytes again =
+    if again == bytes then verified_text bytes else verified_head bytes ++ partly_text again
 
 -- the line of an undo, with those bytes where that is told
 abbrev pub undone_text : ℕ → Option ℕ → List ℕ

@@ -6,7 +6,8 @@ ghost use Rattle.stm_work.specs.DeviceText.{board_text, info_text, table_text, t
 ghost use Rattle.stm_work.specs.Printing.{board_text_of, erased_text, kept_text, left_text};
 ghost use Rattle.stm_work.specs.Printing.{sum_text, answer_text, tried_text, tried_text_of};
 ghost use Rattle.stm_work.specs.Printing.{again_text, behind_text, undone_head, undone_text};
-ghost use Rattle.stm_work.specs.Printing.{seen_text, verified_text, written_text};
+ghost use Rattle.stm_work.specs.Printing.{of_them_text, partly_text, seen_text, verified_head};
+ghost use Rattle.stm_work.specs.Printing.{verified_text, written_text};
 ghost use Rattle.stm_work.specs.TriedBoards.{table_texts};
 
 use crate::chip_tables::ChipTables;
@@ -205,16 +206,41 @@ fn print_verified<O: Write>(bytes: usize, out: &mut O) -> io::Result<()>
     writeln!(out, "verified {bytes} bytes")
 }
 
-/// Prints the same of a write, which read so many of them again.
+/// Prints the beginning of that line.
+fn print_verified_head<O: Write>(bytes: usize, out: &mut O) -> io::Result<()>
+    ensures { OnOk result (Appends (O.contents out.old) (O.contents out.new)
+        (verified_head bytes)) }
+{
+    write!(out, "verified {bytes} bytes")
+}
+
+/// Prints the line of a verify behind a write, which read so many of the bytes again.
+#[tactic(auto, using(crate::proofs::TextParts::ends))]
 fn print_seen<O: Write>(bytes: usize, again: usize, out: &mut O) -> io::Result<()>
     ensures { OnOk result (Appends (O.contents out.old) (O.contents out.new)
         (seen_text bytes again)) }
 {
     if again == bytes {
-        print_verified(bytes, out)
-    } else {
-        writeln!(out, "verified {bytes} bytes, {again} of them again")
+        return print_verified(bytes, out);
     }
+    print_verified_head(bytes, out)?;
+    print_partly(again as u64, out)
+}
+
+/// Prints the end of that line, where it didn't read all of them again.
+fn print_partly<O: Write>(again: u64, out: &mut O) -> io::Result<()>
+    ensures { OnOk result (Appends (O.contents out.old) (O.contents out.new)
+        (partly_text again)) }
+{
+    print_behind(again, out)?;
+    print_of_them(out)
+}
+
+/// Prints what that was.
+fn print_of_them<O: Write>(out: &mut O) -> io::Result<()>
+    ensures { OnOk result (Appends (O.contents out.old) (O.contents out.new) of_them_text) }
+{
+    writeln!(out, " of them again")
 }
 
 /// Prints the lines of a write and of a verify.
