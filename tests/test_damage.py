@@ -104,13 +104,23 @@ class Damage(telling.Told):
         tails = [wrong[:count] + tail for count in range(len(wrong)) for tail in (b"", bytes(7))]
         for behind in (*tails, *others, wrong.upper(), b"!\n" + wrong, b"erase 3\n" + wrong, right, right + wrong):
             with self.subTest(behind=behind):
-                mark = b"" if behind.endswith(b"\n") or not behind else b"!\n"
+                mark = b"" if behind.endswith(b"\n") or not behind else b"!!\n"
                 self.store("journal", begun + behind)
                 said, journal = self.at("undo"), self.held("journal")
                 self.assertTold(said, "undone 1\n", flash=COUNTING)
                 self.assertTrue(journal.startswith(begun + behind + mark), journal[-40:])
         self.store("journal", begun + wrong)
         self.assertRefused(3, 1, "undo")
+
+    def test_old_digits_make_no_line_whole(self):
+        """Those of a former journal behind a torn CRC: a second mark closes it, so that an undo which was stopped goes on."""
+        torn = HEAD + b"open 1\n" + kept(3, part(3)) + b"erase 3\n" + kept(5, part(5), has_sum=False) + b"crc 0BADC0DE"
+        for steps in range(600, 4000, 200):
+            with self.subTest(steps=steps):
+                self.store_all({"flash": COUNTING, "flash.line": None, "journal": torn})
+                self.at("undo", "--stop", str(steps))
+                self.assertEqual(self.at("undo").status, 0)
+                self.assertFile("flash", COUNTING)
 
     def test_a_journal_without_such_lines_goes_on(self):
         """That of an older version of the program, which may have begun one that this one goes on with."""
