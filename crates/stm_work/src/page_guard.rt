@@ -209,10 +209,10 @@ impl<'a> PageGuard<'a> {
         }
     }
 
-    /// The lines of the pages of a segment that has ended; none else.
-    pub fn take_lines(&mut self) -> Vec<u8> {
+    /// The lines of the pages of a segment that has ended, where all was done; none else.
+    pub fn take_lines(&mut self, is_done: bool) -> Vec<u8> {
         let mut lines = Vec::new(self.alloc);
-        if self.has_ended {
+        if is_done && self.has_ended {
             mem::swap(&mut lines, &mut self.lines);
         }
         lines

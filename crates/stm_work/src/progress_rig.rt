@@ -63,11 +63,11 @@ impl<'a, L: Guarded + Drop, W: Write + Drop, C: Clock> ProgressRig<'a, L, W, C> 
         self.guard.changed()
     }
 
-    /// Says in the journal's file what the pages were left with of a segment that ended.
-    pub fn note_left(&mut self)
+    /// Says in the journal's file what the pages were left with of a segment that ended, where all was done.
+    pub fn note_left(&mut self, is_done: bool)
         ensures { Stays (L.view self.old.inner) (L.view self.new.inner) }
     {
-        let lines = self.guard.take_lines();
+        let lines = self.guard.take_lines(is_done);
         self.inner.note(&lines);
     }
 
@@ -216,7 +216,7 @@ impl<'a, L: Guarded + Drop, W: Write + Drop, C: Clock> Keeper for ProgressRig<'a
         name: &'w str,
         to: Option<&'w str>,
     ) -> Result<u32, Failure<'w>> {
-        self.note_left();
+        self.note_left(true);
         self.inner.keep(alloc, name, to)
     }
 }

@@ -31,6 +31,7 @@ use Rattle.stm_work.specs.declared.work.Work.TheVariants as work
 use Rattle.stm_work.specs.Answer.{is_flash}
 use Rattle.stm_work.specs.Plan.{IsUsePlan, TellsSteps}
 use Rattle.stm_work.specs.Unprotecting.{TellsSilence}
+use Rattle.stm_work.specs.Steps.{Stays}
 use Rattle.stm_work.specs.Watching.{IsWatchingBegun, TakesWatched}
 use Rattle.stmflash.specs.declared.output.Output.{Output}
 use Rattle.stmflash.specs.declared.output.Output.TheVariants.{Printed}
@@ -103,8 +104,8 @@ abbrev pub TakesAhead : {R : Type 0} → Option Greeting → (R → RigState) �
 TakesAhead None view plan old new done = TakesPlan view plan old new done
 TakesAhead (Some way) view plan old new done = TakesGreeted way view plan old new done
 
--- It is taken on a Rig around another one, at which watching begins by what is known. The inner one is handed back as the session left it, and what came of it
--- is told.
+-- It is taken on a Rig around another one, at which watching begins by what is known. The inner one is handed
+-- back, and tells of itself what it told behind the session; and what came of that is told.
 pub record TakesAround {R L : Type 0} (view : R → RigState) (inner : R → L)
     (inner_view : L → RigState) (known : Known) (way : Option Greeting) (plan : Plan)
     (before after : L) (told : Result Steps Failure) : Type 0 where
@@ -114,7 +115,7 @@ pub record TakesAround {R L : Type 0} (view : R → RigState) (inner : R → L)
   pub takes : TakesAhead way view plan old new done
   pub within : inner old ≡ before
   pub begins : IsWatchingBegun known (inner_view before) (view old)
-  pub left : inner new ≡ after
+  pub left : Stays (inner_view (inner new)) (inner_view after)
   pub tells : TellsSteps done told
 
 -- Steps whose bytes are in a file: of them it is told of which board they were, and how they failed.

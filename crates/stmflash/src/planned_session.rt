@@ -69,9 +69,7 @@ pub fn take_on<'a, 's, L: Guarded + Drop, W: Write + Drop, C: Clock>(
     let mut rig = rig.into_inner();
     *hint = rig.hint();
     let done = failed_on(rig.changed(), done);
-    if failure_of(&done).is_none() {
-        rig.note_left();
-    }
+    rig.note_left(failure_of(&done).is_none());
     let rig = rig.finish(done.is_ok(), told);
     Taken { rig, done }
 }
