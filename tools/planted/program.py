@@ -262,7 +262,7 @@ FAULTS = {
         '"\\x1b[?7l{}{status}{hint}\\x1b[K\\x1b[?7h", if @on { "\\n" } else { "\\r" }', "test_progress.Small.test_a_terminal"),
     "a line that is wider than the terminal is wrapped": ("stm_work/progress_screen", "text.as_bytes()", "text.as_bytes().get(5..).unwrap_or(&[])",
         "test_progress.Progress.test_a_terminal_has_one_line"),
-    "a page at work is no page": ("stm_work/progress_watch", "self.at_work()", "0",
+    "a page at work is no page": ("stm_work/kept_pages", "self.at_work()", "0",
         "test_progress.Progress.test_an_undo_counts_what_the_journal_keeps"),
     # ---- calls
     "an answer that is not ended goes on": ("stmflash/confirmation", "        let byte = read_byte(input)?;\n",

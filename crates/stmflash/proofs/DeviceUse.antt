@@ -15,6 +15,7 @@ use Rattle.stm_work.specs.declared.work.Work.{Work}
 use Rattle.stm_session.specs.declared.greeting.Greeting.{Greeting}
 use Rattle.stmflash.specs.DeviceUse.{AreOutOf, TakesAround, UsesOn, UsesOnce, UsesPlan, greeting_for}
 use Rattle.stm_work.specs.Plan.{AreTold, IsUsePlan, TellsSteps}
+use Rattle.stm_work.specs.Steps.{Stays}
 use Rattle.stm_work.specs.Watching.{IsWatchingBegun}
 
 -- where just what was so at Ok answers Ok, it is so
@@ -62,6 +63,13 @@ begun-inner {A} {L} inner_view known first refusal line journal inner before sam
       calls = refl;
       told = refl;
     })))
+
+-- what stays of a Rig stays of one that is the same
+pub stays-as : {L : Type 0} (view : L → RigState) (a b c d : L) → a ≡ b → Stays (view a) (view c) → d ≡ c → Stays (view b) (view d)
+stays-as {L} view a b c d same stays is =
+    let P : L → Type 0 = λ x. Stays (view x) (view d) in
+    let Q : L → Type 0 = λ x. Stays (view a) (view x) in
+    subst P same (subst Q (sym is) stays)
 
 -- a session on a Rig around another one, what was made of it, and where its bytes went
 pub uses-plan : {R L : Type 0} (view : R → RigState) (inner : R → L) (inner_view : L → RigState)

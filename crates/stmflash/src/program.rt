@@ -55,7 +55,7 @@ pub fn program<'a, 'r, 'e, R: System, I: Read, O: Write, E: Write + IsTerminal>(
     // the name of a journal that the words leave to the device's board
     let mut place = Place::new(rt.alloc());
     let is_json = is_json_wanted(environment, words);
-    match read_request(rt.alloc(), environment, words) {
+    match read_request(rt.alloc(), environment, &*words) {
         Ok(request) => answer(rt, request, &mut place, is_json, is_there, input, out, err),
         Err(Unread::Help(text)) => print_help(rt, text.as_str(), out, err),
         Err(Unread::Refused(text)) => refuse(rt, text.as_str(), is_json, out, err),

@@ -1,5 +1,5 @@
 use Rattle.std.proofs.Common.{◌∙◌, ap}
-use Rattle.stmflash.proofs.DeviceUse.{begun-inner, tells-again}
+use Rattle.stmflash.proofs.DeviceUse.{begun-inner, stays-as, tells-again}
 use Rattle.stmflash.proofs.planned_session.take_on.Goals as goal
 
 pub returns : goal.returns
@@ -13,6 +13,7 @@ returns g c =
       within = inner;
       begins = begun-inner g.L.Rig.view _ _ _ _ _ _ _ c.new-rig.ensures.watch
           c.new-rig.ensures.refusal inner;
-      left = cc;
+      left = stays-as g.L.Rig.view _ _ _ _ (ap (λ x. x.inner) c.into_inner-rig.ensures)
+          c.note_left.ensures c.finish-rig.ensures;
       tells = tells-again _ _ _ c.done_watched-done.ensures c.failed_on-done.ensures;
     }
