@@ -14,7 +14,7 @@ use stm_watch::{Watch, WatchRig};
 use stm_wire::Rig;
 use stm_words::{Extent, Options};
 use stm_work::{
-    Course, Failure, Hint, PageGuard, Plan, ProgressRig, Guarded, Screen, Steps, Work,
+    Course, Failure, Guarded, Hint, PageGuard, Plan, ProgressRig, Screen, Steps, Work,
     done_watched, failed_by, failure_of, watched,
 };
 
