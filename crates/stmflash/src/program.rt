@@ -52,11 +52,9 @@ pub fn program<'a, 'r, 'e, R: System, I: Read, O: Write, E: Write + IsTerminal>(
     ensures unasked { WantNoYes environment.entry (map (λ s. s.now) words.entry.now) is_there
         → input.new ≡ input.old }
 {
-    // the name of a journal that the words leave to the device's board
-    let mut place = Place::new(rt.alloc());
     let is_json = is_json_wanted(environment, words);
-    match read_request(rt.alloc(), environment, &*words) {
-        Ok(request) => answer(rt, request, &mut place, is_json, is_there, input, out, err),
+    match read_request(rt.alloc(), environment, words) {
+        Ok(request) => answer(rt, request, is_json, is_there, input, out, err),
         Err(Unread::Help(text)) => print_help(rt, text.as_str(), out, err),
         Err(Unread::Refused(text)) => refuse(rt, text.as_str(), is_json, out, err),
         Err(Unread::Usage(fault)) => {
@@ -94,7 +92,6 @@ fn refuse<R: AllocGlobal, O: Write, E: Write>(
 fn answer<'a, 'r, 'e, R: System, I: Read, O: Write, E: Write + IsTerminal>(
     rt: &'r R,
     request: Request<'a>,
-    place: &'a mut Place,
     is_json: bool,
     is_there: bool,
     input: &mut I,
@@ -111,8 +108,10 @@ fn answer<'a, 'r, 'e, R: System, I: Read, O: Write, E: Write + IsTerminal>(
         (I.remaining input.old) (I.remaining input.new) }
     ensures unasked { wants_yes request.entry is_there ≡ false → input.new ≡ input.old }
 {
+    // the name of a journal that the words leave to the device's board
+    let mut place = Place::new(rt.alloc());
     let mut hint = None;
-    match run_request(rt, request, place, is_there, input, err, &mut hint) {
+    match run_request(rt, request, &mut place, is_there, input, err, &mut hint) {
         Ok(steps) => print_steps(rt, &steps, hint, is_json, out, err),
         Err(failure) => fail_told(rt, &failure, hint, is_json, out, err),
     }
