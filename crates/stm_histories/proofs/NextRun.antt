@@ -14,7 +14,7 @@ use Rattle.stm_work.specs.declared.failure.Failure.{Failure}
 use Rattle.stm_histories.specs.Histories.{ActionsAreHistories, CanAct, IsHistory, StaysInSession, StoppedActionsAreUndone, StoredCanBegin, StoredGoesOn}
 use Rattle.stm_files.specs.SimulatorFile.{StandsSo, simulator_at}
 use Rattle.stm_files.specs.SimulatorRig.{SimulatorState, simulator_rig_state}
-use Rattle.stm_histories.specs.Unpowered.{DoesOnFiles, IsUndoneUnpowered, Suits}
+use Rattle.stm_histories.specs.Unpowered.{DoesOnFiles, IsUndoneUnpowered, SuitsWorld}
 use Rattle.stm_histories.proofs.Risks.{same-world}
 
 abbrev Follows : MemoryData → Type 0
@@ -61,7 +61,7 @@ module _ (laws : FileLaws) (table : List ChipData) (starts : List (List ℕ)) (d
   first_honest : (simulator_rig_state acts.first).is_honest
   first_honest = subst Follows (sym acts.begins) (planned_honest stands.honest)
 
-  can : IsStart starts start → Suits table does start
+  can : IsStart starts start → SuitsWorld table does start
       → CanAct simulator_rig_state table starts does acts.first
   can is suits =
       let S : World → Type 0 = λ w. IsStart starts w in
@@ -74,7 +74,7 @@ module _ (laws : FileLaws) (table : List ChipData) (starts : List (List ℕ)) (d
         stays = subst J (sym first_world) suits.stays;
       }
 
-  module _ (is : IsStart starts start) (suits : Suits table does start) where
+  module _ (is : IsStart starts start) (suits : SuitsWorld table does start) where
     is_history : IsHistory simulator_rig_state acts.first acts.last
     is_history = laws.history table starts does acts.first acts.last said (can is suits) acts.done
 

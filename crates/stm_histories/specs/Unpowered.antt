@@ -27,7 +27,7 @@ found stored journal =
     }
 
 -- the table knows this device, and the action stays in the session
-pub record Suits (table : List ChipData) (does : Action) (w : World) : Type 0 where
+pub record SuitsWorld (table : List ChipData) (does : Action) (w : World) : Type 0 where
   pub knows : Knows table w
   pub stays : StaysInSession does w.journal
 

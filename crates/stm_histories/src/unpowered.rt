@@ -8,7 +8,7 @@ ghost use Rattle.stm_session.specs.Headline.{IsStart, oldest_start};
 ghost use Rattle.stm_session.specs.Undoable.{risked_pages};
 ghost use Rattle.stm_files.specs.SimulatorFile.{StandsSo, simulator_at};
 ghost use Rattle.stm_files.specs.Standing.{standing_phase};
-ghost use Rattle.stm_histories.specs.Unpowered.{DoesOnFiles, IsUndoneUnpowered, SpoilsOnly, Suits, found};
+ghost use Rattle.stm_histories.specs.Unpowered.{DoesOnFiles, IsUndoneUnpowered, SpoilsOnly, SuitsWorld, found};
 
 use crate::histories::{a_stored_simulator_goes_on, actions_are_histories};
 use std::alloc::Global;
@@ -136,13 +136,13 @@ pub fn undo_stored<'a, R: Locks + AllocGlobal>(
     spoilt: &[SpoiltPage],
 ) -> Result<MemoryRig, Failure<'a>>
     ensures done { let w = found stored journal.items in
-        (starts : List (List ℕ)) → IsStart starts w → Suits table.now action w
+        (starts : List (List ℕ)) → IsStart starts w → SuitsWorld table.now action w
         → IfOk result (IsUndoneUnpowered table.now action steps w) }
     ensures back { let w = found stored journal.items in
-        (starts : List (List ℕ)) → IsStart starts w → Suits table.now action w
+        (starts : List (List ℕ)) → IsStart starts w → SuitsWorld table.now action w
         → IfOk result (λ rig. rig.device.flash ≡ oldest_start starts w) }
     ensures first { let w = found stored journal.items in
-        journal.items ≡ [] → IsReady w.device → Suits table.now action w
+        journal.items ≡ [] → IsReady w.device → SuitsWorld table.now action w
         → IfOk result (λ rig. rig.device.flash ≡ stored.flash.items) }
 {
     actions_are_histories::<SimulatorRig<'_, '_, R>>();

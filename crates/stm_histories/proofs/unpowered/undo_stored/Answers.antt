@@ -9,7 +9,7 @@ use Rattle.stm_work.specs.declared.action.Action.TheVariants as action
 use Rattle.stm_work.specs.declared.answer.Answer.{Answer}
 use Rattle.stm_work.specs.declared.failure.Failure.{Failure}
 use Rattle.stm_files.specs.Standing.{standing_phase}
-use Rattle.stm_histories.specs.Unpowered.{DoesOnFiles, IsUndoneUnpowered, Suits, found}
+use Rattle.stm_histories.specs.Unpowered.{DoesOnFiles, IsUndoneUnpowered, SuitsWorld, found}
 use Rattle.stm_histories.proofs.NextRun.{FileLaws, can-begin, undone-whole}
 use Rattle.stm_histories.proofs.unpowered.undo_stored.Goals as goal
 
@@ -37,7 +37,7 @@ returns g c =
       begins = c.a_stored_simulator_goes_on.ensures.begins;
       goes_on = c.a_stored_simulator_goes_on.ensures.goes_on;
     } in
-    let both : (starts : List (List ℕ)) → IsStart starts w → Suits table does w
+    let both : (starts : List (List ℕ)) → IsStart starts w → SuitsWorld table does w
     → IsUndoneUnpowered table does c.args.steps w m6 × (m6.device.flash ≡ oldest_start starts w) =
     λ starts is suits. undone-whole laws table starts does chip flash journal phase m0 m1 m2 m3 m4 m5
     m6 c.in_ok-memory-2._stopped c.in_ok-said.field-0 c.in_ok-memory.ensures
