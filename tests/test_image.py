@@ -123,7 +123,7 @@ class Several(Place):
     def test_an_overlap_has_the_same_bytes(self):
         """Also the same file twice, and one without a byte; in any order."""
         def write(words, count):
-            self.assertEqual(self.use("write", "-v", *words.split()).out.splitlines()[1:], [b"verified %d bytes" % count])
+            self.assertRegex(self.use("write", "-v", *words.split()).out, rb"\nverified %d bytes(, 0 of them again)?\n$" % count)
 
         self.each((("b.hex a.hex c.hex b.hex", 7), ("c.hex b.hex", 3), ("d.bin a.hex d.bin", 5), ("none none", 0), ("none@0x08000002 a.hex", 4),
                    ("a.hex e.bin@0x08000003", 6), ("e.bin@0x08000003:3 d.bin@0x08000009 d.bin@0x08000009", 8)), write)
