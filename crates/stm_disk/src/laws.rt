@@ -26,7 +26,8 @@ pub fn a_crash_in_an_append_is_good()
 }
 
 /// Of what a crash of the PC left, whatever stands where nothing was synced, all that was
-/// acknowledged is in front of the first bad line: it's there behind a cut.
+/// acknowledged is in front of the first bad line and, where its pages fit the chip, of each line of a
+/// page that doesn't: it's there behind a cut.
 pub fn a_cut_keeps_what_was_acknowledged()
     ensures { CutsKeepAcknowledged }
 {}
