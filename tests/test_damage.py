@@ -131,6 +131,24 @@ class Damage(telling.Told):
         self.store_all({"flash": COUNTING, "journal": HEAD + erased(1, 3, has_sum=False)})
         self.assertTold(self.at("erase", "5"), "segment 2: 1 pages erased\n", journal=HEAD + erased(1, 3, has_sum=False) + erased(2, 5))
 
+    def test_a_last_page_is_left_out(self):
+        """By `--recover`, where no line behind it says anything: nobody touched that page, whose CRC may be old digits of the disk."""
+        front = HEAD + b"open 1\n" + kept(3, part(3)) + b"erase 3\n"
+        changed = COUNTING[:3 * SIZE] + b"\xff" * SIZE + COUNTING[4 * SIZE:]
+        others = front + kept(5, part(5), has_sum=False) + b"crc 0BADC0DE!\n"
+        for end in (others, others + b"connect!\nerase 5", rotten(front + kept(5, part(5)), 5)):
+            with self.subTest(end=end[-20:]):
+                self.clear("journal.cut")
+                self.store_all({"flash": changed, "flash.line": b"idle\n", "journal": end})
+                self.assertRefused(5, 1, "undo")
+                self.assertEqual(self.at("undo", "--recover").out, b"undone 1\n")
+                self.assertFiles({"flash": COUNTING, "journal.cut": end[len(front):]})
+                self.assertTrue(self.held("journal").startswith(front + b"erase 3\n"))
+                self.clear("journal.cut")
+                self.store_all({"flash": changed, "flash.line": b"idle\n", "journal": end.removesuffix(b"erase 5") + b"erase 5\n"})
+                self.assertRefused(5, 1, "undo", "--recover")
+                self.assertFile("journal.cut", None)
+
     def test_no_line_is_opened(self):
         self.store("journal", rotten(self.two_segments(), 9))
         listener = self.listen("board")

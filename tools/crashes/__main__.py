@@ -11,8 +11,8 @@ is made anew in a folder, and everything is undone there:
   journal has more segments, as it was before the newest. N is how many segments the journal has by the second model of
   tools/soak.
 - `log --check` has to read the journal before that, and refuses none but one in which lines of a former journal are left.
-- Such a one is refused by `undo`, which then changes nothing, and names `undo --recover`. That has to cut off a part of the end,
-  keep it beside, leave each whole line that was synced, and undo as from any other state.
+- Such a one, or one in which they cut a page short, is refused by `undo`, which then changes nothing, and names `undo --recover`.
+  That has to cut off a part of the end, keep it beside, leave each whole line that was synced, and undo as from any other state.
 - Where the crash left no journal, the flash has to be what it was at first, and `info` has to do, and to leave it so; behind
   `keep` what it was then.
 - What a session has told to be done is on the disk, whole: the journal, or its new name, or OUT, or the simulator's FILE.

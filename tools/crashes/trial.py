@@ -182,7 +182,7 @@ class Trial:
             # bytes of a former file stand in the place of its header
             self.refused(name)
             return
-        if self.is_readable(name):
+        if self.is_readable(name) and not self.ends_short(name):
             depth = Journal(self.files[name]).depth()
             if depth > 1:
                 self.undone(name, 1, "1")
@@ -214,6 +214,11 @@ class Trial:
         if not is_read and not (self.state.has_lines() and re.fullmatch(r"stmflash: bad journal line \d+", said)):
             raise Bad("log --check says: %s" % said)
         return is_read
+
+    def ends_short(self, name):
+        """Whether lines of a former journal have cut a page short, so that it can be read, and is none of the chip."""
+        kept = [kept for segment in Journal(self.files[name]).stack for kept in segment.kept]
+        return self.state.has_lines() and any(self.story.chip.sizes[it.page:it.page + 1] != [len(it.held)] for it in kept)
 
     def run(self, *words):
         return call([self.program, *words], self.room)

@@ -8,13 +8,16 @@ use stm_chip::Table;
 use stm_disk::{lines_size, unsynced_end};
 use stm_files::{Escaped, JournalFile, JournalRig, Locks, TextSource, read_file};
 use stm_journal::{Journal, JournalFault};
-use stm_session::{Fault, check_undo};
+use stm_session::Fault;
 use stm_wire::Chip;
-use stm_words::Options;
-use stm_work::{Failure, Steps};
+use stm_words::{Extent, Options};
+use stm_work::{Failure, Steps, find_damaged};
 
 /// How many bytes an append has at most beside the digits of a page, with a torn line in front.
 const WORDS: u64 = 192;
+
+/// What ends a line.
+const LF: u8 = b'\n';
 
 /// Where a journal's text is to be cut, and the number of the line that begins there.
 #[derive(Clone, Copy)]
@@ -28,23 +31,56 @@ fn load(alloc: Global, bytes: &[u8]) -> Result<Journal, JournalFault> {
     Journal::load(alloc, &mut JournalRig::new(TextSource { bytes }))
 }
 
-/// The first line of a text that is bad, or keeps a page that the chip hasn't in its size, where one
-/// is bad; and the lines before it.
-fn find_bad(
+/// The line of the first page that segment `k` keeps and the chip hasn't in that size.
+fn find_misfit(journal: &Journal, chip: &Chip, k: u32) -> Option<u64> {
+    for i in 0..journal.kept_count(k) {
+        let (Some((page, line)), Some(place)) = (journal.kept(k, i), journal.kept_place(k, i))
+        else {
+            break;
+        };
+        if page >= chip.pages() || place.length != u64::from(chip.page_size(page)) {
+            return Some(line);
+        }
+    }
+    None
+}
+
+/// The line of the last page, where it's refused and no line behind it says anything: nobody touched
+/// that page, since it is erased only behind a line that says so.
+fn find_untouched(
     alloc: Global,
     bytes: &[u8],
-    table: &Table,
-) -> Result<Option<(u64, Journal)>, JournalFault> {
-    let line = match load(alloc, bytes) {
-        Err(JournalFault::Bad(line)) => line,
-        Err(fault) => return Err(fault),
-        Ok(_) => return Ok(None),
+    journal: &Journal,
+    misfit: Option<u64>,
+) -> Result<Option<u64>, JournalFault> {
+    let segment = journal.depth();
+    let last = journal.kept_count(segment).saturating_sub(1);
+    let Some((page, line)) = journal.kept(segment, last) else {
+        return Ok(None);
     };
-    let journal = load(alloc, before(bytes, line))?;
-    match check_undo(&journal, table) {
-        Err(Fault::BadJournal(line)) => Ok(Some((line, load(alloc, before(bytes, line))?))),
-        _ => Ok(Some((line, journal))),
+    if says_something(bytes.get(lines_size(bytes, line)..).unwrap_or(&[])) {
+        return Ok(None);
     }
+    if misfit == Some(line) {
+        return Ok(misfit);
+    }
+    let mut rig = JournalRig::new(TextSource { bytes });
+    match find_damaged(alloc, &mut rig, Extent::Newest(1))? {
+        Some(found) if found.page == page => Ok(Some(line)),
+        _ => Ok(None),
+    }
+}
+
+/// Whether a whole line of these isn't void.
+fn says_something(lines: &[u8]) -> bool {
+    let mut last = LF;
+    for byte in lines {
+        if *byte == LF && last != b'!' {
+            return true;
+        }
+        last = *byte;
+    }
+    false
 }
 
 /// The lines before this one.
@@ -87,23 +123,36 @@ fn is_whole_page(line: &[u8], chip: Option<&Chip>) -> bool {
 }
 
 /// Where a journal's text is to be cut since a crash of the PC may have left what stands from there
-/// on, and nothing that was acknowledged; none where there is no bad line, or it may be another's.
+/// on, and nothing that was acknowledged; none where it's good, or it may be another's.
 fn find_end(alloc: Global, bytes: &[u8], table: &Table) -> Result<Option<End>, JournalFault> {
-    let Some((line, journal)) = find_bad(alloc, bytes, table)? else {
-        return Ok(None);
+    let (bad, journal) = match load(alloc, bytes) {
+        Ok(journal) => (None, journal),
+        Err(JournalFault::Bad(line)) => (Some(line), load(alloc, before(bytes, line))?),
+        Err(fault) => return Err(fault),
     };
-    let chip = match journal.id() {
-        Some(id) => match table.find(id) {
-            Some(chip) => Some(chip),
+    let mut chip = None;
+    let mut misfit = None;
+    if let Some(id) = journal.id() {
+        let Some(named) = table.find(id) else {
+            return Ok(None);
+        };
+        for below in 0..journal.depth() {
+            misfit = misfit.or(find_misfit(&journal, named, below + 1));
+        }
+        chip = Some(named);
+    }
+    let line = match bad {
+        Some(line) => misfit.unwrap_or(line),
+        None => match find_untouched(alloc, bytes, &journal, misfit)? {
+            Some(line) => line,
             None => return Ok(None),
         },
-        None => None,
     };
     let Some(at) = unsynced_end(bytes, line, longest_append(chip)) else {
         return Ok(None);
     };
     let rest = bytes.get(at..).unwrap_or(&[]);
-    if is_whole_page(before(rest, 2), chip) {
+    if bad.is_some() && is_whole_page(before(rest, 2), chip) {
         return Ok(None);
     }
     Ok(Some(End { line, at }))
