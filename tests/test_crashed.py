@@ -124,16 +124,16 @@ class Crashed(Served):
         self.assertTold(self.use("undo", "--recover"), "undone 2\n", note(len(left) - len(GOOD)), holds=(ZEROS, b"idle\n"))
 
     def test_a_last_page_of_another_size(self):
-        """Where no line behind it says anything nobody touched that page: it's cut off, and the torn line behind it. Else it may be of
-        another table, and stays; so does one within a sector, and one with more behind it than an append has."""
+        """Where no line behind it says that a page changes nobody touched that page: it's cut off, and what is behind it. Else it may be
+        of another table, and stays; so does one within a sector, and one with more behind it than an append has."""
         front = GOOD + b"page 7 "
         short = front + b"AB" * 900 + b"\n"
-        for tail in (b"", b"end 2", b"erase 7", b"connect!\n!\nend"):
+        for tail in (b"", b"end 2", b"erase 7", b"connect!\n!\nend", b"end 2\n", b"end 2\nunsaid", b"crc!\nend 2\nopen 3\nera"):
             with self.subTest(tail=tail):
                 self.assertUncut(short + tail, f"bad journal line {LINE}", HINT, ())
                 self.begin(short + tail)
                 self.assertTold(self.use("undo", "--recover"), "undone 2\n", note(len(short + tail) - len(GOOD)), holds=(ZEROS, b"idle\n"))
-        for left in (short + b"erase 7\n", short + b"end 2\n", short + b"end 2\nunsaid", short + b"erase 6\nend", short + b"crc!\nerase 7\n",
+        for left in (short + b"erase 7\n", short + b"program 7\n", short + b"erase 7\nend 2\nunsaid", short + b"crc!\nerase 7\nend",
                      front + b"AB" * 1400 + b"\n" + bytes(2000)):
             self.assertUncut(left, f"bad journal line {LINE}")
         self.assertUncut(ENDED + b"open 2\npage 6 AB\n", "bad journal line 8")

@@ -45,40 +45,50 @@ fn find_misfit(journal: &Journal, chip: &Chip, k: u32) -> Option<u64> {
     None
 }
 
-/// The line of the last page, where it's refused and no line behind it says anything: nobody touched
-/// that page, since it is erased only behind a line that says so.
+/// The line of a page that is refused, for its size or as the last one for its CRC, where no line
+/// behind it says that a page changes: nobody touched that page, nor one behind it.
 fn find_untouched(
     alloc: Global,
     bytes: &[u8],
     journal: &Journal,
     misfit: Option<u64>,
 ) -> Result<Option<u64>, JournalFault> {
+    if let Some(line) = misfit {
+        return Ok(unless_changed(bytes, line));
+    }
     let segment = journal.depth();
     let last = journal.kept_count(segment).saturating_sub(1);
     let Some((page, line)) = journal.kept(segment, last) else {
         return Ok(None);
     };
-    if says_something(bytes.get(lines_size(bytes, line)..).unwrap_or(&[])) {
-        return Ok(None);
-    }
-    if misfit == Some(line) {
-        return Ok(misfit);
-    }
     let mut rig = JournalRig::new(TextSource { bytes });
     match find_damaged(alloc, &mut rig, Extent::Newest(1))? {
-        Some(found) if found.page == page => Ok(Some(line)),
+        Some(found) if found.page == page => Ok(unless_changed(bytes, line)),
         _ => Ok(None),
     }
 }
 
-/// Whether a whole line of these isn't void.
-fn says_something(lines: &[u8]) -> bool {
-    let mut last = LF;
-    for byte in lines {
-        if *byte == LF && last != b'!' {
+/// A line, where none behind it says that a page changes.
+fn unless_changed(bytes: &[u8], line: u64) -> Option<u64> {
+    if says_a_change(bytes.get(lines_size(bytes, line)..).unwrap_or(&[])) {
+        None
+    } else {
+        Some(line)
+    }
+}
+
+/// Whether a whole line of these says that a page is erased or programmed.
+fn says_a_change(lines: &[u8]) -> bool {
+    let mut start = 0usize;
+    for i in 0..lines.len() {
+        if lines[i] != LF {
+            continue;
+        }
+        let line = lines.get(start..i).unwrap_or(&[]);
+        if line.starts_with(b"erase ") || line.starts_with(b"program ") {
             return true;
         }
-        last = *byte;
+        start = i + 1;
     }
     false
 }
