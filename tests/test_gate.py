@@ -215,11 +215,14 @@ class Mutants(unittest.TestCase):
         mutants = script("tools", "mutants")
         looking = mutants.Looking.__new__(mutants.Looking)
         looking.found, looking.most = {"it": "c"}, 25
-        looking.reach = types.SimpleNamespace(of=lambda fault: ["a", "b", "c", "d"], seconds={"a": 10, "b": 10, "c": 10})
+        looking.reach = types.SimpleNamespace(of=lambda fault: ["a", "gone", "b", "c", "d"], tests=["a", "gone", "b", "c", "d", "e"], seconds={"a": 10, "b": 10, "c": 10})
+        looking.there = {*"abcde", "a.new", "e.new"}
         fault = mutants.planted.Fault("program", "it", "x.rt", 0, 0, "", "", "", "")
         self.assertEqual(looking.tests_of(fault), ["c", "a", "b"])
         self.assertEqual(looking.tests_of(fault._replace(name="other")), ["a", "b"])
         self.assertEqual(looking.tests_of(fault._replace(test="named")), ["named"])
+        # what was recorded isn't there any more, or was there not yet
+        self.assertEqual(looking.reaching(fault), [*"abcd", "a.new"])
         self.assertEqual([it for it in looking.parts(["a", "b", "c", "d"]) if it], [["a"], ["b", "c"], ["d"]])
 
 
