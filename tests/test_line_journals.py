@@ -9,7 +9,7 @@ import subprocess
 
 from boards import LINE, Named
 from place import COUNTING, PATIENCE, SILENT, SIZE, TOP, Said, text_in
-from stmflash_line import journals
+from stmflash_line import asking, journals
 from test_stm32flash_words import BACK, STOPPED, TELLING, WORDS
 
 BOARD = 12 * "A1"
@@ -113,7 +113,17 @@ class Journals(Unnamed):
                 self.assertEqual((said.status, said.err), (0, b""))
         for command in (("sh", "-c", "stmflash info"), ("stmflash", "info", "--device", "sim:0412:flash"), ("stmflash", "info", "--device=sim:0412:flash")):
             self.assertEqual(self.short("ttyUSB0", "--", *command).status, 2)
+        for word in ("--help", "-h"):
+            self.assertEqual(self.short("ttyUSB0", "write", word).status, 0)
         self.assertFalse(os.path.exists(self.state))
+
+    def test_the_question_is_asked_by_the_words_of_the_line(self):
+        self.store("asked", b'#!/bin/sh\necho "{\\"board\\": \\"$*\\"}"\n')
+        os.chmod(self.path("asked"), 0o755)
+        of_line = ["--table", "t", "--wait", "1", "--give-up", "2", "--baud", "3", "--fresh", "--trust-journal"]
+        words = [self.path("asked"), "write", "-v", "--watch", "--again", "2", *of_line, "fw.bin"]
+        said = asking.ask(words, "none", lambda begin: begin(self.settings()).wait())
+        self.assertEqual(said, (0, " ".join(["info --raw --json --quiet --journal none", *of_line])))
 
     def test_xdg_says_where(self):
         self.telling()

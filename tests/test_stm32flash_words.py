@@ -3,6 +3,7 @@ one."""
 
 import contextlib
 import io
+import itertools
 import os
 import re
 import shlex
@@ -429,7 +430,8 @@ class TakingBack(Words):
 
     def test_protections_give_the_way_back_up(self):
         board = self.written(self.flash(COUNTING))
-        self.well("-u")
+        # which resets the board by itself
+        self.assertNotIn(b"Reset", self.well("-u", "-R").out)
         self.assertEqual(self.journals(), ["kept-000001"])
         board = self.reset(board)
         self.assertIn(b"Read-UnProtecting flash\nDone.\n", self.well("-k").out)
@@ -683,8 +685,9 @@ class Parts(Place):
 
     def test_a_session_behind_another_waits_by_what_came(self):
         """Only where that ended well, and only what is done again where it was too short."""
-        def waits(names, slowest, whole=103, fails=()):
-            tools, journals = mock.Mock(files=()), mock.Mock(**{"size.return_value": 0})
+        def waits(names, slowest, whole=103, fails=(), grows=0):
+            sizes = itertools.count(0, grows)
+            tools, journals = mock.Mock(files=()), mock.Mock(**{"size.side_effect": lambda: next(sizes)})
             board = boards.Board(tools, journals, whole, lambda: slowest)
             asked = []
 
@@ -713,6 +716,9 @@ class Parts(Place):
         self.assertEqual(waits(("info", "read"), 0.0032, 600, fails=(1,)), [("info", 600), ("read", 600)])
         self.assertEqual(waits(("info", "read"), 0.0032, fails=(2,)), [("info", 103), ("read", 50), ("read", 500)])
         self.assertEqual(waits(("info", "read"), 0.2, 2000, fails=(2,)), [("info", 2000), ("read", 820), ("read", 2000)])
+        # where something was begun an undo alone goes on
+        self.assertEqual(waits(("info", "write"), 0.0032, fails=(2,), grows=1), [("info", 103), ("write", 50)])
+        self.assertEqual(waits(("undo",), 0.0032, fails=(1,), grows=1), [("undo", 103), ("undo", 500)])
 
     def test_what_was_stopped_is_waited_for(self):
         """An erase may still run: as long as stmflash waits, whatever the line's own wait is."""

@@ -94,6 +94,8 @@ const disks = (count) => Array.from({ length: count }, () => inMemory());
   holds('closed, it is free', [env.flock(more, 6), env.close(copy), it.fault()], [0, -1, E.BADF]);
   holds('shortened', [env.ftruncate(more, 2n), it.told(more).size], [0, 2]);
   holds('closed and removed, its place is free', Array.from({ length: 5 }, () => [env.close(it.open('/boards/x', 1 | CREATE)), env.unlink(it.path('/boards/x'))]).flat(), Array(10).fill(0));
+  const inos = [1, 2].map(() => { const made = it.open('/boards/x', 1 | CREATE), { ino } = it.told(made); env.close(made); env.unlink(it.path('/boards/x')); return ino; });
+  holds('what is made in its place is another file', inos[0] !== inos[1]);
   holds('emptied as it is opened', [it.told(it.open('/boards/a', 1 | TRUNCATE)).size], [0]);
   holds('a folder', [it.told(0, '/boards').mode, it.open('/boards', 1), it.fault(), env.rattle_open_dir_at(-100, it.path('/boards/a')), it.fault()], [4, -1, E.ISDIR, -1, E.NOTDIR]);
   const second = it.open('/boards/second', 2 | CREATE);
@@ -106,6 +108,7 @@ const disks = (count) => Array.from({ length: count }, () => inMemory());
   holds('none of none', [env.realpath(it.path('boards/none'), 40000n), it.fault()], [0n, E.NOENT]);
   holds('no links', [env.readlink(it.path('/boards/a'), 0n, 9n), it.fault(), env.readlink(it.path('/none'), 0n, 9n), it.fault()], [-1n, E.INVAL, -1n, E.NOENT]);
   holds('no second names', [env.link(it.path('/boards/a'), it.path('/boards/b', 5000n)), it.fault(), it.told(0, '/boards/a') !== false, it.told(0, '/boards/b')], [-1, E.PERM, true, false]);
+  holds('a journal stays among them', [env.rename(it.path('/boards/a'), it.path('/a', 5000n)), it.fault()], [-1, E.PERM]);
   holds('no terminal', [env.isatty(0), env.isatty(1), env.isatty(2)], [0, 0, 0]);
   holds('no pipe that waits', env.poll(0n, 0n, 0), 0);
   holds('streams', [it.write(1, 'ab'), it.write(2, 'c'), it.out], [2n, 1n, [[1, 97, 98], [2, 99]]]);
@@ -286,6 +289,8 @@ for (const [what, over, sum] of [['a wrong parity', (board) => board.into.error(
   holds(`${what} ends the line`, [await ends(it.env.recv(fd, 9000n, 9n, 0)), await ends(it.env.recv(fd, 9000n, 9n, 0))], [sum, sum]);
   holds(`${what}: no more is sent`, [it.env.send(fd, 9000n, 1n, 0), it.fault()], [-1n, E.IO]);
   holds(`${what}: it still closes`, [await ends(it.env.close(fd)), board.told.at(-1)], [0, 'closed']);
+  await line.connect();
+  holds(`${what}: opened anew it is whole`, [line.ended], [undefined]);
 }
 {
   const board = port(), line = new Line(board, 9600, stepsOf('dtr-reset,rts-boot0')), began = performance.now();

@@ -90,6 +90,8 @@ FAULTS = {
         "a place is never free again": ("close() { this.uses--; }", "close() {}"),
         "everything is a journal": ("whole.startsWith(`${JOURNALS}/`) ? this.pool", "true ? this.pool"),
         "a journal is the line": ("  next = 2;", "  next = 1;"),
+        "what is made is the file that was there": ("    slot.ino = this.next++;\n", ""),
+        "a journal is moved to other files": ("    if (old.startsWith(`${JOURNALS}/`) !== whole.startsWith(`${JOURNALS}/`)) throw new Fault(E.PERM);\n", ""),
         "bytes lie over the heads": ("this.handle.write(bytes, { at: this.base + at })", "this.handle.write(bytes, { at })"),
     },
     "line.js": {
@@ -97,6 +99,7 @@ FAULTS = {
         "another speed": ("baudRate: this.baud", "baudRate: 115200"),
         "a wrong byte is no end": ("if (this.ended && this.ended !== 'closed') throw new Fault(E.IO);", ""),
         "what came before a wrong byte counts": ("if (this.ended !== 'closed') this.came = [];", ""),
+        "a line that ended is never one again": ("    this.ended = undefined;\n", ""),
         "it sends on a line that ended": ("    if (this.ended) throw new Fault(E.IO);\n", ""),
         "what there was no room for is lost": ("this.came.unshift(first.subarray(most));", ""),
         "nothing in time is an end": ("if (!got) throw new Fault(E.AGAIN);", "if (!got) return 0n;"),
