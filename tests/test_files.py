@@ -272,6 +272,7 @@ class Files(Place):
     def test_out_may_be_a_terminal(self):
         self.store("flash", COUNTING)
         ours, theirs = os.openpty()
+        os.set_blocking(ours, False)
         self.assertSilent(self.use("read", "-S", "0x08000020:64", os.ttyname(theirs)))
         self.assertEqual(os.read(ours, 4096), COUNTING[32:96])
         os.close(ours)
