@@ -533,7 +533,7 @@ class Pages(unittest.TestCase):
 
 PARTS = """
 from types import SimpleNamespace as Of
-import builtins, rows_reading, trial
+import builtins, rows_reading, settling, trial
 from board import Board
 from settling import limit_of
 made = Board.__new__(Board)
@@ -553,6 +553,14 @@ asking.progress = Of(clear=lambda: None)
 for answer in (' Yes ', 'no'):
     builtins.input = lambda _: answer
     tell(lambda it: it.ask(), asking)
+settling.settle = lambda *_: settling.Settled(2, True, False)
+line = Of(read=lambda *words: print(*words))
+of_line = Of(line=line, wait=0.05, put=lambda cut: [0x79] * (len(cut) // 2), drain=lambda: None, talk=lambda *_: None, facts={}, is_touched=False)
+tell(lambda it: settling.cut_and_settle(it, [[0x11], [0x11, 0xEE]], 'ask'), of_line)
+asking.need = asking.regain = lambda row: None
+def unasked(): raise settling.Differs('a byte came')
+asking.board.hush = unasked
+tell(lambda it: it.outcome(Of(act=lambda _: 'well', means='x', name='x')).result, asking)
 """
 
 
@@ -561,7 +569,9 @@ class Parts(unittest.TestCase):
         self.assertEqual(of_modules(PARTS).splitlines(), [
             "Differs; it: page 2, 5, 9 has other bytes than it should; page 2, 9 was changed, and wasn't named",
             "NotTried; the flash wasn't saved; ", "None",
-            "Differs; page 3 has other bytes when it is read again; what is read can't be trusted", "3606", "0", "None", "Refused; nothing was changed; "])
+            "Differs; page 3 has other bytes when it is read again; what is read can't be trusted", "3606", "0", "None", "Refused; nothing was changed; ",
+            # what is due is waited for, and what isn't belongs to the row before it
+            "0 2 2", "1 2 2", "2 places, 2 bytes at most", "differs"])
 
 
 class Companion(Place):

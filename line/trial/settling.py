@@ -122,7 +122,8 @@ def cut_and_settle(board, cuts, intent):
     byte, most, lost, odd = byte_of(board, intent), 0, False, None
     board.is_touched = board.is_touched or intent != "ask"
     for cut in cuts:
-        board.put(cut)
+        # what is due of it may be late on a busy machine
+        board.line.read(len(board.put(cut)), max(board.wait, 2), 2)
         board.drain()
         found = settle(board, byte, limit_of(board, intent))
         most, lost = max(most, found.count), lost or found.has_lost
