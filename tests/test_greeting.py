@@ -229,17 +229,17 @@ class Greeting(Undoing):
         self.assertEqual(sent[:len(first)], first)
 
     def test_a_list_that_may_become_long_needs_a_speed(self):
-        """Behind `44 BB` 7F makes a list of 65,000 bytes. Where no speed is said, an erase by `44` isn't greeted; all else is."""
+        """Behind `44 BB` 7F makes a list of 65,000 bytes. Where no speed is said, an erase by `44` isn't greeted; all else is, and a fresh board."""
         self.each_apart(((stop, b"\x03") for stop in stops(WIDE, "erase")), self.ungreeted)
 
-        def does(room, stop):
+        def does(room, stop, *words):
             self.begin(room, stop, True)
-            said, sent = self.undo(room, stop.chip)
+            said, sent = self.undo(room, stop.chip, *words)
             self.assertUndone(room, said, stop, 1)
             self.assertEqual(sent[:1], b"\x7f")
 
-        for number, stop in enumerate((Stop(WIDE, "write", 7), Stop(NARROW, "erase", 2))):
-            does(self.room(f"more{number}"), stop)
+        for number, it in enumerate(((Stop(WIDE, "write", 7),), (Stop(NARROW, "erase", 2),), (Stop(WIDE, "erase", 2), "--fresh"))):
+            does(self.room(f"more{number}"), *it)
 
     def test_an_erase_of_page_128(self):
         """Its byte is 80, behind which 7F may be a command's second byte: it isn't greeted."""
