@@ -115,9 +115,10 @@ class Damage(telling.Told):
     def test_old_digits_make_no_line_whole(self):
         """Those of a former journal behind a torn CRC: a second mark closes it, so that an undo which was stopped goes on."""
         torn = HEAD + b"open 1\n" + kept(3, part(3)) + b"erase 3\n" + kept(5, part(5), has_sum=False) + b"crc 0BADC0DE"
+        begun = COUNTING[:3 * SIZE] + SIZE * b"\xff" + COUNTING[4 * SIZE:]
         for steps in range(600, 4000, 200):
             with self.subTest(steps=steps):
-                self.store_all({"flash": COUNTING, "flash.line": None, "journal": torn})
+                self.store_all({"flash": begun, "flash.line": None, "journal": torn})
                 self.at("undo", "--stop", str(steps))
                 self.assertEqual(self.at("undo").status, 0)
                 self.assertFile("flash", COUNTING)
