@@ -1,13 +1,13 @@
 -- Several images as one: their runs, and where two of them differ.
-use Rattle.std.proofs.Common.{◌≡◌, ◌⊎◌, inl, inr, ℕ, zero, suc, ◌+◌, ◌-◌, ◌<◌, List, [], ◌∷◌, ◌++◌, length, slice_index, Some, refl, sym, ap, ap₂, ◌∙◌, subst, append_assoc, arith}
+use Rattle.std.proofs.Common.{◌≡◌, inl, inr, ℕ, zero, suc, ◌+◌, ◌-◌, ◌<◌, List, [], ◌∷◌, ◌++◌, length, slice_index, Some, refl, sym, ap, ◌∙◌, subst, append_assoc, arith}
 use Rattle.std.specs.Prelude.{Contains, IfSome, slice_get}
 use Rattle.std.proofs.lemmas.Bool.{cases_eq, cases_lt}
 use Rattle.std.proofs.lemmas.List.{append-nil}
 use Rattle.std.proofs.lemmas.Option.{slice_get_within}
 use Rattle.std.proofs.lemmas.List.Elements.{Contains-append_cases}
-use Rattle.stm_image.specs.Joined.{DifferAt, DifferIn, IsLikeAll, all_pairs_of}
+use Rattle.stm_image.specs.Joined.{DifferIn, IsLikeAll, all_pairs_of}
 use Rattle.stm_image.specs.Layout.{AllAgree, HasDifference}
-use Rattle.stm_image.specs.Pairs.{Pairs, AddressesRise, Agree, byte_at}
+use Rattle.stm_image.specs.Pairs.{Pairs, AddressesRise, Agree}
 use Rattle.stm_image.specs.Pieces.{pairs_at, piece_bytes}
 use Rattle.stm_image.specs.declared.pieces.Piece.{Piece}
 use Rattle.stm_image.proofs.Lying.{holds_piece, piece_of, raw_holds, raw_lies}

@@ -1,10 +1,10 @@
 -- A part of an image, run by run.
-use Rattle.std.proofs.Common.{◌≡◌, ◌⊎◌, inl, inr, ℕ, zero, ◌+◌, ◌-◌, ◌<◌, ◌≤◌, List, [], ◌∷◌, ◌++◌, length, take, slice_index, ap₂, ◌∙◌, refl, sym, subst, arith}
+use Rattle.std.proofs.Common.{◌≡◌, inl, inr, ℕ, ◌+◌, ◌-◌, ◌<◌, ◌≤◌, List, [], ◌∷◌, ◌++◌, length, take, slice_index, ap₂, ◌∙◌, sym, arith}
 use Rattle.std.specs.Prelude.{Contains}
 use Rattle.std.proofs.lemmas.List.{get_or-take, length-take}
 use Rattle.std.proofs.lemmas.List.Elements.{Contains-append_left, Contains-append_right, Contains-append_cases}
-use Rattle.stm_image.specs.Pairs.{Pairs, AddressesRise, HasNone, raw_pairs}
-use Rattle.stm_image.specs.Part.{IsWithPart, StandsIn}
+use Rattle.stm_image.specs.Pairs.{Pairs, AddressesRise, raw_pairs}
+use Rattle.stm_image.specs.Part.{IsWithPart}
 use Rattle.stm_image.specs.Pieces.{Stand, next_apart, pairs_at, pairs_of_piece, piece_bytes, piece_size}
 use Rattle.stm_image.specs.Runs.{IsRunFrom}
 use Rattle.stm_image.specs.declared.pieces.Piece.{Piece}
@@ -31,11 +31,6 @@ beside set at start bytes q rises run held =
             behind (omega arith)
       ]
     ]
-
--- nothing yet
-pub part_none : (old set : Pairs) (start : ℕ) → IsWithPart old set start 0 old
-part_none old set start =
-    record { among = λ p held. inl held; keeps = λ p held. held; adds = λ p there. let from = there.from in let within = there.within in absurd (omega arith) }
 
 -- the front of a run more
 pub part_more : (old set laid more : Pairs) (start at first k : ℕ) (bytes : List ℕ) → AddressesRise set → IsRunFrom set at first bytes → k ≤ length bytes → start ≤ at

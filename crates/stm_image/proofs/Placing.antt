@@ -6,8 +6,6 @@ use Rattle.stm_image.specs.Text.{address_at, pairs_from}
 use Rattle.stm_image.specs.declared.place.Form.{Form}
 
 pub pairs_raw : (form : Form) (offset : ℕ) (bytes : List ℕ) → ((k : ℕ) → k < length bytes → address_at form (offset + k) ≡ address_at form offset + k) → pairs_from form offset bytes ≡ raw_pairs (address_at form offset) bytes
-pairs_raw form offset [] goes = refl
-pairs_raw form offset (b ∷ []) goes = refl
 pairs_raw form offset (b ∷ c ∷ bytes) goes =
     let next : address_at form (offset + 1) ≡ address_at form offset + 1 = goes 1 (omega arith) in
     ap (λ ps. (address_at form offset, b) ∷ ps) (pairs_raw form (offset + 1) (c ∷ bytes) (λ k lt. step k lt next) ∙ ap (λ n. raw_pairs n (c ∷ bytes)) next)
@@ -17,6 +15,7 @@ pairs_raw form offset (b ∷ c ∷ bytes) goes =
         let at : offset + 1 + k ≡ offset + (k + 1) = omega arith in
         let there = goes (k + 1) (omega arith) in
         ap (address_at form) at ∙ there ∙ (let e : address_at form offset + (k + 1) ≡ address_at form (offset + 1) + k = omega arith in e)
+pairs_raw form offset bytes goes = refl
 
 pub pairs_from-append : (form : Form) (offset : ℕ) (xs ys : List ℕ) → pairs_from form offset (xs ++ ys) ≡ pairs_from form offset xs ++ pairs_from form (offset + length xs) ys
 pairs_from-append form offset [] ys = ap (λ n. pairs_from form n ys) (let e : offset ≡ offset + 0 = omega arith in e)

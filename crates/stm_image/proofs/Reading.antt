@@ -2,13 +2,13 @@
 use Rattle.std.proofs.Common.{◌≡◌, ◌≤◌, ◌⊎◌, inl, inr, ℕ, ◌+◌, ◌++◌, List, [], ◌∷◌, length, Option, Some, None, refl, sym, ap, ◌∙◌, subst, append_assoc, length-append, arith}
 use Rattle.std.proofs.lemmas.Bool.Decides.{nat_tests}
 use Rattle.stm_image.specs.Pairs.{Pairs, Agree, IsSetOf}
-use Rattle.stm_image.specs.Record.{Scan, Ended, Stray, Broken, Cut, Whole, scan, kind_of, flaw_of, Flaw, BadSum, BadKind, BadLength}
+use Rattle.stm_image.specs.Record.{Scan, Whole, scan, kind_of, flaw_of, Flaw, BadSum, BadKind, BadLength}
 use Rattle.stm_image.specs.Text.{Means, FaultStands, IsOutOfMemory, RecordsPrecede, IsFault, scan_fault, flaw_fault, placed, pairs_of, form_of, form_after}
 use Rattle.stm_image.specs.declared.place.Form.{Form}
 use Rattle.std.proofs.lemmas.List.{append-nil}
 use Rattle.stm_image.specs.Reads.{Reads, EndsAt, PassStopsAt}
 use Rattle.stm_image.specs.declared.faults.HexFault.{HexFault}
-use Rattle.stm_image.specs.declared.faults.HexFault.TheVariants.{BadDigit, Short, Checksum, Kind, Length, Conflict, NoEnd, NoColon, Memory}
+use Rattle.stm_image.specs.declared.faults.HexFault.TheVariants.{Kind, Length, Conflict, Memory}
 
 -- an end record that stops a pass
 ends_at : (n : ℕ) (rest : List ℕ) → PassStopsAt n rest None → EndsAt rest
@@ -33,10 +33,6 @@ means_from text set pairs reads is agree =
 
 -- a scan's fault is no conflict
 no_conflict : (n m : ℕ) (s : Scan) → scan_fault n s ≡ Some (Conflict m) → ⊥
-no_conflict n m Ended e = cc
-no_conflict n m Stray e = cc
-no_conflict n m Broken e = cc
-no_conflict n m Cut e = cc
 no_conflict n m (Whole r after) e = of_flaw (flaw_of r) e
   where
     of_flaw : (f : _) → flaw_fault n f ≡ Some (Conflict m) → ⊥
@@ -44,17 +40,11 @@ no_conflict n m (Whole r after) e = of_flaw (flaw_of r) e
     of_flaw (Some BadKind) e = cc
     of_flaw (Some BadLength) e = cc
     of_flaw None e = cc
+no_conflict n m s e = cc
 
 pub is_fault : (records : List (List ℕ)) (rest : List ℕ) (fault : HexFault) → scan_fault (length records + 1) (scan rest) ≡ Some fault → IsFault records rest fault
 is_fault records rest (Conflict n) e = absurd (no_conflict _ n (scan rest) e)
-is_fault records rest (BadDigit n) e = e
-is_fault records rest (Short n) e = e
-is_fault records rest (Checksum n) e = e
-is_fault records rest (Kind n) e = e
-is_fault records rest (Length n) e = e
-is_fault records rest (NoEnd n) e = e
-is_fault records rest (NoColon n) e = e
-is_fault records rest (Memory n) e = e
+is_fault records rest fault e = e
 
 pub fault_from : (text : List ℕ) (pairs : Pairs) (fault : HexFault) → Reads text pairs (Some fault) → Agree pairs → FaultStands text fault ⊎ IsOutOfMemory text fault
 fault_from text pairs fault reads agree = elim reads.stops [
@@ -82,10 +72,9 @@ Follows-snoc text (first ∷ records) rest r after (middle, s1, f1, k1, more) s 
 
 -- no fault, so no flaw
 pub flawless_from : (n : ℕ) (f : Option Flaw) → None ≡ flaw_fault n f → f ≡ None
-flawless_from n (Some BadSum) e = cc
-flawless_from n (Some BadKind) e = cc
-flawless_from n (Some BadLength) e = cc
 flawless_from n None e = refl
+flawless_from n (Some BadSum) e = cc
+flawless_from n f e = cc
 
 -- a good record of these kinds has two data bytes
 pub two_data : (bytes : List ℕ) → 5 ≤ length bytes → flaw_of bytes ≡ None → (kind_of bytes ≡ 4) ⊎ (kind_of bytes ≡ 2) → length bytes ≡ 7

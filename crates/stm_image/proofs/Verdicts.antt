@@ -10,7 +10,7 @@ use Rattle.stm_image.specs.Reads.{EndsAt, StopsAt}
 use Rattle.stm_image.specs.declared.place.Form.{Form}
 use Rattle.stm_image.specs.declared.place.Form.TheVariants.{Linear}
 use Rattle.stm_image.specs.declared.faults.HexFault.{HexFault}
-use Rattle.stm_image.specs.declared.faults.HexFault.TheVariants.{BadDigit, Short, Checksum, Kind, Length, Conflict, NoEnd, NoColon, Memory}
+use Rattle.stm_image.specs.declared.faults.HexFault.TheVariants.{Conflict}
 use Rattle.stm_image.proofs.Lying.{Rises-tail}
 use Rattle.stm_image.proofs.Sets.{agree_among}
 
@@ -87,14 +87,7 @@ FaultView records rest fault = (scan_fault (length records + 1) (scan rest) ≡ 
 
 fault_view : (records : List (List ℕ)) (rest : List ℕ) (fault : HexFault) → IsFault records rest fault → FaultView records rest fault
 fault_view records rest (Conflict n) (is, conflict) = inr (ap Conflict is, conflict)
-fault_view records rest (BadDigit n) e = inl e
-fault_view records rest (Short n) e = inl e
-fault_view records rest (Checksum n) e = inl e
-fault_view records rest (Kind n) e = inl e
-fault_view records rest (Length n) e = inl e
-fault_view records rest (NoEnd n) e = inl e
-fault_view records rest (NoColon n) e = inl e
-fault_view records rest (Memory n) e = inl e
+fault_view records rest fault e = inl e
 
 halts_at : (records : List (List ℕ)) (rest : List ℕ) (fault : HexFault) → FaultView records rest fault → Halts records rest
 halts_at records rest fault (inl e) = halts_at_fault (length records + 1) records rest fault e

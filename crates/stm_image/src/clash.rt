@@ -1,6 +1,6 @@
 //! Where bytes of pieces first disagree.
 ghost use Rattle.std.specs.Prelude.{length};
-ghost use Rattle.stm_image.specs.Clash.{HasAll, HasFirsts, IsClash};
+ghost use Rattle.stm_image.specs.Clash.{HasFirsts, IsClash};
 ghost use Rattle.stm_image.specs.Layout.{AllWithin, Covers};
 ghost use Rattle.stm_image.specs.Pairs.{Agree};
 ghost use Rattle.stm_image.specs.Pieces.{AllStand, Stand, pairs_at, pairs_in};

@@ -1,5 +1,5 @@
 //! Laws of the definitions: each function does nothing, and its contract is the law.
-ghost use Rattle.std.specs.Prelude.{ℕ, List, ◌≡◌, ◌⊎◌, ◌↔◌, ◌<◌, ◌≤◌, ◌+◌, ◌++◌, length, take};
+ghost use Rattle.std.specs.Prelude.{ℕ, List, ◌≡◌, ◌↔◌, ◌<◌, ◌≤◌, ◌+◌, ◌++◌, length, take};
 ghost use Rattle.std.specs.Prelude.{drop, slice_index};
 ghost use Rattle.stm_image.specs.Canon.{canon};
 ghost use Rattle.stm_image.specs.Lay.{lay, laid_byte, AgreesWith};

@@ -1,5 +1,5 @@
 //! The set of pieces that may overlap.
-ghost use Rattle.std.specs.Prelude.{◌≡◌, IfOk, IsTrue, MatchOption, MatchResult, length};
+ghost use Rattle.std.specs.Prelude.{IfOk, IsTrue, MatchOption, MatchResult, length};
 ghost use Rattle.std.specs.List.Sorted.{IsNonDecreasingBy, IsPermutation};
 ghost use Rattle.stm_image.specs.Clash.{IsClash};
 ghost use Rattle.stm_image.specs.Layout.{AllAgree, AllWithin, Covers, HasDifference, IsAmong};

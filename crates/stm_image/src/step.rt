@@ -1,6 +1,5 @@
 //! One step over a text.
-ghost use Rattle.std.specs.Prelude.{◌≡◌, ◌<◌, ◌≤◌, ◌*◌, ◌%◌, ◌-◌, length, take, drop, sum, IfNone};
-ghost use Rattle.std.specs.Prelude.{IfSome, Option, Some, None};
+ghost use Rattle.std.specs.Prelude.{◌≡◌, ◌<◌, ◌≤◌, ◌*◌, ◌%◌, ◌-◌, length, sum, Option, Some, None};
 ghost use Rattle.stm_image.specs.Digits.{IsTable};
 ghost use Rattle.stm_image.specs.Record.{flaw_of, has_length};
 ghost use Rattle.stm_image.specs.Text.{flaw_fault};

@@ -1,4 +1,4 @@
-use Rattle.std.proofs.Common.{rules, ◌≡◌, ◌∙◌, ◌++◌, ◌+◌, ◌-◌, ap, ap₂, length, take, arith}
+use Rattle.std.proofs.Common.{◌≡◌, ◌∙◌, ◌++◌, ◌+◌, ◌-◌, ap, arith}
 use Rattle.stm_image.specs.Pairs.{raw_pairs}
 use Rattle.stm_image.specs.Pieces.{pairs_in}
 use Rattle.stm_image.proofs.Parting.{part_all, part_far, part_more}

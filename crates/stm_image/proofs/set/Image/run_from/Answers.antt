@@ -68,7 +68,6 @@ returns c =
     let p = get_or list place d in
     let stand = stand_read runs bytes list c.as_slice.ensures.value c.as_slice-list.ensures.value c.self.invariant.stand in
     let run = run_at bytes c.args.address list place p stand found.before lt (get_or_default list place d p lt) (found.here place d (omega arith) lt) in
-    let own = c.bytes_in-bytes.result.now in
     let skip = c.saturating_sub-skip.result in
     let rest = c.split_at.result.1.now in
     let all : rest ≡ drop (c.args.address - p.first) (piece_bytes bytes p) = c.split_at.ensures.back ∙ ap₂ (λ k b. drop k b) c.saturating_sub-skip.ensures c.bytes_in-bytes.ensures in
