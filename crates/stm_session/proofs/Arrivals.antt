@@ -1,6 +1,5 @@
 -- One block more came.
-use Rattle.std.proofs.Common.{◌≡◌, ℕ, ◌+◌, List, [], ◌∷◌, ◌++◌, length, None, refl, sym, ◌∙◌, ap, subst, arith, append_assoc, append-nil, length-append}
-use Rattle.std.proofs.Common.{Bool, true, false, Result, Ok, Err, IsErrAnd}
+use Rattle.std.proofs.Common.{◌≡◌, ℕ, ◌+◌, List, [], ◌∷◌, ◌++◌, length, None, refl, sym, ◌∙◌, ap, subst, arith, append_assoc, append-nil, length-append, Bool, true, false, Result, Ok, Err, IsErrAnd}
 use Rattle.std.specs.List.{AllByRecursion}
 use Rattle.std.proofs.lemmas.Bool.{true≢false}
 use Rattle.stm_image.specs.Pairs.{Pairs, IsNext}
@@ -38,22 +37,8 @@ agree_more image from mid next answer (Sends turns ∷ xs) (first, came, is_next
 
 -- Faults that tell no difference.
 pub tells_unless : (e : Fault) (chip : ChipData) (c : CommandData) (steps : List Step) → (IsRefusal e → ⊥) → FaultTells e chip c steps
-tells_unless fault.Line chip c steps other = tt
-tells_unless fault.Journal chip c steps other = tt
-tells_unless fault.Memory chip c steps other = tt
-tells_unless fault.Unfinished chip c steps other = tt
-tells_unless (fault.UnknownChip id) chip c steps other = tt
-tells_unless fault.OutOfFlash chip c steps other = tt
-tells_unless fault.NoErase chip c steps other = tt
-tells_unless fault.InSession chip c steps other = tt
 tells_unless (fault.Differs address) chip c steps other = absurd (other tt)
-tells_unless fault.Device chip c steps other = tt
-tells_unless (fault.BadJournal line) chip c steps other = tt
-tells_unless fault.OtherDevice chip c steps other = tt
-tells_unless fault.OtherBoard chip c steps other = tt
-tells_unless fault.BoardChanged chip c steps other = tt
-tells_unless (fault.NotHeld n) chip c steps other = tt
-tells_unless fault.Full chip c steps other = tt
+tells_unless e chip c steps other = tt
 
 -- a write and an erase
 pub change_tells : (e : Fault) (chip : ChipData) (c : CommandData) (steps : List Step) → is_change c ≡ true → FaultTells e chip c steps
@@ -61,21 +46,7 @@ change_tells (fault.Differs address) chip (writes image) steps change = tt
 change_tells (fault.Differs address) chip (erases pages) steps change = tt
 change_tells (fault.Differs address) chip (verifies image) steps change = absurd (true≢false (sym change))
 change_tells (fault.Differs address) chip (reads start size) steps change = absurd (true≢false (sym change))
-change_tells fault.Line chip c steps change = tt
-change_tells fault.Journal chip c steps change = tt
-change_tells fault.Memory chip c steps change = tt
-change_tells fault.Unfinished chip c steps change = tt
-change_tells (fault.UnknownChip id) chip c steps change = tt
-change_tells fault.OutOfFlash chip c steps change = tt
-change_tells fault.NoErase chip c steps change = tt
-change_tells fault.InSession chip c steps change = tt
-change_tells fault.Device chip c steps change = tt
-change_tells (fault.BadJournal line) chip c steps change = tt
-change_tells fault.OtherDevice chip c steps change = tt
-change_tells fault.OtherBoard chip c steps change = tt
-change_tells fault.BoardChanged chip c steps change = tt
-change_tells (fault.NotHeld n) chip c steps change = tt
-change_tells fault.Full chip c steps change = tt
+change_tells e chip c steps change = tt
 
 pub change_stops : {T : Type 0} (chip : ChipData) (c : CommandData) (s : StateData) (torn : Bool) (a b : RigState) (result : Result T Fault) → is_change c ≡ true → FaultEnds (IsBegunBy chip c s) torn a b result
     → StopsTelling (IsBegunTelling chip c s) torn a b result

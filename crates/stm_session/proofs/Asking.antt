@@ -14,6 +14,7 @@ use Rattle.stm_session.specs.declared.fault.Fault.{Fault}
 use Rattle.stm_session.specs.declared.fault.Fault.TheVariants.{Memory}
 use Rattle.stm_session.specs.Fault.{IsOutsideFault, fault_of}
 use Rattle.stm_session.specs.Asking.{Asks, IsStill}
+use Rattle.stm_session.proofs.Standing.{makes_then}
 
 pub line_outside : (e : WireFault) → e ≡ Line → IsOutsideFault (fault_of e)
 line_outside e is = subst (λ x. IsOutsideFault (fault_of x)) (sym is) tt
@@ -67,11 +68,7 @@ still_further : (a b : RigState) → IsStill a b.device b.journal → (d : Devic
 still_further a b first d journal then =
     record {
       journal_same = then.journal_same ∙ first.journal_same;
-      make = record {
-        chip = then.make.chip ∙ first.make.chip;
-        version = then.make.version ∙ first.make.version;
-        codes = then.make.codes ∙ first.make.codes;
-      };
+      make = makes_then a.device b.device d first.make then.make;
       flash = then.flash ∙ first.flash;
       harmless = then.harmless;
       awaits = then.awaits;

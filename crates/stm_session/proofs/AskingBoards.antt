@@ -1,6 +1,5 @@
 -- Asking which board a device is: the frames of that, how they join and how they are cut short.
-use Rattle.std.proofs.Math.Seq.{take-nil}
-use Rattle.std.proofs.Common.{◌≡◌, ◌⊎◌, ⊎_elim, inl, inr, OnOk, ap₂, ℕ, ◌+◌, ◌*◌, ◌/◌, ◌%◌, ◌≤◌, Bool, true, false, List, [], ◌∷◌, ◌++◌, length, Option, Some, None, Result, Ok, Err, IsErrAnd, refl, sym, ◌∙◌, ap, subst, arith, append_assoc, length-append}
+use Rattle.std.proofs.Common.{◌≡◌, ◌⊎◌, ⊎_elim, inl, inr, OnOk, ℕ, ◌+◌, ◌*◌, ◌/◌, ◌%◌, ◌≤◌, Bool, true, false, List, [], ◌∷◌, ◌++◌, length, Option, Some, None, Result, Ok, Err, IsErrAnd, refl, sym, ◌∙◌, ap, subst, arith, append_assoc, length-append}
 use Rattle.stm_wire.specs.declared.fault.WireFault.{WireFault}
 use Rattle.stm_wire.specs.declared.places.BoardPlaces.{BoardPlaces}
 use Rattle.stm_wire.specs.declared.places.UniquePlace.{UniquePlace}
@@ -11,34 +10,30 @@ use Rattle.stm_wire.specs.Dialogue.{Turn, Adds, GoesOn, IsBrokenOff, calls_of, p
 use Rattle.stm_wire.specs.lemmas.DialogueLaws.{GoesOn-adds, GoesOn-append, GoesOn-weaker, broken_off_is_cut_short, calls_of-are_line, gets_of-append, length-calls_of, length-read_turns, line_calls_are_few, puts_of-append}
 use Rattle.stm_wire.specs.Frames.{command, get_id_turns, get_turns, read_turns}
 use Rattle.stm_wire.specs.Moments.{LeftBySending}
-use Rattle.stm_wire.specs.lemmas.MomentLaws.{weaker}
+use Rattle.stm_wire.specs.lemmas.MomentLaws.{weaker, joined}
 use Rattle.stm_wire.specs.Parts.{AreFew, IsPart}
 use Rattle.stm_wire.specs.Refused.{AsksSafely, IsRefusedRead, ReadsOrIsRefused, RefusableReadsChangeNothing, at_address, at_code, at_count, refusable_frame, refused_turns}
-use Rattle.stm_wire.specs.Rig.{RigState}
+use Rattle.stm_wire.specs.Rig.{RigState, IsModel}
 use Rattle.stm_session.specs.declared.asking_board.Board.{Board}
 use Rattle.stm_session.specs.declared.fault.Fault.{Fault}
 use Rattle.stm_session.specs.Asking.{Asks, IsStill}
-use Rattle.stm_session.specs.AskingBoard.{AsksBoard, AsksSize, AsksUnique, IsAnswered, came_in, places_in, size_told, unique_told}
-use Rattle.stm_session.specs.Fault.{Cause, IsOutsideFault, cause_of, fault_of}
+use Rattle.stm_session.specs.AskingBoard.{AsksBoard, AsksSize, AsksUnique, IsAnswered, came_in, places_in, size_told, unique_told, AsksInPart}
+use Rattle.stm_session.specs.Fault.{Cause, IsOutsideFault, cause_of, fault_of, IsOfTalking, IsOutside, IsUnheard, fault_of_journal, of_protocol, of_refusal, of_session}
 use Rattle.stm_session.specs.Order.{Step, Begin, IsInOrder, Sends, FaultEnds, StopsBy, torn_behind, AreCutShort, acts_of}
 use Rattle.stm_session.specs.Reaching.{AsksInOrder, IsAsked, IsAsking, asking_steps, SettlesThen}
 use Rattle.stm_session.specs.Unwritten.{AppendsNothing}
 use Rattle.stm_wire.specs.declared.chip.EraseKind.{EraseKind}
 use Rattle.stm_wire.specs.declared.intent.Intent.{Intent}
-use Rattle.stm_wire.specs.Rig.{IsModel}
-use Rattle.stm_wire.specs.lemmas.MomentLaws.{joined}
 use Rattle.stm_wire.specs.Settling.{SettlesWithin}
 use Rattle.stm_wire.specs.Stopped.{LossStaysHarmless}
 use Rattle.stm_journal.specs.declared.fault.JournalFault.{JournalFault}
 use Rattle.stm_journal.specs.Calls.{AreFetches, IsUntouched, Loads}
 use Rattle.stm_journal.specs.Journals.{Loaded, journal_of}
-use Rattle.stm_session.specs.AskingBoard.{AsksInPart}
 use Rattle.stm_session.specs.ToldBoard.{AsksFinished, AsksUnfinished, IsBoardOf, size_of, unique_of}
-use Rattle.stm_session.specs.Fault.{IsOfTalking, IsOutside, IsUnheard, fault_of_journal, of_file, of_line, of_memory, of_protocol, of_refusal, of_session}
 use Rattle.stm_session.specs.Fresh.{EndsWell, Way, byte_of, limit_of, settling_way}
 use Rattle.stm_session.proofs.AskingStops.{asked_puts}
 use Rattle.stm_session.proofs.Freshness.{limit_most}
-use Rattle.stm_session.specs.Moments.{BeginsNothing, IsSafe, IsUnbegun, SameMake}
+use Rattle.stm_session.specs.Moments.{BeginsNothing, IsSafe, IsUnbegun}
 use Rattle.stm_session.specs.Opening.{LoadsUnless}
 use Rattle.stm_session.specs.Refusal.{unsent_refusal}
 use Rattle.stm_session.specs.Unasked.{asking_refusal}
@@ -52,7 +47,7 @@ use Rattle.stm_session.proofs.Openings.{load_failed, untouched_is_unbegun}
 use Rattle.stm_session.proofs.Reaching.{err_then, told_then}
 use Rattle.stm_session.proofs.Sending.{fetches_get, fetches_put}
 use Rattle.stm_session.proofs.Unbegun.{further}
-use Rattle.stm_session.proofs.Unread.{same_flash, untouched_amid}
+use Rattle.stm_session.proofs.Unread.{stands_amid, untouched_amid}
 use Rattle.stm_session.proofs.CutShort.{begin_after, begin_as, begin_on, by_fault, order_stops, part_stops}
 use Rattle.stm_session.proofs.Orders.{acts-append, acts-line, fetches-act, order_sent, order_then, settles_and, torn-append}
 use Rattle.stm_session.proofs.Unwritings.{held_appends_nothing}
@@ -374,12 +369,10 @@ goes_asked laws flashes l old new steady (Ok x) asks = asks_go laws flashes l ol
 goes_asked laws flashes l old new steady (Err e) asks = asks_fail laws flashes l old new steady [] l e (Err e) asks refl
 
 outside_of : (k : Cause) → IsUnheard k → IsOutside k
-outside_of of_line is = tt
 outside_of of_protocol is = is
-outside_of of_file is = tt
-outside_of of_memory is = tt
 outside_of of_session is = is
 outside_of of_refusal is = is
+outside_of k is = tt
 
 -- the journal can't be read
 pub finished_unread : (table : List ChipData) (law : LossStaysHarmless) (old new : RigState) (e : JournalFault) (result : Result Board Fault) → IsSafe old.device → Loads old new (Err e) → IsErrAnd result (λ x. x ≡ fault_of_journal e) → AsksFinished table old new result
@@ -432,24 +425,9 @@ module _ (table : List ChipData) (l : Loaded) (old a b : RigState) (loads : Load
 
   -- and so with an unfinished one
   module _ (laws : StepLaws) (flashes : List (List ℕ)) (u : Undoable flashes old.device old.journal) where
-    amid : (d : Device) (journal : List ℕ) → Stands [] flashes a d journal → AmidUndo 0 flashes old d journal
-    amid d journal s =
-        let M : Device → Type 0 = λ x. SameMake x d in
-        record {
-          undone = 0;
-          within = omega arith;
-          make = subst M loads.same_device s.make;
-          undoable = s.undoable;
-          finished = λ f. (s.finished f).1 ∙ ap (λ (x : Device). x.flash) loads.same_device;
-          settled = old.device.flash;
-          is_settled = same_flash old old.device.flash refl;
-          written = 0;
-          lines = s.lines ∙ ap₂ (λ (j t : List ℕ). j ++ t) loads.journal (take-nil s.written);
-        }
-
     pub unfinished_asked : {l2 : Loaded} (model : IsModel b) (r : Result Board Fault) → Goes flashes [] l2 a b r (IsBoardOf table a.device.chip) → AsksUnfinished table flashes old b r
     unfinished_asked {l2 = l2} model r goes =
-        let moments = joined (IsUntouched old) (Stands [] flashes a) (AmidUndo 0 flashes old) old a b loads.moments goes.moments (untouched_amid laws 0 flashes old u) amid in
+        let moments = joined (IsUntouched old) (Stands [] flashes a) (AmidUndo 0 flashes old) old a b loads.moments goes.moments (untouched_amid laws 0 flashes old u) (stands_amid l old a loads 0 flashes) in
         record {
           moments = moments;
           honest = goes.honest;

@@ -10,7 +10,7 @@ use Rattle.stm_wire.specs.lemmas.MomentLaws.{weaker}
 use Rattle.stm_wire.specs.Rig.{RigState, IsModel, LeftByAppend}
 use Rattle.stm_journal.specs.declared.entry.Entry.{Entry}
 use Rattle.stm_journal.specs.declared.fault.JournalFault.{JournalFault}
-use Rattle.stm_journal.specs.declared.fault.JournalFault.TheVariants.{File, Bad, OtherDevice, OtherBoard, Memory}
+use Rattle.stm_journal.specs.declared.fault.JournalFault.TheVariants.{Bad, OtherDevice, OtherBoard}
 use Rattle.stm_journal.specs.declared.header.JournalHeader.{JournalHeader}
 use Rattle.stm_journal.specs.Beginnings.{BeginningsAreGood, EntriesLead}
 use Rattle.stm_journal.specs.lemmas.CallEntries.{allowed-begin, board-begin, printable-begin, stack-begin, names-begin}
@@ -192,11 +192,10 @@ module _ (laws : StepLaws) (stopped_is_good : BeginningsAreGood) (flashes : List
       board_here = ap (λ (s : StateData). names_other_board unique s) steady.loaded.state ∙ ap (λ (s : StateData). names_other_board unique s) (text_is l old.journal steady.loaded) ∙ mine_board
 
       outside : (e : JournalFault) → LeavesUnbegun id unique l l2 e → IsOutsideFault (fault_of_journal e)
-      outside File left = tt
       outside (Bad line) left = absurd left
       outside OtherDevice left = absurd (true≢false (sym left.0 ∙ mine_here))
       outside OtherBoard left = absurd (true≢false (sym left.1.0 ∙ board_here))
-      outside Memory left = tt
+      outside e left = tt
 
   -- it has begun
   pub begins : {T U : Type 0} (l2 : Loaded) (new : RigState) (k : T) (y : U) → Appends (begin_entries id unique l.state) l l2 old new (Ok k) → l2.is_torn ≡ false → HasBegun id unique (state_at old.journal) (state_at new.journal)

@@ -2,31 +2,20 @@
 use Rattle.std.proofs.Common.{◌≡◌, ◌∙◌, Result, Ok, Err, IsErrAnd, arith, subst, sym}
 use Rattle.stm_wire.specs.Rig.{RigState, Rises}
 use Rattle.stm_session.specs.declared.fault.Fault.{Fault}
-use Rattle.stm_session.specs.Fault.{Cause, of_line, of_protocol, of_file, of_memory, of_session, of_refusal, cause_of, HasSessionCause, KeepsFileCountBy, KeepsLineCountBy, RisesBy}
+use Rattle.stm_session.specs.Fault.{Cause, of_line, of_file, cause_of, HasSessionCause, KeepsFileCountBy, KeepsLineCountBy, RisesBy}
 
 rises_behind : (a b c : RigState) (k : Cause) → b.line_failures ≡ a.line_failures → b.journal_failures ≡ a.journal_failures → RisesBy b c k → RisesBy a c k
 rises_behind a b c of_line line file r = subst (λ n. Rises n c.line_failures) line r
 rises_behind a b c of_file line file r = subst (λ n. Rises n c.journal_failures) file r
-rises_behind a b c of_protocol line file r = tt
-rises_behind a b c of_memory line file r = tt
-rises_behind a b c of_session line file r = tt
-rises_behind a b c of_refusal line file r = tt
+rises_behind a b c k line file r = tt
 
 keeps_line_behind : (a b c : RigState) (k : Cause) → b.line_failures ≡ a.line_failures → KeepsLineCountBy b c k → KeepsLineCountBy a c k
 keeps_line_behind a b c of_line line r = tt
-keeps_line_behind a b c of_file line r = r ∙ line
-keeps_line_behind a b c of_protocol line r = r ∙ line
-keeps_line_behind a b c of_memory line r = r ∙ line
-keeps_line_behind a b c of_session line r = r ∙ line
-keeps_line_behind a b c of_refusal line r = r ∙ line
+keeps_line_behind a b c k line r = r ∙ line
 
 keeps_file_behind : (a b c : RigState) (k : Cause) → b.journal_failures ≡ a.journal_failures → KeepsFileCountBy b c k → KeepsFileCountBy a c k
 keeps_file_behind a b c of_file file r = tt
-keeps_file_behind a b c of_line file r = r ∙ file
-keeps_file_behind a b c of_protocol file r = r ∙ file
-keeps_file_behind a b c of_memory file r = r ∙ file
-keeps_file_behind a b c of_session file r = r ∙ file
-keeps_file_behind a b c of_refusal file r = r ∙ file
+keeps_file_behind a b c k file r = r ∙ file
 
 -- calls that answered Ok, and one that failed, whose fault is handed on
 pub cause_behind : {T U V : Type 0} (u : T) (a b c : RigState) (e : Fault) (r : Result V Fault) → IsErrAnd r (λ x. x ≡ e) → HasSessionCause {T = T} a b (Ok u) → HasSessionCause {T = U} b c (Err e) → HasSessionCause a c r

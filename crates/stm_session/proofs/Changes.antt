@@ -1,6 +1,6 @@
 -- A page changes in a command.
 use Rattle.std.proofs.Common.{Ok, ◌≡◌, ◌≢◌, ◌/◌, ℕ, Bool, false, not, if◌then◌else◌, List, [], ◌∷◌, ◌++◌, length, refl, sym, ◌∙◌, ap, subst, ⊎_elim}
-use Rattle.std.specs.Prelude.{bytes_eq}
+use Rattle.std.specs.Prelude.{bytes_eq, Vec}
 use Rattle.std.proofs.lemmas.Bool.{cases_Bool, true≢false}
 use Rattle.std.proofs.lemmas.Slice.Eq.{bytes_eq-Decides}
 use Rattle.stm_wire.specs.Chip.{ChipData, erased_byte, page_of, with_page}
@@ -12,13 +12,11 @@ use Rattle.stm_session.specs.StepLaws.{StepLaws}
 use Rattle.stm_session.proofs.ChangeOrders.{changed_none}
 use Rattle.stm_session.proofs.Going.{page_held}
 use Rattle.stm_session.proofs.Performing.{performs_none}
-use Rattle.std.specs.Prelude.{Vec}
 use Rattle.std.specs.declared.alloc.Global.{Global}
 use Rattle.stm_chip.specs.declared.plan.PagePlan.{PagePlan}
 use Rattle.stm_chip.specs.declared.plan.PagePlan.TheVariants.{Erase}
-use Rattle.stm_chip.specs.Plan.{IsPlan}
+use Rattle.stm_chip.specs.Plan.{IsPlan, frames_of}
 use Rattle.stm_chip.specs.declared.plan.Frame.{Frame}
-use Rattle.stm_chip.specs.Plan.{frames_of}
 use Rattle.stm_journal.specs.declared.entry.Entry.{Entry}
 use Rattle.stm_journal.specs.declared.entry.Entry.TheVariants.{Erases}
 use Rattle.stm_journal.specs.States.{StateData}

@@ -9,7 +9,7 @@ use Rattle.stm_journal.specs.declared.entry.Entry.{Entry}
 use Rattle.stm_session.specs.Answers.{OutcomeData, agrees, agreeing, answers_of, first_difference, in_front_of, outcome_of, segments_of_command, verified_or}
 use Rattle.stm_session.specs.OneCommand.{lines_if}
 use Rattle.stm_session.specs.Lines.{run_entries, segment_entries}
-use Rattle.stm_session.specs.Meaning.{CommandData, writes, erases, verifies, reads, before_if, changes_of, flash_after, flash_after_all, flashes_before, is_change}
+use Rattle.stm_session.specs.Meaning.{CommandData, verifies, reads, before_if, changes_of, flash_after, flash_after_all, flashes_before, is_change}
 use Rattle.stm_session.proofs.Whole.{same-after}
 
 -- the commands that begin a segment
@@ -145,30 +145,25 @@ entries-one named chip below flash c = at (is_change c)
 
 -- what a command answers, and whether it agrees
 pub answer-agrees : (chip : ChipData) (k : ℕ) (flash : List ℕ) (c : CommandData) (said : OutcomeData) → outcome_of chip k flash c ≡ Ok said → agrees chip flash c ≡ true
-answer-agrees chip k flash (writes image) said e = refl
-answer-agrees chip k flash (erases pages) said e = refl
 answer-agrees chip k flash (verifies image) said e = at (first_difference image chip.base flash) e
   where
     at : (o : Option ℕ) → verified_or o ≡ Ok said → is_none o ≡ true
     at None e = refl
     at (Some address) e = cc
-answer-agrees chip k flash (reads start size) said e = refl
+answer-agrees chip k flash c said e = refl
 
 pub difference-disagrees : (chip : ChipData) (k : ℕ) (flash : List ℕ) (c : CommandData) (address : ℕ) → outcome_of chip k flash c ≡ Err address → agrees chip flash c ≡ false
-difference-disagrees chip k flash (writes image) address e = cc
-difference-disagrees chip k flash (erases pages) address e = cc
 difference-disagrees chip k flash (verifies image) address e = at (first_difference image chip.base flash) e
   where
     at : (o : Option ℕ) → verified_or o ≡ Err address → is_none o ≡ false
     at None e = cc
     at (Some a) e = refl
-difference-disagrees chip k flash (reads start size) address e = cc
+difference-disagrees chip k flash c address e = cc
 
 pub change-agrees : (chip : ChipData) (flash : List ℕ) (c : CommandData) → is_change c ≡ true → agrees chip flash c ≡ true
-change-agrees chip flash (writes image) e = refl
-change-agrees chip flash (erases pages) e = refl
 change-agrees chip flash (verifies image) e = cc
 change-agrees chip flash (reads start size) e = cc
+change-agrees chip flash c e = refl
 
 -- answers of more than one command
 record IsInFront (first : Result OutcomeData ℕ) (rest : Result (List OutcomeData) ℕ) (all : List OutcomeData) : Type 0 where

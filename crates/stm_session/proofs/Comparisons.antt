@@ -1,5 +1,5 @@
 -- Comparing an image with the flash, block by block.
-use Rattle.std.proofs.Common.{◌≡◌, ℕ, zero, suc, ◌+◌, ◌-◌, ◌*◌, ◌<◌, ◌≤◌, Bool, true, false, IsTrue, List, [], ◌∷◌, ◌++◌, length, take, drop, Option, Some, None, is_some, MatchOption, Result, Ok, refl, sym, ◌∙◌, ap, ap₂, subst, arith, if◌then◌else◌}
+use Rattle.std.proofs.Common.{◌≡◌, ℕ, zero, suc, ◌+◌, ◌-◌, ◌*◌, ◌≤◌, Bool, true, false, IsTrue, List, [], ◌∷◌, ◌++◌, length, take, drop, Option, Some, None, is_some, MatchOption, Result, Ok, refl, sym, ◌∙◌, ap, ap₂, subst, arith, if◌then◌else◌}
 use Rattle.std.specs.List.{AllByRecursion}
 use Rattle.std.proofs.lemmas.Bool.{true≢false}
 use Rattle.std.proofs.lemmas.List.{drop-drop, length-take}
@@ -109,9 +109,6 @@ module _ (chip : ChipData) (image : Pairs) (done : ℕ) (block : Block) (old mid
 
   pub block_within : offset + block.size ≤ flash_size chip
   block_within = omega (arith, low, is.inside, is.size.cut)
-
-  pub block_further : done < offset + block.size
-  block_further = omega (arith, low, is.inside, is.size.cut, is.size.is_rest.some)
 
   pub block_inside : IsTrue (fits_inside chip block.address block.size)
   block_inside = end-fits chip block.address block.size (omega (arith, low)) (omega (arith, low, is.inside, is.size.cut))

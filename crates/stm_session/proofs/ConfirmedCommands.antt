@@ -1,10 +1,9 @@
 -- Commands behind the question whether a device is still the chip's board, on any line.
-use Rattle.std.proofs.Common.{◌≡◌, ◌≢◌, ◌⊎◌, inl, inr, ◌+◌, ℕ, Bool, true, false, List, [], ◌++◌, map, Some, Result, Ok, Err, IsErrAnd, IfOk, IfErr, OnOk, refl, ◌∙◌, arith}
+use Rattle.std.proofs.Common.{◌≡◌, ◌≢◌, ◌⊎◌, inl, inr, ◌+◌, ℕ, Bool, false, List, [], ◌++◌, map, Some, Result, Ok, Err, IsErrAnd, IfOk, IfErr, refl, ◌∙◌, arith}
 use Rattle.std.specs.Prelude.{⊤}
 use Rattle.stm_wire.specs.Chip.{ChipData}
 use Rattle.stm_wire.specs.Device.{IsSettled}
 use Rattle.stm_wire.specs.Dialogue.{GoesOn}
-use Rattle.stm_wire.specs.Parts.{IsPart}
 use Rattle.stm_wire.specs.Rig.{RigState, IsModel}
 use Rattle.stm_journal.specs.Journals.{Loaded}
 use Rattle.stm_journal.specs.States.{StateData, is_unfinished}
@@ -22,7 +21,6 @@ use Rattle.stm_session.specs.Reaching.{IsConfirmedInPart, IsConfirming, confirme
 use Rattle.stm_session.specs.RunOrder.{StopsTelling}
 use Rattle.stm_session.specs.Sending.{PutsAtMost, is_whole, most_of_confirming}
 use Rattle.stm_session.specs.StepLaws.{StepLaws}
-use Rattle.stm_session.specs.Steps.{IsSteady}
 use Rattle.stm_session.proofs.Causes.{cause_behind}
 use Rattle.stm_session.proofs.Confirmed.{confirmed_chip, confirmed_steady, run_confirmed, run_unconfirmed}
 use Rattle.stm_session.proofs.Confirmings.{does_confirm, is_finished}

@@ -1,7 +1,6 @@
 -- What the exits of a function share: a step's end, at each of the exits of its `?`, and a page
 -- that is read.
-use Rattle.std.proofs.Common.{◌≡◌, ◌<◌, ◌++◌, ◌/◌, ◌%◌, ℕ, Bool, List, [], Result, Err}
-use Rattle.std.proofs.Common.{IsErrAnd, length, append-nil, arith}
+use Rattle.std.proofs.Common.{◌≡◌, ◌<◌, ◌++◌, ◌/◌, ◌%◌, ℕ, Bool, List, [], Result, Err, IsErrAnd, length, append-nil, arith}
 use Rattle.stm_wire.specs.Chip.{ChipData, page_count, page_size}
 use Rattle.stm_wire.specs.Dialogue.{GoesOn}
 use Rattle.stm_wire.specs.Intents.{InPage}

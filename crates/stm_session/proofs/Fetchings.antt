@@ -7,15 +7,15 @@ use Rattle.stm_journal.specs.declared.entry.Entry.{Entry}
 use Rattle.stm_journal.specs.declared.fault.JournalFault.{JournalFault}
 use Rattle.stm_journal.specs.declared.kept.PagePlace.{PagePlace}
 use Rattle.stm_journal.specs.Calls.{FetchesPage, IsUntouched}
-use Rattle.stm_journal.specs.Journals.{Loaded, IsLoaded}
+use Rattle.stm_journal.specs.Journals.{Loaded}
 use Rattle.stm_session.specs.declared.fault.Fault.{Fault}
 use Rattle.stm_session.specs.Fault.{IsOutsideFault, fault_of_journal}
 use Rattle.stm_session.specs.StepLaws.{StepLaws}
-use Rattle.stm_session.specs.Steps.{AddsLines, IsSteady, KeepsFlashes, Stands, Goes}
+use Rattle.stm_session.specs.Steps.{IsSteady, KeepsFlashes, Stands, Goes}
 use Rattle.stm_session.specs.Undoable.{state_at}
+use Rattle.stm_session.proofs.Going.{goes_still}
 use Rattle.stm_session.proofs.Keeping.{good_at}
 use Rattle.stm_session.proofs.Standing.{loses_nothing, same_make, settled_undoable}
-use Rattle.stm_session.proofs.Texts.{adds_none}
 
 -- a settled device owes nothing that a stop could lose: the moment is the one before
 untouched_stands : (laws : StepLaws) (entries : List Entry) (flashes : List (List ℕ)) (l : Loaded) (old : RigState) → IsModel old → IsSteady flashes l old → (d : Device) (journal : List ℕ) → IsUntouched old d journal
@@ -36,24 +36,10 @@ untouched_stands laws entries flashes l old model steady d journal same =
 module _ (laws : StepLaws) (flashes : List (List ℕ)) (l : Loaded) (place : PagePlace) (after : List ℕ) (old new : RigState) (model : IsModel old) (steady : IsSteady flashes l old) where
   pub fetch_goes : {U : Type 0} (y : U) (Done : U → Type 0) → FetchesPage place after old new (Ok tt) → Done y → Goes flashes [] l old new (Ok y) Done
   fetch_goes y Done fetches done =
-      let J : List ℕ → Type 0 = λ j. IsLoaded l j in
-      let S : Device → Type 0 = λ d. IsSettled d in
-      let K : Device → Type 0 = λ d. KeepsFlashes flashes d (state_at old.journal) in
-      let KJ : List ℕ → Type 0 = λ j. KeepsFlashes flashes new.device (state_at j) in
-      let A : List ℕ → Type 0 = λ j. AddsLines [] old.journal j in
-      record {
-        moments = weaker (IsUntouched old) (Stands [] flashes old) old new fetches.moments (untouched_stands laws [] flashes l old model steady);
-        fails = tt;
-        honest = fetches.honest;
-        steady = record {
-          honest = fetches.honest;
-          loaded = subst J (sym fetches.journal) steady.loaded;
-          settled = subst S (sym fetches.same_device) steady.settled;
-          keeps = subst KJ (sym fetches.journal) (subst K (sym fetches.same_device) steady.keeps);
-        };
-        lines = subst A (sym fetches.journal) (adds_none old.journal);
-        done = done;
-      }
+      let K : Device → Type 0 = λ d. IsSettled d × KeepsFlashes flashes d (state_at old.journal) in
+      let at = subst K (sym fetches.same_device) (steady.settled, steady.keeps) in
+      goes_still flashes l old new y Done (weaker (IsUntouched old) (Stands [] flashes old) old new fetches.moments (untouched_stands laws [] flashes l old model steady))
+      fetches.honest fetches.journal steady.loaded at.0 at.1 done
 
   pub fetch_fails : {U : Type 0} {Done : U → Type 0} (ys : List Entry) (l3 : Loaded) (fault : JournalFault) (result : Result U Fault) → FetchesPage place after old new (Err fault)
       → IsErrAnd result (λ e. e ≡ fault_of_journal fault) → Goes flashes ys l3 old new result Done

@@ -1,8 +1,7 @@
 -- What is kept before a page changes, as deeds; and the page's change behind them.
 use Rattle.std.proofs.Common.{◌≡◌, ◌≢◌, ◌∙◌, ℕ, ◌-◌, ◌<◌, ◌/◌, ◌==◌, ◌&&◌, not, Bool, true, false}
 use Rattle.std.proofs.Common.{if◌then◌else◌, List, [], ◌∷◌, ◌++◌, length, map, take, drop, Result, Ok, Err}
-use Rattle.std.proofs.Common.{IsErrAnd}
-use Rattle.std.proofs.Common.{IsTrue, ap, ap₂, append_assoc, arith, refl, subst, sym}
+use Rattle.std.proofs.Common.{IsErrAnd, IsTrue, ap, ap₂, append_assoc, arith, refl, subst, sym}
 use Rattle.std.specs.Borrow.{Bor}
 use Rattle.std.specs.Prelude.{Vec, flat_map, fold, vec_len}
 use Rattle.std.specs.declared.alloc.Global.{Global}
@@ -24,10 +23,8 @@ use Rattle.stm_session.specs.declared.deed.Deed.{Deed}
 use Rattle.stm_session.specs.declared.deed.Deed.TheVariants as deed
 use Rattle.stm_session.specs.declared.fault.Fault.{Fault}
 use Rattle.stm_session.specs.ChangeOrder.{IsChanged, IsSaved}
-use Rattle.stm_session.specs.Changing.{AreReadsIf, ReadsIf}
-use Rattle.stm_session.specs.Changing.{change_entries, reads_if, save_entries}
-use Rattle.stm_session.specs.Deeds.{AllSuit, MayDoAll, flash_with, lines_of_deed}
-use Rattle.stm_session.specs.Deeds.{step_of_deed}
+use Rattle.stm_session.specs.Changing.{AreReadsIf, ReadsIf, change_entries, reads_if, save_entries}
+use Rattle.stm_session.specs.Deeds.{AllSuit, MayDoAll, flash_with, lines_of_deed, step_of_deed}
 use Rattle.stm_session.specs.Lines.{program_entries}
 use Rattle.stm_session.specs.Order.{Step, Adds, Are, page_reads, rewrite_steps}
 use Rattle.stm_session.specs.Performs.{Performs}

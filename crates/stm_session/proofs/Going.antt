@@ -115,16 +115,9 @@ goes_failed flashes xs ys l2 l3 a b e (Err y) goes is =
 -- memory is refused after some steps
 pub goes_refused : {T U : Type 0} {Done1 : T → Type 0} {Done : U → Type 0} (flashes : List (List ℕ)) (xs ys : List Entry) (l2 l3 : Loaded) (a b : RigState) (x : T) (result : Result U Fault) → Goes flashes xs l2 a b (Ok x) Done1
     → IsErrAnd result (λ y. y ≡ Memory) → Goes flashes (xs ++ ys) l3 a b result Done
-goes_refused flashes xs ys l2 l3 a b x (Ok y) goes is = absurd is
-goes_refused flashes xs ys l2 l3 a b x (Err y) goes is =
-    record {
-      moments = weaker (Stands xs flashes a) (Stands (xs ++ ys) flashes a) a b goes.moments (λ d journal s. stands_more xs ys flashes a d journal s);
-      fails = subst IsOutsideFault (sym is) tt;
-      honest = goes.honest;
-      steady = tt;
-      lines = tt;
-      done = tt;
-    }
+goes_refused {T = T} flashes xs ys l2 l3 a b x result goes is =
+    let refused : Goes {T = T} flashes xs l2 a b (Err Memory) (λ y. Unit {0}) = record { moments = goes.moments; fails = tt; honest = goes.honest; steady = tt; lines = tt; done = tt } in
+    goes_failed flashes xs ys l2 l3 a b Memory result refused is
 
 -- nothing yet
 pub goes_nowhere : {T : Type 0} (laws : StepLaws) (flashes : List (List ℕ)) (l : Loaded) (a : RigState) (x : T) (Done : T → Type 0) → IsModel a → IsSteady flashes l a → Done x → Goes flashes [] l a a (Ok x) Done
@@ -188,6 +181,14 @@ module _ (laws : StepLaws) (e : Entry) (flashes : List (List ℕ)) (l l2 : Loade
 pub line_outside : (e : WireFault) → e ≡ Line → IsOutsideFault (fault_of e)
 line_outside e is = subst (λ x. IsOutsideFault (fault_of x)) (sym is) tt
 
+-- No line was added, and the flashes are kept that were.
+pub goes_still : {T : Type 0} (flashes : List (List ℕ)) (l : Loaded) (old new : RigState) (y : T) (Done : T → Type 0) → LeavesOnly (Stands [] flashes old) old new → new.is_honest → new.journal ≡ old.journal
+    → IsLoaded l old.journal → IsSettled new.device → KeepsFlashes flashes new.device (state_at old.journal) → Done y → Goes flashes [] l old new (Ok y) Done
+goes_still flashes l old new y Done moments honest same loaded settled keeps done =
+    let S : List ℕ → Type 0 = λ j. IsLoaded l j × (KeepsFlashes flashes new.device (state_at j) × AddsLines [] old.journal j) in
+    let at = subst S (sym same) (loaded, (keeps, adds_none old.journal)) in
+    record { moments = moments; fails = tt; honest = honest; steady = record { honest = honest; loaded = at.0; settled = settled; keeps = at.1.0 }; lines = at.1.1; done = done }
+
 -- a frame is sent under an intent on a page that the newest segment keeps
 module _ (laws : StepLaws) (flashes : List (List ℕ)) (l : Loaded) (n : ℕ) (i : Intent) (frame : List ℕ) (old new : RigState)
     (model : IsModel old) (steady : IsSteady flashes l old) (under : IsUnder n i (state_at old.journal)) (of : (i ≡ Erase n) ⊎ (i ≡ Program n)) (frames : IsFrameUnder old.device.chip (Some i) frame) where
@@ -204,22 +205,7 @@ module _ (laws : StepLaws) (flashes : List (List ℕ)) (l : Loaded) (n : ℕ) (i
   frame_goes y Done holds model_then settled done =
       let sent = holds.honestly steady.honest in
       let moments = both sent.moments in
-      let J : List ℕ → Type 0 = λ j. IsLoaded l j in
-      let K : List ℕ → Type 0 = λ j. KeepsFlashes flashes new.device (state_at j) in
-      let A : List ℕ → Type 0 = λ j. AddsLines [] old.journal j in
-      record {
-        moments = stands moments;
-        fails = tt;
-        honest = sent.honest;
-        steady = record {
-          honest = sent.honest;
-          loaded = subst J (sym sent.journal) steady.loaded;
-          settled = settled;
-          keeps = subst K (sym sent.journal) (at_exit Both old new (model_then sent.honest) moments).1;
-        };
-        lines = subst A (sym sent.journal) (adds_none old.journal);
-        done = done;
-      }
+      goes_still flashes l old new y Done (stands moments) sent.honest sent.journal steady.loaded settled (at_exit Both old new (model_then sent.honest) moments).1 done
 
   pub frame_fails : {U : Type 0} {turns : List Turn} {Done : U → Type 0} {fault : WireFault} (ys : List Entry) (l3 : Loaded) (result : Result U Fault) → BreaksOff fault frame turns old new → fault ≡ Line
       → IsErrAnd result (λ e. e ≡ fault_of fault) → Goes flashes ys l3 old new result Done
@@ -241,25 +227,10 @@ module _ (laws : StepLaws) (flashes : List (List ℕ)) (l : Loaded) (old new : R
   asked_moments ys moments = weaker (IsStill old) (Stands ys flashes old) old new moments (still_stands laws ys flashes l old steady)
 
   pub asks_go : {T U : Type 0} {Done1 : T → Type 0} {Done : U → Type 0} (x : T) (y : U) → Asks old new (Ok x) Done1 → (Done1 x → Done y) → Goes flashes [] l old new (Ok y) Done
-  asks_go x y asks gives =
-      let J : List ℕ → Type 0 = λ j. IsLoaded l j in
-      let S : Device → Type 0 = λ d. IsSettled d in
-      let K : Device → Type 0 = λ d. KeepsFlashes flashes d (state_at old.journal) in
-      let KJ : List ℕ → Type 0 = λ j. KeepsFlashes flashes new.device (state_at j) in
-      let A : List ℕ → Type 0 = λ j. AddsLines [] old.journal j in
-      record {
-        moments = asked_moments [] asks.moments;
-        fails = tt;
-        honest = asks.honest;
-        steady = record {
-          honest = asks.honest;
-          loaded = subst J (sym asks.left.journal_same) steady.loaded;
-          settled = subst S (sym asks.same) steady.settled;
-          keeps = subst KJ (sym asks.left.journal_same) (subst K (sym asks.same) steady.keeps);
-        };
-        lines = subst A (sym asks.left.journal_same) (adds_none old.journal);
-        done = gives asks.done;
-      }
+  asks_go {Done = Done} x y asks gives =
+      let K : Device → Type 0 = λ d. IsSettled d × KeepsFlashes flashes d (state_at old.journal) in
+      let at = subst K (sym asks.same) (steady.settled, steady.keeps) in
+      goes_still flashes l old new y Done (asked_moments [] asks.moments) asks.honest asks.left.journal_same steady.loaded at.0 at.1 (gives asks.done)
 
   -- with nothing to tell
   pub asks_on : {T : Type 0} {Done1 : T → Type 0} (x : T) → Asks old new (Ok x) Done1 → Goes {T = Unit {0}} flashes [] l old new (Ok tt) (λ y. Unit {0})

@@ -44,7 +44,6 @@ same_taken chip (suc n) (x ∷ xs) (y ∷ ys) flash same =
     let both : x.pages ∷ pages_of_segments xs ≡ y.pages ∷ pages_of_segments ys = same in
     let pages : x.pages ≡ y.pages = cc in
     let rest : pages_of_segments xs ≡ pages_of_segments ys = cc in
-    let first = x.pages in
     let flash_is : with_kept_pages chip x flash ≡ with_kept_pages chip y flash = ap (λ (ps : List Kept). with_kept_pages chip (record y { pages = ps }) flash) pages in
     let count : length xs ≡ length ys = sym (count_pages xs) ∙ ap (λ (ps : List (List Kept)). length ps) rest ∙ count_pages ys in
     ap (λ (ps : List Kept). flat_map (return_entries chip flash) ps ++ (Undoes (length xs + 1) ∷ taken_entries chip n xs (with_kept_pages chip x flash))) pages

@@ -3,7 +3,7 @@ use Rattle.std.proofs.Common.{◌≡◌, ◌⊎◌, inl, inr, ⊎_elim, ℕ, ◌
 use Rattle.std.specs.Prelude.{Contains, IfErr, is_some, option_map}
 use Rattle.std.proofs.lemmas.Bool.{and_parts, true≢false}
 use Rattle.stm_wire.specs.declared.fault.WireFault.{WireFault}
-use Rattle.stm_wire.specs.declared.fault.WireFault.TheVariants.{Line, Nack, Quiet, Garbled}
+use Rattle.stm_wire.specs.declared.fault.WireFault.TheVariants.{Line}
 use Rattle.stm_wire.specs.declared.intent.Intent.{Intent}
 use Rattle.stm_wire.specs.Awaited.{Awaits}
 use Rattle.stm_wire.specs.Call.{Call, Append}
@@ -28,13 +28,11 @@ use Rattle.stm_journal.specs.Greetings.{greeting_line, is_greeted, may_greet}
 use Rattle.stm_journal.specs.Journals.{Loaded, IsLoaded, journal_of, good}
 use Rattle.stm_journal.specs.declared.stage.Stage.{Stage}
 use Rattle.stm_journal.specs.declared.stage.Stage.TheVariants.{Open, Ended, Returning}
-use Rattle.stm_journal.specs.States.{IsSound, SegmentData, StateData, intent_at, intent_of, is_ended_stage, is_unfinished}
-use Rattle.stm_journal.specs.States.{newest_has, newest_intent}
+use Rattle.stm_journal.specs.States.{IsSound, SegmentData, StateData, intent_at, intent_of, is_ended_stage, is_unfinished, newest_has, newest_intent}
 use Rattle.stm_session.specs.declared.fault.Fault.{Fault}
 use Rattle.stm_session.specs.Fault.{HasSessionCause, IsJournalOrMemory, IsOutsideFault, KeepsFileCount, KeepsLineCount, RisesFor, fault_of, fault_of_journal}
 use Rattle.stm_session.specs.declared.greeting.Greeting.{Greeting}
 use Rattle.stm_session.specs.declared.greeting.Greeting.TheVariants.{Brief, Fresh, Plain}
-use Rattle.stm_session.specs.Fresh.{IsReset}
 use Rattle.stm_session.specs.Greeting.{AmidGreeting, FreshIsGreetable, GreetsBy, GreetsInPart, GreetsInPartBy, GreetsOnce, GreetsSafely, IsGreetable, IsGreetableAs, LossIsGreetable, ReadsFirst, StoppedIsGreetable, WritesFirst, greets, greets_loaded, is_doubtful, is_erase, is_extended, is_long_list, is_wide, lists_wide, wants_greeting, wants_loaded}
 use Rattle.stm_session.specs.Refusal.{chip_with}
 use Rattle.stm_session.specs.Moments.{SameMake}
@@ -82,9 +80,8 @@ only_fresh Fresh chip l w none = refl
 
 -- what may be greeted so may be greeted
 greetable_now : (greeting : Greeting) (d : Device) (journal : List ℕ) → FreshMayBeGreeted → IsDevice d → IsGreetableAs greeting d journal → IsGreetable d journal
-greetable_now Brief d journal law is may = may
-greetable_now Plain d journal law is may = may
 greetable_now Fresh d journal law is may = λ wants. law d (intent_of (state_at journal)) (risked_at journal) is may.phase
+greetable_now greeting d journal law is may = may
 
 greetable_by : (greeting : Greeting) (table : List ChipData) (d : Device) (journal : List ℕ) → FreshMayBeGreeted → IsDevice d → IsGreetableAs greeting d journal → greets greeting table journal ≡ true
     → MayBeGreeted d (intent_of (state_at journal)) (risked_at journal)
@@ -318,21 +315,15 @@ line_cause e a b k = record {
   where
     rises : (x : WireFault) → (x ≡ Line → Rises a.line_failures b.line_failures) → RisesFor a b (fault_of x)
     rises Line r = r refl
-    rises Nack r = tt
-    rises Quiet r = tt
-    rises Garbled r = tt
+    rises x r = tt
 
     kept : (x : WireFault) → KeepsCount a.line_failures b.line_failures x → KeepsLineCount a b (fault_of x)
     kept Line c = tt
-    kept Nack c = c
-    kept Quiet c = c
-    kept Garbled c = c
+    kept x c = c
 
     same : (x : WireFault) → KeepsFileCount a b (fault_of x)
     same Line = k.journal_count
-    same Nack = k.journal_count
-    same Quiet = k.journal_count
-    same Garbled = k.journal_count
+    same x = k.journal_count
 
 -- What is called, on any line:
 
@@ -343,14 +334,12 @@ pub writes_then : (Says : List Call → Type 0) (a b c : Option (List Call)) →
 writes_then Says a b c p q = GoesOn-append (λ calls. calls ≡ Append greeting_line ∷ []) Says (WritesFirst Says) a b c p q (λ us vs u v. (vs, ap (λ (zs : List Call). zs ++ vs) u, v))
 
 pub part_by : (greeting : Greeting) (calls : List Call) → GreetsInPart calls → GreetsInPartBy greeting calls
-part_by Brief calls u = u
-part_by Plain calls u = u
 part_by Fresh calls u = inl u
+part_by greeting calls u = u
 
 pub once_by : (greeting : Greeting) (calls : List Call) → GreetsOnce calls → GreetsBy greeting calls
-once_by Brief calls u = u
-once_by Plain calls u = u
 once_by Fresh calls u = inl u
+once_by greeting calls u = u
 
 -- so many calls are as few as more
 pub more_calls : (P : List ℕ → Type 0) (a b : Option (List Call)) → GoesOn (Talks P 4099) a b → GoesOn (Talks P 8196) a b

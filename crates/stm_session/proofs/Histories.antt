@@ -227,10 +227,7 @@ module _ (laws : Laws) {R : Type 0} (view : R → RigState) where
   honest-after (unprotect_stopped old new result) starts s t u (begins, fresh, contract, stopped) =
       let A : World → Type 0 = λ x. IsReset x.device → (view new).is_honest in
       subst A begins.1 (λ is. (contract.leaves begins.0 is).honest) fresh
-  honest-after kept starts s t u leads = tt
-  honest-after was_reset starts s t u leads = tt
-  honest-after lost_owed starts s t u leads = tt
-  honest-after lost_power starts s t u leads = tt
+  honest-after event starts s t u leads = tt
 
   pub can-follow : EachCanFollow view
   can-follow event starts s t u leads = record { make = (gives event starts s t leads u).1; honest = honest-after event starts s t u leads }

@@ -1,5 +1,5 @@
 -- The part of an image that lies in the pages which the newest segment keeps, page by page.
-use Rattle.std.proofs.Common.{◌≡◌, ◌≢◌, ◌⊎◌, inl, inr, ℕ, zero, suc, ◌+◌, ◌<◌, ◌≤◌, ◌&&◌, Bool, true, false, IsTrue, List, [], ◌∷◌, length, sum, Option, Some, None, refl, sym, ap₂, ◌∙◌, subst, arith}
+use Rattle.std.proofs.Common.{◌≡◌, ◌≢◌, inl, inr, ℕ, zero, suc, ◌+◌, ◌<◌, ◌&&◌, Bool, true, false, IsTrue, [], ◌∷◌, length, sum, Option, Some, None, refl, sym, ap₂, ◌∙◌, subst, arith}
 use Rattle.std.specs.Prelude.{Contains, is_some}
 use Rattle.std.proofs.lemmas.Bool.{and_parts, cases_lt, false≢true}
 use Rattle.std.proofs.lemmas.List.Sums.{sum_by_more}
@@ -24,11 +24,6 @@ pub record IsPartSoFar (chip : ChipData) (s : StateData) (image : Pairs) (n : �
   pub among : IsAmong part image
   pub behind : (p : ℕ × ℕ) → Contains part p → p.0 < page_address chip n
   pub has : (m : ℕ) → m < n → IsTrue (newest_keeps m s) → (p : ℕ × ℕ) → StandsIn image (page_address chip m) (page_size chip m) p → Contains part p
-
-pub part_nothing : (chip : ChipData) (s : StateData) (image part : Pairs) → part ≡ [] → IsPartSoFar chip s image 0 part
-part_nothing chip s image part is =
-    let none : (p : ℕ × ℕ) → Contains part p → ⊥ = λ p held. let C : Pairs → Type 0 = λ xs. Contains xs p in let at = subst C is held in omega (arith, at.1) in
-    record { among = λ p held. absurd (none p held); behind = λ p held. absurd (none p held); has = λ m lt. absurd (omega (arith, lt)) }
 
 module _ (chip : ChipData) (s : StateData) (image : Pairs) (n : ℕ) (here : n < page_count chip) (part : Pairs) (so_far : IsPartSoFar chip s image n part) where
   next : page_address chip (n + 1) ≡ page_address chip n + page_size chip n
@@ -88,7 +83,5 @@ part_fits chip image part among fits = all_inside chip part (λ p held. place_in
 
 -- what a verify answers
 pub verified_only : (part : Pairs) (said : Outcome) → IsKindOf (command.Verify part) said → outcome_data said ≡ was_verified
-verified_only part (outcome.Written segment pages) is = absurd is
-verified_only part (outcome.Erased segment pages) is = absurd is
 verified_only part outcome.Verified is = refl
-verified_only part (outcome.Read bytes) is = absurd is
+verified_only part said is = absurd is

@@ -10,7 +10,6 @@ use Rattle.stm_wire.specs.Chip.{ChipData, erased_byte, erased_page, page_count, 
 use Rattle.stm_wire.specs.lemmas.DialogueLaws.{GoesOn-weaker}
 use Rattle.stm_wire.specs.Rig.{RigState}
 use Rattle.stm_wire.specs.Dialogue.{GoesOn}
-use Rattle.stm_chip.specs.Plan.{frames_of}
 use Rattle.stm_journal.specs.declared.entry.Entry.TheVariants.{Names, Opens, Keeps, Ends}
 use Rattle.stm_journal.specs.Journals.{Loaded, begin_entries, version_for}
 use Rattle.stm_journal.specs.States.{IsSound, StateData}
@@ -133,7 +132,6 @@ changed_unless : (same kept : Bool) (chip : ChipData) (n : ℕ) (held page pages
 changed_unless true kept chip n held page pages changed steps counts size already is =
     leaves_as chip pages [] steps (Behind chip n changed) is (leaves_nothing chip pages (Behind chip n changed) (λ one yes has. absurd (false≢true (sym counts ∙ yes))))
 changed_unless false kept chip n held page pages changed steps counts size already is =
-    let own = frames_of (erased_byte chip) page (length page / 256) in
     leaves_as chip pages (is.saved ++ _) steps (Behind chip n changed) is.is
     (leaves_then chip pages is.saved _ (Has chip n) (Behind chip n changed) (saved_unless kept chip n held pages is.saved already is.is_saved)
     (λ later has. record { later = later; leads = leads_rewrite chip n later page has.0 size; still = λ m among. among; holds = λ one yes companion. has.1 one companion }))

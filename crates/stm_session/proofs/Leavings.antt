@@ -2,7 +2,7 @@
 use Rattle.std.proofs.Common.{◌≡◌, ℕ, ⊎_elim, inl, inr, List, ◌++◌, length, Option, None, Result, Ok, Err, IsErrAnd, IfErr, IsTrue, refl, sym, ◌∙◌, ap, subst}
 use Rattle.std.proofs.Math.Seq.{take-length}
 use Rattle.stm_wire.specs.declared.fault.WireFault.{WireFault}
-use Rattle.stm_wire.specs.declared.fault.WireFault.TheVariants.{Line, Nack, Quiet, Garbled}
+use Rattle.stm_wire.specs.declared.fault.WireFault.TheVariants.{Line}
 use Rattle.stm_wire.specs.Call.{Call}
 use Rattle.stm_wire.specs.Chip.{ChipData, is_inside}
 use Rattle.stm_wire.specs.Command.{CanGo, CanProtect}
@@ -19,7 +19,7 @@ use Rattle.stm_wire.specs.SettlingCalls.{EndsSettled}
 use Rattle.stm_wire.specs.Stopped.{LossStaysHarmless}
 use Rattle.stm_journal.specs.Calls.{AreFetches}
 use Rattle.stm_session.specs.declared.fault.Fault.{Fault}
-use Rattle.stm_session.specs.Fault.{Cause, IsOfTalking, IsJournalOrMemory, IsOfLine, IsOutsideFault, IsUnheard, cause_of, fault_of, of_file, of_line, of_memory, of_protocol, of_refusal, of_session}
+use Rattle.stm_session.specs.Fault.{Cause, IsOfTalking, IsJournalOrMemory, IsOfLine, IsOutsideFault, IsUnheard, cause_of, fault_of, of_line, of_protocol}
 use Rattle.stm_session.specs.Leaving.{CanLeave, IsSettledSame, IsSettledThen, Leaves, LeftByFrame, LeftByLeaving}
 use Rattle.stm_session.specs.Moments.{BeginsNothing, IsSafe, IsUnbegun}
 use Rattle.stm_session.specs.Opening.{LoadsUnless}
@@ -47,19 +47,14 @@ settled_then turns a b c d fetched settles settled said =
 heard_or_not : (cause : Cause) → IsOfTalking cause → IsUnheard cause → ⊥
 heard_or_not of_line heard unheard = unheard
 heard_or_not of_protocol heard unheard = unheard
-heard_or_not of_file heard unheard = heard
-heard_or_not of_memory heard unheard = heard
-heard_or_not of_session heard unheard = heard
-heard_or_not of_refusal heard unheard = heard
+heard_or_not cause heard unheard = heard
 
 line_used : (e : Fault) → IsOfLine e → IsJournalOrMemory e → ⊥
 line_used e line unsent = heard_or_not (cause_of e) line unsent
 
 pub frame_used : (e : WireFault) → IsOfLine (fault_of e)
 frame_used Line = tt
-frame_used Nack = tt
-frame_used Quiet = tt
-frame_used Garbled = tt
+frame_used e = tt
 
 -- nothing was sent, since the journal couldn't be read
 module _ (lost : LossStaysHarmless) (frame : List ℕ) (refusal : Option Fault) (old mid : RigState) (safe : IsSafe old.device) where

@@ -1,29 +1,25 @@
 -- One deed: a line that is added, or a frame that is sent under an intent.
-use Rattle.std.proofs.Common.{true, not}
+use Rattle.std.proofs.Common.{true, not, ◌≡◌, ◌⊎◌, ◌∙◌, ℕ, ◌+◌, ◌-◌, ◌<◌, ◌≤◌, List, [], ◌∷◌, length, take, drop, replicate, Some, Result, Ok, Err, IsTrue, inl, inr, ap, arith}
+use Rattle.std.proofs.Common.{refl, subst, sym}
 use Rattle.std.proofs.lemmas.Bool.{false≢true}
-use Rattle.stm_wire.specs.Chip.{page_of}
+use Rattle.stm_wire.specs.Chip.{page_of, page_limit, ChipData, IsErasedAt, erased_byte, erased_page, fits_inside, flash_size, page_count, page_offset, page_size, with_bytes}
+use Rattle.stm_wire.specs.Chip.{with_page}
 use Rattle.stm_journal.specs.declared.entry.Entry.TheVariants.{Keeps, Erases, Programs}
 use Rattle.stm_journal.specs.lemmas.CallEntries.{allowed-keep_page, allowed-intend_erase, allowed-intend_program}
 use Rattle.stm_journal.specs.States.{StateData, newest_keeps, newest_may_keep, newest_is_open, newest_has, is_ended_stage, is_open_stage, is_unfinished, IsSound, SegmentData}
 use Rattle.stm_journal.specs.declared.stage.Stage.{Stage}
 use Rattle.stm_journal.specs.declared.stage.Stage.TheVariants.{Open, Ended, Returning}
-use Rattle.stm_session.specs.Undoable.{has_companion}
-use Rattle.stm_session.proofs.Keeping.{keeps_keeping, may_keep_text, keeps_pages}
-use Rattle.std.proofs.Common.{◌≡◌, ◌⊎◌, ◌∙◌, ℕ, ◌+◌, ◌-◌, ◌<◌, ◌≤◌, List, [], ◌∷◌, length, take, drop}
-use Rattle.std.proofs.Common.{replicate, Some, Result, Ok, Err, IsTrue, inl, inr, ap, arith, refl}
-use Rattle.std.proofs.Common.{subst, sym}
+use Rattle.stm_session.specs.Undoable.{has_companion, state_at}
+use Rattle.stm_session.proofs.Keeping.{keeps_keeping, may_keep_text, keeps_pages, good_at, keeps_text, unfinished_text}
 use Rattle.std.specs.Borrow.{Bor}
 use Rattle.std.specs.Prelude.{IfErr, OnOk}
 use Rattle.std.proofs.lemmas.Bool.Decides.{nat_tests}
 use Rattle.stm_wire.specs.declared.chip.EraseKind.{EraseKind}
 use Rattle.stm_wire.specs.declared.chip.EraseKind.TheVariants.{Page, Extended}
-use Rattle.stm_wire.specs.Chip.{page_limit}
-use Rattle.stm_session.specs.Deeds.{AllSuit, Suits}
+use Rattle.stm_session.specs.Deeds.{AllSuit, Suits, DoesDeeds, MayDo}
 use Rattle.stm_wire.specs.declared.fault.WireFault.{WireFault}
 use Rattle.stm_wire.specs.declared.intent.Intent.{Intent}
 use Rattle.stm_wire.specs.declared.intent.Intent.TheVariants.{Erase, Program}
-use Rattle.stm_wire.specs.Chip.{ChipData, IsErasedAt, erased_byte, erased_page, fits_inside}
-use Rattle.stm_wire.specs.Chip.{flash_size, page_count, page_offset, page_size, with_bytes, with_page}
 use Rattle.stm_wire.specs.Command.{CanErase, CanWrite, Does, HasWritten, with_pages_erased}
 use Rattle.stm_wire.specs.Device.{Device, IsSettled}
 use Rattle.stm_wire.specs.Dialogue.{Turn, GoesOn}
@@ -43,17 +39,14 @@ use Rattle.stm_journal.specs.Journals.{IsLoaded, LeavesLoaded, Loaded, added_byt
 use Rattle.stm_session.specs.declared.deed.Deed.{Deed}
 use Rattle.stm_session.specs.declared.deed.Deed.TheVariants as deed
 use Rattle.stm_session.specs.declared.fault.Fault.{Fault}
-use Rattle.stm_session.specs.Deeds.{DoesDeeds, MayDo}
 use Rattle.stm_session.specs.Fault.{fault_of, fault_of_journal, of_call, of_command}
 use Rattle.stm_session.specs.Order.{Step, Adds, Are, Begin, Sends}
 use Rattle.stm_session.specs.Performs.{Performs}
 use Rattle.stm_session.specs.StepLaws.{StepLaws}
 use Rattle.stm_session.specs.Steps.{IsSteady, IsUnder}
-use Rattle.stm_session.specs.Undoable.{state_at}
 use Rattle.stm_session.proofs.Frames.{length-part}
 use Rattle.stm_session.proofs.CutShort.{line_stops, sent_stops}
 use Rattle.stm_session.proofs.Going.{IsStep, frame_fails, frame_goes, goes_ok, line_fails, line_goes}
-use Rattle.stm_session.proofs.Keeping.{good_at, keeps_text, unfinished_text}
 use Rattle.stm_session.proofs.Orders.{does_add, order_sent}
 use Rattle.stm_session.proofs.Settlings.{intent_text}
 

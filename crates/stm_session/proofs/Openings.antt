@@ -24,7 +24,7 @@ use Rattle.stm_session.specs.declared.contact.Told.{Told}
 use Rattle.stm_session.specs.declared.opening.Opened.{Opened}
 use Rattle.stm_session.specs.declared.fault.Fault.{Fault}
 use Rattle.stm_session.specs.declared.fault.Fault.TheVariants.{BadJournal, InSession, Memory, Unfinished}
-use Rattle.stm_session.specs.Fault.{Cause, IsJournalOrMemory, IsOfLine, IsOutside, IsOutsideFault, IsLaterRefusal, IsUnheard, cause_of, fault_of_journal, of_file, of_line, of_memory, of_protocol, of_refusal, of_session}
+use Rattle.stm_session.specs.Fault.{Cause, IsJournalOrMemory, IsOfLine, IsOutside, IsOutsideFault, IsLaterRefusal, IsUnheard, cause_of, fault_of_journal, of_protocol, of_refusal, of_session}
 use Rattle.stm_session.specs.Moments.{BeginsNothing, IsSafe, IsUnbegun}
 use Rattle.stm_session.specs.Opening.{AreCommandsOf, LoadsUnless, Opens, TellsItself}
 use Rattle.stm_session.specs.Refusal.{chip_with, device_refusals, first_refusal, table_refusal, unsent_refusal, open_refusal, opening_refusal}
@@ -98,11 +98,10 @@ load_failed refusal says old new e (Err x) loads is =
     lost JournalMemory kept = (0, kept)
 
     by_fault : (e : JournalFault) → IsFaultOf old.journal e → IsJournalOrMemory (fault_of_journal e) ⊎ (refusal (journal_of old.journal) ≡ Some (fault_of_journal e))
-    by_fault File f = inl tt
     by_fault (Bad line) f = inr (ap refusal f ∙ says line)
     by_fault OtherJournal f = absurd f
     by_fault OtherJournalBoard f = absurd f
-    by_fault JournalMemory f = inl tt
+    by_fault e f = inl tt
 
 -- what needs no bytes of pages refuses a journal and its state in memory alike
 pub loaded_refusal : (refusal : JournalData → Option Fault) → ((s : StateData) → refusal (good (forget_state s)) ≡ refusal (good s)) → (journal : List ℕ) (l : Loaded) → IsLoaded l journal
@@ -163,12 +162,10 @@ first_given x rest fault e = rw e refl
 
 -- a failure of the journal or of memory is one outside
 unheard_outside : (cause : Cause) → IsUnheard cause → IsOutside cause
-unheard_outside of_line of = tt
 unheard_outside of_protocol of = of
-unheard_outside of_file of = tt
-unheard_outside of_memory of = tt
 unheard_outside of_session of = of
 unheard_outside of_refusal of = of
+unheard_outside cause of = tt
 
 pub unsent_outside : (e : Fault) → IsJournalOrMemory e → IsOutsideFault e
 unsent_outside e of = unheard_outside (cause_of e) of

@@ -11,14 +11,13 @@ use Rattle.stm_wire.specs.Frames.{read_turns}
 use Rattle.stm_wire.specs.Rig.{RigState}
 use Rattle.stm_wire.specs.Settling.{SettlesWithin}
 use Rattle.stm_session.specs.Fresh.{EndsWell, Way, byte_of, limit_of}
-use Rattle.stm_chip.specs.declared.plan.Frame.{Frame}
 use Rattle.stm_journal.specs.declared.entry.Entry.{Entry}
 use Rattle.stm_journal.specs.declared.kept.Kept.{Kept}
 use Rattle.stm_journal.specs.Calls.{AppendsOnce, AreFetches}
 use Rattle.stm_journal.specs.Journals.{Loaded, added_bytes}
 use Rattle.stm_journal.specs.Newest.{pages_of_segments}
 use Rattle.stm_journal.specs.States.{SegmentData}
-use Rattle.stm_session.specs.Order.{Step, Adds, Sends, Tells, AreGivenBack, DoesSteps, IsInOrder, IsGivenBack, acts_of, acts_of_steps, tells_behind, read_steps, torn_behind, write_steps}
+use Rattle.stm_session.specs.Order.{Step, Adds, Sends, Tells, AreGivenBack, DoesSteps, IsInOrder, IsGivenBack, acts_of, acts_of_steps, tells_behind, read_steps, torn_behind}
 use Rattle.stm_session.specs.UndoOrder.{AreSegmentsUndone, IsSegmentUndone}
 use Rattle.stm_session.specs.Reaching.{SettlesFirst, SettlesThen}
 use Rattle.stm_session.specs.Undoable.{newest_kept}
@@ -66,10 +65,8 @@ does_nothing l a = record { acts = GoesOn-nothing (IsInOrder l.is_torn []) a.cal
 -- fetches
 pub fetches-act : (calls : List Call) → AreFetches calls → acts_of calls ≡ []
 fetches-act [] is = refl
-fetches-act (Put byte ∷ calls) is = absurd is
-fetches-act (Get answer ∷ calls) is = absurd is
-fetches-act (Append n ∷ calls) is = absurd is
 fetches-act (Fetch ∷ calls) is = fetches-act calls is
+fetches-act calls is = absurd is
 
 pub does_fetch : (l : Loaded) (a b : RigState) → GoesOn AreFetches a.calls b.calls → DoesSteps [] l l a b
 does_fetch l a b p = record { acts = GoesOn-weaker AreFetches (IsInOrder l.is_torn []) a.calls b.calls p fetches-act; torn = refl }
@@ -88,8 +85,7 @@ pub acts-line : (calls : List Call) → AreLineCalls calls → acts_of calls ≡
 acts-line [] is = refl
 acts-line (Put byte ∷ calls) is = ap (λ (l : List Call). Put byte ∷ l) (acts-line calls is)
 acts-line (Get answer ∷ calls) is = ap (λ (l : List Call). Get answer ∷ l) (acts-line calls is)
-acts-line (Append n ∷ calls) is = absurd is
-acts-line (Fetch ∷ calls) is = absurd is
+acts-line calls is = absurd is
 
 -- a dialogue
 acts-calls : (turns : List Turn) → acts_of (calls_of turns) ≡ calls_of turns
@@ -105,11 +101,6 @@ torn-reads torn address (suc blocks) bytes = torn-append torn (read_steps addres
 
 pub does_reads : (l : Loaded) (address blocks : ℕ) (bytes : List ℕ) (a b : RigState) → GoesOn (IsInOrder l.is_torn (read_steps address blocks bytes)) a.calls b.calls → DoesSteps (read_steps address blocks bytes) l l a b
 does_reads l address blocks bytes a b p = record { acts = p; torn = sym (torn-reads l.is_torn address blocks bytes) }
-
--- writes too
-pub torn-writes : (chip : ChipData) (n : ℕ) (page : List ℕ) (torn : Bool) (frames : List Frame) → torn_behind torn (write_steps chip n page frames) ≡ torn
-torn-writes chip n page torn [] = refl
-torn-writes chip n page torn (f ∷ frames) = torn-writes chip n page torn frames
 
 -- pages are put back, one after another
 pub returned_next : (again : Bool) (chip : ChipData) (Told : Tells) (pages : List Kept) (i : ℕ) (kept : Kept) (xs ys : List Step) → slice_get pages i ≡ Some kept → AreGivenBack again chip Told (take i pages) xs → IsGivenBack again chip (tells_behind xs Told) kept.page ys

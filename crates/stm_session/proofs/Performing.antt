@@ -1,6 +1,5 @@
 -- How what is performed joins, and how it ends.
-use Rattle.std.proofs.Common.{◌≡◌, ◌++◌, ℕ, List, [], Result, Ok, Err, IsErrAnd, append-nil, refl}
-use Rattle.std.proofs.Common.{subst, sym}
+use Rattle.std.proofs.Common.{◌≡◌, ◌++◌, ℕ, List, [], Result, Ok, Err, IsErrAnd, append-nil, refl, subst, sym}
 use Rattle.std.specs.Prelude.{OnOk}
 use Rattle.stm_wire.specs.Rig.{RigState, IsModel}
 use Rattle.stm_journal.specs.declared.entry.Entry.{Entry}
@@ -13,10 +12,8 @@ use Rattle.stm_session.specs.Order.{Step, Are, Begin, DoesSteps, Follows, FaultE
 use Rattle.stm_session.specs.Performs.{Performs}
 use Rattle.stm_session.specs.StepLaws.{StepLaws}
 use Rattle.stm_session.specs.Steps.{Goes, IsSteady}
-use Rattle.stm_session.proofs.CutShort.{begin_after, begin_on, by_fault, halts_first, part_stops}
-use Rattle.stm_session.proofs.CutShort.{stop_after, stop_as}
-use Rattle.stm_session.proofs.Going.{at_exit, goes_as, goes_failed, goes_nowhere, goes_ok}
-use Rattle.stm_session.proofs.Going.{goes_refused, goes_then}
+use Rattle.stm_session.proofs.CutShort.{begin_after, begin_on, by_fault, halts_first, part_stops, stop_after, stop_as}
+use Rattle.stm_session.proofs.Going.{at_exit, goes_as, goes_failed, goes_nowhere, goes_ok, goes_refused, goes_then}
 use Rattle.stm_session.proofs.Orders.{does_as, does_nothing, does_then}
 
 -- what has to hold of the second of two where the first was done

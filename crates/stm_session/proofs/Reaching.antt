@@ -9,7 +9,7 @@ use Rattle.stm_wire.specs.Settling.{SettlesWithin}
 use Rattle.stm_session.specs.Fresh.{EndsWell, Way, byte_of, limit_of}
 use Rattle.stm_journal.specs.Calls.{AreFetches}
 use Rattle.stm_session.specs.declared.fault.Fault.{Fault}
-use Rattle.stm_session.specs.Fault.{Cause, IsOfTalking, IsRefusedLater, of_file, of_line, of_memory, of_protocol, of_refusal, of_session}
+use Rattle.stm_session.specs.Fault.{Cause, IsOfTalking, IsRefusedLater, of_refusal}
 use Rattle.stm_session.specs.Order.{Step, AreCutShort, Begin, StepFailsBy, IsAfter, StopsBy, acts_of, acts_of_steps}
 use Rattle.stm_session.specs.Reaching.{IsAsking, ReachesInOrder, ReachesInPart, SettlesFirst, SettlesThen, asking_steps}
 use Rattle.stm_session.proofs.AskingStops.{asking_is}
@@ -57,11 +57,7 @@ module _ (way : Way) (cause : Cause) (torn : Bool) where
 
   idle_later : (k : Cause) (t : Bool) → IsRefusedLater k → StepFailsBy k t None []
   idle_later of_refusal t is = refl
-  idle_later of_line t is = absurd is
-  idle_later of_protocol t is = absurd is
-  idle_later of_file t is = absurd is
-  idle_later of_memory t is = absurd is
-  idle_later of_session t is = absurd is
+  idle_later k t is = absurd is
 
   -- it is another device, or something else is refused
   pub told_stops : (id : ℕ) (a b : RigState) → IsRefusedLater cause → ReachesInOrder way id torn a b → GoesOn (ReachesInPart way cause torn) a.calls b.calls

@@ -15,7 +15,7 @@ use Rattle.stm_session.specs.declared.outcome.Outcome.{Outcome}
 use Rattle.stm_session.specs.declared.outcome.Outcome.TheVariants as outcome
 use Rattle.stm_session.specs.declared.fault.Fault.{Fault}
 use Rattle.stm_session.specs.declared.fault.Fault.TheVariants as fault
-use Rattle.stm_session.specs.Answers.{OutcomeData, was_written, was_erased, was_verified, was_read, agreeing, answers_of, in_front_of, outcome_data}
+use Rattle.stm_session.specs.Answers.{OutcomeData, was_read, agreeing, answers_of, in_front_of, outcome_data}
 use Rattle.stm_session.specs.Fault.{IsOutsideFault}
 use Rattle.stm_session.specs.Lines.{depth_at, is_named_at, is_torn_at, text_added}
 use Rattle.stm_session.specs.Meaning.{CommandData, reads, changes_of, commands_in, flash_after_all, is_change}
@@ -39,34 +39,26 @@ none_read e = absurd (true≢false (sym e))
 -- reads change nothing
 no_changes : (commands : List Command) → list_all is_reading commands ≡ true → changes_of (commands_in commands) ≡ []
 no_changes [] all = refl
-no_changes (command.Write image ∷ commands) all = none_read all
-no_changes (command.Erase pages ∷ commands) all = none_read all
-no_changes (command.Verify image ∷ commands) all = none_read all
 no_changes (command.Read start size ∷ commands) all = no_changes commands all
+no_changes commands all = none_read all
 
 all_stand : (chip : ChipData) (flash : List ℕ) (commands : List Command) → list_all is_reading commands ≡ true → agreeing chip flash (commands_in commands) ≡ commands_in commands
 all_stand chip flash [] all = refl
-all_stand chip flash (command.Write image ∷ commands) all = none_read all
-all_stand chip flash (command.Erase pages ∷ commands) all = none_read all
-all_stand chip flash (command.Verify image ∷ commands) all = none_read all
 all_stand chip flash (command.Read start size ∷ commands) all = ap (λ (cs : List CommandData). reads start size ∷ cs) (all_stand chip flash commands all)
+all_stand chip flash commands all = none_read all
 
 -- and answer the flash's bytes
 reads_answer : (chip : ChipData) (below : ℕ) (flash : List ℕ) (commands : List Command) → list_all is_reading commands ≡ true
     → answers_of chip below flash (commands_in commands) ≡ Ok (map (λ c. was_read (bytes_read chip flash c)) commands)
 reads_answer chip below flash [] all = refl
-reads_answer chip below flash (command.Write image ∷ commands) all = none_read all
-reads_answer chip below flash (command.Erase pages ∷ commands) all = none_read all
-reads_answer chip below flash (command.Verify image ∷ commands) all = none_read all
 reads_answer chip below flash (command.Read start size ∷ commands) all =
     ap (in_front_of (Ok (was_read (bytes_read chip flash (command.Read start size)))))
     (ap (λ (k : ℕ). answers_of chip k flash (commands_in commands)) (let n : below + 0 ≡ below = omega arith in n) ∙ reads_answer chip below flash commands all)
+reads_answer chip below flash commands all = none_read all
 
 bytes_told : OutcomeData → List ℕ
-bytes_told (was_written segment pages) = []
-bytes_told (was_erased segment pages) = []
-bytes_told was_verified = []
 bytes_told (was_read bytes) = bytes
+bytes_told x = []
 
 told_bytes : (outcomes : List Outcome) → map bytes_told (map outcome_data outcomes) ≡ map bytes_of outcomes
 unfolding bytes_told
@@ -99,7 +91,6 @@ reads_unbegun commands flashes old all finished d journal amid =
     let A : List CommandData → Type 0 = λ xs. AmidRun xs flashes old d journal in
     let a = subst A (all_stand old.device.chip old.device.flash commands all) amid in
     let none = no_changes commands all in
-    let zero_begun : a.begun ≡ 0 = omega (arith, a.within, ap length none) in
     let text : run_text old cs ≡ [] =
     ap (text_added (is_torn_at old.journal)) (entries-none (is_named_at old.journal) old.device.chip (depth_at old.journal) old.device.flash cs (ap length none)) in
     let same : journal ≡ old.journal = a.lines ∙ ap (λ (bytes : List ℕ). old.journal ++ take a.written bytes) text ∙ ap (λ (bytes : List ℕ). old.journal ++ bytes) (taken a.written) ∙ append-nil old.journal in
@@ -117,25 +108,11 @@ reads_unbegun commands flashes old all finished d journal amid =
     no_command (suc n) = refl
 
 reads_fail : (commands : List Command) (flashes : List (List ℕ)) (old new : RigState) → list_all is_reading commands ≡ true → (e : Fault) → RunFails (commands_in commands) flashes old new e → IsOutsideFault e
-reads_fail commands flashes old new all fault.Line is = tt
-reads_fail commands flashes old new all fault.Journal is = tt
-reads_fail commands flashes old new all fault.Memory is = tt
-reads_fail commands flashes old new all fault.Unfinished is = is
-reads_fail commands flashes old new all (fault.UnknownChip id) is = is
-reads_fail commands flashes old new all fault.OutOfFlash is = is
-reads_fail commands flashes old new all fault.NoErase is = is
-reads_fail commands flashes old new all fault.InSession is = is
 reads_fail commands flashes old new all (fault.Differs address) is = other _ _ is.0 (reads_answer old.device.chip (depth_at old.journal) old.device.flash commands all)
   where
     other : {A : Type 0} (said : Result (List OutcomeData) ℕ) (xs : List OutcomeData) → said ≡ Err address → said ≡ Ok xs → A
     other said xs p q = absurd (let h : Err address ≡ Ok xs = sym p ∙ q in cc)
-reads_fail commands flashes old new all fault.Device is = is
-reads_fail commands flashes old new all (fault.BadJournal line) is = is
-reads_fail commands flashes old new all fault.OtherDevice is = is
-reads_fail commands flashes old new all fault.OtherBoard is = is
-reads_fail commands flashes old new all fault.BoardChanged is = is
-reads_fail commands flashes old new all (fault.NotHeld n) is = is
-reads_fail commands flashes old new all fault.Full is = is
+reads_fail commands flashes old new all x is = is
 
 pub reads_only : {T : Type 0} (commands : List Command) (flashes : List (List ℕ)) (old new : RigState) (result : Result T Fault) (outcomes_of : T → List Outcome) → list_all is_reading commands ≡ true → is_unfinished_at old.journal ≡ false
     → Runs (commands_in commands) flashes old new result (λ x. map outcome_data (outcomes_of x)) → RunsReads commands old new result outcomes_of
@@ -164,10 +141,8 @@ reads_inside chip (c ∷ commands) inside = let two = both (is_in_flash chip c) 
 
 no_change : (commands : List Command) → list_all is_reading commands ≡ true → list_any is_change (commands_in commands) ≡ false
 no_change [] all = refl
-no_change (command.Write image ∷ commands) all = none_read all
-no_change (command.Erase pages ∷ commands) all = none_read all
-no_change (command.Verify image ∷ commands) all = none_read all
 no_change (command.Read start size ∷ commands) all = no_change commands all
+no_change commands all = none_read all
 
 pub reads_unrefused : ((bytes : List ℕ) (s : StateData) → journal_of bytes ≡ good s → IsSound s) → (journal : List ℕ) (d : Device) (table : List ChipData) (chip : ChipData) (commands : List Command) → list_all is_reading commands ≡ true
     → opening_refusal (journal_of journal) d table ≡ None → chip_with table d.chip.id ≡ Some chip → list_all (is_in_flash chip) commands ≡ true → run_refusal (journal_of journal) d table (commands_in commands) ≡ None

@@ -1,9 +1,8 @@
 -- A page is read again behind its return.
-use Rattle.std.proofs.Common.{◌≡◌, ℕ, Bool, true, false, List, [], ◌++◌, refl, sym, ◌∙◌, ap, subst, append-nil, append_assoc}
+use Rattle.std.proofs.Common.{◌≡◌, ℕ, Bool, true, false, List, [], ◌++◌, refl, sym, ◌∙◌, ap, subst, append-nil, append_assoc, length}
 use Rattle.stm_wire.specs.Chip.{ChipData, flash_size, page_of, page_size, with_page}
 use Rattle.stm_wire.specs.Device.{Device, IsDevice}
 use Rattle.stm_wire.specs.lemmas.PageLaws.{page_put}
-use Rattle.std.proofs.Common.{length}
 use Rattle.stm_session.specs.Order.{Step, Are, Begin, page_reads, give_back_steps, return_steps}
 
 -- its return is begun with giving it back

@@ -68,11 +68,6 @@ module _ (s s2 : StateData) (newest i : ℕ) (same : KeepsSame s s2) (is : newes
   pub no_place : None ≡ kept_place s2 newest i → ⊥
   no_place e = let h : None ≡ Some (place_of there.0) = e ∙ ap (λ (o : Option Kept). option_map place_of o) there.1 in cc
 
-  pub no_number : None ≡ kept_at s2 newest i → ⊥
-  no_number e =
-      let h : ◌≡◌ {A = Option (ℕ × ℕ)} None (Some (there.0.page, there.0.line)) = e ∙ ap (λ (o : Option Kept). option_map {U = ℕ × ℕ} (λ kept. (kept.page, kept.line)) o) there.1 in
-      cc
-
   still_newest : newest ≡ length s2.stack
   still_newest = is ∙ sym same.depth
 

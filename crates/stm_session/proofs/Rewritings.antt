@@ -24,8 +24,7 @@ use Rattle.stm_session.specs.declared.deed.Deed.{Deed}
 use Rattle.stm_session.specs.declared.deed.Deed.TheVariants as deed
 use Rattle.stm_session.specs.declared.fault.Fault.{Fault}
 use Rattle.stm_session.specs.Deeds.{AllSuit, DoesDeeds, HasDoneAll, IsRewrittenBehind, MayDoAll}
-use Rattle.stm_session.specs.Deeds.{flash_with, lines_of_deed, rewrite_deeds, step_of_deed}
-use Rattle.stm_session.specs.Deeds.{write_deeds}
+use Rattle.stm_session.specs.Deeds.{flash_with, lines_of_deed, rewrite_deeds, step_of_deed, write_deeds}
 use Rattle.stm_session.specs.Lines.{program_entries}
 use Rattle.stm_session.specs.Order.{Step, Adds, Are, erase_steps, rewrite_steps, write_step, write_steps}
 use Rattle.stm_session.specs.Performs.{Performs}

@@ -25,22 +25,8 @@ use Rattle.stm_session.proofs.Standing.{settled_undoable}
 
 -- the line, the journal or memory fails
 pub outside_fails : (commands : List CommandData) (flashes : List (List ℕ)) (old new : RigState) (e : Fault) → IsOutsideFault e → RunFails commands flashes old new e
-outside_fails commands flashes old new fault.Line is = tt
-outside_fails commands flashes old new fault.Journal is = tt
-outside_fails commands flashes old new fault.Memory is = tt
-outside_fails commands flashes old new fault.Unfinished is = is
-outside_fails commands flashes old new (fault.UnknownChip id) is = is
-outside_fails commands flashes old new fault.OutOfFlash is = is
-outside_fails commands flashes old new fault.NoErase is = is
-outside_fails commands flashes old new fault.InSession is = is
 outside_fails commands flashes old new (fault.Differs address) is = absurd is
-outside_fails commands flashes old new fault.Device is = is
-outside_fails commands flashes old new (fault.BadJournal line) is = is
-outside_fails commands flashes old new fault.OtherDevice is = is
-outside_fails commands flashes old new fault.OtherBoard is = is
-outside_fails commands flashes old new fault.BoardChanged is = is
-outside_fails commands flashes old new (fault.NotHeld n) is = is
-outside_fails commands flashes old new fault.Full is = is
+outside_fails commands flashes old new e is = is
 
 -- some commands are done
 module _ (laws : StepLaws) (xs : List CommandData) (flashes : List (List ℕ)) (l l2 : Loaded) (old mid : RigState) (outcomes : List OutcomeData) (model : IsModel mid) (start : IsSteady flashes l old)

@@ -95,24 +95,10 @@ module _ (old mid : RigState) (left : IsUnbegun old mid.device mid.journal) wher
       }
 
   fails_from : (commands : List CommandData) (flashes : List (List ℕ)) (new : RigState) (e : Fault) → RunFails commands flashes mid new e → RunFails commands flashes old new e
-  fails_from commands flashes new fault.Line is = tt
-  fails_from commands flashes new fault.Journal is = tt
-  fails_from commands flashes new fault.Memory is = tt
-  fails_from commands flashes new fault.Unfinished is = is
-  fails_from commands flashes new (fault.UnknownChip id) is = is
-  fails_from commands flashes new fault.OutOfFlash is = is
-  fails_from commands flashes new fault.NoErase is = is
-  fails_from commands flashes new fault.InSession is = is
   fails_from commands flashes new (fault.Differs address) is =
       let D : List CommandData → Type 0 = λ cs. AreDone cs flashes old new.device new.journal in
       (sym (answers_same commands) ∙ is.0, subst D (standing_from commands) (done_from (standing_commands mid commands) flashes new.device new.journal is.1), is.2)
-  fails_from commands flashes new fault.Device is = is
-  fails_from commands flashes new (fault.BadJournal line) is = is
-  fails_from commands flashes new fault.OtherDevice is = is
-  fails_from commands flashes new fault.OtherBoard is = is
-  fails_from commands flashes new fault.BoardChanged is = is
-  fails_from commands flashes new (fault.NotHeld n) is = is
-  fails_from commands flashes new fault.Full is = is
+  fails_from commands flashes new e is = is
 
   -- an opening, and then the commands
   pub runs_from : {T : Type 0} (commands : List CommandData) (flashes : List (List ℕ)) (new : RigState) (result : Result T Fault) (outcomes_of : T → List OutcomeData) → Undoable flashes old.device old.journal

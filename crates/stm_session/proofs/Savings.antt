@@ -10,7 +10,7 @@ use Rattle.stm_wire.specs.Dialogue.{GoesOn}
 use Rattle.stm_wire.specs.Intents.{InPage}
 use Rattle.stm_session.specs.declared.fault.Fault.{Fault}
 use Rattle.stm_session.specs.Asking.{Asks}
-use Rattle.stm_session.specs.Changing.{AreReadsIf, ReadsIf}
+use Rattle.stm_session.specs.Changing.{AreReadsIf, ReadsIf, both_entries, save_entries}
 use Rattle.stm_session.specs.Order.{AreReadsOf, Begin, FaultEnds, IsInOrder, page_address, page_reads, read_steps}
 use Rattle.stm_session.proofs.Exits.{read_stops, reads_page}
 use Rattle.stm_session.proofs.Going.{asks_fail, asks_go, goes_nowhere}
@@ -21,7 +21,6 @@ use Rattle.stm_wire.specs.Rig.{RigState, IsModel}
 use Rattle.stm_journal.specs.declared.entry.Entry.{Entry}
 use Rattle.stm_journal.specs.declared.entry.Entry.TheVariants.{Keeps}
 use Rattle.stm_journal.specs.Journals.{Loaded}
-use Rattle.stm_session.specs.Changing.{both_entries, save_entries}
 use Rattle.stm_session.specs.StepLaws.{StepLaws}
 use Rattle.stm_session.specs.Undoable.{has_companion}
 

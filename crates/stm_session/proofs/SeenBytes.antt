@@ -1,39 +1,33 @@
 -- Each byte of an image that a verified write is of was read after the last change to its page.
-use Rattle.std.proofs.Common.{◌≡◌, ◌≢◌, ◌⊎◌, inl, inr, ℕ, zero, suc, ◌+◌, ◌-◌, ◌*◌, ◌/◌, ◌%◌, ◌<◌, ◌≤◌, ◌==◌, ◌&&◌, nat_le, nat_lt, Bool, true, false, not, if◌then◌else◌, IsTrue, List, [], ◌∷◌, ◌++◌, length, take, drop, replicate, get_or, slice_index, sum, Option, Some, None, refl, sym, ap, ap₂, ◌∙◌, subst, arith, append_assoc, append-nil}
-use Rattle.std.specs.Prelude.{Contains, bytes_eq}
-use Rattle.std.specs.List.{AllByRecursion, list_all}
-use Rattle.std.proofs.lemmas.Bool.{and_parts, cases_Bool, cases_eq, cases_lt, eq-eqb, false≢true, ne_eqb}
+use Rattle.std.proofs.Common.{◌≡◌, ◌≢◌, inl, inr, ℕ, zero, suc, ◌+◌, ◌-◌, ◌*◌, ◌/◌, ◌%◌, ◌<◌, ◌≤◌, ◌==◌, ◌&&◌, nat_le, nat_lt, Bool, true, if◌then◌else◌, List, [], ◌∷◌, ◌++◌, length, take, drop, get_or, slice_index, sum, Option, Some, None, refl, sym, ap, ◌∙◌, subst, arith, append_assoc, append-nil}
+use Rattle.std.specs.Prelude.{Contains}
+use Rattle.std.specs.List.{AllByRecursion}
+use Rattle.std.proofs.lemmas.Bool.{and_parts, cases_eq, cases_lt, eq-eqb, ne_eqb}
 use Rattle.std.proofs.lemmas.Bool.Decides.{nat_tests}
-use Rattle.std.proofs.lemmas.List.{get_or-drop, get_or-take, length-drop, length-replicate, length-take, take_all}
-use Rattle.std.proofs.lemmas.List.Elements.{All-get_or}
+use Rattle.std.proofs.lemmas.List.{take_all}
 use Rattle.std.proofs.lemmas.List.Sums.{sum_by_more}
-use Rattle.std.proofs.lemmas.Slice.Eq.{bytes_eq-Decides}
-use Rattle.stm_image.specs.Lay.{lay, laid_byte}
+use Rattle.stm_image.specs.Lay.{lay}
 use Rattle.stm_image.specs.Pairs.{Pairs, AddressesRise, byte_at}
-use Rattle.stm_wire.specs.Chip.{ChipData, IsChip, IsPageSize, erased_byte, flash_size, is_inside, page_count, page_offset, page_size}
+use Rattle.stm_wire.specs.Chip.{ChipData, erased_byte, flash_size, is_inside, page_count, page_offset, page_size}
 use Rattle.stm_wire.specs.Frames.{read_turns}
-use Rattle.stm_wire.specs.Intents.{InPage}
 use Rattle.stm_wire.specs.declared.places.UniquePlace.{UniquePlace}
 use Rattle.stm_chip.specs.declared.plan.Frame.{Frame}
+use Rattle.stm_journal.specs.declared.entry.Entry.TheVariants.{Ends}
 use Rattle.stm_chip.specs.Plan.{frames_of}
-use Rattle.stm_journal.specs.declared.entry.Entry.TheVariants.{Ends, Erases, Keeps}
-use Rattle.stm_journal.specs.States.{StateData, newest_keeps}
 use Rattle.stm_session.specs.declared.change.Change.{Change}
 use Rattle.stm_session.specs.declared.change.Change.TheVariants as change
-use Rattle.stm_session.specs.Answers.{OutcomeData, first_difference}
 use Rattle.stm_session.specs.Came.{AgreeInBlocks}
-use Rattle.stm_session.specs.ChangeOrder.{AreTurned, none, more, IsChangedUnless, IsSaved, IsSavedWith, IsTurnOf, KeepsErased}
+use Rattle.stm_session.specs.ChangeOrder.{AreTurned, none, more, IsTurnOf}
 use Rattle.stm_session.specs.Closing.{closing, closing_steps, names}
 use Rattle.stm_session.specs.Contents.{content}
 use Rattle.stm_session.specs.Kept.{looks, reads, erases, writes}
-use Rattle.stm_session.specs.Meaning.{CommandData}
-use Rattle.stm_session.specs.Order.{Step, Adds, Sends, page_address, page_reads, program_steps, read_steps, rewrite_steps, write_steps}
+use Rattle.stm_session.specs.Order.{Step, Adds, Sends, page_address, program_steps, read_steps, write_steps}
 use Rattle.stm_session.specs.Reaching.{confirmed_at}
 use Rattle.stm_session.specs.RunOrder.{IsReading}
-use Rattle.stm_session.specs.Seen.{IsByteSeen, SparesPage}
-use Rattle.stm_session.specs.Undoable.{has_companion}
+use Rattle.stm_session.specs.Seen.{SparesPage}
 use Rattle.stm_session.specs.lemmas.FramesInside.{AreInside, bytes_inside, frames_inside}
 use Rattle.stm_session.proofs.Differences.{no-difference-agrees}
+use Rattle.stm_session.proofs.KeptErased.{each_readings, each_then, each_turn}
 use Rattle.stm_session.proofs.KeptRuns.{length-content}
 
 -- the byte of a set at one of its places
@@ -73,19 +67,8 @@ module _ (chip : ChipData) (n : ℕ) where
   abbrev pub Alone : List Step → Type 0
   Alone xs = AllByRecursion (SparesPage chip n) xs
 
-  pub alone_then : (xs ys : List Step) → Alone xs → Alone ys → Alone (xs ++ ys)
-  alone_then [] ys p q = q
-  alone_then (x ∷ xs) ys (first, p) q = (first, alone_then xs ys p q)
-
-  pub alone_read : (address blocks : ℕ) (bytes : List ℕ) → Alone (read_steps address blocks bytes)
-  alone_read address zero bytes = tt
-  alone_read address (suc blocks) bytes =
-      let last : Alone (Sends (read_turns (address + 256 * blocks) (take 256 (drop (256 * blocks) bytes))) ∷ []) = (reads _ _ refl, tt) in
-      alone_then (read_steps address blocks bytes) _ (alone_read address blocks bytes) last
-
-  pub alone_readings : (xs : List Step) → AllByRecursion (IsReading chip) xs → Alone xs
-  alone_readings [] are = tt
-  alone_readings (x ∷ xs) (is, are) = let P : Step → Type 0 = λ s. SparesPage chip n s in (subst P (sym is.is) (reads is.address is.answer refl), alone_readings xs are)
+  pub alone_read : (address : ℕ) (bytes : List ℕ) → SparesPage chip n (Sends (read_turns address bytes))
+  alone_read address bytes = reads address bytes refl
 
   alone_writes : (m : ℕ) (page : List ℕ) (frames : List Frame) → m ≢ n → length page ≡ page_size chip m → AreInside (length page) frames → Alone (write_steps chip m page frames)
   alone_writes m page [] other size inside = tt
@@ -98,35 +81,14 @@ module _ (chip : ChipData) (n : ℕ) where
   alone_program m page [] other size inside = tt
   alone_program m page (f ∷ frames) other size inside = (tt, alone_writes m page (f ∷ frames) other size inside)
 
-  alone_saved : (kept : Bool) (m : ℕ) (held : List ℕ) (xs : List Step) → IsSaved kept chip m held xs → Alone xs
-  alone_saved true m held xs is = subst Alone (sym is) tt
-  alone_saved false m held xs is = by_pair (m == 1 && has_companion chip) is
-    where
-      by_pair : (both : Bool) → IsSavedWith both chip m held xs → Alone xs
-      by_pair false is = subst Alone (sym is) (tt, tt)
-      by_pair true both =
-          let other = both.is_first.other in
-          let one : List Step = Adds (Keeps 257 other ∷ []) ∷ [] in
-          let two : List Step = Adds (Keeps m held ∷ []) ∷ [] in
-          let first : Alone both.first = subst Alone (sym both.is_first.is) (alone_then (page_reads chip 257 other) one (alone_read (page_address chip 257) (page_size chip 257 / 256) other) (tt, tt)) in
-          subst Alone (sym both.is) (alone_then both.first two first (tt, tt))
-
   -- the turn of another page
   alone_turn : ((set : Pairs) (address : ℕ) (bytes : List ℕ) → length (lay set address bytes) ≡ length bytes) → (kept : Bool) (c : Change) (m : ℕ) (changed : Bool) (xs : List Step) → m ≢ n → IsTurnOf kept chip c m changed xs → Alone xs
-  alone_turn lengths kept c m changed xs other (inl left) = subst Alone (sym left.is) tt
-  alone_turn lengths kept c m changed xs other (inr turn) =
-      let page = content chip c m turn.held in
-      subst Alone (sym turn.is) (alone_then (page_reads chip m turn.held) turn.later (alone_read (page_address chip m) (page_size chip m / 256) turn.held) (unless (bytes_eq turn.held page) turn.is_changed))
-    where
-      unless : (same : Bool) → IsChangedUnless same kept chip m turn.held (content chip c m turn.held) turn.later → Alone turn.later
-      unless true same = subst Alone (sym same) tt
-      unless false given =
-          let page = content chip c m turn.held in
-          let frames = frames_of (erased_byte chip) page (length page / 256) in
-          let size = length-content lengths chip c m turn.held turn.size in
-          let inside = frames_inside (length page) (erased_byte chip) page (length page / 256) (omega arith) in
-          let rewritten : Alone (rewrite_steps chip m page frames) = (tt, (erases m other refl, alone_program m page frames other size inside)) in
-          subst Alone (sym given.is) (alone_then given.saved (rewrite_steps chip m page frames) (alone_saved kept m turn.held given.saved given.is_saved) rewritten)
+  alone_turn lengths kept c m changed xs other turn =
+      each_turn (SparesPage chip n) chip alone_read (λ k held. tt) m kept c changed xs
+      (λ held size yes.
+      let page = content chip c m held in
+      let inside = frames_inside (length page) (erased_byte chip) page (length page / 256) (omega arith) in
+      (tt, (erases m other refl, alone_program m page (frames_of (erased_byte chip) page (length page / 256)) other (length-content lengths chip c m held size) inside))) turn
 
   -- the end of a segment
   pub alone_end : (k : ℕ) → Alone (closing chip ++ Adds (Ends k ∷ []) ∷ [])
@@ -163,7 +125,7 @@ module _ (chip : ChipData) (n : ℕ) where
               kept = found.kept;
               changed = found.changed;
               turn = found.turn;
-              alone = alone_then found.later own found.alone (alone_turn lengths (m == 257 && was) c m changed own other turn);
+              alone = each_then (SparesPage chip n) found.later own found.alone (alone_turn lengths (m == 257 && was) c m changed own other turn);
               is = ap (λ (l : List Step). l ++ own) found.is ∙ append_assoc found.before (found.own ++ found.later) own ∙ ap (λ (l : List Step). found.before ++ l) (append_assoc found.own found.later own);
             }
       ]
@@ -179,7 +141,7 @@ module _ (chip : ChipData) (n : ℕ) where
   block_at address zero i bytes lt = absurd (omega (arith, lt))
   block_at address (suc blocks) i bytes lt =
       let one : List Step = Sends (read_turns (address + 256 * blocks) (take 256 (drop (256 * blocks) bytes))) ∷ [] in
-      let read : Alone one = (reads _ _ refl, tt) in
+      let read : Alone one = (alone_read _ _, tt) in
       elim (cases_eq i blocks) [
         | inl same ↦
             let B : ℕ → Type 0 = λ k. HasBlock address k bytes (read_steps address blocks bytes ++ one) in
@@ -189,7 +151,7 @@ module _ (chip : ChipData) (n : ℕ) where
             record {
               before = found.before;
               later = found.later ++ one;
-              alone = alone_then found.later one found.alone read;
+              alone = each_then (SparesPage chip n) found.later one found.alone read;
               is = ap (λ (l : List Step). l ++ one) found.is ∙ append_assoc found.before _ one;
             }
       ]
@@ -218,7 +180,7 @@ module _ (chip : ChipData) (n : ℕ) where
               | inl same ↦ same
               | inr other ↦ absurd (agree (record { byte = p.1; held = byte_here part p rises held; from = least; within = here; differs = other }))
             ] in
-            record { before = []; address = next.0; answer = answer; from = least; within = here; came = came; later = xs; alone = alone_readings xs are; is = ap (λ t. Sends t ∷ xs) sent }
+            record { before = []; address = next.0; answer = answer; from = least; within = here; came = came; later = xs; alone = each_readings (SparesPage chip n) chip alone_read xs are; is = ap (λ t. Sends t ∷ xs) sent }
         | inr behind ↦
             let found = place_at part p (next.0 + length answer) to xs rises held behind high are rest in
             record { before = Sends turns ∷ found.before; address = found.address; answer = found.answer; from = found.from; within = found.within; came = found.came; later = found.later; alone = found.alone; is = ap (λ (l : List Step). Sends turns ∷ l) found.is }

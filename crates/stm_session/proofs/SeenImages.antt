@@ -1,13 +1,13 @@
 -- Each byte of an image that a verified write is of was read after the last change to its page: byte by byte.
-use Rattle.std.proofs.Common.{◌≡◌, ◌≢◌, inl, inr, ℕ, suc, ◌+◌, ◌-◌, ◌*◌, ◌/◌, ◌%◌, ◌<◌, ◌≤◌, Bool, true, false, not, IsTrue, List, [], ◌∷◌, ◌++◌, length, take, drop, replicate, slice_index, Some, refl, sym, ap, ◌∙◌, subst, arith, append_assoc, append-nil}
-use Rattle.std.specs.Prelude.{Contains, bytes_eq, min}
+use Rattle.std.proofs.Common.{◌≡◌, inl, inr, ℕ, ◌+◌, ◌-◌, ◌*◌, ◌/◌, ◌<◌, ◌≤◌, Bool, true, false, not, IsTrue, List, [], ◌∷◌, ◌++◌, length, take, drop, replicate, slice_index, Some, refl, sym, ap, ◌∙◌, subst, arith, append_assoc, append-nil}
+use Rattle.std.specs.Prelude.{Contains, bytes_eq}
 use Rattle.std.specs.List.{AllByRecursion}
 use Rattle.std.proofs.lemmas.List.{get_or-drop, get_or-replicate, get_or-take, length-drop, length-replicate, length-take}
 use Rattle.std.proofs.lemmas.List.Elements.{All-get_or}
 use Rattle.std.proofs.lemmas.Slice.Eq.{bytes_eq-Decides}
 use Rattle.stm_image.specs.Lay.{lay, laid_byte}
 use Rattle.stm_image.specs.Pairs.{Pairs, byte_at}
-use Rattle.stm_wire.specs.Chip.{ChipData, IsPageSize, erased_byte, page_count, page_offset, page_size}
+use Rattle.stm_wire.specs.Chip.{ChipData, IsPageSize, erased_byte, page_count, page_size}
 use Rattle.stm_wire.specs.Frames.{erase_turns, read_turns}
 use Rattle.stm_wire.specs.Intents.{InPage}
 use Rattle.stm_chip.specs.Plan.{frames_of}
@@ -20,12 +20,13 @@ use Rattle.stm_session.specs.Answers.{OutcomeData}
 use Rattle.stm_session.specs.ChangeOrder.{IsChangedUnless, IsOneSegment, IsTurnOf, KeepsErased}
 use Rattle.stm_session.specs.Closing.{closing}
 use Rattle.stm_session.specs.Contents.{command_of, content}
-use Rattle.stm_session.specs.Meaning.{CommandData, writes}
+use Rattle.stm_session.specs.Meaning.{writes}
 use Rattle.stm_session.specs.Order.{Step, Adds, Sends, page_address, page_reads, program_steps}
-use Rattle.stm_session.specs.Seen.{IsByteSeen}
+use Rattle.stm_session.specs.Seen.{IsByteSeen, SparesPage}
 use Rattle.stm_session.specs.VerifiedWrite.{IsWrittenAndSeen}
+use Rattle.stm_session.proofs.KeptErased.{each_readings, each_then}
 use Rattle.stm_session.proofs.KeptParts.{place_inside}
-use Rattle.stm_session.proofs.SeenBytes.{Alone, HasTurn, alone_end, alone_readings, alone_then, block_at, byte_here, page_here, place_at, turn_at}
+use Rattle.stm_session.proofs.SeenBytes.{HasTurn, alone_end, alone_read, block_at, byte_here, page_here, place_at, turn_at}
 
 -- what is so of all steps is so of one
 at_step : (P : Step → Type 0) (xs : List Step) (x : Step) (ys : List Step) → AllByRecursion P (xs ++ x ∷ ys) → P x
@@ -69,7 +70,6 @@ module _ (lengths : (set : Pairs) (address : ℕ) (bytes : List ℕ) → length 
         let has = seen.has_kept n exists keeps p (record { held = held; from = low; within = high }) in
         let agree = seen.is_read.1 in
         let below = agree.1 p has in
-        let inside = in_page in
         let found = place_at chip n part p chip.base agree.0 seen.read seen.part_is.rises has (omega (arith, low)) below seen.is_read.0 agree.2 in
         record {
           page = n;
@@ -113,7 +113,7 @@ module _ (lengths : (set : Pairs) (address : ℕ) (bytes : List ℕ) → length 
           within = omega (arith, low, high, whole, size, long, dropped);
           came = get_or-take 256 (drop (256 * i) block) j 0 (omega (arith, low)) ∙ get_or-drop (256 * i) block j 0 ∙ ap (slice_index block) place ∙ right;
           later = later;
-          alone = alone_then chip n b.later _ b.alone (alone_then chip n found.later _ found.alone (alone_then chip n ends seen.read (alone_end chip n (length s.stack + 1)) (alone_readings chip n seen.read seen.is_read.0)));
+          alone = each_then (SparesPage chip n) b.later _ b.alone (each_then (SparesPage chip n) found.later _ found.alone (each_then (SparesPage chip n) ends seen.read (alone_end chip n (length s.stack + 1)) (each_readings (SparesPage chip n) chip (alone_read chip n) seen.read seen.is_read.0)));
           is = all;
         }
 

@@ -22,8 +22,7 @@ use Rattle.stm_session.specs.declared.fault.Fault.{Fault}
 use Rattle.stm_session.specs.ChangeOrder.{AreTurned, none, more, IsChangedUnless, IsSaved, IsSavedWith, IsSegmentBegun, begins, turns, ends, IsTurnOf}
 use Rattle.stm_session.specs.Contents.{content}
 use Rattle.stm_session.specs.Meaning.{CommandData}
-use Rattle.stm_session.specs.Order.{Step, Adds, Follows, FaultEnds, erase_steps, page_reads}
-use Rattle.stm_session.specs.Order.{program_steps, rewrite_steps}
+use Rattle.stm_session.specs.Order.{Step, Adds, Follows, FaultEnds, erase_steps, page_reads, program_steps, rewrite_steps}
 use Rattle.stm_session.specs.RunOrder.{IsBegunIf, IsDoneIf}
 use Rattle.stm_session.specs.Sending.{is_whole, most_of_closing, most_of_command}
 use Rattle.stm_session.specs.Undoable.{has_companion}

@@ -3,7 +3,7 @@ use Rattle.std.proofs.Common.{◌≡◌, ⊎_elim, ℕ, ◌+◌, ◌≤◌, Bool
 use Rattle.std.specs.Prelude.{IfOk}
 use Rattle.stm_wire.specs.declared.fault.WireFault.{WireFault}
 use Rattle.stm_wire.specs.declared.fault.WireFault.TheVariants.{Line}
-use Rattle.stm_wire.specs.Call.{Call, Put, Get, Append, Fetch}
+use Rattle.stm_wire.specs.Call.{Call, Put, Get, Append}
 use Rattle.stm_wire.specs.Chip.{ChipData}
 use Rattle.stm_wire.specs.Dialogue.{Turn, GoesOn, IsBrokenOff, calls_of, gets_of, puts_of, sent_bytes}
 use Rattle.stm_wire.specs.lemmas.DialogueLaws.{GoesOn-weaker}
@@ -125,16 +125,12 @@ module _ (chip : Option ChipData) where
 puts-acts : (calls : List Call) → puts_of (acts_of calls) ≡ puts_of calls
 puts-acts [] = refl
 puts-acts (Put byte ∷ calls) = ap (λ (xs : List ℕ). byte ∷ xs) (puts-acts calls)
-puts-acts (Get answer ∷ calls) = puts-acts calls
-puts-acts (Append n ∷ calls) = puts-acts calls
-puts-acts (Fetch ∷ calls) = puts-acts calls
+puts-acts (call ∷ calls) = puts-acts calls
 
 gets-acts : (calls : List Call) → gets_of (acts_of calls) ≡ gets_of calls
 gets-acts [] = refl
-gets-acts (Put byte ∷ calls) = gets-acts calls
 gets-acts (Get answer ∷ calls) = ap (λ (n : ℕ). 1 + n) (gets-acts calls)
-gets-acts (Append n ∷ calls) = gets-acts calls
-gets-acts (Fetch ∷ calls) = gets-acts calls
+gets-acts (call ∷ calls) = gets-acts calls
 
 acts_part : (chip : Option ChipData) (whole : Bool) (most : ℕ) (calls : List Call) → IsPart chip whole most (acts_of calls) → IsPart chip whole most calls
 acts_part chip whole most calls p =

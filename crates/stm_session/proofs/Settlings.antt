@@ -20,13 +20,12 @@ use Rattle.stm_session.specs.Fault.{IsOutsideFault, fault_of}
 use Rattle.stm_session.specs.Fresh.{settling_limit}
 use Rattle.stm_session.specs.Moments.{SameMake}
 use Rattle.stm_session.specs.StepLaws.{StepLaws}
-use Rattle.stm_session.specs.Steps.{AddsLines, KeepsFlashes, Stands, Goes}
+use Rattle.stm_session.specs.Steps.{KeepsFlashes, Stands, Goes}
 use Rattle.stm_session.specs.Undoable.{Undoable, newest_kept, risked_pages, state_at}
 use Rattle.stm_session.specs.Undoes.{IsWithinLimit, byte_at_journal}
 use Rattle.stm_session.proofs.Awaiting.{settling_under}
-use Rattle.stm_session.proofs.Going.{at_exit, line_outside}
+use Rattle.stm_session.proofs.Going.{at_exit, goes_still, line_outside}
 use Rattle.stm_session.proofs.Keeping.{good_at, keeps_over, risked_is, text_is, undoable_with, unfinished_is}
-use Rattle.stm_session.proofs.Texts.{adds_none}
 
 -- the intent in memory is that of the text
 pub intent_text : (l : Loaded) (journal : List ℕ) → IsLoaded l journal → intent_of l.state ≡ intent_of (state_at journal)
@@ -68,23 +67,9 @@ module _ (laws : StepLaws) (flashes : List (List ℕ)) (l : Loaded) (old new : R
   pub settled_goes : {T : Type 0} (y : T) → KeepsSettling (settling_byte (intent_of (state_at old.journal))) (risked_pages (state_at old.journal)) old.device old new → IsModel new → IsSettled new.device
       → Goes flashes [] l old new (Ok y) (λ x. Unit {0})
   settled_goes y keeps model_new settled =
-      let J : List ℕ → Type 0 = λ j. IsLoaded l j in
-      let K : List ℕ → Type 0 = λ j. KeepsFlashes flashes new.device (state_at j) in
-      let A : List ℕ → Type 0 = λ j. AddsLines [] old.journal j in
       let moments = weaker (LeftBySettling (settling_byte (intent_of (state_at old.journal))) (risked_pages (state_at old.journal)) old.device old.journal) Both old new keeps.moments settling_stands in
-      record {
-        moments = weaker Both (Stands [] flashes old) old new moments (λ d journal p. p.0);
-        fails = tt;
-        honest = keeps.honest;
-        steady = record {
-          honest = keeps.honest;
-          loaded = subst J (sym keeps.journal) loaded;
-          settled = settled;
-          keeps = subst K (sym keeps.journal) (at_exit Both old new model_new moments).1;
-        };
-        lines = subst A (sym keeps.journal) (adds_none old.journal);
-        done = tt;
-      }
+      goes_still flashes l old new y (λ x. Unit {0}) (weaker Both (Stands [] flashes old) old new moments (λ d journal p. p.0))
+      keeps.honest keeps.journal loaded settled (at_exit Both old new model_new moments).1 tt
 
   pub settling_failed : {U : Type 0} {Done : U → Type 0} {fault : WireFault} (result : Result U Fault) → KeepsSettling (settling_byte (intent_of (state_at old.journal))) (risked_pages (state_at old.journal)) old.device old new
       → fault ≡ Line → IsErrAnd result (λ e. e ≡ fault_of fault) → Goes flashes [] l old new result Done

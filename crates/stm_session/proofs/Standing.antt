@@ -20,7 +20,7 @@ use Rattle.stm_wire.specs.Stopped.{IsFrameUnder, get}
 use Rattle.stm_journal.specs.Greetings.{is_greeted}
 use Rattle.stm_journal.specs.declared.entry.Entry.{Entry}
 use Rattle.stm_journal.specs.declared.fault.JournalFault.{JournalFault}
-use Rattle.stm_journal.specs.declared.fault.JournalFault.TheVariants.{File, Bad, OtherDevice, OtherBoard, Memory}
+use Rattle.stm_journal.specs.declared.fault.JournalFault.TheVariants.{File, Memory}
 use Rattle.stm_journal.specs.States.{StateData, allows, is_unfinished, intent_of, newest_keeps}
 use Rattle.stm_journal.specs.Added.{HasAdded}
 use Rattle.stm_journal.specs.Journals.{Loaded, IsPrintable, journal_of, good, added_bytes, LeavesLoaded}
@@ -188,7 +188,5 @@ module _ (laws : StepLaws) where
 
 pub journal_outside : (l l2 : Loaded) (e : JournalFault) → LeavesLoaded l l2 e → IsOutsideFault (fault_of_journal e)
 journal_outside l l2 File left = tt
-journal_outside l l2 (Bad line) left = absurd left
-journal_outside l l2 OtherDevice left = absurd left
-journal_outside l l2 OtherBoard left = absurd left
 journal_outside l l2 Memory left = tt
+journal_outside l l2 e left = absurd left

@@ -1,12 +1,11 @@
 -- Lines that are added one after another, and a beginning of them.
 use Rattle.std.proofs.Common.{◌≡◌, ℕ, ◌+◌, ◌<◌, ◌≤◌, ⊎_elim, Bool, List, [], ◌∷◌, ◌++◌, length, take, refl, sym, ◌∙◌, ap, ap₂, append_assoc, append-nil, arith}
 use Rattle.std.proofs.Math.Seq.{take-append_seam, take-append-add, take-length}
-use Rattle.std.proofs.lemmas.List.{take_all}
+use Rattle.std.proofs.lemmas.List.{take_all, take-append-le}
 use Rattle.std.proofs.lemmas.Bool.{cases_lt}
-use Rattle.std.proofs.lemmas.List.{take-append-le}
 use Rattle.std.proofs.lemmas.Grind.{flat_map-append}
 use Rattle.stm_journal.specs.declared.entry.Entry.{Entry}
-use Rattle.stm_journal.specs.declared.entry.Entry.TheVariants.{Names, Opens, Keeps, Erases, Programs, Ends, Undoes}
+use Rattle.stm_journal.specs.declared.entry.Entry.TheVariants.{Keeps, Erases, Programs}
 use Rattle.stm_journal.specs.Added.{HasAdded}
 use Rattle.stm_journal.specs.Entries.{line_text}
 use Rattle.stm_journal.specs.Newest.{KeepsSame}
@@ -62,33 +61,21 @@ lines_later xs ys a b journal written adds later =
 -- lines that are intents, one after another
 pub intents_then : (xs ys : List Entry) → AreIntents xs → AreIntents ys → AreIntents (xs ++ ys)
 intents_then [] ys first next = next
-intents_then (Names version id unique ∷ xs) ys first next = first
-intents_then (Opens k ∷ xs) ys first next = first
-intents_then (Keeps n bytes ∷ xs) ys first next = first
 intents_then (Erases n ∷ xs) ys first next = intents_then xs ys first next
 intents_then (Programs n ∷ xs) ys first next = intents_then xs ys first next
-intents_then (Ends k ∷ xs) ys first next = first
-intents_then (Undoes k ∷ xs) ys first next = first
+intents_then xs ys first next = first
 
 intents_apart : (xs ys : List Entry) → AreIntents (xs ++ ys) → AreIntents xs × AreIntents ys
 intents_apart [] ys all = (tt, all)
-intents_apart (Names version id unique ∷ xs) ys all = absurd all
-intents_apart (Opens k ∷ xs) ys all = absurd all
-intents_apart (Keeps n bytes ∷ xs) ys all = absurd all
 intents_apart (Erases n ∷ xs) ys all = intents_apart xs ys all
 intents_apart (Programs n ∷ xs) ys all = intents_apart xs ys all
-intents_apart (Ends k ∷ xs) ys all = absurd all
-intents_apart (Undoes k ∷ xs) ys all = absurd all
+intents_apart xs ys all = absurd all
 
 -- what one line made of the segments
 pub same_after : (e : Entry) (s s2 : StateData) → HasAdded e s s2 → AreIntents (e ∷ []) → KeepsSame s s2
-same_after (Names version id unique) s s2 has intents = absurd intents
-same_after (Opens k) s s2 has intents = absurd intents
-same_after (Keeps n bytes) s s2 has intents = absurd intents
 same_after (Erases n) s s2 has intents = has.same
 same_after (Programs n) s s2 has intents = has.same
-same_after (Ends k) s s2 has intents = absurd intents
-same_after (Undoes k) s s2 has intents = absurd intents
+same_after e s s2 has intents = absurd intents
 
 pub adds_then : (xs ys : List Entry) (a b c : List ℕ) → AddsLines xs a b → AddsLines ys b c → AddsLines (xs ++ ys) a c
 adds_then xs ys a b c first second =

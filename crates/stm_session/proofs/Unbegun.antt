@@ -13,6 +13,7 @@ use Rattle.stm_session.specs.Fault.{IsOutsideFault, fault_of}
 use Rattle.stm_session.specs.Asking.{Asks, IsStill}
 use Rattle.stm_session.specs.Moments.{BeginsNothing, IsUnbegun}
 use Rattle.stm_session.proofs.Asking.{line_outside}
+use Rattle.stm_session.proofs.Standing.{makes_then}
 
 -- where nothing was changed, no segment was begun
 pub still_is_unbegun : (old : RigState) (d : Device) (journal : List ℕ) → IsStill old d journal → IsUnbegun old d journal
@@ -24,11 +25,7 @@ pub further : (a b : RigState) → IsUnbegun a b.device b.journal → (d : Devic
 further a b first d journal then =
     record {
       journal_same = then.journal_same ∙ first.journal_same;
-      make = record {
-        chip = then.make.chip ∙ first.make.chip;
-        version = then.make.version ∙ first.make.version;
-        codes = then.make.codes ∙ first.make.codes;
-      };
+      make = makes_then a.device b.device d first.make then.make;
       flash = then.flash ∙ first.flash;
       safe = then.safe;
     }

@@ -7,7 +7,7 @@ use Rattle.stm_wire.specs.Dialogue.{GoesOn}
 use Rattle.stm_wire.specs.Rig.{RigState}
 use Rattle.stm_chip.specs.Plan.{frames_of}
 use Rattle.stm_journal.specs.declared.fault.JournalFault.{JournalFault}
-use Rattle.stm_journal.specs.declared.fault.JournalFault.TheVariants.{File, Bad, OtherDevice, OtherBoard, Memory}
+use Rattle.stm_journal.specs.declared.fault.JournalFault.TheVariants.{File}
 use Rattle.stm_journal.specs.declared.kept.Kept.{Kept}
 use Rattle.stm_journal.specs.Newest.{pages_of_segments}
 use Rattle.stm_journal.specs.States.{SegmentData}
@@ -226,10 +226,7 @@ segments_begun again chip A B Told pages taken segments xs first own work ys (re
 -- the journal can't be read, or refuses
 idle_journal : (e : JournalFault) (t : Bool) → StepFailsBy (cause_of (fault_of_journal e)) t None []
 idle_journal File t = refl
-idle_journal (Bad line) t = refl
-idle_journal OtherDevice t = refl
-idle_journal OtherBoard t = refl
-idle_journal Memory t = refl
+idle_journal e t = refl
 
 pub journal_stops : {U : Type 0} (Q : List Step → Type 0) (torn : Bool) (xs : List Step) (e : JournalFault) (a b : RigState) (result : Result U Fault) → IsErrAnd result (λ x. x ≡ fault_of_journal e) → Q xs
     → GoesOn (IsInOrder torn xs) a.calls b.calls → FaultEnds Q torn a b result

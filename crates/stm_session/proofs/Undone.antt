@@ -1,6 +1,5 @@
 -- An undo whose chip is in the table, exit by exit.
-use Rattle.std.proofs.Common.{◌≡◌, ⊎_elim, inl, inr, ℕ, ◌≤◌, List, [], ◌++◌, length, take, drop, Option, Some, None, option_map, Result, Ok, Err, IsErrAnd, refl, sym, ◌∙◌, ap, ap₂, subst, subst₂, arith, append-nil}
-use Rattle.std.proofs.Math.Seq.{take-nil}
+use Rattle.std.proofs.Common.{◌≡◌, ⊎_elim, inl, inr, ℕ, ◌≤◌, List, [], ◌++◌, length, take, drop, Option, Some, None, option_map, Result, Ok, Err, IsErrAnd, sym, ◌∙◌, ap, ap₂, subst, subst₂, arith, append-nil}
 use Rattle.stm_chip.specs.Document.{IsChipWith}
 use Rattle.stm_wire.specs.Chip.{ChipData}
 use Rattle.stm_wire.specs.Device.{Device}
@@ -32,7 +31,7 @@ use Rattle.stm_session.proofs.Going.{at_exit}
 use Rattle.stm_session.proofs.GoingAll.{flash_at}
 use Rattle.stm_session.proofs.Keeping.{good_at}
 use Rattle.stm_session.proofs.Standing.{makes_then, settled_undoable}
-use Rattle.stm_session.proofs.Unread.{same_flash, untouched_amid, untouched_stray, none_some}
+use Rattle.stm_session.proofs.Unread.{stands_amid, untouched_amid, untouched_stray, none_some}
 use Rattle.stm_session.proofs.UndoStarts.{depth_of, header_text, not_empty, own_id, refusal_some}
 
 -- the journal was read, and has a segment and a header
@@ -46,26 +45,11 @@ module _ (table : List ChipData) (l : Loaded) (old a : RigState) (loads : Loads 
     own_chip flashes u listed =
         ap (λ (d : Device). d.chip) loads.same_device ∙ listed_chip.only old.device.chip listed.held (sym (own_id table l old a loads id old.device.chip.id named u.own))
 
-    stands_amid : (taken : ℕ) (flashes : List (List ℕ)) (d : Device) (journal : List ℕ) → Stands [] flashes a d journal → AmidUndo taken flashes old d journal
-    stands_amid taken flashes d journal s =
-        let M : Device → Type 0 = λ x. SameMake x d in
-        record {
-          undone = 0;
-          within = omega arith;
-          make = subst M loads.same_device s.make;
-          undoable = s.undoable;
-          finished = λ f. (s.finished f).1 ∙ ap (λ (x : Device). x.flash) loads.same_device;
-          settled = old.device.flash;
-          is_settled = same_flash old old.device.flash refl;
-          written = 0;
-          lines = s.lines ∙ ap₂ (λ (j t : List ℕ). j ++ t) loads.journal (take-nil s.written);
-        }
-
     module _ (taken : ℕ) (flashes : List (List ℕ)) (u : Undoable flashes old.device old.journal) (b : RigState) where
       first_moments : LeavesOnly (Stands [] flashes a) a b → LeavesOnly (AmidUndo taken flashes old) old b
       first_moments moments =
           joined (IsUntouched old) (Stands [] flashes a) (AmidUndo taken flashes old) old a b loads.moments moments
-          (untouched_amid laws taken flashes old u) (stands_amid taken flashes)
+          (untouched_amid laws taken flashes old u) (stands_amid l old a loads taken flashes)
 
       pub undoes_unmet : {T : Type 0} {Done : T → Type 0} (l2 : Loaded) (e : Fault) (x : Fault) → IsModel b → Goes flashes [] l2 a b (Err e) Done → x ≡ e → Undoes taken flashes old b (Err x)
       undoes_unmet l2 e x model goes is =

@@ -1,5 +1,6 @@
 -- An undo whose journal could not be read, and what a loss of owed bytes leaves.
-use Rattle.std.proofs.Common.{◌≡◌, ◌⊎◌, inl, inr, ℕ, ◌≤◌, not, List, [], length, Option, Some, None, Result, Ok, Err, IsErrAnd, refl, sym, ◌∙◌, ap, ap₂, subst, arith, append-nil}
+use Rattle.std.proofs.Common.{◌≡◌, ◌⊎◌, inl, inr, ℕ, ◌≤◌, not, List, [], ◌++◌, length, Option, Some, None, Result, Ok, Err, IsErrAnd, refl, sym, ◌∙◌, ap, ap₂, subst, arith, append-nil}
+use Rattle.std.proofs.Math.Seq.{take-nil}
 use Rattle.std.proofs.lemmas.List.{length-drop}
 use Rattle.stm_wire.specs.Chip.{ChipData}
 use Rattle.stm_wire.specs.Device.{Device, LosesOwed}
@@ -15,7 +16,7 @@ use Rattle.stm_journal.specs.declared.fault.JournalFault.{JournalFault}
 use Rattle.stm_journal.specs.declared.fault.JournalFault.TheVariants.{File, Bad, OtherDevice as OtherJournal, OtherBoard as OtherJournalBoard, Memory as JournalMemory}
 use Rattle.stm_journal.specs.Calls.{AreFetches, IsFaultOf, IsUntouched, KeepsDevice, Loads}
 use Rattle.stm_journal.specs.Flashes.{flashes_before_segments}
-use Rattle.stm_journal.specs.Journals.{JournalData, journal_of, good, bad}
+use Rattle.stm_journal.specs.Journals.{JournalData, Loaded, journal_of, good, bad}
 use Rattle.stm_journal.specs.States.{StateData, intent_of, names_other}
 use Rattle.stm_session.specs.declared.fault.Fault.{Fault}
 use Rattle.stm_session.specs.declared.fault.Fault.TheVariants as fault
@@ -24,6 +25,7 @@ use Rattle.stm_session.specs.Moments.{SameMake}
 use Rattle.stm_session.specs.Promises.{UndoContract}
 use Rattle.stm_session.specs.Refusals.{undo_refusal}
 use Rattle.stm_session.specs.StepLaws.{StepLaws}
+use Rattle.stm_session.specs.Steps.{Stands}
 use Rattle.stm_session.specs.Undoable.{IsJournalOf, Undoable, state_at, risked_pages}
 use Rattle.stm_session.specs.Undoes.{AmidUndo, IsElsewhere, IsFlashSettled, byte_at_journal, risked_at, taken_count}
 use Rattle.stm_session.proofs.Openings.{unsent_outside}
@@ -68,6 +70,22 @@ untouched_amid laws taken flashes old u d journal left =
       lines = left.0 ∙ sym (append-nil old.journal);
     }
 
+-- and once the journal was read
+pub stands_amid : (l : Loaded) (old a : RigState) → Loads old a (Ok l) → (taken : ℕ) (flashes : List (List ℕ)) (d : Device) (journal : List ℕ) → Stands [] flashes a d journal → AmidUndo taken flashes old d journal
+stands_amid l old a loads taken flashes d journal s =
+    let M : Device → Type 0 = λ x. SameMake x d in
+    record {
+      undone = 0;
+      within = omega arith;
+      make = subst M loads.same_device s.make;
+      undoable = s.undoable;
+      finished = λ f. (s.finished f).1 ∙ ap (λ (x : Device). x.flash) loads.same_device;
+      settled = old.device.flash;
+      is_settled = same_flash old old.device.flash refl;
+      written = 0;
+      lines = s.lines ∙ ap₂ (λ (j t : List ℕ). j ++ t) loads.journal (take-nil s.written);
+    }
+
 pub untouched_stray : (laws : StepLaws) (old : RigState) → Harmless old.device (byte_at_journal old.journal) (risked_at old.journal) → length old.device.owed ≤ 4096 → (d : Device) (journal : List ℕ) → IsUntouched old d journal
     → IsElsewhere old d journal
 untouched_stray laws old harmless owed d journal left =
@@ -85,30 +103,25 @@ untouched_stray laws old harmless owed d journal left =
 -- faults of a load
 pub lost_by : (old new : RigState) (e : JournalFault) → KeepsDevice old new e → LosesOwed old.device new.device
 lost_by old new File kept = kept
-lost_by old new (Bad line) kept = (0, kept)
-lost_by old new OtherJournal kept = (0, kept)
-lost_by old new OtherJournalBoard kept = (0, kept)
-lost_by old new JournalMemory kept = (0, kept)
+lost_by old new e kept = (0, kept)
 
 abbrev pub IsBadLine : List ℕ → Fault → Type 0
 IsBadLine journal e = (line : ℕ) × (journal_of journal ≡ bad line) × (e ≡ fault.BadJournal line)
 
 pub by_fault : (journal : List ℕ) (e : JournalFault) → IsFaultOf journal e → IsJournalOrMemory (fault_of_journal e) ⊎ IsBadLine journal (fault_of_journal e)
-by_fault journal File f = inl tt
 by_fault journal (Bad line) f = inr (line, f, refl)
 by_fault journal OtherJournal f = absurd f
 by_fault journal OtherJournalBoard f = absurd f
-by_fault journal JournalMemory f = inl tt
+by_fault journal e f = inl tt
 
 pub of_outside : (e : Fault) → IsJournalOrMemory e → IsOutsideFault e
 of_outside e is = unsent_outside e is
 
 pub load_spared : (journal : List ℕ) (e : JournalFault) → IsFaultOf journal e → journal ≡ [] → fault_of_journal e ≡ fault.Memory → ⊥
-load_spared journal File f empty m = cc
-load_spared journal (Bad line) f empty m = cc
 load_spared journal OtherJournal f empty m = f
 load_spared journal OtherJournalBoard f empty m = f
 load_spared journal JournalMemory f empty m = subst (λ (j : List ℕ). IsFaultOf j JournalMemory) empty f
+load_spared journal e f empty m = cc
 
 pub bad_refused : (table : List ChipData) (j : JournalData) (line : ℕ) → j ≡ bad line → undo_refusal j table ≡ Some (fault.BadJournal line)
 bad_refused table j line is = ap (λ (x : JournalData). undo_refusal x table) is

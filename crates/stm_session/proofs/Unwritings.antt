@@ -1,7 +1,7 @@
 -- Which calls append nothing, and how they join.
 use Rattle.std.proofs.Common.{ℕ, List, [], ◌∷◌, ◌++◌, Option}
 use Rattle.stm_wire.specs.declared.fault.WireFault.{WireFault}
-use Rattle.stm_wire.specs.Call.{Call, Put, Get, Append, Fetch}
+use Rattle.stm_wire.specs.Call.{Call, Append, Fetch}
 use Rattle.stm_wire.specs.Dialogue.{Turn, Adds, GoesOn, AreLineCalls, IsBrokenOff, calls_of}
 use Rattle.stm_wire.specs.lemmas.DialogueLaws.{GoesOn-adds, GoesOn-append, GoesOn-weaker, broken_off_is_cut_short, held_is_cut_short}
 use Rattle.stm_wire.specs.Settling.{SettlesWithin}
@@ -10,24 +10,19 @@ use Rattle.stm_session.specs.Unwritten.{AppendsNothing}
 
 line_appends_nothing : (calls : List Call) → AreLineCalls calls → AppendsNothing calls
 line_appends_nothing [] is = tt
-line_appends_nothing (Put byte ∷ calls) is = line_appends_nothing calls is
-line_appends_nothing (Get answer ∷ calls) is = line_appends_nothing calls is
 line_appends_nothing (Append n ∷ calls) is = absurd is
 line_appends_nothing (Fetch ∷ calls) is = absurd is
+line_appends_nothing (call ∷ calls) is = line_appends_nothing calls is
 
 fetches_append_nothing : (calls : List Call) → AreFetches calls → AppendsNothing calls
 fetches_append_nothing [] is = tt
-fetches_append_nothing (Put byte ∷ calls) is = absurd is
-fetches_append_nothing (Get answer ∷ calls) is = absurd is
-fetches_append_nothing (Append n ∷ calls) is = absurd is
 fetches_append_nothing (Fetch ∷ calls) is = fetches_append_nothing calls is
+fetches_append_nothing calls is = absurd is
 
 both_append_nothing : (xs ys : List Call) → AppendsNothing xs → AppendsNothing ys → AppendsNothing (xs ++ ys)
 both_append_nothing [] ys x y = y
-both_append_nothing (Put byte ∷ xs) ys x y = both_append_nothing xs ys x y
-both_append_nothing (Get answer ∷ xs) ys x y = both_append_nothing xs ys x y
 both_append_nothing (Append n ∷ xs) ys x y = absurd x
-both_append_nothing (Fetch ∷ xs) ys x y = both_append_nothing xs ys x y
+both_append_nothing (call ∷ xs) ys x y = both_append_nothing xs ys x y
 
 pub held_appends_nothing : (turns : List Turn) (a b : Option (List Call)) → Adds (calls_of turns) a b → GoesOn AppendsNothing a b
 held_appends_nothing turns a b adds = GoesOn-adds AppendsNothing (calls_of turns) a b adds (line_appends_nothing (calls_of turns) (held_is_cut_short turns).line)

@@ -4,7 +4,7 @@ use Rattle.std.proofs.lemmas.List.{reverse-append}
 use Rattle.stm_wire.specs.Chip.{ChipData}
 use Rattle.stm_wire.specs.Rig.{RigState}
 use Rattle.stm_session.specs.Undoable.{Undoable}
-use Rattle.stm_session.specs.Meaning.{CommandData, writes, erases, verifies, reads, flash_after, flash_after_all, flashes_before, changes_of, is_change, before_if}
+use Rattle.stm_session.specs.Meaning.{CommandData, writes, verifies, reads, flash_after, flash_after_all, flashes_before, changes_of, is_change, before_if}
 use Rattle.stm_session.specs.Undoes.{flash_undone}
 use Rattle.stm_session.specs.Events.{World, now_of, Event, Happening, AllLead, Knows, Leads, end_of, ran, run_stopped, informed, info_stopped, identified, identify_stopped, undid, undo_stopped, left_refused, refusal_stopped, unprotected, unprotect_stopped, kept, was_reset, lost_owed, lost_power}
 use Rattle.stm_session.specs.Headline.{standing_in, grown, starts_of_run, starts_after, oldest_after, oldest_of, oldest_start, AllIsUndone, WritesWhole}
@@ -33,10 +33,9 @@ first-before_if true flash flashes h rest later e = cc
 first-before_if false flash flashes h rest later e = later refl e
 
 pub same-after : (chip : ChipData) (flash : List ℕ) (c : CommandData) → is_change c ≡ false → flash_after chip flash c ≡ flash
-same-after chip flash (writes image) e = cc
-same-after chip flash (erases pages) e = cc
 same-after chip flash (verifies image) e = refl
 same-after chip flash (reads start size) e = refl
+same-after chip flash c e = cc
 
 -- the first flash before a change is the one at the start
 first-before : (chip : ChipData) (flash : List ℕ) (commands : List CommandData) (h : List ℕ) (rest : List (List ℕ)) → flashes_before chip flash commands ≡ h ∷ rest → h ≡ flash

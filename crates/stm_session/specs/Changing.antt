@@ -1,7 +1,6 @@
 -- How a page changes in a command: what is kept first, and the lines of it.
 use Rattle.std.specs.Prelude.{◌≡◌, ◌≢◌, ℕ, Bool, true, false, ◌&&◌, ◌==◌, if◌then◌else◌, List, []}
-use Rattle.std.specs.Prelude.{◌∷◌, ◌++◌, length, bytes_eq, IsTrue}
-use Rattle.std.specs.Prelude.{Result, Vec, IfOk, vec_len}
+use Rattle.std.specs.Prelude.{◌∷◌, ◌++◌, length, bytes_eq, IsTrue, Result, Vec, IfOk, vec_len}
 use Rattle.std.specs.declared.alloc.Global.{Global}
 use Rattle.stm_wire.specs.Chip.{ChipData, page_of, page_size}
 use Rattle.stm_wire.specs.Rig.{RigState}

@@ -15,8 +15,7 @@ use Rattle.stm_journal.specs.declared.entry.Entry.{Entry}
 use Rattle.stm_journal.specs.declared.entry.Entry.TheVariants.{Keeps, Erases, Programs}
 use Rattle.stm_journal.specs.Journals.{Loaded}
 use Rattle.stm_journal.specs.Newest.{HasIntended, KeepsSame}
-use Rattle.stm_journal.specs.States.{StateData, newest_is_open, newest_keeps}
-use Rattle.stm_journal.specs.States.{newest_may_keep}
+use Rattle.stm_journal.specs.States.{StateData, newest_is_open, newest_keeps, newest_may_keep}
 use Rattle.stm_session.specs.declared.deed.Deed.{Deed}
 use Rattle.stm_session.specs.declared.deed.Deed.TheVariants as deed
 use Rattle.stm_session.specs.declared.fault.Fault.{Fault}

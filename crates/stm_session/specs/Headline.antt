@@ -43,20 +43,10 @@ abbrev pub starts_after : {R : Type 0} → Event R → World → World → List 
 starts_after (ran table commands old new result) w w2 starts = starts_of_run commands w w2 starts
 starts_after (run_stopped table commands old new result) w w2 starts =
     starts_of_run commands w w2 starts
-starts_after (informed table old new result) w w2 starts = starts
-starts_after (info_stopped table old new result) w w2 starts = starts
-starts_after (identified old new result) w w2 starts = starts
-starts_after (identify_stopped old new result) w w2 starts = starts
 starts_after (undid table count old new result) w w2 starts = drop (grown w2 w) starts
 starts_after (undo_stopped table count old new result) w w2 starts = drop (grown w2 w) starts
-starts_after (left_refused refusal old new result) w w2 starts = starts
-starts_after (refusal_stopped refusal old new result) w w2 starts = starts
-starts_after (unprotected old new result) w w2 starts = starts
-starts_after (unprotect_stopped old new result) w w2 starts = starts
 starts_after kept w w2 starts = []
-starts_after was_reset w w2 starts = starts
-starts_after lost_owed w w2 starts = starts
-starts_after lost_power w w2 starts = starts
+starts_after _ w w2 starts = starts
 
 -- a run that reports success leaves what the commands mean, each change as one ended segment
 pub record RunHolds (commands : List CommandData) (w w2 : World) : Type 0 where
@@ -175,22 +165,8 @@ oldest_start starts start = flash_undone (length starts) start.device.flash star
 -- that flash after one event: where the way back is given up, the flash as it is then, and else
 -- the same as before
 abbrev pub oldest_after : {R : Type 0} → Event R → World → List ℕ → List ℕ
-oldest_after (ran table commands old new result) w2 flash = flash
-oldest_after (run_stopped table commands old new result) w2 flash = flash
-oldest_after (informed table old new result) w2 flash = flash
-oldest_after (info_stopped table old new result) w2 flash = flash
-oldest_after (identified old new result) w2 flash = flash
-oldest_after (identify_stopped old new result) w2 flash = flash
-oldest_after (undid table count old new result) w2 flash = flash
-oldest_after (undo_stopped table count old new result) w2 flash = flash
-oldest_after (left_refused refusal old new result) w2 flash = flash
-oldest_after (refusal_stopped refusal old new result) w2 flash = flash
-oldest_after (unprotected old new result) w2 flash = flash
-oldest_after (unprotect_stopped old new result) w2 flash = flash
 oldest_after kept w2 flash = w2.device.flash
-oldest_after was_reset w2 flash = flash
-oldest_after lost_owed w2 flash = flash
-oldest_after lost_power w2 flash = flash
+oldest_after _ w2 flash = flash
 
 -- that flash after a whole history, from event to event
 abbrev pub oldest_of : {R : Type 0} → List (Happening R) → List ℕ → List ℕ

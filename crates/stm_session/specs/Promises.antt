@@ -15,13 +15,12 @@ use Rattle.stm_session.specs.declared.fault.Fault.{Fault}
 use Rattle.stm_session.specs.declared.fault.Fault.TheVariants as faults
 use Rattle.stm_session.specs.Moments.{BeginsNothing, IsSafe, IsUnbegun}
 use Rattle.stm_session.specs.Opening.{TellsItself}
-use Rattle.stm_session.specs.Refusal.{Refuses, unsent_refusal}
+use Rattle.stm_session.specs.Refusal.{Refuses, unsent_refusal, RefusesUnsent}
 use Rattle.stm_session.specs.Information.{Informs}
 use Rattle.stm_session.specs.Undoable.{Undoable, state_at}
 use Rattle.stm_session.specs.Meaning.{CommandData}
 use Rattle.stm_session.specs.Answers.{OutcomeData}
 use Rattle.stm_session.specs.Lines.{depth_at}
-use Rattle.stm_session.specs.Refusal.{RefusesUnsent}
 use Rattle.stm_session.specs.Refusals.{run_refusal, undo_refusal, undo_misfit}
 use Rattle.stm_session.specs.Runs.{Runs}
 use Rattle.stm_session.specs.Undoes.{Undoes, UndoesNothing, IsElsewhere, IsWithinLimit, taken_count}

@@ -19,24 +19,18 @@ bytes_at chip flash start size = take size (drop (start - chip.base) flash)
 
 -- the command reads
 abbrev pub is_reading : Command → Bool
-is_reading (command.Write image) = false
-is_reading (command.Erase pages) = false
-is_reading (command.Verify image) = false
 is_reading (command.Read start size) = true
+is_reading _ = false
 
 -- the bytes that a command reads of a flash
 abbrev pub bytes_read : ChipData → List ℕ → Command → List ℕ
-bytes_read chip flash (command.Write image) = []
-bytes_read chip flash (command.Erase pages) = []
-bytes_read chip flash (command.Verify image) = []
 bytes_read chip flash (command.Read start size) = bytes_at chip flash start size
+bytes_read chip flash _ = []
 
 -- the bytes that an outcome holds
 abbrev pub bytes_of : Outcome → List ℕ
-bytes_of (outcome.Written segment pages) = []
-bytes_of (outcome.Erased segment pages) = []
-bytes_of outcome.Verified = []
 bytes_of (outcome.Read bytes) = bytes.items
+bytes_of _ = []
 
 -- the outcome is one of the command, and a read has as many bytes as were asked
 abbrev pub IsKindOf : Command → Outcome → Type 0

@@ -63,21 +63,10 @@ abbrev pub RunFails : List CommandData → List (List ℕ) → RigState → RigS
 RunFails commands flashes old new fault.Line = Unit {0}
 RunFails commands flashes old new fault.Journal = Unit {0}
 RunFails commands flashes old new fault.Memory = Unit {0}
-RunFails commands flashes old new fault.Unfinished = ⊥
-RunFails commands flashes old new (fault.UnknownChip id) = ⊥
-RunFails commands flashes old new fault.OutOfFlash = ⊥
-RunFails commands flashes old new fault.NoErase = ⊥
-RunFails commands flashes old new fault.InSession = ⊥
 RunFails commands flashes old new (fault.Differs address) =
     (answers_from old commands ≡ Err address)
     × AreDone (standing_commands old commands) flashes old new.device new.journal × IsSettled new.device
-RunFails commands flashes old new fault.Device = ⊥
-RunFails commands flashes old new (fault.BadJournal line) = ⊥
-RunFails commands flashes old new fault.OtherDevice = ⊥
-RunFails commands flashes old new fault.OtherBoard = ⊥
-RunFails commands flashes old new fault.BoardChanged = ⊥
-RunFails commands flashes old new (fault.NotHeld n) = ⊥
-RunFails commands flashes old new fault.Full = ⊥
+RunFails commands flashes old new _ = ⊥
 
 -- A run that is refused nothing.
 pub record Runs {T : Type 0} (commands : List CommandData) (flashes : List (List ℕ))

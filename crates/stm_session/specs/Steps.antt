@@ -6,8 +6,7 @@ use Rattle.stm_wire.specs.Device.{Device, IsSettled}
 use Rattle.stm_wire.specs.Rig.{RigState}
 use Rattle.stm_wire.specs.Moments.{LeavesOnly}
 use Rattle.stm_journal.specs.declared.entry.Entry.{Entry}
-use Rattle.stm_journal.specs.declared.entry.Entry.TheVariants.{Names, Opens, Keeps, Erases}
-use Rattle.stm_journal.specs.declared.entry.Entry.TheVariants.{Programs, Ends, Undoes}
+use Rattle.stm_journal.specs.declared.entry.Entry.TheVariants.{Keeps, Erases, Programs}
 use Rattle.stm_journal.specs.Newest.{KeepsSame}
 use Rattle.stm_journal.specs.States.{StateData, is_unfinished, intent_of, names_other, newest_keeps}
 use Rattle.stm_journal.specs.Flashes.{flashes_before_segments}
@@ -40,13 +39,9 @@ torn_after torn (e ∷ entries) = false
 -- each line says that a page is to be erased or programmed
 abbrev pub AreIntents : List Entry → Type 0
 AreIntents [] = Unit {0}
-AreIntents (Names version id unique ∷ entries) = ⊥
-AreIntents (Opens k ∷ entries) = ⊥
-AreIntents (Keeps n bytes ∷ entries) = ⊥
 AreIntents (Erases n ∷ entries) = AreIntents entries
 AreIntents (Programs n ∷ entries) = AreIntents entries
-AreIntents (Ends k ∷ entries) = ⊥
-AreIntents (Undoes k ∷ entries) = ⊥
+AreIntents _ = ⊥
 
 -- just these lines were added; where they are intents alone, the segments keep what they kept
 pub record AddsLines (entries : List Entry) (old new : List ℕ) : Type 0 where

@@ -12,12 +12,11 @@ use Rattle.stm_journal.specs.Greetings.{is_greeted}
 use Rattle.stm_journal.specs.States.{intent_of}
 use Rattle.stm_journal.specs.Calls.{IsUntouched}
 use Rattle.stm_session.specs.declared.fault.Fault.{Fault}
-use Rattle.stm_session.specs.Fault.{IsOutsideFault}
+use Rattle.stm_session.specs.Fault.{IsOutsideFault, IsJournalOrMemory}
 use Rattle.stm_session.specs.Fresh.{settling_limit}
 use Rattle.stm_session.specs.Moments.{SameMake}
 use Rattle.stm_session.specs.Undoable.{Undoable, is_unfinished_at, state_at, risked_pages}
 use Rattle.stm_session.specs.Lines.{is_torn_at, undo_entries, text_added}
-use Rattle.stm_session.specs.Fault.{IsJournalOrMemory}
 
 -- how many segments are undone: all where the count is 0 or more than there are
 abbrev pub taken_count : ℕ → ℕ → ℕ

@@ -1,6 +1,5 @@
 // A command that changes the flash, as one segment of the journal.
-ghost use Rattle.std.specs.Prelude.{◌≡◌, ◌≢◌, ◌<◌, ◌+◌, false, List, ℕ, length, IfOk, OnOk};
-ghost use Rattle.std.specs.Prelude.{IfErr};
+ghost use Rattle.std.specs.Prelude.{◌≡◌, ◌≢◌, ◌<◌, ◌+◌, false, List, ℕ, length, IfOk, OnOk, IfErr};
 ghost use Rattle.stm_journal.specs.States.{is_unfinished};
 ghost use Rattle.stm_session.specs.Contents.{IsMade, command_of};
 ghost use Rattle.stm_session.specs.Fault.{HasSessionCause};

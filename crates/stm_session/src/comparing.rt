@@ -1,5 +1,5 @@
 // Comparing an image with the flash.
-ghost use Rattle.std.specs.Prelude.{◌≡◌, ℕ, Bool, List, ◌∷◌, [], OnOk, ◌+◌, ◌≤◌, true, length};
+ghost use Rattle.std.specs.Prelude.{◌≡◌, ℕ, Bool, List, ◌+◌, ◌≤◌, true, length};
 ghost use Rattle.std.specs.Prelude.{IsTrue, IfErr, IfOk, Some, None, MatchOption};
 ghost use Rattle.std.specs.List.{AllByRecursion};
 ghost use Rattle.stm_image.specs.Pairs.{Pairs, HasNone, IsNext};

@@ -1,6 +1,5 @@
 // How a session reaches a device: whatever it was sent before is ended, and it is asked who it is.
-ghost use Rattle.std.specs.Prelude.{◌≡◌, ◌<◌, ⊤, Bool, ℕ, List, ◌∷◌, [], IfErr, IfOk, OnOk};
-ghost use Rattle.std.specs.Prelude.{length};
+ghost use Rattle.std.specs.Prelude.{◌≡◌, ◌<◌, ⊤, Bool, ℕ, List, ◌∷◌, [], IfErr, IfOk, OnOk, length};
 ghost use Rattle.stm_wire.specs.Device.{IsSettled};
 ghost use Rattle.stm_wire.specs.Dialogue.{GoesOn};
 ghost use Rattle.stm_wire.specs.Frames.{get_turns};

@@ -3,7 +3,6 @@ ghost use Rattle.std.specs.Prelude.{◌≡◌, ◌&&◌, true, false, List, ℕ,
 ghost use Rattle.stm_wire.specs.Command.{with_rest};
 ghost use Rattle.stm_wire.specs.Dialogue.{GoesOn};
 ghost use Rattle.stm_journal.specs.Calls.{AreFetches};
-ghost use Rattle.stm_journal.specs.States.{intent_of};
 ghost use Rattle.stm_session.specs.Fault.{HasSessionCause, IsRefusal};
 ghost use Rattle.stm_session.specs.Greeting.{GreetsBy, GreetsInPartBy, GreetsSafely, IsConnectable};
 ghost use Rattle.stm_session.specs.Greeting.{IsGreetableAs, ReadsFirst, greets, greets_loaded};

@@ -1,6 +1,5 @@
 // The pages at work, which aren't believed: they are written before any other.
-ghost use Rattle.std.specs.Prelude.{◌≡◌, ◌<◌, [], ◌∷◌, List, ℕ, Some, OnOk};
-ghost use Rattle.std.specs.Prelude.{IsTrue, if◌then◌else◌};
+ghost use Rattle.std.specs.Prelude.{◌≡◌, ◌<◌, [], ◌∷◌, List, ℕ, Some, OnOk, IsTrue, if◌then◌else◌};
 ghost use Rattle.stm_wire.specs.Chip.{page_count, page_size, with_page};
 ghost use Rattle.stm_journal.specs.declared.kept.Kept.{Kept};
 ghost use Rattle.stm_journal.specs.Fits.{AllFit};
@@ -13,8 +12,7 @@ ghost use Rattle.stm_session.specs.Order.{AreRewritten, BeginTold, Follows, IsRe
 ghost use Rattle.stm_session.specs.Steps.{IsSteady, Goes};
 ghost use Rattle.stm_session.specs.Told.{ToldIn};
 ghost use Rattle.stm_session.specs.Undoable.{state_at};
-ghost use Rattle.stm_session.specs.Work.{beside, kept_at_work, kept_of, pages_at_work};
-ghost use Rattle.stm_session.specs.Work.{with_work};
+ghost use Rattle.stm_session.specs.Work.{beside, kept_at_work, kept_of, pages_at_work, with_work};
 
 use crate::Fault;
 use crate::deed::Deed;

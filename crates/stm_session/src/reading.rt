@@ -1,7 +1,6 @@
 // Reads any part of the flash, in calls that the bootloader takes.
-ghost use Rattle.std.specs.Prelude.{◌≡◌, ℕ, Bool, ◌+◌, ◌-◌, ◌/◌, ◌%◌, ◌<◌, ◌≤◌, ◌||◌};
-ghost use Rattle.std.specs.Prelude.{◌==◌, ◌++◌, IsTrue, IfErr, IfOk, OnOk, length, vec_len};
-ghost use Rattle.std.specs.Prelude.{List};
+ghost use Rattle.std.specs.Prelude.{◌≡◌, ℕ, Bool, ◌+◌, ◌-◌, ◌/◌, ◌%◌, ◌<◌, ◌≤◌, ◌||◌, ◌==◌, ◌++◌};
+ghost use Rattle.std.specs.Prelude.{IsTrue, IfErr, IfOk, OnOk, length, vec_len, List};
 ghost use Rattle.std.specs.List.{AllByRecursion};
 ghost use Rattle.stm_wire.specs.Chip.{fits_inside, is_inside};
 ghost use Rattle.stm_wire.specs.Device.{IsSettled};

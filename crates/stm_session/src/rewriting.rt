@@ -1,7 +1,6 @@
 // Giving a page that the journal keeps new bytes.
 ghost use Rattle.std.specs.Prelude.{◌≡◌, ◌≢◌, ◌<◌, ◌∷◌, ◌++◌, length, map, flat_map, fold, OnOk};
-ghost use Rattle.std.specs.Prelude.{IfOk};
-ghost use Rattle.std.specs.Prelude.{IsTrue, IfErr};
+ghost use Rattle.std.specs.Prelude.{IfOk, IsTrue, IfErr};
 ghost use Rattle.stm_wire.specs.Chip.{page_count, page_size, with_page, erased_page};
 ghost use Rattle.stm_chip.specs.Plan.{AreFrames, written};
 ghost use Rattle.stm_journal.specs.declared.entry.Entry.TheVariants.{Erases};

@@ -1,6 +1,5 @@
 // Ending the segment of a command, behind the question whether the board is still the chip's.
-ghost use Rattle.std.specs.Prelude.{◌≡◌, ◌≢◌, ◌++◌, ◌∷◌, [], List, ℕ, length, OnOk};
-ghost use Rattle.std.specs.Prelude.{IsTrue, IfErr};
+ghost use Rattle.std.specs.Prelude.{◌≡◌, ◌≢◌, ◌++◌, ◌∷◌, [], List, ℕ, length, OnOk, IsTrue, IfErr};
 ghost use Rattle.stm_journal.specs.declared.entry.Entry.TheVariants.{Ends};
 ghost use Rattle.stm_journal.specs.States.{newest_is_open};
 ghost use Rattle.stm_journal.specs.Newest.{HasEnded};

@@ -8,8 +8,7 @@ ghost use Rattle.stm_session.specs.Order.{BeginTold, Follows, IsAfter, FaultEnds
 ghost use Rattle.stm_session.specs.UndoOrder.{AreAllUndone, AreSegmentsUndone, OrMisread};
 ghost use Rattle.stm_session.specs.Reaching.{IsConfirmedInPart, confirming};
 ghost use Rattle.stm_session.specs.Told.{ToldIn, behind_confirming};
-ghost use Rattle.stm_session.specs.Sending.{PutsAtMost, most_of_confirming};
-ghost use Rattle.stm_session.specs.Sending.{most_of_undo};
+ghost use Rattle.stm_session.specs.Sending.{PutsAtMost, most_of_confirming, most_of_undo};
 ghost use Rattle.stm_session.specs.Steps.{IsSteady};
 ghost use Rattle.stm_session.specs.Work.{pages_at_work};
 

@@ -1,5 +1,5 @@
 // What is added behind a greeting that nothing answered.
-ghost use Rattle.std.specs.Prelude.{◌≡◌, ◌++◌, false, true, IfErr, OnOk};
+ghost use Rattle.std.specs.Prelude.{◌≡◌, ◌++◌, false, true, OnOk};
 ghost use Rattle.stm_wire.specs.Dialogue.{GoesOn};
 ghost use Rattle.stm_journal.specs.Calls.{AppendsInPart, AreFetches};
 ghost use Rattle.stm_journal.specs.Greetings.{is_greeted};

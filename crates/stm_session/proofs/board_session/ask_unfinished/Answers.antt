@@ -82,7 +82,6 @@ returns-clause-stops g c torn =
 pub returns-in_err-settle_intended-clause-honest : goal.returns-in_err-settle_intended-clause-honest
 returns-in_err-settle_intended-clause-honest g c h flashes loaded undoable chip =
     let V = g.R.Rig.view in
-    let way = settling_way c.args.chip.now.kind c.args.journal.now.is_greeted (intent_of c.args.journal.now.state) in
     let a = V c.args.rig.now in
     let b = V c.settle_intended.new.rig in
     let l = c.args.journal.now in
@@ -91,7 +90,6 @@ returns-in_err-settle_intended-clause-honest g c h flashes loaded undoable chip 
 pub returns-clause-honest : goal.returns-clause-honest
 returns-clause-honest g c h flashes loaded undoable chip =
     let V = g.R.Rig.view in
-    let way = settling_way c.args.chip.now.kind c.args.journal.now.is_greeted (intent_of c.args.journal.now.state) in
     let a = V c.args.rig.now in
     let b = V c.settle_intended.new.rig in
     let d = V c.ask_settled.new.rig in

@@ -1,5 +1,4 @@
-use Rattle.std.proofs.Common.{◌≡◌, ◌∙◌, ◌+◌, ◌++◌, ◌∷◌, [], List, ℕ, Result, Ok, Err, true, ap}
-use Rattle.std.proofs.Common.{append_assoc, subst, sym}
+use Rattle.std.proofs.Common.{◌≡◌, ◌∙◌, ◌+◌, ◌++◌, ◌∷◌, [], List, ℕ, Result, Ok, Err, true, ap, append_assoc, subst, sym, length, refl}
 use Rattle.stm_wire.specs.Chip.{ChipData, page_count}
 use Rattle.stm_wire.specs.Device.{Device}
 use Rattle.stm_journal.specs.declared.entry.Entry.{Entry}
@@ -11,17 +10,15 @@ use Rattle.stm_session.specs.Steps.{Goes, IsSteady}
 use Rattle.stm_session.specs.Undoable.{is_unfinished_at}
 use Rattle.stm_session.proofs.Commandings.{begin_fails, changes_as, end_fails, end_goes, pages_fail, pages_go, turned_make}
 use Rattle.stm_session.proofs.Keeping.{depth_text, unfinished_text}
-use Rattle.std.proofs.Common.{length, refl}
-use Rattle.stm_journal.specs.Journals.{begin_entries}
-use Rattle.stm_session.specs.ChangeOrder.{AreBegunTurns, IsOneSegment, IsSegmentBegun, begins, ends, turns}
+use Rattle.stm_journal.specs.Journals.{begin_entries, Loaded}
+use Rattle.stm_session.specs.ChangeOrder.{AreBegunTurns, IsOneSegment, IsSegmentBegun, KeepsErased, begins, ends, turns}
 use Rattle.stm_session.specs.Closing.{IsClosedInPart, closing}
 use Rattle.stm_session.specs.Fault.{cause_of}
 use Rattle.stm_session.specs.Order.{Step, Adds, Are, Begin, DoesSteps, StopsBy}
 use Rattle.stm_session.proofs.CutShort.{part_stops, then_stops}
-use Rattle.stm_session.proofs.KeptErased.{keep_begin, keep_end, keep_still, keep_then}
+use Rattle.stm_session.proofs.KeptErased.{each_then, keep_begin, keep_end, keep_still}
 use Rattle.stm_session.proofs.Orders.{does_then}
 use Rattle.stm_wire.specs.Rig.{RigState}
-use Rattle.stm_journal.specs.Journals.{Loaded}
 use Rattle.stm_session.specs.declared.change.Change.{Change}
 use Rattle.stm_session.specs.declared.fault.Fault.{Fault}
 use Rattle.stm_session.specs.Moments.{SameMake}
@@ -199,7 +196,7 @@ returns-clause-order g c =
     let done : IsOneSegment chip c.args.change.now l.state (first ++ (turned.0 ++ last)) = record { turned = turned.0; are_turned = turned.1.0; is = refl } in
     let s = l4.state in
     let still = keep_still l3.state s turned.0 (λ m h. c.in_ok-end_segment.ensures.ended.same.keeps m ∙ h) turned.1.1 in
-    let keeps = keep_then s first (turned.0 ++ last) (keep_begin s l.state chip) (keep_then s turned.0 last still (keep_end s chip (length l.state.stack + 1))) in
+    let keeps = each_then (KeepsErased s) first (turned.0 ++ last) (keep_begin s l.state chip) (each_then (KeepsErased s) turned.0 last still (keep_end s chip (length l.state.stack + 1))) in
     (first ++ (turned.0 ++ last), (done, keeps), all)
 
 pub returns-in_err-segment-clause-stops : goal.returns-in_err-segment-clause-stops

@@ -1,9 +1,7 @@
 use Rattle.stm_session.proofs.Unwritings.{then_appends_nothing}
-use Rattle.std.proofs.Common.{◌∙◌, ap}
+use Rattle.std.proofs.Common.{◌∙◌, ap, ◌∷◌, [], List}
 use Rattle.stm_wire.specs.Device.{Device}
 use Rattle.stm_session.proofs.Asking.{asks_failed, asks_ok, asks_then, settled_still}
-use Rattle.std.proofs.Common.{◌∷◌, []}
-use Rattle.std.proofs.Common.{List}
 use Rattle.stm_wire.specs.Frames.{get_turns}
 use Rattle.stm_session.specs.Order.{Step, Sends}
 use Rattle.stm_session.specs.Reaching.{id_turns}

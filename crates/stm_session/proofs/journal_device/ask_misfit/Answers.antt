@@ -1,5 +1,4 @@
-use Rattle.std.proofs.Common.{◌∷◌, [], refl}
-use Rattle.std.proofs.Common.{◌≡◌, ◌++◌, ℕ, List, ap, subst, rules}
+use Rattle.std.proofs.Common.{◌∷◌, [], refl, ◌≡◌, ◌++◌, ℕ, List, ap, subst, rules}
 use Rattle.stm_wire.specs.Device.{Device}
 use Rattle.stm_wire.specs.Frames.{get_turns}
 use Rattle.stm_session.specs.Fault.{of_refusal}

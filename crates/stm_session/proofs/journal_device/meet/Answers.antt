@@ -1,4 +1,4 @@
-use Rattle.std.proofs.Common.{◌≡◌, ◌≤◌, ◌∙◌, [], None, ap, inr, length, sym}
+use Rattle.std.proofs.Common.{◌≡◌, ◌≤◌, ◌∙◌, [], None, ap, inr, length, sym, ◌+◌, ◌*◌, Bool, true, false, arith, Option, subst}
 use Rattle.stm_wire.specs.Chip.{ChipData}
 use Rattle.stm_wire.specs.Harmless.{Harmless}
 use Rattle.stm_wire.specs.Moments.{LeavesOnly}
@@ -9,7 +9,6 @@ use Rattle.stm_session.proofs.Going.{at_exit, asks_go, asks_fail, goes_failed, g
 use Rattle.stm_session.proofs.Misfitting.{own_misfit}
 use Rattle.stm_session.proofs.Unread.{none_some}
 use Rattle.stm_session.proofs.Straying.{strays_failed, strays_asked, strays_unasked, misfit_was}
-use Rattle.std.proofs.Common.{◌+◌, ◌*◌, Bool, true, false, arith}
 use Rattle.stm_wire.specs.Dialogue.{GoesOn}
 use Rattle.stm_session.specs.Fresh.{byte_of, limit_of, settling_way}
 use Rattle.stm_wire.specs.Parts.{IsPart, IsSession}
@@ -17,7 +16,6 @@ use Rattle.stm_wire.specs.lemmas.PartLaws.{session_joins, session_longer, settli
 use Rattle.stm_journal.specs.States.{intent_of}
 use Rattle.stm_session.specs.Sending.{is_whole, most_of_reaching}
 use Rattle.stm_session.proofs.Sending.{same_fault}
-use Rattle.std.proofs.Common.{Option, subst}
 use Rattle.std.specs.Prelude.{IfSome}
 use Rattle.stm_session.specs.declared.fault.Fault.{Fault}
 use Rattle.stm_session.specs.Fault.{Cause, cause_of}

@@ -1,4 +1,4 @@
-use Rattle.std.proofs.Common.{◌≡◌, ℕ, Option, Ok, refl, subst}
+use Rattle.std.proofs.Common.{◌≡◌, ℕ, Option, Ok, refl, subst, Some}
 use Rattle.stm_session.specs.Answers.{first_difference, outcome_data}
 use Rattle.stm_session.specs.Asking.{Asks}
 use Rattle.stm_session.specs.Meaning.{verifies}
@@ -7,7 +7,6 @@ use Rattle.stm_session.proofs.OneCommands.{verify_agrees, verify_differs}
 use Rattle.stm_session.proofs.RunOrders.{reads_follow}
 use Rattle.stm_session.specs.Fault.{of_refusal}
 use Rattle.stm_session.specs.Came.{AllCameAgree, CameFor}
-use Rattle.std.proofs.Common.{Some}
 use Rattle.stm_session.specs.declared.fault.Fault.TheVariants as faults
 use Rattle.stm_session.specs.RunOrder.{IsBegunTelling, OnlyReads}
 use Rattle.stm_session.proofs.Arrivals.{reading_stops}

@@ -1,6 +1,6 @@
 use Rattle.stm_session.specs.Fresh.{contact_way}
 use Rattle.stm_session.proofs.Unwritings.{fetching_appends_nothing, then_appends_nothing}
-use Rattle.std.proofs.Common.{arith, Bool, None, true, refl}
+use Rattle.std.proofs.Common.{arith, Bool, None, true, refl, ℕ, subst, sym}
 use Rattle.stm_session.proofs.Openings.{left_by_loading, opens_all, opens_refused, opens_unreached, opens_unread}
 use Rattle.stm_wire.specs.Dialogue.{GoesOn}
 use Rattle.stm_wire.specs.Parts.{IsSession}
@@ -9,8 +9,6 @@ use Rattle.stm_journal.specs.Calls.{AreFetches}
 use Rattle.stm_session.specs.Sending.{is_whole, most_of_reaching}
 use Rattle.stm_session.proofs.Sending.{fetches_get, fetches_put, same_fault}
 use Rattle.stm_session.proofs.Orders.{fetched_then}
-use Rattle.std.proofs.Common.{ℕ, subst, sym}
-use Rattle.stm_wire.specs.Dialogue.{GoesOn}
 use Rattle.stm_session.specs.Fault.{Cause}
 use Rattle.stm_session.specs.Reaching.{ReachesInOrder, ReachesInPart, asking_steps}
 use Rattle.stm_session.proofs.CutShort.{by_fault}

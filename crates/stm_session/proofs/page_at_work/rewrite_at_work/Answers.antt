@@ -1,12 +1,10 @@
-use Rattle.std.proofs.Common.{◌≡◌, ◌∙◌, ◌++◌, ◌∷◌, [], List, ℕ, Result}
-use Rattle.std.proofs.Common.{None, Ok, refl, sym, ap, subst}
+use Rattle.std.proofs.Common.{◌≡◌, ◌∙◌, ◌++◌, ◌∷◌, [], List, ℕ, Result, None, Ok, refl, sym, ap, subst}
 use Rattle.stm_wire.specs.Call.{Call}
 use Rattle.stm_journal.specs.States.{intent_of, newest_keeps}
 use Rattle.stm_session.specs.declared.fault.Fault.{Fault}
 use Rattle.stm_session.specs.Fault.{cause_of}
 use Rattle.stm_session.specs.Lines.{work_entries}
-use Rattle.stm_session.specs.Order.{AreCutShort, AreRewritten, BeginTold, IsInOrder, IsRewritten}
-use Rattle.stm_session.specs.Order.{acts_of}
+use Rattle.stm_session.specs.Order.{AreCutShort, AreRewritten, BeginTold, IsInOrder, IsRewritten, acts_of}
 use Rattle.stm_session.specs.Steps.{Goes, IsSteady}
 use Rattle.stm_session.specs.Told.{ToldIn}
 use Rattle.stm_session.specs.Undoable.{state_at}
@@ -21,8 +19,7 @@ use Rattle.stm_session.proofs.Settlings.{intent_text}
 use Rattle.stm_session.proofs.Tellings.{rewritten_as, work_as}
 use Rattle.stm_session.proofs.ToldPages.{told_on, told_then}
 use Rattle.stm_session.proofs.UndoOrders.{first_begun, others_begun}
-use Rattle.stm_session.proofs.Work.{no_pages, work-flash, work-lines, work_kept}
-use Rattle.stm_session.proofs.Work.{work_pages}
+use Rattle.stm_session.proofs.Work.{no_pages, work-flash, work-lines, work_kept, work_pages}
 use Rattle.stm_session.proofs.page_at_work.rewrite_at_work.Given as given
 use Rattle.stm_session.proofs.page_at_work.rewrite_at_work.Goals as goal
 use Rattle.stm_session.proofs.page_at_work.rewrite_at_work.Goals.{After-rewrite_beside}

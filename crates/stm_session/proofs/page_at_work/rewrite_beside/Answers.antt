@@ -1,5 +1,4 @@
-use Rattle.std.proofs.Common.{◌≡◌, ◌∷◌, [], List, ℕ, Ok, Result, refl, sym, subst}
-use Rattle.std.proofs.Common.{arith, append-nil}
+use Rattle.std.proofs.Common.{◌≡◌, ◌∷◌, [], List, ℕ, Ok, Result, refl, sym, subst, arith, append-nil}
 use Rattle.stm_journal.specs.States.{newest_keeps}
 use Rattle.stm_session.specs.declared.fault.Fault.{Fault}
 use Rattle.stm_session.specs.Lines.{work_entries}
@@ -13,8 +12,7 @@ use Rattle.stm_session.proofs.Exits.{goes_fault}
 use Rattle.stm_session.proofs.Going.{goes_nowhere, goes_ok}
 use Rattle.stm_session.proofs.Orders.{does_nothing}
 use Rattle.stm_session.proofs.UndoOrders.{first_begun}
-use Rattle.stm_session.proofs.Work.{lacks_beside, no_place_keeps, none_beside, one_beside}
-use Rattle.stm_session.proofs.Work.{place_keeps}
+use Rattle.stm_session.proofs.Work.{lacks_beside, no_place_keeps, none_beside, one_beside, place_keeps}
 use Rattle.stm_session.proofs.page_at_work.rewrite_beside.Given as given
 use Rattle.stm_session.proofs.page_at_work.rewrite_beside.Goals as goal
 use Rattle.stm_session.proofs.page_at_work.rewrite_beside.Goals.{After-rewrite_newest, Start}

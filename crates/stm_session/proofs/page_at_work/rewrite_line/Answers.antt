@@ -1,5 +1,4 @@
-use Rattle.std.proofs.Common.{◌≡◌, ◌∙◌, ◌/◌, ◌++◌, ◌∷◌, [], List, ℕ, Result, Some}
-use Rattle.std.proofs.Common.{length, take, drop, subst, sym, ap, ap₂, arith, rules}
+use Rattle.std.proofs.Common.{◌≡◌, ◌∙◌, ◌/◌, ◌++◌, ◌∷◌, [], List, ℕ, Result, Some, length, take, drop, subst, sym, ap, ap₂, arith, rules, refl}
 use Rattle.std.proofs.Math.Seq.{take-append_seam}
 use Rattle.stm_wire.specs.Chip.{erased_byte, page_size, with_page}
 use Rattle.stm_wire.specs.Device.{Device}
@@ -23,13 +22,11 @@ use Rattle.stm_session.proofs.Exits.{goes_fault}
 use Rattle.stm_session.proofs.Fetchings.{fetch_goes, fetch_fails}
 use Rattle.stm_session.proofs.Going.{goes_as, goes_nowhere, goes_ok, goes_refused, goes_then}
 use Rattle.stm_session.proofs.Keeping.{good_at}
-use Rattle.stm_session.proofs.Orders.{does_fetch, does_then}
+use Rattle.stm_session.proofs.Orders.{does_fetch, does_then, does_nothing}
 use Rattle.stm_session.proofs.CutShort.{begin_as, memory_stops, then_stops}
-use Rattle.stm_session.proofs.Orders.{does_nothing}
 use Rattle.stm_session.proofs.ToldPages.{some_calls}
 use Rattle.stm_session.proofs.UndoOrders.{journal_stops, some_rewrite}
 use Rattle.stm_session.proofs.Performing.{does_of}
-use Rattle.std.proofs.Common.{refl}
 use Rattle.stm_journal.specs.Newest.{KeepsSame}
 use Rattle.stm_journal.specs.States.{StateData}
 use Rattle.stm_session.proofs.page_at_work.rewrite_line.Given as given

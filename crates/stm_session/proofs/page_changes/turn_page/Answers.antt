@@ -1,6 +1,4 @@
-use Rattle.std.proofs.Common.{◌≡◌, ◌∙◌, ◌++◌, [], List, ℕ, Bool, Result}
-use Rattle.std.proofs.Common.{false, inl, inr, not, length, ap, ap₂, refl, sym, subst}
-use Rattle.std.proofs.Common.{rules}
+use Rattle.std.proofs.Common.{◌≡◌, ◌∙◌, ◌++◌, [], List, ℕ, Bool, Result, false, inl, inr, not, length, ap, ap₂, refl, sym, subst, rules}
 use Rattle.std.specs.Prelude.{bytes_eq}
 use Rattle.stm_wire.specs.Chip.{ChipData, flash_size, page_of, page_size, with_page}
 use Rattle.stm_wire.specs.Device.{Device}
@@ -15,8 +13,7 @@ use Rattle.stm_session.proofs.ChangeOrders.{some_turn, turn_of}
 use Rattle.stm_session.proofs.Changes.{same_lines_of, told_same}
 use Rattle.stm_session.proofs.CutShort.{begin_after, memory_stops, then_stops}
 use Rattle.stm_session.proofs.Exits.{goes_fault, read_stops, reads_page}
-use Rattle.stm_session.proofs.Going.{asks_fail, asks_on, goes_as, goes_nowhere, goes_ok}
-use Rattle.stm_session.proofs.Going.{goes_refused, goes_then, page_held}
+use Rattle.stm_session.proofs.Going.{asks_fail, asks_on, goes_as, goes_nowhere, goes_ok, goes_refused, goes_then, page_held}
 use Rattle.stm_session.proofs.KeptErased.{keep_turn}
 use Rattle.stm_session.proofs.Orders.{does_nothing, does_then}
 use Rattle.stm_session.proofs.Restorings.{page_read}

@@ -1,4 +1,4 @@
-use Rattle.std.proofs.Common.{◌≡◌, ◌∙◌, ◌+◌, ◌<◌, ◌≤◌, ◌++◌, [], List, ℕ, Bool, length, ap, arith, refl, sym, subst}
+use Rattle.std.proofs.Common.{◌≡◌, ◌∙◌, ◌+◌, ◌<◌, ◌≤◌, ◌++◌, [], List, ℕ, Bool, length, ap, arith, refl, sym, subst, true}
 use Rattle.stm_wire.specs.Chip.{ChipData, flash_size, page_count, page_of}
 use Rattle.stm_wire.specs.lemmas.FlashLaws.{turned_none, turned_all}
 use Rattle.stm_journal.specs.declared.entry.Entry.{Entry}
@@ -9,12 +9,10 @@ use Rattle.stm_session.specs.Lines.{page_entries, page_entries_below}
 use Rattle.stm_session.specs.Meaning.{flash_after}
 use Rattle.stm_session.proofs.Going.{at_exit, goes_as, goes_nowhere, goes_failed, goes_ok, goes_then}
 use Rattle.stm_session.proofs.Turns.{LayLaws, begun_next, counted_more, free_next, from_one, has_next, lacks_next, lines_around, page_lines, size_after, told_more, turned_more}
-use Rattle.std.proofs.Common.{true}
-use Rattle.stm_session.specs.ChangeOrder.{AreAllTurned, AreTurned, none}
+use Rattle.stm_session.specs.ChangeOrder.{AreAllTurned, AreTurned, none, AreBegunTurns, IsPageTurn, KeepsErased}
 use Rattle.stm_session.proofs.ChangeOrders.{all_turned}
-use Rattle.stm_session.proofs.KeptErased.{keep_still, keep_then}
+use Rattle.stm_session.proofs.KeptErased.{each_then, keep_still}
 use Rattle.stm_session.proofs.Orders.{does_nothing, does_then}
-use Rattle.stm_session.specs.ChangeOrder.{AreBegunTurns, IsPageTurn}
 use Rattle.stm_session.specs.Order.{Step, Begin}
 use Rattle.stm_session.proofs.CutShort.{then_stops}
 use Rattle.stm_session.proofs.page_changes.turn_pages.Goals as goal
@@ -97,7 +95,7 @@ loop-n-preserved g c =
             before.0 ++ own.0,
             (
               all_turned c.args.chip.now c.args.change.now n c.loop-n.first kept changed c.after_page-first.result before.0 own.0 c.is_kept-kept.ensures next_is before.1.0 own.1.0,
-              keep_then s2 before.0 own.0 (keep_still s s2 before.0 turned.still before.1.1) own.1.1,
+              each_then (KeepsErased s2) before.0 own.0 (keep_still s s2 before.0 turned.still before.1.1) own.1.1,
             ),
             does_then before.0 own.0 c.args.journal.now c.loop-n.journal c.turn_page.new.journal (V c.args.rig.now) (V c.loop-n.rig) (V c.turn_page.new.rig) before.2 own.2,
           );

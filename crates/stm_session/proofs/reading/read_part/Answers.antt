@@ -1,4 +1,4 @@
-use Rattle.std.proofs.Common.{◌≡◌, rules, refl, sym, ◌∙◌, ap, subst, IsTrue, length, take, drop, ℕ, ◌-◌, ◌+◌, Bool, Some}
+use Rattle.std.proofs.Common.{◌≡◌, rules, refl, sym, ◌∙◌, ap, subst, IsTrue, length, take, drop, ℕ, ◌-◌, ◌+◌, Bool, Some, ◌∷◌, []}
 use Rattle.stm_wire.specs.Chip.{ChipData, fits_inside}
 use Rattle.stm_wire.specs.Stopped.{read}
 use Rattle.stm_session.proofs.Asking.{asked, broken_off}
@@ -6,7 +6,6 @@ use Rattle.stm_wire.specs.Dialogue.{GoesOn}
 use Rattle.stm_wire.specs.Parts.{IsPart}
 use Rattle.stm_wire.specs.lemmas.PartLaws.{read_broken, read_held}
 use Rattle.stm_session.proofs.Sending.{with_fault}
-use Rattle.std.proofs.Common.{◌∷◌, []}
 use Rattle.stm_wire.specs.Frames.{read_turns}
 use Rattle.stm_session.specs.Order.{Begin, IsReadOf, Sends}
 use Rattle.stm_session.proofs.CutShort.{begin_all, command_stops}

@@ -5,7 +5,7 @@ use Rattle.stm_session.specs.Came.{ComeInBlocks}
 use Rattle.stm_session.proofs.Arrivals.{come_more}
 use Rattle.stm_session.specs.Running.{bytes_at}
 use Rattle.stm_session.proofs.Asking.{asks_failed, asks_ok, memory_refused, nothing_asked}
-use Rattle.stm_session.proofs.Ranges.{block_adds, block_asks, size-limit}
+use Rattle.stm_session.proofs.Ranges.{block_adds, block_asks, size-limit, block_part, block_read, block_stop, blocks_all, blocks_more, blocks_stop}
 use Rattle.stm_wire.specs.Dialogue.{GoesOn}
 use Rattle.stm_wire.specs.lemmas.DialogueLaws.{GoesOn-nothing}
 use Rattle.std.specs.List.{AllByRecursion}
@@ -17,7 +17,6 @@ use Rattle.stm_wire.specs.Parts.{IsPart}
 use Rattle.stm_wire.specs.lemmas.PartLaws.{nothing_is_part, part_longer}
 use Rattle.stm_session.specs.Sending.{is_whole, most_of_command}
 use Rattle.stm_session.proofs.Sending.{same_fault}
-use Rattle.stm_session.proofs.Ranges.{block_part, block_read, block_stop, blocks_all, blocks_more, blocks_stop}
 use Rattle.stm_session.proofs.RunOrders.{reads_nothing}
 use Rattle.stm_session.proofs.reading.read_range.Goals as goal
 

@@ -1,6 +1,4 @@
-use Rattle.std.proofs.Common.{◌≡◌, ◌∙◌, ◌++◌, if◌then◌else◌, [], List, ℕ, Result}
-use Rattle.std.proofs.Common.{Some, Ok, length, take, drop, ap, ap₂, append-nil, refl, sym}
-use Rattle.std.proofs.Common.{subst, arith, rules}
+use Rattle.std.proofs.Common.{◌≡◌, ◌∙◌, ◌++◌, if◌then◌else◌, [], List, ℕ, Result, Some, Ok, length, take, drop, ap, ap₂, append-nil, refl, sym, subst, arith, rules}
 use Rattle.std.proofs.Math.Seq.{take-append_seam}
 use Rattle.std.specs.Prelude.{bytes_eq}
 use Rattle.stm_wire.specs.Chip.{page_of, page_size, with_page}
@@ -35,8 +33,7 @@ use Rattle.stm_session.proofs.ToldPages.{some_calls}
 use Rattle.stm_session.proofs.UndoOrders.{journal_stops, return_read, return_reading}
 use Rattle.stm_session.proofs.returning.give_back_line.Given as given
 use Rattle.stm_session.proofs.returning.give_back_line.Goals as goal
-use Rattle.stm_session.proofs.returning.give_back_line.Goals.{In_ok-held}
-use Rattle.stm_session.proofs.returning.give_back_line.Goals.{After-return_page}
+use Rattle.stm_session.proofs.returning.give_back_line.Goals.{In_ok-held, After-return_page}
 
 -- What the exits behind the read share.
 

@@ -1,5 +1,5 @@
 use Rattle.stm_session.specs.Fresh.{contact_way}
-use Rattle.std.proofs.Common.{◌≡◌, ◌≢◌, ◌+◌, ◌*◌, [], List, ◌∷◌, Bool, None, Some, length, map, true, arith, refl}
+use Rattle.std.proofs.Common.{◌≡◌, ◌≢◌, ◌+◌, ◌*◌, [], List, ◌∷◌, Bool, None, Some, length, map, true, arith, refl, inl}
 use Rattle.stm_wire.specs.lemmas.PartLaws.{session_joins, session_longer, session_of_any, session_weaker}
 use Rattle.stm_wire.specs.Dialogue.{GoesOn}
 use Rattle.stm_wire.specs.Parts.{IsSession}
@@ -9,8 +9,6 @@ use Rattle.stm_session.specs.Meaning.{commands_in}
 use Rattle.stm_session.specs.Sending.{SendsAsRun, is_whole, most_of_command, most_of_confirming, most_of_reaching, most_of_run}
 use Rattle.stm_session.proofs.RunContracts.{contract_ran, contract_refused, contract_unopened, runs_err, runs_ok}
 use Rattle.stm_session.proofs.Sending.{same_fault}
-use Rattle.std.proofs.Common.{refl}
-use Rattle.std.proofs.Common.{inl}
 use Rattle.stm_session.specs.declared.fault.Fault.{Fault}
 use Rattle.stm_session.specs.declared.fault.Fault.TheVariants as faults
 use Rattle.stm_session.specs.RunOrder.{AreBegun, AreDoneInOrder, AreDoneSomehow, RunStops}

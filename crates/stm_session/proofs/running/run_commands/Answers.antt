@@ -1,4 +1,4 @@
-use Rattle.std.proofs.Common.{rules, ◌≡◌, ◌∙◌, ◌+◌, ◌*◌, ◌++◌, ◌∷◌, [], List, ℕ, Vec, Global, Bool, Ok, Some, true, is_ok, vec_len, if◌then◌else◌, length, map, take, drop, sym, ap, subst, arith, refl}
+use Rattle.std.proofs.Common.{rules, ◌≡◌, ◌∙◌, ◌+◌, ◌*◌, ◌++◌, ◌∷◌, [], List, ℕ, Vec, Global, Bool, Ok, Some, true, is_ok, vec_len, if◌then◌else◌, length, map, take, drop, sym, ap, subst, arith, refl, inl, inr}
 use Rattle.std.proofs.lemmas.List.{map-append, take_all}
 use Rattle.stm_wire.specs.Dialogue.{GoesOn}
 use Rattle.stm_wire.specs.Parts.{IsPart}
@@ -13,21 +13,18 @@ use Rattle.stm_session.specs.Runs.{Runs}
 use Rattle.stm_session.specs.Sending.{most_of_command}
 use Rattle.stm_session.proofs.OutcomeKinds.{kinds_more}
 use Rattle.stm_session.proofs.RunEnds.{run_all, run_refused, run_stopped}
-use Rattle.stm_session.proofs.RunLoop.{depth_next, passes_next, room_next, taken_next, whole_list}
+use Rattle.stm_session.proofs.RunLoop.{depth_next, passes_next, room_next, taken_next, whole_list, commands_split}
 use Rattle.stm_session.proofs.Runs.{HasRun, made_so_far, run_next, run_nothing}
 use Rattle.stm_session.proofs.Sending.{same_fault}
 use Rattle.stm_session.proofs.SentParts.{commands_next, commands_within}
 use Rattle.stm_session.specs.Order.{Follows, Step, StopsBy}
-use Rattle.stm_session.specs.RunOrder.{AreDoneInOrder, none as none_done, more}
+use Rattle.stm_session.specs.RunOrder.{AreDoneInOrder, none as none_done, more, AreBegun, IsBegunTelling}
 use Rattle.stm_session.proofs.Orders.{does_nothing, does_then}
-use Rattle.std.proofs.Common.{drop, inl, inr}
 use Rattle.stm_session.specs.declared.fault.Fault.{Fault}
 use Rattle.stm_session.specs.declared.fault.Fault.TheVariants as faults
 use Rattle.stm_session.specs.Fault.{cause_of, of_memory}
-use Rattle.stm_session.specs.RunOrder.{AreBegun, IsBegunTelling}
 use Rattle.stm_session.proofs.CutShort.{halts_first, stop_after}
 use Rattle.stm_session.proofs.Reaching.{at_fault}
-use Rattle.stm_session.proofs.RunLoop.{commands_split}
 use Rattle.stm_session.proofs.running.run_commands.Goals as goal
 
 pub loop-command-init : goal.loop-command-init

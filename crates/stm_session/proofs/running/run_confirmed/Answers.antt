@@ -1,4 +1,4 @@
-use Rattle.std.proofs.Common.{rules, ◌≢◌, ◌*◌, length, map}
+use Rattle.std.proofs.Common.{rules, ◌≢◌, ◌*◌, length}
 use Rattle.stm_session.specs.declared.fault.Fault.TheVariants as faults
 use Rattle.stm_session.specs.Meaning.{commands_in}
 use Rattle.stm_session.specs.RunOrder.{AreBegun, AreDoneInOrder}

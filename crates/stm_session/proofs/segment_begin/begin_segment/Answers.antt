@@ -1,4 +1,4 @@
-use Rattle.std.proofs.Common.{◌≡◌, ◌∙◌, ◌+◌, ℕ, arith, ap, subst, sym}
+use Rattle.std.proofs.Common.{◌≡◌, ◌∙◌, ◌+◌, ℕ, arith, ap, subst, sym, ◌∷◌, [], List, refl}
 use Rattle.stm_wire.specs.Chip.{ChipData}
 use Rattle.stm_session.specs.Lines.{depth_at, is_named_at, opening_entries}
 use Rattle.stm_session.specs.Segments.{Changes}
@@ -6,10 +6,8 @@ use Rattle.stm_session.specs.Undoable.{state_at}
 use Rattle.stm_session.proofs.Beginnings.{begins, unbegun, untorn_begin}
 use Rattle.stm_session.proofs.Keeping.{good_at}
 use Rattle.stm_journal.specs.Journals.{begin_entries}
-use Rattle.std.proofs.Common.{◌∷◌, []}
 use Rattle.stm_session.specs.Order.{Adds, DoesSteps, Step, Are, Begin, FaultEnds}
 use Rattle.stm_session.proofs.Orders.{does_add}
-use Rattle.std.proofs.Common.{List, refl}
 use Rattle.stm_session.proofs.CutShort.{append_stops}
 use Rattle.stm_session.proofs.segment_begin.begin_segment.Goals as goal
 

@@ -1,4 +1,4 @@
-use Rattle.std.proofs.Common.{◌<◌, ◌∙◌, sym, refl, ap, arith, List}
+use Rattle.std.proofs.Common.{◌<◌, ◌∙◌, sym, refl, ap, arith, List, [], ℕ, ◌++◌, subst, take}
 use Rattle.std.proofs.lemmas.List.{take_all}
 use Rattle.stm_journal.specs.declared.kept.Kept.{Kept}
 use Rattle.stm_journal.specs.KeptPlaces.{kept_count}
@@ -8,8 +8,6 @@ use Rattle.stm_session.proofs.Going.{goes_as, goes_nowhere, goes_ok}
 use Rattle.stm_session.proofs.Returns.{count_newest, count_text, no_place, number_exists, number_kept, place_fits, the_kept}
 use Rattle.stm_session.proofs.UndoPuts.{chip_still, first, return_failed, returned, the_line}
 use Rattle.stm_session.specs.Undoable.{newest_kept}
-use Rattle.std.proofs.Common.{[], ℕ, ◌++◌, subst}
-use Rattle.std.proofs.Common.{take}
 use Rattle.stm_wire.specs.Call.{Call}
 use Rattle.stm_session.specs.Fault.{cause_of}
 use Rattle.stm_session.specs.Order.{Step, AreCutShort, AreGivenBack, BeginTold, Follows, IsInOrder, IsGivenBack, acts_of, tells_behind}

@@ -1,5 +1,4 @@
-use Rattle.std.proofs.Common.{◌≡◌, ◌<◌, ◌∙◌, ◌∷◌, [], ◌++◌, List, ℕ, Result, Ok, Err, length, ap}
-use Rattle.std.proofs.Common.{refl, subst, sym, arith, append-nil}
+use Rattle.std.proofs.Common.{◌≡◌, ◌<◌, ◌∙◌, ◌∷◌, [], ◌++◌, List, ℕ, Result, Ok, Err, length, ap, refl, subst, sym, arith, append-nil}
 use Rattle.stm_wire.specs.Chip.{ChipData}
 use Rattle.stm_wire.specs.Device.{Device}
 use Rattle.stm_wire.specs.Rig.{IsModel, RigState}
@@ -27,8 +26,7 @@ use Rattle.stm_session.proofs.Orders.{does_add, does_then}
 use Rattle.stm_session.proofs.Tellings.{SaysAlso, pages_as}
 use Rattle.stm_session.proofs.ToldPages.{told_on}
 use Rattle.stm_session.proofs.UndoOrders.{pages_begun, undoes_begun}
-use Rattle.stm_session.proofs.UndoPuts.{back_failed, back_then, first_flash, intents_returns}
-use Rattle.stm_session.proofs.UndoPuts.{takes_as, undone_fails, undone_goes}
+use Rattle.stm_session.proofs.UndoPuts.{back_failed, back_then, first_flash, intents_returns, takes_as, undone_fails, undone_goes}
 use Rattle.stm_session.proofs.segment_undo.undo_segment.Given.{Over}
 use Rattle.stm_session.proofs.segment_undo.undo_segment.Goals.{After-look_again, After-undone}
 use Rattle.stm_session.proofs.segment_undo.undo_segment.Goals as goal

@@ -1,8 +1,6 @@
-use Rattle.std.proofs.Common.{◌≡◌, ◌∙◌, ◌+◌, ◌<◌, length, refl, arith}
+use Rattle.std.proofs.Common.{◌≡◌, ◌∙◌, ◌+◌, ◌<◌, length, refl, arith, ◌≤◌, [], ℕ, ◌++◌, drop, sym, subst, List}
 use Rattle.stm_session.proofs.Going.{at_exit}
 use Rattle.stm_session.proofs.UndoesOfSegments.{undoes_all_newest, undoes_failed, undoes_more, undoes_nowhere, next_flash, rest_depth, rest_fits, rest_next, some_left, steady_split}
-use Rattle.std.proofs.Common.{◌≤◌}
-use Rattle.std.proofs.Common.{[], ℕ, ◌++◌, drop, sym, subst}
 use Rattle.stm_journal.specs.Newest.{pages_of_segments}
 use Rattle.stm_wire.specs.Call.{Call}
 use Rattle.stm_session.specs.Fault.{cause_of}
@@ -11,7 +9,6 @@ use Rattle.stm_session.specs.UndoOrder.{AreSegmentsUndone, IsSegmentUndone, OrMi
 use Rattle.stm_session.specs.Told.{ToldIn}
 use Rattle.stm_session.specs.Undoable.{newest_kept}
 use Rattle.stm_session.proofs.Orders.{does_nothing, does_then, segments_count, segments_split, taken_next}
-use Rattle.std.proofs.Common.{List}
 use Rattle.stm_session.proofs.Tellings.{segments_as, taken_as}
 use Rattle.stm_session.proofs.ToldPages.{told_on, told_then}
 use Rattle.stm_session.proofs.CutShort.{then_stops}

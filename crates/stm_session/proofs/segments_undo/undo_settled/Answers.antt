@@ -1,4 +1,4 @@
-use Rattle.std.proofs.Common.{◌≡◌, ◌∙◌, ◌≤◌, ◌++◌, List, ℕ, refl, subst, arith}
+use Rattle.std.proofs.Common.{◌≡◌, ◌∙◌, ◌≤◌, ◌++◌, List, ℕ, refl, subst, arith, length}
 use Rattle.stm_journal.specs.declared.kept.Kept.{Kept}
 use Rattle.stm_session.specs.Order.{Step, AreCutShort, AreRewritten, BeginTold, IsInOrder, acts_of, tells_behind}
 use Rattle.stm_session.specs.UndoOrder.{AreAllUndone, AreSegmentsUndone, OrMisread, such}
@@ -6,7 +6,6 @@ use Rattle.stm_session.proofs.Going.{at_exit}
 use Rattle.stm_session.proofs.GoingAll.{all_back, all_failed, work_failed}
 use Rattle.stm_session.proofs.Keeping.{fits_pages}
 use Rattle.stm_session.proofs.Orders.{does_then}
-use Rattle.std.proofs.Common.{◌≤◌, length, arith}
 use Rattle.stm_journal.specs.Newest.{pages_of_segments}
 use Rattle.stm_wire.specs.Call.{Call}
 use Rattle.stm_session.specs.Fault.{cause_of}

@@ -1,5 +1,4 @@
-use Rattle.std.proofs.Common.{◌≡◌, ◌∷◌, [], List, Option, None, Some, Result, Ok, Err, inr, refl}
-use Rattle.stm_wire.specs.declared.fault.RigFault.{RigFault}
+use Rattle.std.proofs.Common.{◌∷◌, [], List, Option, None, Some, Ok, inr, refl}
 use Rattle.stm_wire.specs.Call.{Append, Call}
 use Rattle.stm_wire.specs.Dialogue.{GoesOn}
 use Rattle.stm_wire.specs.Rig.{RecordsAppend}

@@ -1,5 +1,4 @@
-use Rattle.std.proofs.Common.{◌≡◌, ◌∙◌, ◌≤◌, ℕ, List, [], Some, Ok, Err, Result, option_map, length}
-use Rattle.std.proofs.Common.{refl, sym, ap, subst, arith}
+use Rattle.std.proofs.Common.{◌≡◌, ◌∙◌, ◌≤◌, ℕ, List, [], Some, Ok, Err, Result, option_map, length, refl, sym, ap, subst, arith, ◌++◌, inl, inr}
 use Rattle.stm_session.specs.declared.fault.Fault.{Fault}
 use Rattle.stm_session.specs.Promises.{UndoContract}
 use Rattle.stm_chip.specs.Document.{IsChipWith}
@@ -11,19 +10,16 @@ use Rattle.stm_session.specs.JournalDevice.{Meets}
 use Rattle.stm_session.specs.SegmentsUndo.{UndoesBy, undo_lines}
 use Rattle.stm_session.specs.Steps.{Goes}
 use Rattle.stm_session.specs.Undoable.{Undoable}
-use Rattle.stm_session.specs.Undoes.{IsFlashSettled, IsWithinLimit, Undoes, byte_at_journal}
-use Rattle.stm_session.specs.Undoes.{risked_at, taken_count}
+use Rattle.stm_session.specs.Undoes.{IsFlashSettled, IsWithinLimit, Undoes, byte_at_journal, risked_at, taken_count}
 use Rattle.stm_session.specs.Work.{pages_at_work}
 use Rattle.stm_session.proofs.Awaiting.{own_within}
 use Rattle.stm_session.proofs.Going.{at_exit}
 use Rattle.stm_session.specs.Fresh.{settling_way}
 use Rattle.stm_journal.specs.States.{intent_of}
-use Rattle.stm_session.proofs.SentUndo.{sends_back, sends_failed, sends_met, sends_nothing}
+use Rattle.stm_session.proofs.SentUndo.{sends_back, sends_failed, sends_met, sends_nothing, own-id}
 use Rattle.stm_session.proofs.Unread.{contract_unread, none_some}
 use Rattle.stm_session.proofs.UndoStarts.{contract_none, contract_unfound, flashes_depth, loaded_then, undoable_then}
 use Rattle.stm_session.proofs.Undone.{contract_when, contract_after, refuses_elsewhere, undoes_unmet, undoes_stopped, undoes_all, elsewhere_back, harmless_then, owed_then, own_chip, within_then, err_as}
-use Rattle.std.proofs.Common.{◌++◌}
-use Rattle.std.proofs.Common.{inl, inr}
 use Rattle.stm_session.specs.Fault.{cause_of}
 use Rattle.stm_journal.specs.Newest.{pages_of_segments}
 use Rattle.stm_session.specs.Order.{Step, AreCutShort, BeginTold, IsAfter, so_far}
@@ -38,7 +34,6 @@ use Rattle.stm_session.proofs.ToldPages.{told_by}
 use Rattle.stm_session.proofs.KeptRuns.{confirmed_as, stops_as}
 use Rattle.stm_session.proofs.Orders.{fetched_and, fetched_then, settled_then}
 use Rattle.stm_session.proofs.Reaching.{at_fault, fetched_stops, reached_stops}
-use Rattle.stm_session.proofs.SentUndo.{own-id}
 use Rattle.stm_session.proofs.undo_course.undo_as.Given.{Over}
 use Rattle.stm_session.proofs.undo_course.undo_as.Goals.{After-undo_confirmed, After-meet}
 use Rattle.stm_session.proofs.undo_course.undo_as.Goals as goal

@@ -1,4 +1,3 @@
-use Rattle.std.proofs.Common.{◌≤◌}
 use Rattle.stm_session.proofs.KeptParts.{IsPartSoFar}
 use Rattle.stm_session.proofs.verified_write.kept_part.Given as goal
 

@@ -1,8 +1,6 @@
-use Rattle.std.proofs.Common.{rules, ◌≡◌, ◌∙◌, ◌+◌, ◌*◌, ◌++◌, ◌∷◌, [], List, ℕ, Bool, Ok, Err, Some, inl, inr, true, false, length, refl, sym, ap, ap₂, append-nil, arith}
-use Rattle.stm_image.specs.Pairs.{Pairs}
+use Rattle.std.proofs.Common.{rules, ◌≡◌, ◌∙◌, ◌+◌, ◌*◌, ◌++◌, ◌∷◌, [], List, ℕ, Ok, Err, Some, inr, true, length, refl, sym, ap, ap₂, append-nil, arith}
 use Rattle.stm_wire.specs.Dialogue.{GoesOn}
 use Rattle.stm_wire.specs.Parts.{IsPart}
-use Rattle.stm_wire.specs.Rig.{RigState}
 use Rattle.stm_session.specs.declared.command.Command.TheVariants as command
 use Rattle.stm_session.specs.declared.fault.Fault.{Fault}
 use Rattle.stm_session.specs.declared.fault.Fault.TheVariants as faults
@@ -11,16 +9,14 @@ use Rattle.stm_session.specs.declared.outcome.Outcome.TheVariants as outcome
 use Rattle.stm_session.specs.Answers.{OutcomeData, outcome_data, was_verified, was_written}
 use Rattle.stm_session.specs.Came.{TellsWhatCame}
 use Rattle.stm_session.specs.Fault.{cause_of, of_memory}
-use Rattle.stm_session.specs.Meaning.{CommandData, verifies, writes}
+use Rattle.stm_session.specs.Meaning.{verifies, writes}
 use Rattle.stm_session.specs.Order.{Step, StopsBy}
-use Rattle.stm_session.specs.RunOrder.{AreBegun, AreDoneInOrder, IsBegunTelling, IsDoneTelling, none as none_done, more}
-use Rattle.stm_session.specs.Running.{IsKindOf}
+use Rattle.stm_session.specs.RunOrder.{AreBegun, AreDoneInOrder, IsBegunTelling, none as none_done, more}
 use Rattle.stm_session.specs.Sending.{most_of_command}
 use Rattle.stm_session.specs.Steps.{IsSteady}
-use Rattle.stm_session.specs.VerifiedWrite.{IsWrittenAndSeen, outcomes_told_by, outcomes_seen, written_then}
+use Rattle.stm_session.specs.VerifiedWrite.{IsWrittenAndSeen, written_then}
 use Rattle.stm_session.proofs.Arrivals.{change_stops}
 use Rattle.stm_session.proofs.CutShort.{halts, stop_after, stop_as}
-use Rattle.stm_session.proofs.KeptErased.{done_only}
 use Rattle.stm_session.proofs.KeptParts.{part_fits, verified_only}
 use Rattle.stm_session.proofs.Orders.{does_then}
 use Rattle.stm_session.proofs.Reaching.{at_fault}
