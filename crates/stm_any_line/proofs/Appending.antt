@@ -10,27 +10,22 @@ use Rattle.stm_any_line.specs.Texts.{appended_in}
 -- what calls append
 pub appended-acts : (calls : List Call) → appended_in (acts_of calls) ≡ appended_in calls
 appended-acts [] = refl
-appended-acts (Put byte ∷ calls) = appended-acts calls
-appended-acts (Get answer ∷ calls) = appended-acts calls
 appended-acts (Append bytes ∷ calls) = ap (λ (l : List ℕ). bytes ++ l) (appended-acts calls)
-appended-acts (Fetch ∷ calls) = appended-acts calls
+appended-acts (call ∷ calls) = appended-acts calls
 
 pub appended-append : (xs ys : List Call)
     → appended_in (xs ++ ys) ≡ appended_in xs ++ appended_in ys
 appended-append [] ys = refl
-appended-append (Put byte ∷ xs) ys = appended-append xs ys
-appended-append (Get answer ∷ xs) ys = appended-append xs ys
 appended-append (Append bytes ∷ xs) ys =
     ap (λ (l : List ℕ). bytes ++ l) (appended-append xs ys)
     ∙ sym (append_assoc bytes (appended_in xs) (appended_in ys))
-appended-append (Fetch ∷ xs) ys = appended-append xs ys
+appended-append (x ∷ xs) ys = appended-append xs ys
 
 pub appended-line : (calls : List Call) → AreLineCalls calls → appended_in calls ≡ []
 appended-line [] are = refl
-appended-line (Put byte ∷ calls) are = appended-line calls are
-appended-line (Get answer ∷ calls) are = appended-line calls are
 appended-line (Append bytes ∷ calls) are = absurd are
 appended-line (Fetch ∷ calls) are = absurd are
+appended-line (call ∷ calls) are = appended-line calls are
 
 -- calls of the line, and others behind them
 pub appended-behind : (xs ys : List Call) → AreLineCalls xs
@@ -42,16 +37,13 @@ appended-behind xs ys are =
 
 one_line : (call : Call) (calls : List Call) → AreLineCalls (call ∷ []) → AreLineCalls calls
     → AreLineCalls (call ∷ calls)
-one_line (Put byte) calls first rest = rest
-one_line (Get answer) calls first rest = rest
 one_line (Append bytes) calls first rest = absurd first
 one_line Fetch calls first rest = absurd first
+one_line call calls first rest = rest
 
 turn_line : (turn : Turn) → AreLineCalls (call_of turn ∷ [])
-turn_line (Says byte) = tt
 turn_line Acknowledged = tt
-turn_line (Expects byte) = tt
-turn_line (Learns byte) = tt
+turn_line turn = tt
 
 line_as : (call other : Call) → call ≡ other → AreLineCalls (other ∷ [])
     → AreLineCalls (call ∷ [])
@@ -62,21 +54,17 @@ line_as call other is are =
 failed_line : (fault : WireFault) (turn : Turn) (call : Call) → FailsBy fault turn call
     → AreLineCalls (call ∷ [])
 failed_line Line (Says byte) call f = line_as call (Put byte) f tt
-failed_line Line Acknowledged call f = line_as call (Get None) f tt
-failed_line Line (Expects byte) call f = line_as call (Get None) f tt
-failed_line Line (Learns byte) call f = line_as call (Get None) f tt
-failed_line Quiet (Says byte) call f = absurd f
 failed_line Quiet Acknowledged call f = line_as call (Get None) f tt
 failed_line Quiet (Expects byte) call f = line_as call (Get None) f tt
 failed_line Quiet (Learns byte) call f = line_as call (Get None) f tt
-failed_line Nack (Says byte) call f = absurd f
 failed_line Nack Acknowledged call f = line_as call _ f tt
 failed_line Nack (Expects byte) call f = absurd f
 failed_line Nack (Learns byte) call f = absurd f
-failed_line Garbled (Says byte) call f = absurd f
 failed_line Garbled Acknowledged call f = line_as call (Get (Some f.0)) f.3 tt
 failed_line Garbled (Expects byte) call f = line_as call (Get (Some f.0)) f.3 tt
 failed_line Garbled (Learns byte) call f = absurd f
+failed_line Line turn call f = line_as call (Get None) f tt
+failed_line fault (Says byte) call f = absurd f
 
 pub broken_line : (fault : WireFault) (turns : List Turn) (calls : List Call)
     → IsBrokenOff fault turns calls → AreLineCalls calls

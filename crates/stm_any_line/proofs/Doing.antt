@@ -2,7 +2,7 @@
 use Rattle.std.proofs.Common.{◌≡◌, inl, inr, ℕ, ◌/◌, ◌%◌, Bool, List, [], ◌∷◌, ◌++◌, Option, Some, None, refl, sym, ◌∙◌, ap, subst, append-nil}
 use Rattle.stm_wire.specs.declared.places.UniquePlace.{UniquePlace}
 use Rattle.stm_wire.specs.declared.fault.WireFault.TheVariants.{Line}
-use Rattle.stm_wire.specs.Call.{Call, Put, Get, Append, Fetch}
+use Rattle.stm_wire.specs.Call.{Call, Fetch}
 use Rattle.stm_wire.specs.Chip.{ChipData}
 use Rattle.stm_wire.specs.Dialogue.{GoesOn}
 use Rattle.stm_wire.specs.Rig.{RigState}
@@ -162,23 +162,19 @@ does_whole Says chip torn way before calls P old new track made (version, codes,
 begun_of : (cause : Cause) (torn : Bool) (failed : Option Step) (last : List Call)
     → StepFailsBy cause torn failed last → AreBegunOf torn failed last
 begun_of of_line torn (Some (Sends turns)) last f = (Line, f)
-begun_of of_line torn (Some (Adds entries)) last f = absurd f
 begun_of of_line torn None last f = absurd f
 begun_of of_protocol torn (Some (Sends turns)) last f = (f.0, f.2)
-begun_of of_protocol torn (Some (Adds entries)) last f = absurd f
 begun_of of_protocol torn None last f = absurd f
 begun_of of_file torn (Some (Adds entries)) last f = f
 begun_of of_file torn (Some (Sends turns)) last f = absurd f
 begun_of of_file torn None last f = f
 begun_of of_memory torn None last f = f
-begun_of of_memory torn (Some (Adds entries)) last f = absurd f
 begun_of of_memory torn (Some (Sends turns)) last f = absurd f
 begun_of of_session torn None last f = f
-begun_of of_session torn (Some (Adds entries)) last f = absurd f
 begun_of of_session torn (Some (Sends turns)) last f = absurd f
 begun_of of_refusal torn None last f = f
-begun_of of_refusal torn (Some (Adds entries)) last f = absurd f
 begun_of of_refusal torn (Some (Sends turns)) last f = absurd f
+begun_of cause torn (Some (Adds entries)) last f = absurd f
 
 -- A part was done, whose steps are allowed.
 does_cut : (Says : Entry → Type 0) (chip : ChipData) (torn : Bool) (way : Way) (before : List Step) (calls : List Call)
@@ -279,10 +275,8 @@ does_unreached Says chip torn way before calls cause old new made goes =
 -- nothing but fetches
 fetches_act : (calls : List Call) → AreFetches calls → acts_of calls ≡ []
 fetches_act [] are = refl
-fetches_act (Put byte ∷ calls) are = absurd are
-fetches_act (Get answer ∷ calls) are = absurd are
-fetches_act (Append n ∷ calls) are = absurd are
 fetches_act (Fetch ∷ calls) are = fetches_act calls are
+fetches_act calls are = absurd are
 
 pub does_nothing : (Says : Entry → Type 0) (chip : ChipData) (torn : Bool) (before : List Step) (calls : List Call)
     (old new : RigState) → Made calls old new → GoesOn AreFetches old.calls new.calls

@@ -1,5 +1,5 @@
 -- Calls of a session one behind another, with one journal.
-use Rattle.std.proofs.Common.{◌≡◌, ℕ, List, [], ◌∷◌, ◌++◌, length, Option, Some, None, sym, subst}
+use Rattle.std.proofs.Common.{◌≡◌, ℕ, List, [], ◌∷◌, ◌++◌, length, Option, Some, sym, subst}
 use Rattle.stm_image.specs.Lay.{lay}
 use Rattle.stm_image.specs.Pairs.{Pairs}
 use Rattle.stm_wire.specs.Call.{Call}
@@ -7,7 +7,7 @@ use Rattle.stm_wire.specs.Chip.{ChipData}
 use Rattle.stm_wire.specs.Rig.{RigState}
 use Rattle.stm_journal.specs.declared.entry.Entry.{Entry}
 use Rattle.stm_journal.specs.Journals.{Loaded}
-use Rattle.stm_session.specs.Order.{Step, Adds, Sends, step_in}
+use Rattle.stm_session.specs.Order.{Step, Adds, step_in}
 use Rattle.stm_any_line.specs.Segments.{segments_behind, segments_behind_steps}
 use Rattle.stm_any_line.specs.Texts.{IsLoadedAs, IsJournalText, lines_of, nothing}
 use Rattle.stm_any_line.specs.Tracks.{MaySayAll, Tracks}
@@ -28,8 +28,6 @@ say_front chip s b (e ∷ xs) ys (first, may) =
 tracks_left : (chip : ChipData) (s : Segments) (b done : List Step) (failed : Option Step)
     (whole : List Entry) → ArePartOf failed whole → Tracks chip s b (done ++ step_in failed)
     → Tracks chip s b (done ++ left_of failed whole)
-tracks_left chip s b done None whole part tracks = tracks
-tracks_left chip s b done (Some (Sends turns)) whole part tracks = tracks
 tracks_left chip s b done (Some (Adds entries)) whole (rest, is) tracks =
     let last : List Step = Adds entries ∷ [] in
     let later : Segments = segments_behind_steps s done in
@@ -37,6 +35,7 @@ tracks_left chip s b done (Some (Adds entries)) whole (rest, is) tracks =
     let P : List Entry → Type 0 = λ l. MaySayAll chip later (b ++ done) l in
     tracks_then chip s b done (Adds whole ∷ []) (tracks_front chip s b done last tracks)
     (say_front chip later (b ++ done) whole rest (subst P is back.0), tt)
+tracks_left chip s b done failed whole part tracks = tracks
 
 module _ (lengths : (set : Pairs) (address : ℕ) (bytes : List ℕ) → length (lay set address bytes) ≡ length bytes) where
   happens_does : {R : Type 0} (view : R → RigState) (chip : ChipData) (l : Loaded)

@@ -55,7 +55,6 @@ said-new : (chip : ChipData) (n m : ℕ) (bytes held : List ℕ) (b : List Step)
 said-new chip n m bytes held b s entries read (inl was) = inl was
 said-new chip n m bytes held b s entries read (inr same) =
     let number : m ≡ n = ap (λ (p : SavedPage). p.number) same in
-    let content : held ≡ bytes = ap (λ (p : SavedPage). p.bytes) same in
     let P : SavedPage → Type 0 = λ p. Said chip p.number p.bytes b (Keeps m held ∷ entries) in
     inr (subst P same (inl refl, read))
 
@@ -174,18 +173,15 @@ kept_was_read chip n bytes steps tracks is =
 lines-stay : (n : ℕ) (bytes : List ℕ) (s : Segments) (entries : List Entry) → SomeKeeps n bytes s
     → SomeKeeps n bytes (segments_behind_lines s entries) ⊎ AreTakenOff n bytes s entries
 lines-stay n bytes s [] is = inl is
-lines-stay n bytes s (Names version id unique ∷ entries) is = lines-stay n bytes s entries is
 lines-stay n bytes s (Opens k ∷ entries) is = lines-stay n bytes ([] ∷ s) entries (inr is)
 lines-stay n bytes s (Keeps m held ∷ entries) is =
     lines-stay n bytes (with_saved_page (saved m held) s) entries
     (kept-more s (saved m held) n bytes is)
-lines-stay n bytes s (Erases m ∷ entries) is = lines-stay n bytes s entries is
-lines-stay n bytes s (Programs m ∷ entries) is = lines-stay n bytes s entries is
-lines-stay n bytes s (Ends k ∷ entries) is = lines-stay n bytes s entries is
 lines-stay n bytes [] (Undoes k ∷ entries) is = absurd is
 lines-stay n bytes (pages ∷ below) (Undoes k ∷ entries) (inl now) = inr (inl now)
 lines-stay n bytes (pages ∷ below) (Undoes k ∷ entries) (inr was) =
     ⊎_elim (λ still. inl still) (λ off. inr (inr off)) (lines-stay n bytes below entries was)
+lines-stay n bytes s (x ∷ entries) is = lines-stay n bytes s entries is
 
 -- and behind steps
 steps-stay : (n : ℕ) (bytes : List ℕ) (s : Segments) (steps : List Step) → SomeKeeps n bytes s

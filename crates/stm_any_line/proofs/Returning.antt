@@ -101,9 +101,8 @@ puts_track chip kept s b (Sends turns ∷ steps) same (may, puts) =
 -- and they add no line but those of an undo
 take-says : (kept later : List (List Kept)) (entries : List Entry) → MayTake kept entries later
     → AllByRecursion UndoSays entries
-take-says kept _ _ (erasing n _ own) = (tt, tt)
-take-says kept _ _ (programming n _ own) = (tt, tt)
 take-says _ _ _ (undoing pages below) = (tt, tt)
+take-says kept _ _ x = (tt, tt)
 
 pub puts_say : (chip : ChipData) (kept : List (List Kept)) (steps : List Step)
     → PutsBack chip kept steps → AllSay UndoSays steps

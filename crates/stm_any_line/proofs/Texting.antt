@@ -98,9 +98,7 @@ text_steps (Sends turns ∷ steps) is_torn lines tail text e t =
 -- a beginning of lines
 split : (xs : List ℕ) (y : ℕ) (ys : List ℕ) (n : ℕ)
     → (take n (xs ++ y ∷ ys) ≡ take n xs) ⊎ ((m : ℕ) × (take n (xs ++ y ∷ ys) ≡ xs ++ y ∷ take m ys))
-split [] y ys zero = inl refl
 split [] y ys (suc n) = inr (n, refl)
-split (x ∷ xs) y ys zero = inl refl
 split (x ∷ xs) y ys (suc n) = further (split xs y ys n)
   where
     further : (take n (xs ++ y ∷ ys) ≡ take n xs)
@@ -109,6 +107,7 @@ split (x ∷ xs) y ys (suc n) = further (split xs y ys n)
         ⊎ ((m : ℕ) × (x ∷ take n (xs ++ y ∷ ys) ≡ x ∷ (xs ++ y ∷ take m ys)))
     further (inl e) = inl (ap (λ (l : List ℕ). x ∷ l) e)
     further (inr (m, e)) = inr (m, ap (λ (l : List ℕ). x ∷ l) e)
+split xs y ys zero = inl refl
 
 take-none : (n : ℕ) → take {A = ℕ} n [] ≡ []
 take-none zero = refl

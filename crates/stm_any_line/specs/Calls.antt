@@ -11,8 +11,7 @@ use Rattle.stm_journal.specs.declared.entry.Entry.TheVariants.{Names, Opens, Kee
 use Rattle.stm_journal.specs.declared.entry.Entry.TheVariants.{Programs, Ends, Undoes}
 use Rattle.stm_journal.specs.Calls.{AppendsInPart}
 use Rattle.stm_journal.specs.Journals.{Loaded, added_bytes}
-use Rattle.stm_session.specs.Order.{Step, Adds, Sends, acts_of, acts_of_steps, step_in}
-use Rattle.stm_session.specs.Order.{torn_behind}
+use Rattle.stm_session.specs.Order.{Step, Adds, Sends, acts_of, acts_of_steps, step_in, torn_behind}
 use Rattle.stm_session.specs.Reaching.{Session}
 use Rattle.stm_any_line.specs.Segments.{segments_behind_steps}
 use Rattle.stm_any_line.specs.Tracks.{Tracks}
@@ -48,13 +47,10 @@ RunSays (Undoes number) = ⊥
 
 -- an undo begins none and keeps nothing
 abbrev pub UndoSays : Entry → Type 0
-UndoSays (Names version id unique) = ⊥
-UndoSays (Opens number) = ⊥
-UndoSays (Keeps n bytes) = ⊥
 UndoSays (Erases n) = Unit {0}
 UndoSays (Programs n) = Unit {0}
-UndoSays (Ends number) = ⊥
 UndoSays (Undoes number) = Unit {0}
+UndoSays _ = ⊥
 
 -- The calls are these: a device was settled, steps were done whole, and perhaps one more was begun,
 -- which failed.

@@ -3,8 +3,7 @@ use Rattle.std.specs.Prelude.{◌≡◌, ◌⊎◌, ℕ, List, [], ◌∷◌, �
 use Rattle.stm_wire.specs.Chip.{ChipData}
 use Rattle.stm_wire.specs.Dialogue.{Turn}
 use Rattle.stm_journal.specs.declared.entry.Entry.{Entry}
-use Rattle.stm_journal.specs.declared.entry.Entry.TheVariants.{Keeps}
-use Rattle.stm_journal.specs.declared.entry.Entry.TheVariants.{Undoes}
+use Rattle.stm_journal.specs.declared.entry.Entry.TheVariants.{Keeps, Undoes}
 use Rattle.stm_session.specs.Order.{Step, Adds, Sends}
 use Rattle.stm_any_line.specs.Segments.{SavedPage, HasPage, SomeKeeps, segments_behind}
 use Rattle.stm_any_line.specs.Segments.{segments_behind_lines, segments_behind_steps}

@@ -10,8 +10,7 @@ use Rattle.stm_journal.specs.declared.entry.Entry.TheVariants.{Names, Opens, Kee
 use Rattle.stm_journal.specs.declared.entry.Entry.TheVariants.{Programs, Ends, Undoes}
 use Rattle.stm_session.specs.Kept.{MaySend}
 use Rattle.stm_session.specs.Order.{Step, Adds, Sends, page_reads}
-use Rattle.stm_any_line.specs.Segments.{SavedPage, IsNewest, segments_behind}
-use Rattle.stm_any_line.specs.Segments.{segments_behind_lines}
+use Rattle.stm_any_line.specs.Segments.{SavedPage, IsNewest, segments_behind, segments_behind_lines}
 
 -- A frame that asks which commands a device has, or what it is, or is refused; or that reads, or
 -- changes a page of which this holds.
