@@ -60,18 +60,11 @@ read_alike : (chip : ChipData) (bytes a b : List ℕ) → length b ≡ length a
     → read_answer chip b bytes ≡ read_answer chip a bytes
 read_alike chip (x ∷ y ∷ z ∷ w ∷ check ∷ n ∷ rest) a b size alike = told_alike chip
     (number_of x y z w) (n + 1) a b size (λ place from to. alike place (from, to))
-read_alike chip [] a b size alike = refl
-read_alike chip (x ∷ []) a b size alike = refl
-read_alike chip (x ∷ y ∷ []) a b size alike = refl
-read_alike chip (x ∷ y ∷ z ∷ []) a b size alike = refl
-read_alike chip (x ∷ y ∷ z ∷ w ∷ []) a b size alike = refl
-read_alike chip (x ∷ y ∷ z ∷ w ∷ check ∷ []) a b size alike = refl
+read_alike chip bytes a b size alike = refl
 
 pub answer_alike : (chip : ChipData) (version : ℕ) (codes bytes a b : List ℕ) → length b ≡ length a
     → ((place : ℕ) → ReadsPlace chip bytes place → get_or b place 0 ≡ get_or a place 0)
     → answer chip version codes b bytes ≡ answer chip version codes a bytes
-answer_alike chip version codes [] a b size alike = refl
-answer_alike chip version codes (code ∷ []) a b size alike = refl
 answer_alike chip version codes (code ∷ check ∷ rest) a b size alike = by (code == 0x00)
     (code == 0x02) (code == 0x11) refl
   where
@@ -85,18 +78,14 @@ answer_alike chip version codes (code ∷ check ∷ rest) a b size alike = by (c
     by false false true is = read_alike chip rest a b size
         (λ place here. alike place (eqb-true code 0x11 is, here))
     by false false false is = refl
+answer_alike chip version codes bytes a b size alike = refl
 
 -- The bytes that a list asks to write are bytes.
 
 small_write : (rest : List ℕ) → All IsByte rest → AreBytes (write_change rest)
 small_write (a ∷ b ∷ c ∷ d ∷ check ∷ n ∷ rest) all =
     All-take IsByte (n + 1) rest (All-drop IsByte 6 (a ∷ b ∷ c ∷ d ∷ check ∷ n ∷ rest) all)
-small_write [] all = tt
-small_write (a ∷ []) all = tt
-small_write (a ∷ b ∷ []) all = tt
-small_write (a ∷ b ∷ c ∷ []) all = tt
-small_write (a ∷ b ∷ c ∷ d ∷ []) all = tt
-small_write (a ∷ b ∷ c ∷ d ∷ check ∷ []) all = tt
+small_write rest all = tt
 
 small_erase : (rest : List ℕ) → AreBytes (erase_change rest)
 small_erase [] = tt
@@ -107,18 +96,15 @@ small_erase (n ∷ rest) = by (n == 0xFF)
     by false = tt
 
 small_extended : (rest : List ℕ) → AreBytes (extended_change rest)
-small_extended [] = tt
-small_extended (high ∷ []) = tt
 small_extended (high ∷ low ∷ rest) = by (pair_of high low == 0xFFFF)
   where
     by : (t : Bool) → AreBytes (if t then EraseAll else ErasePages
         (two_byte_numbers (take (2 * (pair_of high low + 1)) rest)))
     by true = tt
     by false = tt
+small_extended rest = tt
 
 pub small_change : (bytes : List ℕ) → All IsByte bytes → AreBytes (change_of bytes)
-small_change [] all = tt
-small_change (code ∷ []) all = tt
 small_change (code ∷ check ∷ rest) all = by (code == 0x31) (code == 0x43) (code == 0x44)
   where
     by : (x y z : Bool) → AreBytes (if x then write_change rest else
@@ -128,3 +114,4 @@ small_change (code ∷ check ∷ rest) all = by (code == 0x31) (code == 0x43) (c
     by false true z = small_erase rest
     by false false true = small_extended rest
     by false false false = tt
+small_change bytes all = tt

@@ -5,8 +5,7 @@ use Rattle.std.proofs.Common.{replicate, Some, None, refl, sym, ◌∙◌, ap, s
 use Rattle.stm_wire.specs.Call.{Append, Call, Fetch, Get, Put}
 use Rattle.stm_wire.specs.Device.{Connected, Device, IsSettled, Phase}
 use Rattle.stm_wire.specs.Reply.{ack, nack}
-use Rattle.stm_wire.specs.SettlingCalls.{AreBatches, EndsSingly, IsBatched}
-use Rattle.stm_wire.specs.SettlingCalls.{IsDrained, IsUnrefused}
+use Rattle.stm_wire.specs.SettlingCalls.{AreBatches, EndsSingly, IsBatched, IsDrained, IsUnrefused}
 use Rattle.stm_wire.specs.SettlingCalls.{answered, batch_size, ending, more, none, reconnected}
 use Rattle.stm_wire.specs.SettlingCalls.{refused, taken, used_up}
 use Rattle.stm_weak.specs.SettledBatches.{AnswersAlone, BatchesLeaveItWaiting, IsTameFor}
@@ -43,8 +42,7 @@ module _ (byte : ℕ) where
       let r = split xs ys old new a in (r.0, (quiet, r.1), r.2)
   split (Get (Some x) ∷ xs) ys old new (next, is, a) =
       let r = split xs ys next new a in (r.0, (next, is, r.1), r.2)
-  split (Append bytes ∷ xs) ys old new a = split xs ys old new a
-  split (Fetch ∷ xs) ys old new a = split xs ys old new a
+  split (x ∷ xs) ys old new a = split xs ys old new a
 
   -- a byte that is taken changes nothing else
   taken_device : (d e : Device) (owed : List ℕ) → d ≡ record e { owed = owed } → Steady byte d
@@ -165,10 +163,6 @@ module _ (byte : ℕ) where
   unrefused (Get (Some x) ∷ calls) each old new quiet (next, is, a) =
       absurd (let h : x ∷ next.device.owed ≡ [] =
       sym (ap (λ (d : Device). d.owed) is) ∙ quiet.owed in cc)
-  unrefused (Put own ∷ []) (hears, each) old new quiet a = absurd hears
-  unrefused (Put own ∷ Put other ∷ calls) (hears, each) old new quiet a = absurd hears
-  unrefused (Put own ∷ Append bytes ∷ calls) (hears, each) old new quiet a = absurd hears
-  unrefused (Put own ∷ Fetch ∷ calls) (hears, each) old new quiet a = absurd hears
   unrefused (Put own ∷ Get None ∷ calls) (hears, each) old new quiet
       (mid, how, feeds, (nothing, a)) =
       unrefused calls each mid new
@@ -181,6 +175,7 @@ module _ (byte : ℕ) where
       unrefused calls each next new
       (taken_little mid next x (fed_steady byte own old mid how feeds quiet.steady.0)
       (fed_little byte own old mid how feeds quiet.steady quiet.owed) is).0 a
+  unrefused calls (hears, each) old new quiet a = absurd hears
 
   -- a byte that was refused, and then all is taken
   ends_refused : (seen : Bool) (rest : List Call) (old new : WeakDevice) → IsDrained seen rest

@@ -1,15 +1,13 @@
 -- Lists that one byte goes on with, again and again: none of them is done and reads the flash, and
 -- none has a loose verdict.
-use Rattle.std.proofs.Common.{◌≡◌, ℕ, zero, suc, ◌<◌, Bool, true, false, ◌&&◌}
-use Rattle.std.proofs.Common.{◌==◌, if◌then◌else◌, List, [], ◌∷◌, ◌++◌}
-use Rattle.std.proofs.Common.{replicate, Option, Some, None, IsTrue, refl, sym, ◌∙◌, ap}
-use Rattle.std.proofs.Common.{subst, arith, ne_eqb, append_assoc}
+use Rattle.std.proofs.Common.{◌≡◌, ℕ, zero, suc, ◌<◌, Bool, true, false, ◌&&◌, ◌==◌, if◌then◌else◌}
+use Rattle.std.proofs.Common.{List, [], ◌∷◌, ◌++◌, replicate, Option, Some, None, IsTrue, refl, sym}
+use Rattle.std.proofs.Common.{◌∙◌, ap, subst, arith, ne_eqb, append_assoc}
 use Rattle.std.proofs.lemmas.Bool.{eqb-true, eqb-false}
 use Rattle.stm_wire.specs.declared.verdict.Verdict.{Verdict}
 use Rattle.stm_wire.specs.declared.verdict.Verdict.TheVariants.{Done, Refused, Loose}
 use Rattle.stm_wire.specs.Chip.{ChipData, flash_size}
-use Rattle.stm_wire.specs.Exchange.{at_end, command_verdict}
-use Rattle.stm_wire.specs.Exchange.{complement, done_if, is_listed}
+use Rattle.stm_wire.specs.Exchange.{at_end, command_verdict, complement, done_if, is_listed}
 use Rattle.stm_wire.specs.Exchange.{verdict}
 use Rattle.stm_weak.specs.WeakDevice.{IsInRead}
 use Rattle.stm_weak.proofs.Openness.{verdict_listed}

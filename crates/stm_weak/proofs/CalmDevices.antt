@@ -1,8 +1,7 @@
 -- A device that was stopped in a frame, or waits, and how it is settled: no byte of that reads a
 -- weak page.
-use Rattle.std.proofs.Common.{◌≡◌, ℕ, ◌<◌, Bool, true, false, ◌==◌}
-use Rattle.std.proofs.Common.{if◌then◌else◌, List, [], ◌∷◌, ◌++◌, Option, Some, None}
-use Rattle.std.proofs.Common.{refl, sym, ◌∙◌, ap, subst, arith}
+use Rattle.std.proofs.Common.{◌≡◌, ℕ, ◌<◌, Bool, true, false, ◌==◌, if◌then◌else◌, List, [], ◌∷◌}
+use Rattle.std.proofs.Common.{◌++◌, Option, Some, None, refl, sym, ◌∙◌, ap, subst, arith}
 use Rattle.stm_wire.specs.declared.verdict.Verdict.{Verdict}
 use Rattle.stm_wire.specs.declared.verdict.Verdict.TheVariants.{Done, Refused, Loose}
 use Rattle.stm_wire.specs.Chip.{ChipData, flash_size}
@@ -11,8 +10,7 @@ use Rattle.stm_wire.specs.Device.{phase_after}
 use Rattle.stm_wire.specs.Exchange.{verdict}
 use Rattle.stm_wire.specs.Reply.{ack}
 use Rattle.stm_wire.specs.lemmas.PageLaws.{page_within}
-use Rattle.stm_weak.specs.WeakDevice.{NoneIsWeak, ReadsPlace, ReadsWeak, WeakDevice}
-use Rattle.stm_weak.specs.WeakDevice.{WeakFeeds}
+use Rattle.stm_weak.specs.WeakDevice.{NoneIsWeak, ReadsPlace, ReadsWeak, WeakDevice, WeakFeeds}
 use Rattle.stm_weak.proofs.Agreeing.{weak_exists}
 use Rattle.stm_weak.proofs.Calm.{IsCalmRest, calm_nothing, calm_on}
 

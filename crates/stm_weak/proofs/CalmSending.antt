@@ -1,7 +1,6 @@
 -- A calm frame is sent to a device that waits for a command.
-use Rattle.std.proofs.Common.{◌≡◌, inl, inr, ℕ, ◌<◌}
-use Rattle.std.proofs.Common.{List, [], ◌∷◌, ◌++◌, drop, Option, Some}
-use Rattle.std.proofs.Common.{refl, sym, ◌∙◌, ap, subst, append_assoc}
+use Rattle.std.proofs.Common.{◌≡◌, inl, inr, ℕ, ◌<◌, List, [], ◌∷◌, ◌++◌, drop, Option, Some, refl}
+use Rattle.std.proofs.Common.{sym, ◌∙◌, ap, subst, append_assoc}
 use Rattle.stm_wire.specs.declared.verdict.Verdict.{Verdict}
 use Rattle.stm_wire.specs.declared.verdict.Verdict.TheVariants.{Done, Refused}
 use Rattle.stm_wire.specs.Chip.{ChipData}

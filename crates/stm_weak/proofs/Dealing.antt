@@ -8,8 +8,7 @@ use Rattle.stm_wire.specs.Rig.{RigState}
 use Rattle.stm_session.specs.Undoable.{has_companion}
 use Rattle.stm_weak.specs.Weak.{NoneIs, intent_behind, weak_behind}
 use Rattle.stm_weak.specs.History.{AllHeal, AtOk, WeakDeed, HistoriesHeal, events_in}
-use Rattle.stm_weak.specs.History.{ran, run_stopped, undid, undid_verified, undo_stopped, asked}
-use Rattle.stm_weak.specs.History.{asking_stopped}
+use Rattle.stm_weak.specs.History.{ran, undid, undid_verified}
 use Rattle.stm_weak.specs.WeakDevice.{CanBe, WeakDevice}
 use Rattle.stm_weak.specs.WeakEvents.{DeedsAreAsOrdinary, HistoriesAreOrdinary, WeakDeeds}
 use Rattle.stm_weak.proofs.Agreeing.{agrees_same}
@@ -19,12 +18,9 @@ use Rattle.stm_weak.proofs.Stepping.{AmongThese, events_from}
 module _ (R : Type 0) (view : R → RigState) where
   pub at_ok : (deed : WeakDeed R view) (P Q : Type 0) → (P → Q) → AtOk deed P → AtOk deed Q
   at_ok (ran table commands old new session) P Q f p = f p
-  at_ok (run_stopped table commands old new fault whole stop) P Q f p = tt
   at_ok (undid table taken old new session) P Q f p = f p
   at_ok (undid_verified table returned old new session) P Q f p = f p
-  at_ok (undo_stopped again table count old new fault whole stop) P Q f p = tt
-  at_ok (asked table board old new asks) P Q f p = tt
-  at_ok (asking_stopped table old new fault stop) P Q f p = tt
+  at_ok deed P Q f p = tt
 
   pub none_left : (chip : ChipData) (MayBe : ℕ → Type 0) (mid : WeakDevice) (e : Device) → CanBe mid e
       → e.chip ≡ chip → AmongThese chip MayBe mid → NoneIs MayBe → e ≡ mid.device

@@ -1,5 +1,5 @@
 -- Calls one behind another at a device with weak pages, by what is fed to it alone.
-use Rattle.std.proofs.Common.{◌≡◌, ◌⊎◌, ⊎_elim, inl, inr, ℕ, ◌<◌, Bool, IsTrue, List, [], ◌∷◌, Option, None}
+use Rattle.std.proofs.Common.{◌≡◌, ◌⊎◌, ⊎_elim, inl, inr, ℕ, ◌<◌, Bool, List, [], ◌∷◌, Option, None}
 use Rattle.std.proofs.Common.{refl, sym, ◌∙◌, ap, subst}
 use Rattle.stm_wire.specs.declared.intent.Intent.{Intent}
 use Rattle.stm_wire.specs.Chip.{ChipData, page_count}
@@ -14,9 +14,9 @@ use Rattle.stm_session.specs.Order.{Step}
 use Rattle.stm_session.specs.Reaching.{IsConfirmedInPart, ReachesAndStops, ReachesInPart}
 use Rattle.stm_session.specs.UndoOrder.{BeginTaking}
 use Rattle.stm_session.specs.Undoable.{has_companion}
-use Rattle.stm_weak.specs.Weak.{NoneIs, WeakEvent, intent_behind, settles, weak_behind}
+use Rattle.stm_weak.specs.Weak.{NoneIs, WeakEvent, intent_behind, settles, weak_after, weak_behind}
 use Rattle.stm_weak.specs.Believed.{NoneBelieved}
-use Rattle.stm_weak.specs.FedEvents.{AreFedAsOrdinary, FedEvents}
+use Rattle.stm_weak.specs.FedEvents.{AreFedAsOrdinary}
 use Rattle.stm_weak.specs.FedAsking.{IsAskedAlone, IsAskedAsOrdinary}
 use Rattle.stm_weak.specs.FedHistory.{DeedsAreFedAsOrdinary, FedAs, FedDeeds, FedHistoriesAreOrdinary}
 use Rattle.stm_weak.specs.FedHistory.{IsFedAsOrdinary, fed_kind, asked_at_most, kind_of_undo}
@@ -28,34 +28,16 @@ use Rattle.stm_weak.proofs.Agreeing.{agrees_same}
 use Rattle.stm_weak.proofs.Calming.{IsSafeFor}
 use Rattle.stm_weak.proofs.Dealing.{at_ok, none_left}
 use Rattle.stm_weak.proofs.FedQuestioning.{board_asked}
-use Rattle.stm_weak.proofs.FedStepping.{FedTo, fed_from}
+use Rattle.stm_weak.proofs.FedStepping.{EndsAs, ends_now, fed_from}
 use Rattle.stm_weak.proofs.Mending.{no_page}
 use Rattle.stm_weak.proofs.Stepping.{AmongThese}
 
 -- what a call leads to
-pub record DeedTo (chip : ChipData) (MayBe : ℕ → Type 0) (intent : Option Intent)
-    (events : List WeakEvent) (Ordinary : Device → Type 0) (mid : WeakDevice) : Type 0 where
-  pub end : Device
-  pub ordinary : Ordinary end
-  pub can : CanBe mid end
-  pub is : IsDevice end
-  pub same : end.chip ≡ chip
-  pub among : AmongThese chip (λ n. weak_behind chip MayBe events n) mid
-  pub safe : IsSafeFor (settling_byte (intent_behind intent events)) mid
-
-of_events : (chip : ChipData) (MayBe : ℕ → Type 0) (intent : Option Intent)
-    (events : List WeakEvent) (old mid : WeakDevice) (led : FedEvents events old mid) (d : Device)
-    → FedTo chip MayBe intent events old mid led d
-    → DeedTo chip MayBe intent events (λ e. AreFedAsOrdinary events old mid led d e) mid
-of_events chip MayBe intent events old mid led d x = record {
-  end = x.end;
-  ordinary = x.ordinary;
-  can = x.can;
-  is = x.is;
-  same = x.same;
-  among = x.among;
-  safe = x.safe;
-}
+abbrev pub DeedTo : ChipData → (ℕ → Type 0) → Option Intent → List WeakEvent
+    → (Device → Type 0) → WeakDevice → Type 0
+DeedTo chip MayBe intent events Ordinary mid =
+    EndsAs chip (λ n. weak_behind chip MayBe events n) (settling_byte (intent_behind intent events))
+    mid Ordinary
 
 -- a call that asks for the board
 of_asking : (chip : ChipData) (MayBe : ℕ → Type 0) (both : Bool) (intent own : Option Intent)
@@ -67,32 +49,18 @@ of_asking : (chip : ChipData) (MayBe : ℕ → Type 0) (both : Bool) (intent own
 of_asking chip MayBe both intent own old mid asks d same is can among believed safe =
     let byte_is : settling_byte own ≡ settling_byte intent =
     ap (λ (i : Option Intent). settling_byte i) believed.0 in
-    let x = board_asked own old mid d chip MayBe same is can among
-    (subst (λ (b : ℕ). IsSafeFor b old) (sym byte_is) safe) asks in
-    record {
-      end = x.end;
-      ordinary = x.ordinary;
-      can = x.can;
-      is = x.is;
-      same = x.same;
-      among = x.among;
-      safe = subst (λ (b : ℕ). IsSafeFor b mid) byte_is x.safe;
-    }
+    subst (λ (b : ℕ). EndsAs chip (λ n. weak_after chip MayBe (settles own) n) b mid
+    (λ e. IsAskedAsOrdinary own old mid asks d e)) byte_is
+    (board_asked own old mid d chip MayBe same is can among
+    (subst (λ (b : ℕ). IsSafeFor b old) (sym byte_is) safe) asks)
 
 -- a run that didn't reach its device
 of_none : (chip : ChipData) (MayBe : ℕ → Type 0) (intent : Option Intent) (old mid : WeakDevice)
     (d : Device) → d.chip ≡ chip → IsDevice d → CanBe old d → AmongThese chip MayBe old
     → IsSafeFor (settling_byte intent) old → (led : FedAs intent asked_at_most old mid)
     → DeedTo chip MayBe intent [] (λ e. IsFedAsOrdinary intent asked_at_most old mid led d e) mid
-of_none chip MayBe intent old mid d same is can among safe (inl nothing) = record {
-  end = d;
-  ordinary = refl;
-  can = subst (λ (w : WeakDevice). CanBe w d) (sym nothing) can;
-  is = is;
-  same = same;
-  among = λ n lt weak. among n lt (subst (λ (w : WeakDevice). IsTrue (w.weak n)) nothing weak);
-  safe = subst (IsSafeFor (settling_byte intent)) (sym nothing) safe;
-}
+of_none chip MayBe intent old mid d same is can among safe (inl nothing) =
+    ends_now chip MayBe (settling_byte intent) old mid d nothing same is can among safe
 of_none chip MayBe intent old mid d same is can among safe (inr (none, asks)) =
     let byte_is : settling_byte intent ≡ settling_byte None =
     ap (λ (i : Option Intent). settling_byte i) none in
@@ -127,8 +95,7 @@ of_undo chip MayBe both intent own whole way id torn P cause before after (inl u
 of_undo chip MayBe both intent own whole way id torn P cause before after (inr reached) old mid d
     same is can among believed safe led =
     let events = undo_events own whole way id torn P cause before after (inr reached) in
-    of_events chip MayBe intent events old mid led d
-    (fed_from events old mid d chip MayBe both intent same is can among believed safe led)
+    fed_from events old mid d chip MayBe both intent same is can among believed safe led
 
 module _ (R : Type 0) (view : R → RigState) where
   -- what befalls it in a call
@@ -145,39 +112,31 @@ module _ (R : Type 0) (view : R → RigState) where
       → IsSafeFor (settling_byte intent) old → Leaves deed chip MayBe intent old mid d
   deed_from (ran table commands before after session) old mid d chip MayBe intent same is can among
       believed safe led =
-      let events = events_in {R = R} {view = view} (ran table commands before after session) in
-      of_events chip MayBe intent events old mid led d
-      (fed_from events old mid d chip MayBe (has_companion chip) intent same is can among believed
-      safe led)
+      fed_from (events_in {R = R} {view = view}
+      (ran table commands before after session)) old mid
+      d chip MayBe (has_companion chip) intent same is can among believed safe led
   deed_from (run_stopped table commands before after fault whole (inl unreached)) old mid d chip
       MayBe intent same is can among believed safe led =
       of_none chip MayBe intent old mid d same is can among safe led
   deed_from (run_stopped table commands before after fault whole (inr session)) old mid d chip MayBe
       intent same is can among believed safe led =
-      let events = events_in {R = R} {view = view}
-      (run_stopped table commands before after fault whole (inr session)) in
-      of_events chip MayBe intent events old mid led d
-      (fed_from events old mid d chip MayBe (has_companion chip) intent same is can among believed
-      safe led)
+      fed_from (events_in {R = R} {view = view}
+      (run_stopped table commands before after fault whole (inr session))) old mid
+      d chip MayBe (has_companion chip) intent same is can among believed safe led
   deed_from (undid table taken before after session) old mid d chip MayBe intent same is
       can among believed safe led =
-      let events = events_in {R = R} {view = view}
-      (undid table taken before after session) in
-      of_events chip MayBe intent events old mid led d
-      (fed_from events old mid d chip MayBe (has_companion chip) intent same is can among believed
-      safe led)
+      fed_from (events_in {R = R} {view = view}
+      (undid table taken before after session)) old mid
+      d chip MayBe (has_companion chip) intent same is can among believed safe led
   deed_from (undid_verified table returned before after session) old mid d chip MayBe
       intent same is can among believed safe led =
-      let events = events_in {R = R} {view = view}
-      (undid_verified table returned before after session) in
-      of_events chip MayBe intent events old mid led d
-      (fed_from events old mid d chip MayBe (has_companion chip) intent same is can among believed
-      safe led)
+      fed_from (events_in {R = R} {view = view}
+      (undid_verified table returned before after session)) old mid
+      d chip MayBe (has_companion chip) intent same is can among believed safe led
   deed_from (undo_stopped again table count before after fault whole (inl fetched)) old mid
       d chip MayBe intent same is can among believed safe led =
-      of_events chip MayBe intent [] old mid led d
-      (fed_from [] old mid d chip MayBe (has_companion chip) intent same is can among believed
-      safe led)
+      fed_from [] old mid d chip MayBe (has_companion chip) intent same is can among believed
+      safe led
   deed_from (undo_stopped again table count before after fault whole (inr session)) old mid
       d chip MayBe intent same is can among believed safe led =
       let own = intent_of session.journal.state in
@@ -193,9 +152,8 @@ module _ (R : Type 0) (view : R → RigState) where
       same is can among believed safe
   deed_from (asking_stopped table before after fault (inl fetched)) old mid d chip MayBe
       intent same is can among believed safe led =
-      of_events chip MayBe intent [] old mid led d
-      (fed_from [] old mid d chip MayBe (has_companion chip) intent same is can among believed
-      safe led)
+      fed_from [] old mid d chip MayBe (has_companion chip) intent same is can among believed
+      safe led
   deed_from (asking_stopped table before after fault (inr asks)) old mid d chip MayBe
       intent same is can among believed safe led =
       of_asking chip MayBe (has_companion chip) intent (intent_of asks.journal.state) old mid led d

@@ -6,7 +6,7 @@ use Rattle.std.proofs.lemmas.Bool.{eqb-true}
 use Rattle.stm_wire.specs.declared.intent.Intent.{Intent}
 use Rattle.stm_wire.specs.declared.places.UniquePlace.{UniquePlace}
 use Rattle.stm_wire.specs.Chip.{ChipData, page_count}
-use Rattle.stm_wire.specs.Device.{Connected, Device, Fresh, Gone, IsDevice, Phase}
+use Rattle.stm_wire.specs.Device.{Connected, Device, IsDevice, Phase}
 use Rattle.stm_weak.specs.SettledBatches.{IsTameIn}
 use Rattle.stm_wire.specs.Dialogue.{Turn, sent_bytes}
 use Rattle.stm_wire.specs.Frames.{command, erase_frame, erase_turns, read_frame, write_frame}
@@ -15,11 +15,9 @@ use Rattle.stm_wire.specs.lemmas.DialogueLaws.{write_sends}
 use Rattle.stm_session.specs.Order.{page_address}
 use Rattle.stm_session.specs.Reaching.{place_of_bytes}
 use Rattle.stm_weak.specs.Weak.{NoneIs}
-use Rattle.stm_weak.specs.Believed.{MayPutBelieving, confirms, reads, refused}
-use Rattle.stm_weak.specs.Believed.{asks as put_asks, names as put_names, erases as put_erases}
-use Rattle.stm_weak.specs.Believed.{writes as put_writes}
-use Rattle.stm_weak.specs.FedEvents.{IsFedPart, IsRefusedDialogue}
-use Rattle.stm_weak.specs.FedEvents.{StoppedIsTame}
+use Rattle.stm_weak.specs.Believed.{MayPutBelieving, confirms, reads, refused, asks as put_asks}
+use Rattle.stm_weak.specs.Believed.{names as put_names, erases as put_erases, writes as put_writes}
+use Rattle.stm_weak.specs.FedEvents.{IsFedPart, IsRefusedDialogue, StoppedIsTame}
 use Rattle.stm_weak.specs.WeakDevice.{CanBe, NoneIsWeak, WeakDevice}
 use Rattle.stm_weak.specs.WeakEvents.{IsFrameBegun}
 use Rattle.stm_weak.specs.WeakFrames.{BeginsOf}
@@ -208,9 +206,8 @@ module _ (turns : List Turn) (old mid : WeakDevice) (d : Device) (chip : ChipDat
 -- what has no list that reads, has none that is loose
 pub tame_in : (chip : ChipData) (codes : List ℕ) (byte : ℕ) (p : Phase) → IsCalmIn chip codes byte p
     → IsTameIn chip codes byte p
-tame_in chip codes byte Fresh calm = tt
 tame_in chip codes byte (Connected rest) calm = λ k. (calm k).0
-tame_in chip codes byte Gone calm = tt
+tame_in chip codes byte p calm = tt
 
 pub stopped_is_tame : StoppedIsTame
 stopped_is_tame old mid d may_be intent turns byte n small is can waits weak may part =

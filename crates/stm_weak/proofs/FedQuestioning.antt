@@ -13,36 +13,24 @@ use Rattle.stm_weak.specs.WeakRuns.{fed_bytes}
 use Rattle.stm_weak.specs.WeakDevice.{CanBe, WeakDevice}
 use Rattle.stm_weak.proofs.CalmSending.{calm_frame_unread, frame_left}
 use Rattle.stm_weak.proofs.Calming.{IsSafeFor, settled_safe, settled_sound, settled_unread}
-use Rattle.stm_weak.proofs.FedStepping.{byte_small}
+use Rattle.stm_weak.proofs.FedStepping.{EndsAs, byte_small, ends_behind, ends_now}
 use Rattle.stm_weak.proofs.Leading.{led_as_ordinary}
 use Rattle.stm_weak.proofs.Questions.{question_calm}
 use Rattle.stm_weak.proofs.Stepping.{AmongThese, chip_led, sound_along}
 use Rattle.stm_weak.proofs.Unread.{Has}
 
 -- what the questions lead to
-record AskedTo (chip : ChipData) (MayBe : ℕ → Type 0) (byte : ℕ) (frames : List (List ℕ))
-    (old new : WeakDevice) (led : FedQuestions frames old new) (d : Device) : Type 0 where
-  end : Device
-  ordinary : AreQuestionsAsOrdinary frames old new led d end
-  can : CanBe new end
-  is : IsDevice end
-  same : end.chip ≡ chip
-  among : AmongThese chip MayBe new
-  safe : IsSafeFor byte new
+abbrev AskedTo : ChipData → (ℕ → Type 0) → ℕ → (frames : List (List ℕ)) → (old new : WeakDevice)
+    → FedQuestions frames old new → Device → Type 0
+AskedTo chip MayBe byte frames old new led d =
+    EndsAs chip MayBe byte new (λ e. AreQuestionsAsOrdinary frames old new led d e)
 
 asked_from : (frames : List (List ℕ)) (old new : WeakDevice) (d : Device) (chip : ChipData)
     (MayBe : ℕ → Type 0) (byte : ℕ) → byte < 256 → d.chip ≡ chip → IsDevice d → CanBe old d
     → AmongThese chip MayBe old → IsSafeFor byte old → WaitsForQuestions frames old
     → (led : FedQuestions frames old new) → AskedTo chip MayBe byte frames old new led d
-asked_from [] old new d chip MayBe byte small same is can among safe waits led = record {
-  end = d;
-  ordinary = refl;
-  can = subst (λ (w : WeakDevice). CanBe w d) (sym led) can;
-  is = is;
-  same = same;
-  among = λ n lt weak. among n lt (subst (λ (w : WeakDevice). IsTrue (w.weak n)) led weak);
-  safe = subst (IsSafeFor byte) (sym led) safe;
-}
+asked_from [] old new d chip MayBe byte small same is can among safe waits led =
+    ends_now chip MayBe byte old new d led same is can among safe
 asked_from (frame ∷ frames) old new d chip MayBe byte small same is can among safe waits
     (mid, question, part, whole, led) =
     let has : Has d.chip d.codes [] old = record {
@@ -62,15 +50,7 @@ asked_from (frame ∷ frames) old new d chip MayBe byte small same is can among 
     let rest = asked_from frames mid new one.0 chip MayBe byte small
     (chip_led chip part.happenings old mid d part.led same can one) one.3 one.2 after
     (inl left.calm) (next frames whole) led in
-    record {
-      end = rest.end;
-      ordinary = (unread, (one.0, one.1, rest.ordinary));
-      can = rest.can;
-      is = rest.is;
-      same = rest.same;
-      among = rest.among;
-      safe = rest.safe;
-    }
+    ends_behind chip _ _ new _ _ rest (λ e ordinary. (unread, (one.0, one.1, ordinary)))
   where
     next : (more : List (List ℕ)) → WholeIfMore more (fed_bytes part.happenings) frame
         → WaitsForQuestions more mid
@@ -87,15 +67,11 @@ asked_from (frame ∷ frames) old new d chip MayBe byte small same is can among 
         }) part.led).waits refl
 
 -- and all of it
-pub record BoardAskedTo (chip : ChipData) (MayBe : ℕ → Type 0) (intent : Option Intent)
-    (old new : WeakDevice) (asked : IsAskedAlone intent old new) (d : Device) : Type 0 where
-  pub end : Device
-  pub ordinary : IsAskedAsOrdinary intent old new asked d end
-  pub can : CanBe new end
-  pub is : IsDevice end
-  pub same : end.chip ≡ chip
-  pub among : AmongThese chip (λ n. weak_after chip MayBe (settles intent) n) new
-  pub safe : IsSafeFor (settling_byte intent) new
+abbrev pub BoardAskedTo : ChipData → (ℕ → Type 0) → (intent : Option Intent)
+    → (old new : WeakDevice) → IsAskedAlone intent old new → Device → Type 0
+BoardAskedTo chip MayBe intent old new asked d =
+    EndsAs chip (λ n. weak_after chip MayBe (settles intent) n) (settling_byte intent) new
+    (λ e. IsAskedAsOrdinary intent old new asked d e)
 
 pub board_asked : (intent : Option Intent) (old new : WeakDevice) (d : Device) (chip : ChipData)
     (MayBe : ℕ → Type 0) → d.chip ≡ chip → IsDevice d → CanBe old d → AmongThese chip MayBe old
@@ -116,12 +92,4 @@ board_asked intent old new d chip MayBe same is can among safe asked =
     (chip_led chip s.happenings old mid d s.led same can one) one.3 one.2 after
     (settled_safe byte pages s.happenings old mid safe s.led s.alone) (asked.waits unread)
     asked.questions in
-    record {
-      end = rest.end;
-      ordinary = (unread, (one.0, one.1, rest.ordinary));
-      can = rest.can;
-      is = rest.is;
-      same = rest.same;
-      among = rest.among;
-      safe = rest.safe;
-    }
+    ends_behind chip _ _ new _ _ rest (λ e ordinary. (unread, (one.0, one.1, ordinary)))

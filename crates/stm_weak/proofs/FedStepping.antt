@@ -5,7 +5,7 @@ use Rattle.std.proofs.Common.{if◌then◌else◌, IsTrue, List, [], ◌∷◌, 
 use Rattle.std.proofs.Common.{refl, sym, ◌∙◌, ap, subst, arith}
 use Rattle.std.proofs.lemmas.Bool.{ltb-true}
 use Rattle.stm_wire.specs.declared.intent.Intent.{Intent}
-use Rattle.stm_wire.specs.declared.intent.Intent.TheVariants.{Erase, Program}
+use Rattle.stm_wire.specs.declared.intent.Intent.TheVariants.{Erase}
 use Rattle.stm_wire.specs.Chip.{ChipData, page_count}
 use Rattle.stm_wire.specs.Device.{Connected, Device, IsDevice}
 use Rattle.stm_wire.specs.Dialogue.{Turn}
@@ -37,13 +37,12 @@ StandsFor (does step ∷ events) intent w = IsReadyFor w
 StandsFor (breaks turns ∷ events) intent w = IsReadyFor w
 
 pub byte_small : (intent : Option Intent) → settling_byte intent < 256
-byte_small None = omega arith
-byte_small (Some (Program n)) = omega arith
 byte_small (Some (Erase n)) = by (nat_lt n 256) refl
   where
     by : (t : Bool) → nat_lt n 256 ≡ t → (if t then n else 0x02) < 256
     by true e = ltb-true n 256 e
     by false e = omega arith
+byte_small intent = omega arith
 
 -- without an intent no page may be weak
 none_without : (chip : ChipData) (both : Bool) (MayBe : ℕ → Type 0) (intent : Option Intent)
@@ -57,18 +56,16 @@ none_without chip both MayBe intent w same none at_work among n lt weak =
 -- a device that is ready stands for all
 ready_stands : (events : List WeakEvent) (intent : Option Intent) (w : WeakDevice) → IsReadyFor w
     → StandsFor events intent w
-ready_stands [] intent w ready = ready_safe w (settling_byte intent) ready
-ready_stands (settles own ∷ events) intent w ready = ready_safe w (settling_byte intent) ready
 ready_stands (does step ∷ events) intent w ready = ready
 ready_stands (breaks turns ∷ events) intent w ready = ready
+ready_stands events intent w ready = ready_safe w (settling_byte intent) ready
 
 -- and so does one that is safe, where it waits for more
 safe_stands : (events : List WeakEvent) (intent : Option Intent) (w : WeakDevice)
     → IsSafeFor (settling_byte intent) w → WaitsForMore events w → StandsFor events intent w
-safe_stands [] intent w safe waits = safe
-safe_stands (settles own ∷ events) intent w safe waits = safe
 safe_stands (does step ∷ events) intent w safe waits = inr waits
 safe_stands (breaks turns ∷ events) intent w safe waits = inr waits
+safe_stands events intent w safe waits = safe
 
 -- settled under an intent it waits, and without one no page is weak
 settled_stands : (events : List WeakEvent) (own intent : Option Intent) (w : WeakDevice)
@@ -103,35 +100,61 @@ whole_stands : (events : List WeakEvent) (intent : Option Intent) (turns : List 
 whole_stands [] intent turns w safe ready waits = safe (settling_byte intent) (byte_small intent)
 whole_stands (settles own ∷ events) intent turns w safe ready waits =
     safe (settling_byte intent) (byte_small intent)
-whole_stands (does step ∷ events) intent turns w safe ready waits = ready waits
-whole_stands (breaks own ∷ events) intent turns w safe ready waits = ready waits
+whole_stands events intent turns w safe ready waits = ready waits
 
--- What they lead to.
-pub record FedTo (chip : ChipData) (MayBe : ℕ → Type 0) (intent : Option Intent)
-    (events : List WeakEvent) (old new : WeakDevice) (led : FedEvents events old new)
-    (d : Device) : Type 0 where
+-- What comes of the device and of the ordinary one beside it.
+pub record EndsAs (chip : ChipData) (MayBe : ℕ → Type 0) (byte : ℕ) (new : WeakDevice)
+    (Ordinary : Device → Type 0) : Type 0 where
   pub end : Device
-  pub ordinary : AreFedAsOrdinary events old new led d end
+  pub ordinary : Ordinary end
   pub can : CanBe new end
   pub is : IsDevice end
   pub same : end.chip ≡ chip
-  pub among : AmongThese chip (λ n. weak_behind chip MayBe events n) new
-  pub safe : IsSafeFor (settling_byte (intent_behind intent events)) new
+  pub among : AmongThese chip MayBe new
+  pub safe : IsSafeFor byte new
+
+-- where nothing is fed
+pub ends_now : (chip : ChipData) (MayBe : ℕ → Type 0) (byte : ℕ) (old new : WeakDevice)
+    (d : Device) → new ≡ old → d.chip ≡ chip → IsDevice d → CanBe old d → AmongThese chip MayBe old
+    → IsSafeFor byte old → EndsAs chip MayBe byte new (λ e. e ≡ d)
+ends_now chip MayBe byte old new d nothing same is can among safe = record {
+  end = d;
+  ordinary = refl;
+  can = subst (λ (w : WeakDevice). CanBe w d) (sym nothing) can;
+  is = is;
+  same = same;
+  among = λ n lt weak. among n lt (subst (λ (w : WeakDevice). IsTrue (w.weak n)) nothing weak);
+  safe = subst (IsSafeFor byte) (sym nothing) safe;
+}
+
+-- and where more was fed before
+pub ends_behind : (chip : ChipData) (MayBe : ℕ → Type 0) (byte : ℕ) (new : WeakDevice)
+    (P Q : Device → Type 0) → EndsAs chip MayBe byte new P → ((e : Device) → P e → Q e)
+    → EndsAs chip MayBe byte new Q
+ends_behind chip MayBe byte new P Q x more = record {
+  end = x.end;
+  ordinary = more x.end x.ordinary;
+  can = x.can;
+  is = x.is;
+  same = x.same;
+  among = x.among;
+  safe = x.safe;
+}
+
+-- What events lead to.
+abbrev pub FedTo : ChipData → (ℕ → Type 0) → Option Intent → (events : List WeakEvent)
+    → (old new : WeakDevice) → FedEvents events old new → Device → Type 0
+FedTo chip MayBe intent events old new led d =
+    EndsAs chip (λ n. weak_behind chip MayBe events n) (settling_byte (intent_behind intent events))
+    new (λ e. AreFedAsOrdinary events old new led d e)
 
 pub fed_from : (events : List WeakEvent) (old new : WeakDevice) (d : Device) (chip : ChipData)
     (MayBe : ℕ → Type 0) (both : Bool) (intent : Option Intent) → d.chip ≡ chip → IsDevice d
     → CanBe old d → AmongThese chip MayBe old → NoneBelieved chip both MayBe intent events
     → StandsFor events intent old → (led : FedEvents events old new)
     → FedTo chip MayBe intent events old new led d
-fed_from [] old new d chip MayBe both intent same is can among believed stands led = record {
-  end = d;
-  ordinary = refl;
-  can = subst (λ (w : WeakDevice). CanBe w d) (sym led) can;
-  is = is;
-  same = same;
-  among = λ n lt weak. among n lt (subst (λ (w : WeakDevice). IsTrue (w.weak n)) led weak);
-  safe = subst (IsSafeFor (settling_byte intent)) (sym led) stands;
-}
+fed_from [] old new d chip MayBe both intent same is can among believed stands led =
+    ends_now chip MayBe (settling_byte intent) old new d led same is can among stands
 fed_from (settles own ∷ events) old new d chip MayBe both intent same is can among believed stands
     (mid, s, waits, led) =
     let byte = settling_byte own in
@@ -153,29 +176,12 @@ fed_from (settles own ∷ events) old new d chip MayBe both intent same is can a
     after) (well unread))
     (λ (a : EndsAnswered own old mid). ready_stands events intent mid
     (answered_ready own old mid (chip_along s.happenings old mid s.led) safe a)) waits) led in
-    record {
-      end = rest.end;
-      ordinary = (unread, (one.0, one.1, rest.ordinary));
-      can = rest.can;
-      is = rest.is;
-      same = rest.same;
-      among = rest.among;
-      safe = rest.safe;
-    }
+    ends_behind chip _ _ new _ _ rest (λ e ordinary. (unread, (one.0, one.1, ordinary)))
 fed_from (does (Adds entries) ∷ events) old new d chip MayBe both intent same is can among believed
     stands led =
-    let rest = fed_from events old new d chip (λ n. weak_after chip MayBe (does (Adds entries)) n)
+    fed_from events old new d chip (λ n. weak_after chip MayBe (does (Adds entries)) n)
     both (intent_after intent (does (Adds entries))) same is can among believed.2
-    (ready_stands events (intent_after intent (does (Adds entries))) old stands) led in
-    record {
-      end = rest.end;
-      ordinary = rest.ordinary;
-      can = rest.can;
-      is = rest.is;
-      same = rest.same;
-      among = rest.among;
-      safe = rest.safe;
-    }
+    (ready_stands events (intent_after intent (does (Adds entries))) old stands) led
 fed_from (does (Sends turns) ∷ events) old new d chip MayBe both intent same is can among believed
     stands (mid, s, waits, led) =
     let b = s.part in
@@ -194,15 +200,7 @@ fed_from (does (Sends turns) ∷ events) old new d chip MayBe both intent same i
     (λ n. weak_after chip MayBe (does (Sends turns)) n) both intent
     (chip_led chip b.happenings old mid d b.led same can one) one.3 one.2 after believed.2
     (whole_stands events intent turns mid leaves.safe (leaves.ready s.whole) waits) led in
-    record {
-      end = rest.end;
-      ordinary = (leaves.unread, (one.0, one.1, rest.ordinary));
-      can = rest.can;
-      is = rest.is;
-      same = rest.same;
-      among = rest.among;
-      safe = rest.safe;
-    }
+    ends_behind chip _ _ new _ _ rest (λ e ordinary. (leaves.unread, (one.0, one.1, ordinary)))
 fed_from (breaks turns ∷ events) old new d chip MayBe both intent same is can among believed stands
     (mid, b, waits, led) =
     let leaves = leaves_safe turns old mid d chip MayBe intent same is can among believed.0 b stands
@@ -215,15 +213,7 @@ fed_from (breaks turns ∷ events) old new d chip MayBe both intent same is can 
     intent (chip_led chip b.happenings old mid d b.led same can one) one.3 one.2 after believed.2
     (safe_stands events intent mid (leaves.safe (settling_byte intent) (byte_small intent)) waits)
     led in
-    record {
-      end = rest.end;
-      ordinary = (leaves.unread, (one.0, one.1, rest.ordinary));
-      can = rest.can;
-      is = rest.is;
-      same = rest.same;
-      among = rest.among;
-      safe = rest.safe;
-    }
+    ends_behind chip _ _ new _ _ rest (λ e ordinary. (leaves.unread, (one.0, one.1, ordinary)))
 
 pub stopped_settling_is_unread : StoppedSettlingIsUnread
 stopped_settling_is_unread old mid new d may_be intent turns byte pages happenings small is can

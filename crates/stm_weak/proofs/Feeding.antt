@@ -11,8 +11,7 @@ use Rattle.stm_wire.specs.Effect.{Effect, change_of}
 use Rattle.stm_wire.specs.Reply.{ack, reply_to}
 use Rattle.stm_wire.specs.Device.{Device, Phase, Fresh, Connected, Gone, Receives, Takes}
 use Rattle.stm_wire.specs.Device.{IsDevice, IsLoose, IsOpenPhase, phase_after, reply_of}
-use Rattle.stm_weak.specs.WeakDevice.{AgreesOutside, ErasesPage, IsWeakAt}
-use Rattle.stm_weak.specs.WeakDevice.{ReadsPlace}
+use Rattle.stm_weak.specs.WeakDevice.{AgreesOutside, ErasesPage, IsWeakAt, ReadsPlace}
 use Rattle.stm_weak.proofs.Agreeing.{agrees_same, agrees_weaker}
 use Rattle.stm_weak.proofs.Effects.{IsByte, does_alike, effect_length, erased_is_byte}
 use Rattle.stm_weak.proofs.Answering.{answer_alike, small_change}
@@ -105,12 +104,10 @@ module _ (weak weak2 : ℕ → Bool) (old : Device) (flash : List ℕ)
     reply_alike : (bytes : List ℕ) (v : Option Verdict) → IsUnread old.chip weak bytes v
         → reply_to v old.chip old.version old.codes flash bytes ≡ reply_to v old.chip old.version
         old.codes old.flash bytes
-    reply_alike bytes None unread = refl
-    reply_alike bytes (Some Refused) unread = refl
     reply_alike bytes (Some Done) unread = ap (λ (xs : List ℕ). ack ∷ xs)
         (answer_alike old.chip old.version old.codes bytes old.flash flash agrees.same_length
         (λ place reads. agrees.elsewhere place (λ w. unread (place, reads, w))))
-    reply_alike bytes (Some Loose) unread = refl
+    reply_alike bytes v unread = refl
 
     reply_same : (bytes : List ℕ) (v : Option Verdict) → verdict old.chip old.codes bytes ≡ v
         → IsUnread old.chip weak bytes v → reply_of old bytes ≡ reply_of (with_flash flash old) bytes

@@ -6,11 +6,10 @@ use Rattle.stm_wire.specs.Chip.{ChipData}
 use Rattle.stm_wire.specs.Device.{Device, IsDevice}
 use Rattle.stm_wire.specs.Intents.{settling_byte}
 use Rattle.stm_wire.specs.Rig.{RigState}
-use Rattle.stm_session.specs.Events.{AllLead, Event, Happening, Leads, World, end_of, ran}
-use Rattle.stm_session.specs.Events.{run_stopped, informed, info_stopped, identified}
-use Rattle.stm_session.specs.Events.{identify_stopped, undid, undo_stopped}
-use Rattle.stm_session.specs.Events.{left_refused, refusal_stopped, unprotected, unprotect_stopped}
-use Rattle.stm_session.specs.Events.{kept, was_reset, lost_owed, lost_power}
+use Rattle.stm_session.specs.Events.{AllLead, Event, Happening, Leads, World, end_of}
+use Rattle.stm_session.specs.Events.{run_stopped}
+use Rattle.stm_session.specs.Events.{undid, undo_stopped}
+use Rattle.stm_session.specs.Events.{kept}
 use Rattle.stm_session.specs.Headline.{AllIsUndone, oldest_after, oldest_of}
 use Rattle.stm_session.specs.Order.{Adds, Sends}
 use Rattle.stm_weak.specs.Weak.{NoneIs, WeakEvent, breaks, does, intent_behind, settles}
@@ -21,14 +20,13 @@ use Rattle.stm_weak.specs.FedEvents.{AreFedAsOrdinary, FedEvents}
 use Rattle.stm_weak.specs.FedHistory.{FedAs, FedDeeds, FedKind, IsFedAsOrdinary, fed_kind}
 use Rattle.stm_weak.specs.FedHistory.{settled_and_asked, asked_at_most, as_told}
 use Rattle.stm_weak.specs.History.{AllHeal, AtOk, HistoriesHeal, WeakDeed, events_in}
-use Rattle.stm_weak.specs.History.{ran as deed_ran, run_stopped as deed_run_stopped, undid as deed_undid}
+use Rattle.stm_weak.specs.History.{run_stopped as deed_run_stopped, undid as deed_undid}
 use Rattle.stm_weak.specs.History.{undid_verified as deed_undid_verified, undo_stopped as deed_undo_stopped}
 use Rattle.stm_weak.specs.History.{asked as deed_asked, asking_stopped as deed_asking_stopped}
 use Rattle.stm_weak.specs.WeakDevice.{CanBe, NoneIsWeak, WeakDevice}
-use Rattle.stm_weak.specs.WeakHeadline.{AreFedUnread, AreQuestionsUnread, IsAskedUnread, IsFedUnread}
-use Rattle.stm_weak.specs.WeakHeadline.{intent_of_deeds}
-use Rattle.stm_weak.specs.WeakHeadline.{FollowsUnread, IsAnsweredOk, IsNotKept, IsUndone, NoneIsKept}
-use Rattle.stm_weak.specs.WeakHeadline.{WeakHistoriesAreSessions}
+use Rattle.stm_weak.specs.WeakHeadline.{AreFedUnread, AreQuestionsUnread, IsAskedUnread}
+use Rattle.stm_weak.specs.WeakHeadline.{IsFedUnread, intent_of_deeds, FollowsUnread, IsAnsweredOk}
+use Rattle.stm_weak.specs.WeakHeadline.{IsNotKept, IsUndone, NoneIsKept, WeakHistoriesAreSessions}
 use Rattle.stm_weak.specs.WeakHeadline.{WeakHeadline}
 use Rattle.stm_weak.proofs.Calming.{IsSafeFor}
 use Rattle.stm_weak.proofs.FedDealing.{can_be_itself, deed_from, no_weak}
@@ -90,22 +88,8 @@ module _ (R : Type 0) (view : R → RigState) where
   -- where the way back is never given up, the oldest flash is the first
   same_after : (event : Event R) (w2 : World) (flash : List ℕ) → IsNotKept event
       → oldest_after event w2 flash ≡ flash
-  same_after (ran table commands old new result) w2 flash is = refl
-  same_after (run_stopped table commands old new result) w2 flash is = refl
-  same_after (informed table old new result) w2 flash is = refl
-  same_after (info_stopped table old new result) w2 flash is = refl
-  same_after (identified old new result) w2 flash is = refl
-  same_after (identify_stopped old new result) w2 flash is = refl
-  same_after (undid table count old new result) w2 flash is = refl
-  same_after (undo_stopped table count old new result) w2 flash is = refl
-  same_after (left_refused refusal old new result) w2 flash is = refl
-  same_after (refusal_stopped refusal old new result) w2 flash is = refl
-  same_after (unprotected old new result) w2 flash is = refl
-  same_after (unprotect_stopped old new result) w2 flash is = refl
   same_after kept w2 flash is = absurd is
-  same_after was_reset w2 flash is = refl
-  same_after lost_owed w2 flash is = refl
-  same_after lost_power w2 flash is = refl
+  same_after event w2 flash is = refl
 
   oldest_same : (history : List (Happening R)) (flash : List ℕ) → NoneIsKept history
       → oldest_of history flash ≡ flash
@@ -126,25 +110,21 @@ module _ (R : Type 0) (view : R → RigState) where
   -- what holds behind an undo that answered Ok
   at_undone : (before after : R) (last : WeakDeed R view) (P : Type 0) → IsUndone before after last
       → AtOk last P → P
-  at_undone before after (deed_ran table commands old new session) P is ok = absurd is
   at_undone before after (deed_run_stopped table commands old new fault whole stop) P is ok =
       absurd is
   at_undone before after (deed_undid table taken old new session) P is ok = ok
   at_undone before after (deed_undid_verified table returned old new session) P is ok = ok
   at_undone before after (deed_undo_stopped again table count old new fault whole stop) P is
       ok = absurd is
-  at_undone before after (deed_asked table board old new asks) P is ok = absurd is
-  at_undone before after (deed_asking_stopped table old new fault stop) P is ok = absurd is
+  at_undone before after last P is ok = absurd is
 
   at_answered : (last : WeakDeed R view) (P : Type 0) → IsAnsweredOk last → AtOk last P → P
-  at_answered (deed_ran table commands old new session) P is ok = ok
   at_answered (deed_run_stopped table commands old new fault whole stop) P is ok = absurd is
-  at_answered (deed_undid table taken old new session) P is ok = ok
-  at_answered (deed_undid_verified table returned old new session) P is ok = ok
   at_answered (deed_undo_stopped again table count old new fault whole stop) P is ok =
       absurd is
   at_answered (deed_asked table board old new asks) P is ok = absurd is
   at_answered (deed_asking_stopped table old new fault stop) P is ok = absurd is
+  at_answered last P is ok = ok
 
   module _ (last : WeakDeed R view) (at_last : (P : Type 0) → AtOk last P → P) where
     through : (deeds : List (WeakDeed R view)) (old mid new : WeakDevice) (d : Device)

@@ -11,9 +11,8 @@ use Rattle.stm_journal.specs.declared.entry.Entry.TheVariants.{Undoes}
 use Rattle.stm_journal.specs.declared.kept.Kept.{Kept}
 use Rattle.stm_journal.specs.States.{intent_page}
 use Rattle.stm_session.specs.Closing.{closing}
-use Rattle.stm_session.specs.Order.{Step, Adds, AreGivenBack, AreRewritten}
-use Rattle.stm_session.specs.Order.{IsGivenBack, IsRewritten, Tells, tells_behind, page_reads}
-use Rattle.stm_session.specs.Order.{return_steps}
+use Rattle.stm_session.specs.Order.{Step, Adds, AreGivenBack, AreRewritten, IsGivenBack}
+use Rattle.stm_session.specs.Order.{IsRewritten, Tells, tells_behind, page_reads, return_steps}
 use Rattle.stm_session.specs.UndoOrder.{AreAllUndone, AreSegmentsUndone, IsSegmentUndone}
 use Rattle.stm_session.specs.Reaching.{confirmed_at}
 use Rattle.stm_session.specs.Work.{beside, pages_of_intent}

@@ -80,14 +80,13 @@ module _ (chip : ChipData) (codes : List ℕ) (address n : ℕ) (listed : IsTrue
   open_data : (so_far bytes : List ℕ) → length so_far + length bytes ≤ n + 2
       → IsOpenTo chip codes (command 0x31 ++ with_checksum (address_bytes address) ++ n ∷ so_far)
       bytes
-  open_data so_far [] h = tt
-  open_data so_far (byte ∷ []) h = tt
   open_data so_far (byte ∷ next ∷ more) h =
       let e = length-append so_far (byte ∷ []) in (
         data_verdict (so_far ++ byte ∷ []) (omega (arith, e, h)),
         open_data (so_far ++ byte ∷ [])
             (next ∷ more) (omega (arith, e, h)),
       )
+  open_data so_far bytes h = tt
 
   pub open_write : (bytes : List ℕ) → 1 ≤ length bytes → length bytes ≤ n + 2
       → IsOpenTo chip codes [] (command 0x31 ++ with_checksum (address_bytes address) ++ n ∷ bytes)

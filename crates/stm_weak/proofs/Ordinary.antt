@@ -1,14 +1,12 @@
 -- A device with weak pages, fed a byte, and an ordinary one that it can be taken for.
-use Rattle.std.proofs.Common.{◌≡◌, ◌⊎◌, ⊎_elim, inl, inr, ℕ, Bool}
-use Rattle.std.proofs.Common.{List, [], ◌∷◌, ◌++◌, Option, Some}
-use Rattle.std.proofs.Common.{None, refl, sym, ◌∙◌, ap, subst, IsTrue}
+use Rattle.std.proofs.Common.{◌≡◌, ◌⊎◌, ⊎_elim, inl, inr, ℕ, Bool, List, [], ◌∷◌, ◌++◌, Option}
+use Rattle.std.proofs.Common.{Some, None, refl, sym, ◌∙◌, ap, subst, IsTrue}
 use Rattle.stm_wire.specs.declared.verdict.Verdict.{Verdict}
 use Rattle.stm_wire.specs.declared.verdict.Verdict.TheVariants.{Done, Refused, Loose}
 use Rattle.stm_wire.specs.Chip.{ChipData}
 use Rattle.stm_wire.specs.Exchange.{verdict}
 use Rattle.stm_wire.specs.Effect.{change_of}
-use Rattle.stm_wire.specs.Device.{Device, Phase, Fresh, Connected, Gone, Feeds}
-use Rattle.stm_wire.specs.Device.{IsDevice}
+use Rattle.stm_wire.specs.Device.{Device, Phase, Connected, Feeds, IsDevice}
 use Rattle.stm_weak.specs.WeakDevice.{AgreesOutside, CanBe, Completes, ErasesPage, Heals}
 use Rattle.stm_weak.specs.WeakDevice.{WeakDevice}
 use Rattle.stm_weak.specs.WeakLaws.{FedAsOrdinary}
@@ -20,8 +18,6 @@ unread_in : (chip : ChipData) (codes : List ℕ) (weak : ℕ → Bool) (byte : �
     → ((rest : List ℕ) → p ≡ Connected rest → verdict chip codes (rest ++ byte ∷ []) ≡ Some Done
     → IsWeakList chip weak (rest ++ byte ∷ []) → ⊥)
     → IsUnreadIn chip codes weak byte p
-unread_in chip codes weak byte Fresh unread = tt
-unread_in chip codes weak byte Gone unread = tt
 unread_in chip codes weak byte (Connected rest) unread = by
     (verdict chip codes (rest ++ byte ∷ [])) refl
   where
@@ -31,6 +27,7 @@ unread_in chip codes weak byte (Connected rest) unread = by
     by (Some Refused) e = tt
     by (Some Done) e = unread rest refl e
     by (Some Loose) e = tt
+unread_in chip codes weak byte p unread = tt
 
 healed_in : (chip : ChipData) (codes : List ℕ) (byte n : ℕ) (p : Phase) (rest : List ℕ)
     → p ≡ Connected rest → verdict chip codes (rest ++ byte ∷ []) ≡ Some Done

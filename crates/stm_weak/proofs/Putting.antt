@@ -16,9 +16,8 @@ use Rattle.stm_wire.specs.Refused.{IsRefusedRead, at_code, at_address, at_count}
 use Rattle.stm_session.specs.Order.{page_address}
 use Rattle.stm_session.specs.Reaching.{place_of_bytes}
 use Rattle.stm_weak.specs.Weak.{NoneIs}
-use Rattle.stm_weak.specs.Believed.{MayPutBelieving}
-use Rattle.stm_weak.specs.Believed.{asks as put_asks, names as put_names, confirms, refused, reads}
-use Rattle.stm_weak.specs.Believed.{erases as put_erases, writes as put_writes}
+use Rattle.stm_weak.specs.Believed.{MayPutBelieving, asks as put_asks, names as put_names, confirms}
+use Rattle.stm_weak.specs.Believed.{refused, reads, erases as put_erases, writes as put_writes}
 use Rattle.stm_weak.specs.WeakDevice.{CanBe, WeakDevice}
 use Rattle.stm_weak.specs.WeakFrames.{BeginsOf, asks, erases, names, tells, writes}
 use Rattle.stm_weak.specs.WeakRuns.{Feed, WeakHappening, HasNoReset, IsUnread, Reset, Take, WeakBefall}

@@ -1,8 +1,7 @@
 -- Frames by which a device is asked which board it is are calm.
 use Rattle.std.proofs.Common.{◌≡◌, ⊎_elim, ℕ, ◌+◌, ◌-◌, ◌/◌, ◌%◌, ◌<◌, ◌≤◌, Bool, true, false, ◌&&◌}
-use Rattle.std.proofs.Common.{◌||◌, ◌==◌, if◌then◌else◌, List, [], ◌∷◌, length}
-use Rattle.std.proofs.Common.{Option, Some, None, IsTrue, inr, refl, sym, ◌∙◌, ap₂, subst}
-use Rattle.std.proofs.Common.{arith, eq-eqb}
+use Rattle.std.proofs.Common.{◌||◌, ◌==◌, if◌then◌else◌, List, [], ◌∷◌, length, Option, Some, None}
+use Rattle.std.proofs.Common.{IsTrue, inr, refl, sym, ◌∙◌, ap₂, subst, arith, eq-eqb}
 use Rattle.std.proofs.lemmas.Bool.{and_parts, eqb-true, false≢true, leb-true, or_cases}
 use Rattle.stm_wire.specs.declared.places.UniquePlace.{UniquePlace}
 use Rattle.stm_wire.specs.declared.verdict.Verdict.{Verdict}
@@ -10,8 +9,7 @@ use Rattle.stm_wire.specs.declared.verdict.Verdict.TheVariants.{Refused}
 use Rattle.stm_wire.specs.Chip.{ChipData, IsChip, fits_inside, flash_size, is_outside}
 use Rattle.stm_wire.specs.Chip.{is_size_place, is_unique_place}
 use Rattle.stm_wire.specs.Device.{Device, IsDevice}
-use Rattle.stm_wire.specs.Exchange.{after_address, at_end, is_listed, read_verdict}
-use Rattle.stm_wire.specs.Exchange.{xor}
+use Rattle.stm_wire.specs.Exchange.{after_address, at_end, is_listed, read_verdict, xor}
 use Rattle.stm_wire.specs.Frames.{address_bytes, with_checksum}
 use Rattle.stm_wire.specs.Refused.{read_head}
 use Rattle.stm_wire.specs.Telling.{asks_size, asks_unique, can_read, has_size, has_unique}

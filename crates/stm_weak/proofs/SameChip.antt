@@ -1,8 +1,8 @@
 -- The chip is the same all along.
 use Rattle.std.proofs.Common.{Bool, true, false, ◌==◌, if◌then◌else◌, ◌≡◌, ℕ, List, [], ◌∷◌, ◌++◌}
-use Rattle.std.proofs.Common.{Option, Some, None, ◌∙◌, ap}
+use Rattle.std.proofs.Common.{Option, Some, ◌∙◌, ap}
 use Rattle.stm_wire.specs.declared.verdict.Verdict.{Verdict}
-use Rattle.stm_wire.specs.declared.verdict.Verdict.TheVariants.{Done, Refused, Loose}
+use Rattle.stm_wire.specs.declared.verdict.Verdict.TheVariants.{Done, Loose}
 use Rattle.stm_wire.specs.Device.{Device, Phase, Fresh, Connected, Gone, Receives, Takes}
 use Rattle.stm_wire.specs.Exchange.{verdict}
 use Rattle.stm_wire.specs.Reply.{ack}
@@ -11,10 +11,9 @@ use Rattle.stm_weak.specs.WeakRuns.{Feed, Reset, Take, WeakBefall, WeakHappening
 
 chip_taken : (old new : Device) (bytes : List ℕ) (v : Option Verdict) → Takes old bytes v new
     → new.chip ≡ old.chip
-chip_taken old new bytes None e = ap (λ (d : Device). d.chip) e
-chip_taken old new bytes (Some Refused) e = ap (λ (d : Device). d.chip) e
 chip_taken old new bytes (Some Done) (flash, effect, e) = ap (λ (d : Device). d.chip) e
 chip_taken old new bytes (Some Loose) l = l.chip
+chip_taken old new bytes v e = ap (λ (d : Device). d.chip) e
 
 chip_received : (byte : ℕ) (old new : Device) (phase : Phase) → Receives old phase byte new
     → new.chip ≡ old.chip

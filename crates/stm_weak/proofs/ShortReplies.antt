@@ -1,16 +1,14 @@
 -- A byte that repeats the one before it is answered by one byte at most, and by NACK where it is
 -- refused.
-use Rattle.std.proofs.Common.{◌≡◌, ◌⊎◌, inl, inr, ⊎_elim, ℕ, Bool, true, false}
-use Rattle.std.proofs.Common.{◌&&◌, ◌||◌, ◌==◌, if◌then◌else◌, List, [], ◌∷◌, ◌++◌, length, get_or}
-use Rattle.std.proofs.Common.{Option, Some, None, refl, sym, ◌∙◌, ap, subst, arith}
-use Rattle.std.proofs.Common.{append_assoc, length-append}
+use Rattle.std.proofs.Common.{◌≡◌, ◌⊎◌, inl, inr, ⊎_elim, ℕ, Bool, true, false, ◌&&◌, ◌||◌, ◌==◌}
+use Rattle.std.proofs.Common.{if◌then◌else◌, List, [], ◌∷◌, ◌++◌, length, get_or, Option, Some}
+use Rattle.std.proofs.Common.{None, refl, sym, ◌∙◌, ap, subst, arith, append_assoc, length-append}
 use Rattle.std.proofs.lemmas.Bool.{eqb-true}
 use Rattle.std.proofs.lemmas.List.{get_or-append_right}
 use Rattle.stm_wire.specs.declared.verdict.Verdict.{Verdict}
 use Rattle.stm_wire.specs.declared.verdict.Verdict.TheVariants.{Done, Refused, Loose}
 use Rattle.stm_wire.specs.Chip.{ChipData}
-use Rattle.stm_wire.specs.Device.{Device, Phase, Fresh, Connected, Gone, Receives, Takes}
-use Rattle.stm_wire.specs.Device.{reply_of}
+use Rattle.stm_wire.specs.Device.{Device, Phase, Fresh, Connected, Gone, Receives, Takes, reply_of}
 use Rattle.stm_wire.specs.Exchange.{at_end, command_verdict, complement, is_listed, verdict}
 use Rattle.stm_wire.specs.Reply.{ack, answer, commands_answer, id_answer, nack, read_answer}
 use Rattle.stm_wire.specs.Reply.{reply_to, step_reply}
@@ -31,19 +29,13 @@ OwesLittle d = (d.owed ≡ [])
     ⊎ ((x : ℕ) × (d.owed ≡ x ∷ []) × (x ≡ nack → d.phase ≡ Connected []))
 
 step_short : (bytes : List ℕ) → (step_reply bytes ≡ []) ⊎ (step_reply bytes ≡ ack ∷ [])
-step_short [] = inl refl
-step_short (code ∷ []) = inl refl
 step_short (code ∷ check ∷ []) = inr refl
-step_short (code ∷ check ∷ a ∷ []) = inl refl
-step_short (code ∷ check ∷ a ∷ b ∷ []) = inl refl
-step_short (code ∷ check ∷ a ∷ b ∷ c ∷ []) = inl refl
-step_short (code ∷ check ∷ a ∷ b ∷ c ∷ d ∷ []) = inl refl
 step_short (code ∷ check ∷ a ∷ b ∷ c ∷ d ∷ x ∷ []) = by (code == 0x11 || code == 0x31)
   where
     by : (t : Bool) → ((if t then ack ∷ [] else []) ≡ []) ⊎ ((if t then ack ∷ [] else []) ≡ ack ∷ [])
     by true = inr refl
     by false = inl refl
-step_short (code ∷ check ∷ a ∷ b ∷ c ∷ d ∷ x ∷ y ∷ more) = inl refl
+step_short bytes = inl refl
 
 -- A list that ends in one byte twice has no answer behind its ACK.
 
@@ -61,11 +53,6 @@ module _ (chip : ChipData) (byte : ℕ) where
 
   read_undone : (tail before : List ℕ) → tail ≡ before ++ byte ∷ byte ∷ []
       → command_verdict chip 0x11 tail ≡ Some Done → ⊥
-  read_undone [] before e done = no_verdict Done done
-  read_undone (a ∷ []) before e done = no_verdict Done done
-  read_undone (a ∷ b ∷ []) before e done = no_verdict Done done
-  read_undone (a ∷ b ∷ c ∷ []) before e done = no_verdict Done done
-  read_undone (a ∷ b ∷ c ∷ d ∷ []) before e done = no_verdict Done done
   read_undone (a ∷ b ∷ c ∷ d ∷ check ∷ []) before e done = five_open chip a b c d check done
   read_undone (a ∷ b ∷ c ∷ d ∷ check ∷ n ∷ []) before e done =
       six_open chip a b c d check n done
@@ -74,6 +61,7 @@ module _ (chip : ChipData) (byte : ℕ) where
       let size : length (a ∷ b ∷ c ∷ d ∷ check ∷ n ∷ last ∷ rest) ≡ 7 =
       ap (λ (xs : List ℕ). length (a ∷ b ∷ c ∷ d ∷ check ∷ n ∷ last ∷ xs)) is.1 in
       unlike n (twin_at before (a ∷ b ∷ c ∷ d ∷ check ∷ n ∷ last ∷ rest) e size ∙ is.0)
+  read_undone tail before e done = no_verdict Done done
 
   -- something comes behind a code and its complement
   some_tail : (before : List ℕ) → before ++ byte ∷ byte ∷ [] ≡ [] → ⊥

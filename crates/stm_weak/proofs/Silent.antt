@@ -1,8 +1,6 @@
 -- Frames of which no byte completes a read.
-use Rattle.std.proofs.Common.{◌≡◌, ℕ, ◌+◌, ◌-◌}
-use Rattle.std.proofs.Common.{List, [], ◌∷◌}
-use Rattle.std.proofs.Common.{◌++◌, length, refl, sym}
-use Rattle.std.proofs.Common.{subst, arith, length-append}
+use Rattle.std.proofs.Common.{◌≡◌, ℕ, ◌+◌, ◌-◌, List, [], ◌∷◌, ◌++◌, length, refl, sym, subst}
+use Rattle.std.proofs.Common.{arith, length-append}
 use Rattle.stm_wire.specs.declared.chip.EraseKind.{EraseKind}
 use Rattle.stm_wire.specs.declared.chip.EraseKind.TheVariants.{Page, Extended}
 use Rattle.stm_wire.specs.Exchange.{xor}
@@ -10,8 +8,7 @@ use Rattle.stm_wire.specs.Frames.{command, erase_frame, write_frame}
 use Rattle.stm_wire.specs.Device.{Device, IsDevice}
 use Rattle.stm_weak.specs.WeakFrames.{ReadsNoFlash, asks, erases, names, tells, writes}
 use Rattle.stm_weak.specs.WeakFrames.{FramesAreUnread}
-use Rattle.stm_weak.proofs.Unread.{IsNoRead, IsSilentAlong, has_at_first}
-use Rattle.stm_weak.proofs.Unread.{silent_along, unread_from}
+use Rattle.stm_weak.proofs.Unread.{IsNoRead, IsSilentAlong, has_at_first, silent_along, unread_from}
 use Rattle.stm_weak.proofs.Openness.{inside_if_fits, open_erase, open_write}
 use Rattle.stm_weak.proofs.UniqueReads.{outside, silent_read}
 

@@ -1,7 +1,6 @@
 -- The events of a history at a device with weak pages, and at an ordinary one beside it.
-use Rattle.std.proofs.Common.{⊎_elim, ◌≡◌, inl, inr, ℕ, ◌<◌, Bool}
-use Rattle.std.proofs.Common.{IsTrue, List, [], ◌∷◌, ◌++◌, Option, refl, sym, ◌∙◌, ap}
-use Rattle.std.proofs.Common.{subst, append_assoc}
+use Rattle.std.proofs.Common.{⊎_elim, ◌≡◌, inl, inr, ℕ, ◌<◌, Bool, IsTrue, List, [], ◌∷◌, ◌++◌}
+use Rattle.std.proofs.Common.{Option, refl, sym, ◌∙◌, ap, subst, append_assoc}
 use Rattle.stm_wire.specs.declared.chip.EraseKind.{EraseKind}
 use Rattle.stm_wire.specs.declared.chip.EraseKind.TheVariants.{Page, Extended}
 use Rattle.stm_wire.specs.declared.intent.Intent.{Intent}

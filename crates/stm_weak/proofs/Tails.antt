@@ -17,8 +17,7 @@ use Rattle.stm_wire.specs.Frames.{address_bytes, with_checksum}
 use Rattle.stm_wire.specs.Telling.{can_read, is_readable}
 use Rattle.stm_weak.specs.WeakDevice.{IsInRead}
 use Rattle.stm_weak.proofs.Openness.{same_number}
-use Rattle.stm_weak.proofs.Calm.{IsCalmTail, at_end_is, no_verdict}
-use Rattle.stm_weak.proofs.Calm.{refused_not_done}
+use Rattle.stm_weak.proofs.Calm.{IsCalmTail, at_end_is, no_verdict, refused_not_done}
 use Rattle.stm_weak.proofs.Calm.{refused_not_loose, done_not_loose, same_verdict, tested_done}
 use Rattle.stm_weak.proofs.Calm.{tested_not_loose, unlike}
 
@@ -30,11 +29,6 @@ end_not_loose v rest f e = f (at_end_is v Loose rest e)
 address_not_loose : (takes : ℕ → Bool) (next : ℕ → List ℕ → Option Verdict) (tail : List ℕ)
     → ((address : ℕ) (rest : List ℕ) → next address rest ≡ Some Loose → ⊥)
     → after_address takes next tail ≡ Some Loose → ⊥
-address_not_loose takes next [] f e = no_verdict Loose e
-address_not_loose takes next (a ∷ []) f e = no_verdict Loose e
-address_not_loose takes next (a ∷ b ∷ []) f e = no_verdict Loose e
-address_not_loose takes next (a ∷ b ∷ c ∷ []) f e = no_verdict Loose e
-address_not_loose takes next (a ∷ b ∷ c ∷ d ∷ []) f e = no_verdict Loose e
 address_not_loose takes next (a ∷ b ∷ c ∷ d ∷ check ∷ rest) f e =
     by (check == xor (a ∷ b ∷ c ∷ d ∷ []) && takes (number_of a b c d)) e
   where
@@ -42,14 +36,14 @@ address_not_loose takes next (a ∷ b ∷ c ∷ d ∷ check ∷ rest) f e =
         → (if t then next (number_of a b c d) rest else at_end Refused rest) ≡ Some Loose → ⊥
     by true e = f (number_of a b c d) rest e
     by false e = end_not_loose Refused rest refused_not_loose e
+address_not_loose takes next tail f e = no_verdict Loose e
 
 read_not_loose : (chip : ChipData) (address : ℕ) (rest : List ℕ)
     → read_verdict chip address rest ≡ Some Loose → ⊥
-read_not_loose chip address [] e = no_verdict Loose e
-read_not_loose chip address (n ∷ []) e = no_verdict Loose e
 read_not_loose chip address (n ∷ check ∷ rest) e =
     end_not_loose (done_if (check == complement n && can_read chip address (n + 1))) rest
     (tested_not_loose (check == complement n && can_read chip address (n + 1))) e
+read_not_loose chip address rest e = no_verdict Loose e
 
 -- a test, or nothing yet
 maybe_not_loose : (here t : Bool) → (if here then Some (done_if t) else None) ≡ Some Loose → ⊥
@@ -203,15 +197,10 @@ five_open chip a b c d check e =
 twin_read : (chip : ChipData) (tail : List ℕ) (place : ℕ)
     → (7 ≤ length tail → get_or tail 5 0 ≡ get_or tail 6 0)
     → command_verdict chip 0x11 tail ≡ Some Done → IsInRead chip tail place → ⊥
-twin_read chip [] place same e r = r
-twin_read chip (a ∷ []) place same e r = r
-twin_read chip (a ∷ b ∷ []) place same e r = r
-twin_read chip (a ∷ b ∷ c ∷ []) place same e r = r
-twin_read chip (a ∷ b ∷ c ∷ d ∷ []) place same e r = r
-twin_read chip (a ∷ b ∷ c ∷ d ∷ check ∷ []) place same e r = r
 twin_read chip (a ∷ b ∷ c ∷ d ∷ check ∷ n ∷ []) place same e r = six_open chip a b c d check n e
 twin_read chip (a ∷ b ∷ c ∷ d ∷ check ∷ n ∷ last ∷ rest) place same e r =
     unlike n (same (omega arith) ∙ (in_read_done chip a b c d check n last rest e).0)
+twin_read chip tail place same e r = r
 
 reading_not_loose : (chip : ChipData) (tail : List ℕ)
     → command_verdict chip 0x11 tail ≡ Some Loose → ⊥

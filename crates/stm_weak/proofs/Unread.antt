@@ -6,7 +6,7 @@ use Rattle.stm_wire.specs.declared.verdict.Verdict.TheVariants.{Done, Refused}
 use Rattle.stm_wire.specs.Chip.{ChipData, flash_size}
 use Rattle.stm_wire.specs.Exchange.{verdict}
 use Rattle.stm_wire.specs.lemmas.PageLaws.{page_within}
-use Rattle.stm_wire.specs.Device.{Device, Phase, Fresh, Connected, Gone, Receives, Takes}
+use Rattle.stm_wire.specs.Device.{Device, Phase, Connected, Receives, Takes}
 use Rattle.stm_weak.specs.WeakDevice.{CanBe, IsWeakAt, ReadsPlace, ReadsWeak, WeakDevice, WeakFeeds}
 use Rattle.stm_weak.specs.WeakRuns.{Feed, WeakHappening, HasNoReset, IsNow, IsUnread, Reset, Take}
 use Rattle.stm_weak.specs.WeakRuns.{WeakBefall, fed_bytes}
@@ -53,9 +53,8 @@ HasBefore chip codes done [] w = Unit {0}
 HasBefore chip codes done (byte ∷ more) w = Has chip codes done w
 
 rest_of : Phase → List ℕ
-rest_of Fresh = []
 rest_of (Connected rest) = rest
-rest_of Gone = []
+rest_of x = []
 
 same_rest : (a b : List ℕ) → Connected a ≡ Connected b → a ≡ b
 unfolding rest_of

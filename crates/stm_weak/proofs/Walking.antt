@@ -69,15 +69,6 @@ goes_front chip both W o (Adds entries ∷ xs) ys (first, p) =
 goes_front chip both W o (Sends turns ∷ xs) ys (first, p) =
     (first, goes_front chip both (weak_after chip W (does (Sends turns))) o xs ys p)
 
-pub undoes_newest : (chip : ChipData) (both : Bool) (W : ℕ → Type 0) (o : Option Intent)
-    (xs ys : List Step) → Goes chip both W o (xs ++ ys)
-    → Goes chip both (λ n. past chip W xs n) (intended o xs) ys
-undoes_newest chip both W o [] ys p = p
-undoes_newest chip both W o (Adds entries ∷ xs) ys (first, p) =
-    undoes_newest chip both W (intent_with_lines o entries) xs ys p
-undoes_newest chip both W o (Sends turns ∷ xs) ys (first, p) =
-    undoes_newest chip both (weak_after chip W (does (Sends turns))) o xs ys p
-
 pub goes_as : (chip : ChipData) (both : Bool) (W : ℕ → Type 0) (o : Option Intent)
     (xs ys : List Step) → ys ≡ xs → Goes chip both W o xs → Goes chip both W o ys
 goes_as chip both W o xs ys is p =

@@ -14,8 +14,7 @@ use Rattle.stm_weak.specs.FedAsking.{FedQuestions, IsAskedAlone}
 use Rattle.stm_weak.specs.FedEvents.{FedEvents}
 use Rattle.stm_weak.specs.FedHistory.{FedAs, FedDeeds, FedKind, as_told, asked_at_most, fed_kind}
 use Rattle.stm_weak.specs.FedHistory.{settled_and_asked}
-use Rattle.stm_weak.specs.History.{AllFind, WeakDeed, events_in, undid}
-use Rattle.stm_weak.specs.History.{ran, undid_verified}
+use Rattle.stm_weak.specs.History.{AllFind, WeakDeed, events_in, undid, ran, undid_verified}
 use Rattle.stm_weak.specs.WeakDevice.{CanBe, NoneIsWeak, WeakDevice}
 use Rattle.stm_weak.specs.WeakRuns.{IsUnread}
 

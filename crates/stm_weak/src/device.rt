@@ -1,6 +1,5 @@
 //! Laws of a device with weak pages: each is the contract of a function that does nothing.
-ghost use Rattle.stm_weak.specs.WeakLaws.{FedAsOrdinary, LedAsOrdinary, OneIsLeft};
-ghost use Rattle.stm_weak.specs.WeakLaws.{SoundIsOrdinary};
+ghost use Rattle.stm_weak.specs.WeakLaws.{FedAsOrdinary, LedAsOrdinary, OneIsLeft, SoundIsOrdinary};
 ghost use Rattle.stm_weak.specs.WeakBelieved.{MayPutIsUnread};
 ghost use Rattle.stm_weak.specs.WeakFrames.{FramesAreUnread, FreshSettlingIsUnread};
 ghost use Rattle.stm_weak.specs.WeakMeaning.{EraseHeals, ReadsAnything};

@@ -1,7 +1,6 @@
 -- Worked rows, of a chip with two pages of 256 bytes, of which the second is weak.
-use Rattle.std.proofs.Common.{◌≡◌, ℕ, ◌≤◌, ◌<◌, Bool, ◌==◌, List, [], ◌∷◌, replicate, refl}
-use Rattle.std.proofs.Common.{zero, suc, get_or}
-use Rattle.std.proofs.Common.{subst, arith}
+use Rattle.std.proofs.Common.{◌≡◌, ℕ, ◌≤◌, ◌<◌, Bool, ◌==◌, List, [], ◌∷◌, replicate, refl, zero}
+use Rattle.std.proofs.Common.{suc, get_or, subst, arith}
 use Rattle.std.proofs.lemmas.Bool.{eqb-true}
 use Rattle.stm_wire.specs.declared.chip.EraseKind.TheVariants.{Page}
 use Rattle.stm_wire.specs.Chip.{ChipData, chip_of, page_offset}
