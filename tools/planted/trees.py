@@ -102,8 +102,9 @@ def call(words, folder, program, limit, given=()):
     with tempfile.TemporaryDirectory(prefix="planted-") as room:
         # a package that is tried needn't be small
         variables = {**os.environ, "STMFLASH": program, "STMFLASH_PATIENCE": PATIENCE, "TMPDIR": room, "DPKG_DEB_COMPRESSOR_TYPE": "none", **dict(given)}
+        # in the session of the call: Linux shares processors out by sessions first, and by priorities within each
         ran = subprocess.Popen(words, cwd=folder, env=variables, stdin=subprocess.DEVNULL, stdout=subprocess.PIPE, stderr=subprocess.STDOUT,
-                               text=True, errors="replace", start_new_session=True)
+                               text=True, errors="replace", process_group=0)
         try:
             said, _ = ran.communicate(timeout=limit)
             return said, ran.returncode
