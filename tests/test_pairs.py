@@ -66,7 +66,7 @@ class Pairs(Served):
     def flags(self, name):
         """The flags of a subcommand, as its help names them, and the one that it leaves out."""
         found = re.findall(r"^ +(-\w|--[\w-]+)(?=[ ,])", self.call(name, "--help").out.decode(), re.M)
-        self.assertIn("--journal", found)
+        self.assertIn("-h", found)
         return [it for it in found if it != "-h"] + ["--fresh", "a socket"] * ("--device" in found)
 
     def came(self, name, *flags, by=None):
