@@ -81,12 +81,7 @@ fn read_placed<'a, R: Files + AllocGlobal>(
 {
     let mut images = Vec::new(rt.alloc());
     for file in files {
-        let content = match read_content(rt, file) {
-            Err(Failure::Hex(why)) => return Err(Failure::HexIn(file.name, why)),
-            Err(Failure::Raw(why)) => return Err(Failure::RawIn(file.name, why)),
-            Err(Failure::NotRaw(what)) => return Err(Failure::NotRawIn(file.name, what)),
-            read => read?,
-        };
+        let content = read_content(rt, file)?;
         images.push(content.among(rt.alloc(), table, file.name)?)?;
     }
     Ok(images)

@@ -37,15 +37,6 @@ pub enum Failure<'a> {
     /// The file of an image is no raw image, by how it begins.
     #[error("image is not raw: {0}")]
     NotRaw(Foreign),
-    /// The HEX text of one of several images is refused.
-    #[error("{1}, in {0}")]
-    HexIn(&'a str, HexFault),
-    /// The raw bytes of one of several images are refused.
-    #[error("{1}, in {0}")]
-    RawIn(&'a str, RawFault),
-    /// The file of one of several images is no raw image.
-    #[error("image {0} is not raw: {1}")]
-    NotRawIn(&'a str, Foreign),
     /// Two images have another byte at an address.
     #[error("images {0} and {1} differ at {2:08X}")]
     ImagesDiffer(&'a str, &'a str, u32),

@@ -13,9 +13,9 @@ impl Failure<'_> {
         match self {
             Failure::Session(fault) => name_of(*fault),
             Failure::Table(_) | Failure::StandingTable(..) => "bad_table",
-            Failure::Hex(_) | Failure::HexIn(..) => "bad_hex",
-            Failure::Raw(_) | Failure::RawIn(..) => "bad_raw",
-            Failure::NotRaw(_) | Failure::NotRawIn(..) => "not_raw",
+            Failure::Hex(_) => "bad_hex",
+            Failure::Raw(_) => "bad_raw",
+            Failure::NotRaw(_) => "not_raw",
             Failure::ImagesDiffer(..) => "images_differ",
             Failure::Memory => "out_of_memory",
             Failure::CannotRead(_) | Failure::CannotReadLine(_) | Failure::CannotReadBoard(_) =>
