@@ -80,6 +80,12 @@ class Commands(LinePlace):
         self.assertTrue(path.startswith(self.path("temporary/")), path)
         self.assertEqual(rest, f"is {path}{path}. {path} 660 700 none\n")
 
+    def test_a_line_that_begins_keeps_its_folder(self):
+        """It has no socket of the name yet by which another knows one that was left."""
+        os.mkdir(self.path("temporary/stmflash-line-0"))
+        self.assertSilent(self.line("ttyUSB0", "--", "true"))
+        os.rmdir(self.path("temporary/stmflash-line-0"))
+
     def test_a_command_that_is_not_there(self):
         self.assertLineFault(self.line("ttyUSB0", "--", "no-such-program"), "no-such-program: no such command", 127)
         self.store("bad", b"\x7fELF")

@@ -31,7 +31,7 @@ class Lines(LinePlace):
 
     def by_stand_in(self, path=os.environ["PATH"]):
         """The variables that have it first in PATH."""
-        return {"PATH": FOLDER + ":" + path, "GPIO_VERSION": self.version, "GPIO_PLACE": self.path("lines")}
+        return {"PATH": FOLDER + ":" + path, "GPIO_VERSION": self.version, "GPIO_PLACE": self.path("lines"), "LC_ALL": "POSIX"}
 
     def moves(self, name="lines/moves"):
         """What came to the lines, and when."""
@@ -219,16 +219,6 @@ class BesideSignals(Lines, WiredPlace):
         self.assertEqual(self.calls()[0], ["RTS inactive", "RTS active"])
         self.assertTrue(self.held("during").endswith(b" 18=1\n"))
         self.assertEqual(self.moves()[0], ["18=1", "18 free", "18=0", "18 free"])
-
-
-class Sessions(GpioPlace):
-    def port(self):
-        self.made = self.board()
-
-    def test_a_board_that_was_reset(self):
-        """The word --resets says it of lines too, and the session goes through."""
-        self.assertEqual(self.made.store(), ERASED)
-        self.assertInfo(self.line("ttyUSB0", "--boot", BOOT, "--resets", "--", *self.stmflash("info")))
 
 
 class InWords(Lines, Words):

@@ -125,6 +125,17 @@ class Journals(Unnamed):
         said = asking.ask(words, "none", lambda begin: begin(self.settings()).wait())
         self.assertEqual(said, (0, " ".join(["info --raw --json --quiet --journal none", *of_line])))
 
+    def test_the_question_has_what_its_command_may_not(self):
+        """That the board was reset, which is for the first session alone; and the wait of the port, where an undo has none."""
+        self.plain()
+        os.remove(self.path("bin/stmflash"))
+        self.store("bin/stmflash", b'#!/bin/sh\necho "$STMFLASH_FRESH,$STMFLASH_WAIT,$*" >> called\n[ $1 != info ] || echo "{}"\n')
+        os.chmod(self.path("bin/stmflash"), 0o755)
+        for words, fresh in (("undo", ""), ("undo --fresh", ""), ("erase", "1")):
+            self.short("ttyUSB0", "--boot", ",", "--resets", *words.split(), STMFLASH_WAIT="", STMFLASH_FRESH=fresh)
+        self.assertEqual(re.sub("info.*none", "info", self.held("called").decode()).split("\n"), [
+            ",500,info", ",,undo", ",500,info --fresh", ",,undo", "1,500,info", ",500,erase", ""])
+
     def test_xdg_says_where(self):
         self.telling()
         path = self.path(f"own/stmflash/journals/{BOARD}.journal")

@@ -265,16 +265,6 @@ class Clients(LinePlace):
         started.stdin = None
         self.ended(started)
 
-    def test_what_a_client_sent_that_was_never_taken_goes_out(self):
-        """It was gone before the one that had the line."""
-        master = self.plain()
-        script = "import os, socket, sys; a, b = socket.socket(socket.AF_UNIX), socket.socket(socket.AF_UNIX); " \
-                 "a.connect(sys.argv[1]); b.connect(sys.argv[1]); print(os.getpid(), flush=True); b.sendall(b'second'); b.close(); " \
-                 "a.sendall(b'first' * 20000)"
-        started = self.start_and_wait("python3", "-c", script, "{}")
-        self.assertEqual(self.read_from(master, 100006), b"first" * 20000 + b"second")
-        self.assertSilent(self.ended(started))
-
     def test_a_signal_ends_a_wait_for_the_port(self):
         """A port that takes nothing, and a client that has gone."""
         self.plain()

@@ -126,13 +126,6 @@ class Words(WiredPlace):
         self.assertSilent(self.play("--wiring", EXAMPLE, "--after", "rts", "--", "true"))
         self.assertEqual(self.calls()[0], ENTRY + ["RTS active"])
 
-    def test_bad_words(self):
-        for words in (("--resets",), ("--wiring", EXAMPLE, "--resets"), ("--wiring", EXAMPLE, "--boot", "dtr"),
-                      ("--wiring", "rts-boot0"), ("--wiring", ""), ("--wiring",)):
-            with self.subTest(words=words):
-                self.assertBadWords(self.play(*words, "--", "true"))
-                self.assertEqual(self.calls()[0], [])
-
 
 def calls_of(text):
     """The calls of the stand-in port at a sequence."""

@@ -3,16 +3,13 @@
 import os
 import re
 import shlex
-import shutil
 import signal
-import subprocess
 import time
 
 from boards import LinePlace, end_with
 from place import PATIENCE, TOP, WAIT, Place, text_in
 
 UNIT = os.path.join(TOP, "packaging", "stmflash-line@.service")
-RULES = os.path.join(TOP, "packaging", "70-stmflash.rules")
 
 
 class Idle(LinePlace):
@@ -92,27 +89,13 @@ CONFINING = "PrivateUsers ProtectHome PrivateTmp ProtectClock ProtectControlGrou
 
 class Confinement(Place):
     def test_the_unit_is_confined(self):
-        """A user of its own, no capability, one port; systemd reckons its exposure at 2.0 of 10 at the most."""
+        """A user of its own, no capability, one port. How exposed that is packaging/try-deb looks at."""
         lines = text_in(UNIT).splitlines()
         for line in ("DynamicUser=yes", "Group=dialout", "CapabilityBoundingSet=", "NoNewPrivileges=yes", "ProtectSystem=strict",
                      "DevicePolicy=closed", "DeviceAllow=/dev/%I rw", "SystemCallFilter=@system-service",
                      "RestrictAddressFamilies=AF_UNIX", "ProtectProc=invisible", "ProcSubset=pid", "IPAddressDeny=any", "UMask=0077",
                      "SystemCallArchitectures=native", "SystemCallFilter=~@privileged @resources", "Restart=on-failure", "RestartSec=1",
-                     "Documentation=man:stmflash-line(1)", *(f"{name}=yes" for name in CONFINING.split())):
+                     "Documentation=man:stmflash-line(1)", "RuntimeDirectoryMode=0750", *(f"{name}=yes" for name in CONFINING.split()),
+                     *(f"{name}=dev-%i.device" for name in ("BindsTo", "After", "WantedBy"))):
             self.assertIn(line, lines)
         self.assertFalse([line for line in lines if line.startswith(("User=", "AmbientCapabilities=", "PermissionsStartOnly="))])
-        tool = shutil.which("systemd-analyze")
-        if tool is None:
-            self.skipTest("systemd-analyze is not installed")
-        unit = self.path("stmflash-line@ttyUSB0.service")
-        shutil.copy(UNIT, unit)
-        ran = subprocess.run([tool, "security", "--offline=true", "--threshold=20", unit], capture_output=True, text=True, timeout=PATIENCE)
-        self.assertEqual(ran.returncode, 0, ran.stdout[-300:] + ran.stderr)
-
-    def test_the_rule_is_for_tagged_adapters_alone(self):
-        rules = [line for line in text_in(RULES).splitlines() if line and not line.startswith("#")]
-        self.assertEqual(len(rules), 2)
-        for rule in rules:
-            self.assertEqual(rule.split(", ")[:3], ['ACTION!="remove"', 'SUBSYSTEM=="tty"', 'TAG=="stmflash"'])
-        # one port is hidden from ModemManager, and no device with all that it has
-        self.assertNotIn("ID_MM_DEVICE_IGNORE", "".join(rules))

@@ -9,9 +9,11 @@ import re
 import sys
 import time
 import unittest
+from unittest import mock
 
 from boards import LinePlace
 from place import COUNTING, TOP, Said
+from stmflash_line import chips
 from stmflash_line.watch import Watch
 
 import pty_boards
@@ -145,10 +147,11 @@ class Bytes(unittest.TestCase):
         self.talk("11 EE", "79", place, "79", f"{count - 1:02X} {256 - count:02X}", *([f"79 {told}"] if told else []))
 
     def test_where_a_board_tells_which_it_is(self):
-        """Outside the flash: what is told first may be anything, and is the same from then on, also behind other questions."""
+        """Outside the flash: what is told first may be anything, and is the same from then on, also behind what is left open."""
         self.learn_with_places()
         for place, told in ((UNIQUE, HERE), (SIZE, "40 00")):
             self.ask(place, len(bytes.fromhex(told)), told)
+            self.host("63 9C")
             self.learn()
             self.ask(place, len(bytes.fromhex(told)), told)
         self.ask(UNIQUE, 12)
@@ -313,6 +316,9 @@ class Boards(WatchedPlace):
                              "stmflash-trial tells more")
 
     def test_tables(self):
+        """The one that is named goes before those that are installed."""
+        with mock.patch.object(chips, "TABLES", [__file__]), mock.patch.dict(os.environ, STMFLASH_TABLE=self.path("table")):
+            self.assertEqual([chip["id"] for chip in chips.read_chips()], [0x440])
         self.plain()
         for text, told_of in ((None, "No such file or directory; --watch needs the chip table, which STMFLASH_TABLE names"),
                               (b"[[chip", "is no chip table; STMFLASH_TABLE names one"), (b"[[chip]]\nid = 1\n", "is no chip table; STMFLASH_TABLE names one")):

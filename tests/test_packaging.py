@@ -60,36 +60,31 @@ class Packaging(unittest.TestCase):
             self.assertEqual(self.refused(path, folder), f"packaging/deb: {path} isn't proved, and no package is made of it\n")
 
     def test_what_a_program_says_of_its_proof(self):
-        """A program that says that it is proved has no package of one that isn't, and one that says nothing has none."""
+        """One that says that it is proved has no package of one that isn't, and none has one that says nothing, or of another logic than the code names."""
         self.needs(readelf="binutils", gcc="gcc")
-        version = text_in("packaging", "changelog")[len("stmflash ("):].split("-")[0]
-        folder = self.folder()
-        path = os.path.join(folder, "one")
-        for said in (f"stmflash {version}, proved by rattle logic dac8208d650f15bf", f"stmflash {version}"):
-            self.make(path, said)
-            self.assertEqual(self.refused(path, folder, "--unproved"),
-                             f"packaging/deb: the program says `{said}`, and not `stmflash {version}, not proved`\n")
-
-    def test_a_proof_in_another_logic(self):
-        """A program into which the compiler wrote another logic than the code names has no package."""
-        self.needs(readelf="binutils", gcc="gcc")
-        folder = self.folder()
-        path = os.path.join(folder, "one")
-        for logic, fault in (("0123456789abcdef", "is proved in another logic than the code names"),
-                             ("dac8208d650f15bf3e2d", "the program says `stmflash`")):
-            self.make(path, "stmflash", f'__asm__(".ident \\"rattle logic={logic}\\"");\n')
-            self.assertIn(fault, self.refused(path, folder))
+        version, folder = text_in("packaging", "changelog")[len("stmflash ("):].split("-")[0], self.folder()
+        path, proved = os.path.join(folder, "one"), f"stmflash {version}, proved by rattle logic dac8208d650f15bf"
+        for said, logic, fault in ((proved, "", f"the program says `{proved}`, and not `stmflash {version}, not proved`"),
+                                   (f"stmflash {version}", "", f"the program says `stmflash {version}`, and not `stmflash {version}, not proved`"),
+                                   ("stmflash", "0123456789abcdef", f"{path} is proved in another logic than the code names"),
+                                   ("stmflash", "dac8208d650f15bf3e2d", f"the program says `stmflash`, and not `{proved}`")):
+            self.make(path, said, f'__asm__(".ident \\"rattle logic={logic}\\"");\n' if logic else "")
+            self.assertEqual(self.refused(path, folder, *["--unproved"] * (not logic)), f"packaging/deb: {fault}\n")
 
     def installed(self, *parts):
         """What `make install` leaves below a folder of ours, which is told as /opt/ours."""
         folder = self.folder()
         subprocess.run(["make", "--no-print-directory", "install", "PREFIX=/opt/ours", f"DESTDIR={folder}", f"BINARY={program()}"],
-                       cwd=TOP, check=True, capture_output=True, timeout=60)
+                       cwd=TOP, check=True, capture_output=True, timeout=60, umask=0o022)
         return os.path.join(folder, "opt", "ours", *parts)
 
     def test_what_is_installed_knows_where_it_is(self):
-        """Each program is on the path with its page and its completions, and says its words; the unit calls the one beside it."""
+        """Each program is on the path with its page and its completions, and says its words; the unit calls the one beside it. No link leads to
+        where it was packed, and only what is a program can be run."""
         top = self.installed()
+        for path in glob.glob(f"{top}/**", recursive=True):
+            wanted = 0o755 if os.path.isdir(path) or "/bin/" in path else 0o644
+            self.assertTrue(os.path.dirname(os.readlink(path)) == "" if os.path.islink(path) else os.stat(path).st_mode & 0o7777 == wanted, path)
         for name in ("stmflash", "stmflash-line", "stmflash-trial"):
             for path in (f"bin/{name}", f"share/man/man1/{name}.1", f"share/fish/vendor_completions.d/{name}.fish",
                          f"share/bash-completion/completions/{name}"):
@@ -105,27 +100,34 @@ class Packaging(unittest.TestCase):
         unit = os.path.join(top, "lib/systemd/system/stmflash-line@.service")
         self.assertEqual(settings(unit)["ExecStart"].split()[0], "/opt/ours/bin/stmflash-line")
 
-    def test_a_served_port_goes_with_its_adapter_and_is_for_its_group(self):
-        unit = settings(os.path.join(TOP, "packaging", "stmflash-line@.service"))
-        for name in ("BindsTo", "After", "WantedBy"):
-            self.assertEqual(unit[name], "dev-%i.device")
-        self.assertEqual((unit["RuntimeDirectoryMode"], unit["Group"]), ("0750", "dialout"))
-
     def test_a_tagged_adapter_is_nobody_elses(self):
         """ModemManager leaves it alone, whoever sits there may use it, and it is quick."""
         rules = [line for line in text_in("packaging", "70-stmflash.rules").splitlines(True) if not line.startswith("#")]
         for line in rules:
             self.assertTrue(line.startswith('ACTION!="remove", SUBSYSTEM=="tty", TAG=="stmflash", '), line)
+        self.assertEqual(len(rules), 2)
         done = "".join(rules)
         for part in ('ENV{ID_MM_PORT_IGNORE}="1"', 'TAG+="uaccess"', 'ATTR{device/latency_timer}="1"'):
             self.assertIn(part, done)
+        # one port is hidden from ModemManager, and no device with all that it has
+        self.assertNotIn("ID_MM_DEVICE_IGNORE", done)
+
+    def instead(self, room, does):
+        """The variables by which a script that calls dpkg-deb does this; `tree` is what is packed, and `last` the package."""
+        text = f'#!/bin/sh\nfor last; do [ ! -d "$last/DEBIAN" ] || tree=$last; done\n{does}\n'
+        subprocess.run(["install", "-m", "755", "/dev/stdin", f"{room}/dpkg-deb"], input=text, text=True, check=True)
+        return {**os.environ, "PATH": f"{room}:{os.environ['PATH']}"}
 
     def packed(self, *words):
-        """What a script packs, whoever calls it: the fields of its control file, and the folder of its files. Each has its sum, and may be read by all."""
+        """What a script packs, whoever calls it: the fields of its control file, and the folder of its files. Each has its sum, is root's, and may be
+        read by all."""
         self.needs(**{"dpkg-deb": "dpkg-dev"})
         room = self.folder()
+        others = self.instead(room, f'chown -R 1:1 "$tree" 2> /dev/null; exec {shutil.which("dpkg-deb")} "$@"')
         made = subprocess.run([os.path.join(TOP, "packaging", words[0]), *words[1:], room], capture_output=True, text=True, timeout=PATIENCE,
-                              check=True, umask=0o077).stdout.strip()
+                              check=True, umask=0o077, env=others).stdout.strip()
+        contents = subprocess.run(["dpkg-deb", "--contents", made], capture_output=True, text=True, check=True).stdout
+        self.assertEqual({line.split()[1] for line in contents.splitlines()}, {"root/root"})
         subprocess.run(["dpkg-deb", "--raw-extract", made, f"{room}/tree"], check=True)
         with open(f"{room}/tree/DEBIAN/control", encoding="utf-8") as file:
             fields = dict(line.rstrip("\n").split(": ", 1) for line in file if re.match(r"[\w-]+: ", line))
@@ -166,15 +168,17 @@ class Packaging(unittest.TestCase):
         self.assertTrue(os.access(f"{tree}/usr/bin/stm32flash", os.X_OK))
         self.assertEqual(os.listdir(f"{tree}/usr/share/man/man1"), ["stmflash-as-stm32flash.1.gz"])
 
-    def release(self, clone, folder, *programs):
-        ran = subprocess.run([os.path.join(clone, "packaging", "release"), folder, *programs], capture_output=True, text=True, timeout=60)
+    def release(self, clone, folder, *programs, env=None):
+        """As from the folder beside it, in another zone of time."""
+        ran = subprocess.run([os.path.join(clone, "packaging", "release"), os.path.basename(folder), *programs], cwd=os.path.dirname(folder),
+                             env={**(env or os.environ), "TZ": "Asia-9"}, capture_output=True, text=True, timeout=60)
         return ran.returncode, ran.stderr, ran.stdout
 
     def test_a_release(self):
         """It is made of what was committed and has a version, and its sums are those of its files."""
         self.needs(git="git", **{"dpkg-deb": "dpkg-dev"})
         with tempfile.TemporaryDirectory() as room:
-            clone, folder = os.path.join(room, "clone"), os.path.join(room, "release")
+            clone, folder = os.path.join(room, "clone"), os.path.join(room, "a release")
             shutil.copytree(TOP, clone, ignore=shutil.ignore_patterns("out", "bin", ".git", "crates", "__pycache__"))
             git = ["git", "-C", clone, "-c", "user.name=a", "-c", "user.email=a@example.org"]
             log = os.path.join(clone, "CHANGELOG.md")
@@ -186,7 +190,7 @@ class Packaging(unittest.TestCase):
                 with open(log, "w", encoding="utf-8") as file:
                     file.write(text)
                 for words in (["add", "--all"], ["commit", "--quiet", "--message", "one"]):
-                    subprocess.run([*git, *words], check=True)
+                    subprocess.run([*git, *words], check=True, env={**os.environ, "GIT_COMMITTER_DATE": "2026-01-02T20:04:06Z"})
 
             subprocess.run([*git, "init", "--quiet"], check=True, capture_output=True)
             commit(unreleased)
@@ -197,8 +201,10 @@ class Packaging(unittest.TestCase):
             self.assertEqual(self.release(clone, folder), (1, "packaging/release: there are changes that aren't committed\n", ""))
             self.assertFalse(os.path.exists(folder))
             os.remove(os.path.join(clone, "more"))
-            program = os.path.join(room, "one.exe")
-            for said in ("0.2.0, not proved", f"{released[released.index('## 0') + 3:].split()[0]}, proved by rattle logic dac8208d650f15bf"):
+            status, err, _ = self.release(clone, folder, env=self.instead(room, 'echo $$ > "$last"'))
+            self.assertRegex(f"{status} {err}", r"^1 packaging/release: \S+_all.deb isn't the same when it is made again\n$")
+            program, version = os.path.join(room, "one.exe"), released[released.index("## 0") + 3:].split()[0]
+            for said in ("0.2.0, not proved", f"{version}, proved by rattle logic dac8208d650f15bf"):
                 with open(program, "w", encoding="utf-8") as file:
                     file.write(f"MZ {said}")
                 status, err, out = self.release(clone, folder, program)
@@ -206,7 +212,8 @@ class Packaging(unittest.TestCase):
                     self.assertEqual((status, err), (1, f"packaging/zip: {program} isn't proved, and no zip is made of it\n"))
             self.assertEqual((status, err), (0, ""))
             with zipfile.ZipFile(os.path.join(folder, "stmflash-windows-x64.zip")) as made:
-                names = {os.path.basename(name): made.read(name) for name in made.namelist()}
+                names = {os.path.relpath(name, f"stmflash-{version}"): made.read(name) for name in made.namelist()}
+                self.assertEqual({it.date_time for it in made.infolist()}, {(2026, 1, 2, 20, 4, 6)})
             self.assertEqual(sorted(names), ["LICENSE", "WINDOWS.md", "chips.toml", "stmflash.exe"])
             self.assertTrue(names["WINDOWS.md"].startswith(b"## On Windows\n") and b"Nothing was run on Windows" in names["WINDOWS.md"])
             self.assertIn("./stmflash-windows-x64.zip\n", text_in(folder, "SHA256SUMS"))

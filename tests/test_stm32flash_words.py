@@ -191,6 +191,10 @@ class Refusals(Words):
         self.refused(b"no such port", mode=(), port="missing")
 
     def test_tools_that_arent_there(self):
+        """One that is beside goes before those of PATH."""
+        shutil.copy("/bin/true", self.path("stmflash"))
+        with mock.patch.dict(os.environ, PATH=self.path("bin")):
+            self.assertEqual(tools.find_program(self.folder, "stmflash"), self.path("stmflash"))
         os.remove(self.path("bin/stmflash"))
         self.fails(b"ERROR: stmflash isn't there, neither beside stm32flash nor in PATH, which has to name its folder\n", PATH="/nowhere:/usr/bin")
 
@@ -238,7 +242,7 @@ Wrote and verified address 0x080005dc (100.00%) Done.
         self.store_all({"image": bytes(range(200)), "at0.hex": b":0400000001020304F2\n:00000001FF\n",
                         "at500.hex": b":020000040800F2\n:0405000011121314AD\n:00000001FF\n"})
         held = bytearray(ERASED)
-        for words, at, data in [(("image", "-S", "0x08000800:100"), 2048, bytes(range(100))), (("at0.hex",), 0, b"\1\2\3\4"),
+        for words, at, data in [(("at0.hex", "-S", "0x08007ffc:100"), SIZE - 4, b"\1\2\3\4"), (("image", "-S", "0x08000800:100"), 2048, bytes(range(100))), (("at0.hex",), 0, b"\1\2\3\4"),
                                 (("at500.hex",), 0x500, b"\x11\x12\x13\x14"), (("at500.hex", "-S", "0x08001000:2"), 4096, b"\x11\x12"),
                                 (("at0.hex", "-f", "-S", "0x08001400"), 5120, self.held("at0.hex"))]:
             with self.subTest(words=words):
@@ -250,16 +254,13 @@ Wrote and verified address 0x080005dc (100.00%) Done.
         held[2052], held[2060] = 0x41, 0x42
         self.leaves(board, held, "-w", "/dev/stdin", "-S", "0x08000804", given=b":0100000041BE\n:0100080042B5\n:00000001FF\n")
 
-    def test_an_image_that_doesnt_fit_is_refused(self):
-        board = self.flash(COUNTING)
-        self.store("image", b"x" * (SIZE + 1))
-        self.refused(b"doesn't lie in the flash", words=("-w", "image"))
-        self.assertEqual(board.store(), COUNTING)
-
     def test_reads_and_the_crc(self):
         self.flash(COUNTING)
         self.well("-r", "out")
         self.assertFile("out", COUNTING)
+        # what is longer ends with the flash
+        self.well("-r", "out", "-S", "0x08007c00:4096")
+        self.assertFile("out", COUNTING[-1024:])
         # raw bytes, whatever the name is
         self.well("-r", "out.hex")
         self.assertFile("out.hex", COUNTING)
@@ -318,14 +319,6 @@ Wrote and verified address 0x080005dc (100.00%) Done.
         self.assertEqual(board.store(), COUNTING[:16384])
         self.leaves(board, ERASED[:16384], "-o")
         self.leaves(board, COUNTING[:16384], "--undo")
-
-    def test_what_another_chip_would_have(self):
-        """The table has a larger one: a program behind this one's flash isn't started, and a read ends with the flash."""
-        self.store("table", TABLE + TABLE.replace(b"412", b"410").replace(b"[32,", b"[64,"))
-        self.flash(COUNTING)
-        self.refused(b"ERROR: -g 0x08009000: not in the flash of this chip, which ends at 0x08008000\n", words=("-g", "0x08009000"))
-        self.well("-r", "out", "-S", "0x08007c00:4096")
-        self.assertFile("out", COUNTING[-1024:])
 
 
 class TakingBack(Words):
@@ -460,13 +453,14 @@ class TakingBack(Words):
         self.instead(f'echo "$STMFLASH_FRESH $*" >> {self.path("called")}')
         board = self.flash(COUNTING)
         for settings, claimed in (({}, False), ({"STM32FLASH_RESETS": "1"}, True)):
-            self.keep("journal", STOPPED.encode())
-            self.store("called", b"")
-            self.well("-o", "-s", "0", "-e", "1", "-i", "brk", STMFLASH_FRESH="1", **settings)
-            called = self.held("called").decode().splitlines()
-            self.assertEqual([line for line in called if not line.startswith(" ")], [])
-            self.assertEqual([line.split()[0] for line in called if "--fresh" in line], ["undo"] * claimed)
-            board = self.reset(board)
+            for words in (("-o", "-s", "0", "-e", "1"), ("--undo",)):
+                self.keep("journal", STOPPED.encode())
+                self.store("called", b"")
+                self.well(*words, "-i", "brk", STMFLASH_FRESH="1", **settings)
+                called = self.held("called").decode().splitlines()
+                self.assertEqual([line for line in called if not line.startswith(" ")], [])
+                self.assertEqual([line.split()[0] for line in called if "--fresh" in line], ["undo"] * claimed)
+                board = self.reset(board)
 
 
 class Boards(Words):
@@ -510,8 +504,9 @@ class Boards(Words):
         self.store("table", self.held("table") + TABLE.replace(b"412", b"410"))
         board = self.written(self.flash(COUNTING), "-g", "0")
         self.put_aside(2, b"stmjournal 2 0410\n" + KEPT)
+        self.put_aside(3, of_board("A1") + b"\n" + KEPT)
         self.leaves(self.reset(board), COUNTING, "--undo")
-        self.assertEqual(self.journals(), ["journal", "kept-000002"])
+        self.assertEqual(self.journals(), ["journal", "kept-000002", "kept-000003"])
         self.fails(NOTHING, "--undo")
 
     def test_an_erased_chip_ends_its_own_ways_back_alone(self):
@@ -554,9 +549,11 @@ class Dropping(Place):
 
     def setUp(self):
         super().setUp()
-        with mock.patch.dict(os.environ, XDG_STATE_HOME=self.folder):
+        with mock.patch.dict(os.environ, XDG_STATE_HOME=self.path("kept-")):
             self.journals = journals.Journals("/dev/ttyUSB0")
         self.journals.make()
+        # a copy that a user has made is none
+        self.store(self.journals.next_kept() + ".old", b"")
 
     def keep(self, header, size=0):
         """Puts one aside, as a call does; what it told."""
@@ -775,9 +772,10 @@ class Parts(Place):
             handlers = [signal.getsignal(number) for number in (signal.SIGTERM, signal.SIGHUP, signal.SIGCHLD)]
             is_free = not signal.pthread_sigmask(signal.SIG_BLOCK, ())
             is_plain = handlers == 3 * [signal.SIG_DFL] and signal.getsignal(signal.SIGINT) == signal.default_int_handler
-            return 40 + has_files + 2 * (not is_plain) + 4 * (not is_free) + 8 * (os.environ.get("STMFLASH_DEVICE") != "board")
+            return 40 + has_files + 2 * (not is_plain) + 4 * (not is_free) + 8 * (os.environ != {"STMFLASH_DEVICE": "board"})
 
-        child = line.Child(body, {"STMFLASH_DEVICE": "board"}, tied())
+        with mock.patch.dict(os.environ, STMFLASH_DEVICE="other", STMFLASH_BAUD="other's"):
+            child = line.Child(body, {"STMFLASH_DEVICE": "board"}, tied())
         child.wait(PATIENCE)
         self.assertEqual((child.poll(), child.returncode), (40, 40))
         self.assertNotEqual(os.environ.get("STMFLASH_DEVICE"), "board")
@@ -866,6 +864,13 @@ class Parts(Place):
                     self.assertTrue(done.start(done.start_address()))
                     board.put_aside.assert_called_once_with()
                     board.use.assert_called_once_with("go", "0x08000000")
+
+    def test_what_starts_a_program(self):
+        """-g, or -R where -i says nothing of the way out, also not that nothing is moved."""
+        for address, given in ((1, {"start_at": 0}), (4, {"start_at": 4}), (4, {"start_at": 4, "reset": True}), (1, {"reset": True}), (None, {}),
+                               (1, {"reset": True, "sequence": "rts"}), (None, {"reset": True, "sequence": "rts:"})):
+            asked = words.Words(action="w", **given)
+            self.assertEqual(actions.Actions(asked, None, None, mock.Mock(base=1)).start_address(), address)
 
     def test_a_write_that_stands_is_not_done_again(self):
         for printed, times in (("segment 1: 1 pages written\nkept 1\n", 1), ("", 2)):

@@ -299,11 +299,13 @@ class Words(TrialPlace):
         self.remove("real.new")
 
     def test_a_part_of_the_flash_is_no_file(self):
-        """A disk that has no room for all of it."""
+        """A disk that has no room for all of it; and what came meanwhile under that name is another's."""
         text = "import resource, faults, saved; resource.setrlimit(resource.RLIMIT_FSIZE, (4096, 4096))\n" \
                "try:\n    saved.store(sys.argv[1], bytes(8192))\nexcept faults.Ended as ended:\n    print(ended)"
-        self.assertEqual(of_modules(text, self.path("part")), "the flash couldn't be saved: File too large\n")
-        self.assertFalse(self.is_there("part"))
+        self.store("came", b"kept")
+        for name, why, held in (("part", "File too large", None), ("came", "File exists", b"kept")):
+            self.assertEqual(of_modules(text, self.path(name)), f"the flash couldn't be saved: {why}\n")
+            self.assertEqual(self.held(name), held)
 
     def test_a_page_that_is_not_there(self):
         said = self.tried("none", "--pages", "8", *QUICK)
@@ -533,7 +535,7 @@ class Pages(unittest.TestCase):
 
 PARTS = """
 from types import SimpleNamespace as Of
-import builtins, rows_reading, settling, trial
+import builtins, rows_ending, rows_reading, settling, told, trial
 from board import Board
 from settling import limit_of
 made = Board.__new__(Board)
@@ -561,6 +563,9 @@ asking.need = asking.regain = lambda row: None
 def unasked(): raise settling.Differs('a byte came')
 asking.board.hush = unasked
 tell(lambda it: it.outcome(Of(act=lambda _: 'well', means='x', name='x')).result, asking)
+slow = Of(options={}, refusal=None)
+for seconds in (1, 0.3): rows_ending.need_wait(slow, seconds)
+print(slow.options, *told.judge(slow, [told.Found(rows_reading.save, told.DIFFERS, '', rows_reading.save.means)], 'a signal'), sep='; ')
 """
 
 
@@ -571,17 +576,19 @@ class Parts(unittest.TestCase):
             "NotTried; the flash wasn't saved; ", "None",
             "Differs; page 3 has other bytes when it is read again; what is read can't be trusted", "3606", "0", "None", "Refused; nothing was changed; ",
             # what is due is waited for, and what isn't belongs to the row before it
-            "0 2 2", "1 2 2", "2 places, 2 bytes at most", "differs"])
+            "0 2 2", "1 2 2", "2 places, 2 bytes at most", "differs",
+            # the longest wait that a row needs; and what a row found goes before a signal
+            "{'wait': 1000}; don't use; save: the journal can't keep a page"])
 
 
 class Companion(Place):
     def test_what_it_is_told(self):
-        """stmflash-line gets the port, the speed, a socket, and the wiring if there is one."""
+        """stmflash-line gets the port, the speed, a socket, and the wiring if there is one; and time for what a hand has to do."""
         self.store("stmflash-line", b"import sys; print(*sys.argv[1:])\n")
         text = "from types import SimpleNamespace as Words\nfrom line import start_companion\n" \
                "for wiring in ('', 'dtr-reset'):\n" \
                "    start_companion(Words(folder=sys.argv[1], port='P', baud=57600, wiring=wiring), 'S').wait()"
-        self.assertEqual(of_modules(text, self.folder).splitlines(), ["P --baud 57600 --socket S", "P --baud 57600 --socket S --wiring=dtr-reset"])
+        self.assertEqual(of_modules(text, self.folder).splitlines(), ["P --baud 57600 --idle 0 --socket S", "P --baud 57600 --idle 0 --socket S --wiring=dtr-reset"])
 
 
 class Premises(unittest.TestCase):

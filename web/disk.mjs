@@ -29,13 +29,8 @@ const kindOf = (it) => (it.isDirectory() ? 'folder' : it.isFile() ? 'file' : it.
 const store = {
   real: (name) => { try { return fs.realpathSync(name); } catch { return undefined; } },
   look(name) {
-    try {
-      const it = fs.statSync(name);
-      return { kind: kindOf(it), size: it.size, ino: it.ino };
-    } catch (thrown) {
-      if (thrown.code === 'ENOENT') return undefined;
-      throw new Fault(NUMBERS[thrown.code] ?? E.IO);
-    }
+    const it = of(() => fs.statSync(name, { throwIfNoEntry: false }));
+    return it && { kind: kindOf(it), size: it.size, ino: it.ino };
   },
   list: (name) => of(() => fs.readdirSync(name, { withFileTypes: true })).map((it) => ({ name: it.name, kind: kindOf(it) })),
   open(name, { creates, writes, mode }) {

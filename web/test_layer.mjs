@@ -9,19 +9,14 @@ import { tryImages } from './test_images.mjs';
 
 const folder = pathToFileURL(`${process.argv[2] ?? new URL('page', import.meta.url).pathname}/`);
 const from = (name) => import(new URL(name, folder));
-const { E, Fault } = await from('faults.js');
-const { callsOf } = await from('program.js');
-const { Store, inMemory, JOURNALS } = await from('store.js');
-const { Line, portOf } = await from('line.js');
-const { stepsOf, WIRINGS } = await from('wiring.js');
+const [{ E, Fault }, { callsOf }, { Store, inMemory, JOURNALS }, { Line, portOf }, { stepsOf, WIRINGS }, { clockCalls }] = await Promise.all(['faults', 'program', 'store', 'line', 'wiring', 'clock'].map((it) => from(`${it}.js`)));
 
 let held = 0, all = 0;
 const same = (one, other) => JSON.stringify(one, said) === JSON.stringify(other, said);
 const said = (_, it) => (typeof it === 'bigint' ? `${it}n` : it instanceof Uint8Array ? [...it] : it === undefined ? 'undefined' : it);
 function holds(what, one, other = true) {
   all++;
-  held += same(one, other);
-  if (same(one, other)) return;
+  if (same(one, other)) return void held++;
   console.log(`FAILED: ${what}: ${JSON.stringify(one, said)}, not ${JSON.stringify(other, said)}`);
   if (process.argv.includes('--first')) process.exit(1);
 }
@@ -59,10 +54,9 @@ function machine({ words = ['stmflash'], variables = {}, store = new Store([]), 
 
 // clock
 {
-  const { clockCalls } = await from('clock.js'), { memory } = machine(), calls = clockCalls(memory, { now: () => 1999.5, timeOrigin: 5000 });
+  const { memory } = machine(), calls = clockCalls(memory, { now: () => 1999.5, timeOrigin: 5000 });
   const at = (which) => { calls.clock_gettime(which, 8n); return [memory.view().getBigInt64(8, true), memory.view().getBigInt64(16, true)]; };
-  holds('the steady clock', at(1), [1n, 999500000n]);
-  holds('the time of day', at(0), [6n, 999500000n]);
+  holds('the steady clock', at(1), [1n, 999500000n]); holds('the time of day', at(0), [6n, 999500000n]);
 }
 
 // files: descriptors over a store
@@ -90,13 +84,10 @@ const disks = (count) => Array.from({ length: count }, () => inMemory());
   const copy = env.fcntl(fd, 1030, 0n);
   env.close(fd);
   holds('a copy holds it', [env.flock(more, 6), it.read(copy, 0)], [-1, '']);
-  env.close(copy);
-  holds('closed, it is free', [env.flock(more, 6), env.close(copy), it.fault()], [0, -1, E.BADF]);
-  holds('shortened', [env.ftruncate(more, 2n), it.told(more).size], [0, 2]);
+  holds('closed, it is free', [env.close(copy), env.flock(more, 6), env.close(copy), it.fault()], [0, 0, -1, E.BADF]); holds('shortened', [env.ftruncate(more, 2n), it.told(more).size], [0, 2]);
   holds('closed and removed, its place is free', Array.from({ length: 5 }, () => [env.close(it.open('/boards/x', 1 | CREATE)), env.unlink(it.path('/boards/x'))]).flat(), Array(10).fill(0));
   const inos = [1, 2].map(() => { const made = it.open('/boards/x', 1 | CREATE), { ino } = it.told(made); env.close(made); env.unlink(it.path('/boards/x')); return ino; });
-  holds('what is made in its place is another file', inos[0] !== inos[1]);
-  holds('emptied as it is opened', [it.told(it.open('/boards/a', 1 | TRUNCATE)).size], [0]);
+  holds('what is made in its place is another file', inos[0] !== inos[1]); holds('emptied as it is opened', [it.told(it.open('/boards/a', 1 | TRUNCATE)).size], [0]);
   holds('a folder', [it.told(0, '/boards').mode, it.open('/boards', 1), it.fault(), env.rattle_open_dir_at(-100, it.path('/boards/a')), it.fault()], [4, -1, E.ISDIR, -1, E.NOTDIR]);
   const second = it.open('/boards/second', 2 | CREATE);
   holds('another file', [it.told(second).ino !== it.told(more).ino, it.told(0, '/boards/second').ino === it.told(second).ino], [true, true]);
@@ -109,10 +100,8 @@ const disks = (count) => Array.from({ length: count }, () => inMemory());
   holds('no links', [env.readlink(it.path('/boards/a'), 0n, 9n), it.fault(), env.readlink(it.path('/none'), 0n, 9n), it.fault()], [-1n, E.INVAL, -1n, E.NOENT]);
   holds('no second names', [env.link(it.path('/boards/a'), it.path('/boards/b', 5000n)), it.fault(), it.told(0, '/boards/a') !== false, it.told(0, '/boards/b')], [-1, E.PERM, true, false]);
   holds('a journal stays among them', [env.rename(it.path('/boards/a'), it.path('/a', 5000n)), it.fault()], [-1, E.PERM]);
-  holds('no terminal', [env.isatty(0), env.isatty(1), env.isatty(2)], [0, 0, 0]);
-  holds('no pipe that waits', env.poll(0n, 0n, 0), 0);
-  holds('streams', [it.write(1, 'ab'), it.write(2, 'c'), it.out], [2n, 1n, [[1, 97, 98], [2, 99]]]);
-  holds('what is given', [it.read(0, 3), it.read(0, 9), it.read(0, 9)], ['giv', 'en', '']);
+  holds('no terminal', [env.isatty(0), env.isatty(1), env.isatty(2)], [0, 0, 0]); holds('no pipe that waits', env.poll(0n, 0n, 0), 0);
+  holds('streams', [it.write(1, 'ab'), it.write(2, 'c'), it.out], [2n, 1n, [[1, 97, 98], [2, 99]]]); holds('what is given', [it.read(0, 3), it.read(0, 9), it.read(0, 9)], ['giv', 'en', '']);
   const out = it.open('/dev/stdout', 1);
   holds('a stream by its name', [it.write(out, 'z'), it.out.at(-1), it.told(0, '/dev/stdout').mode], [1n, [1, 122], 2]);
   holds('rights are no matter', [env.lchown(it.path('/boards/a'), 0, 0), env.chmod(it.path('/boards/a'), 0), env.fchmod(more, 0), env.fchmod(99, 0)], [0, 0, 0, -1]);
@@ -171,9 +160,7 @@ const OPERATIONS = {
     for (let round = 0; round < 90; round++) {
       const disk = Array.from({ length: 4 }, weak), store = new Store(disk);
       for (let i = 0; i <= round % 3; i++) { make(store, 'a', `was ${i}`); make(store, 'b', 'was'); store.remove('/boards/a'); store.remove('/boards/b'); }
-      make(store, 'a', 'A');
-      make(store, 'b', 'B');
-      make(store, 'before', 'left');
+      for (const it of ['a', 'b', 'before']) make(store, it, it.toUpperCase());
       store.remove('/boards/before');
       if (round % 2) {
         // the power goes in the middle: before any flush, or behind it
@@ -191,8 +178,7 @@ const OPERATIONS = {
   }
   // twice the same start
   const disk = Array.from({ length: 3 }, weak), store = new Store(disk);
-  make(store, 'a', 'old');
-  make(store, 'b', 'newer');
+  for (const [name, text] of [['a', 'old'], ['b', 'newer']]) make(store, name, text);
   const headOf = disk.map((it) => it.write);
   disk[0].write = () => { throw new Error('no'); };
   try { store.rename('/boards/b', '/boards/a'); } catch { /* the older name stays */ }
@@ -248,8 +234,7 @@ function port() {
   holds('the line is one', [it.told(0, '/dev/board').mode, await env.connect(fd, address('/dev/board'), 110)], [12, 0]);
   holds('eight bits, even parity, one stop bit', [board.told[0].baudRate, board.told[0].dataBits, board.told[0].parity, board.told[0].stopBits], [57600, 8, 'even', 1]);
   const recv = async (room) => { const got = await ends(env.recv(fd, 9000n, BigInt(room), 0)); return typeof got === 'bigint' && got > 0n ? it.memory.bytes(9000n, got).slice() : got; };
-  it.memory.view().setBigInt64(16, 0n, true);
-  it.memory.view().setBigInt64(24, 30000n, true);
+  for (const [at, parts] of [[16, 0n], [24, 30000n]]) it.memory.view().setBigInt64(at, parts, true);
   holds('a wait is set', env.setsockopt(fd, 1, 20, 16n, 16), 0);
   it.memory.view().setBigInt64(16, 60n, true);
   holds('and another one, for what is sent, is no matter', env.setsockopt(fd, 1, 21, 16n, 16), 0);
@@ -269,11 +254,7 @@ function port() {
 }
 {
   const board = port(), line = new Line(board, 9600, undefined, undefined, 4);
-  for (const part of [[1, 2, 3], [4, 5, 6]]) {
-    await line.connect();
-    line.send(Uint8Array.from(part));
-    await line.close();
-  }
+  for (const part of [[1, 2, 3], [4, 5, 6]]) await line.connect().then(() => line.send(Uint8Array.from(part))).then(() => line.close());
   holds('a stop, behind so many bytes of all connections', [line.ended, line.sent, board.sent], ['stopped', 4, [1, 2, 3, 4]]);
   const adapter = (usbVendorId, usbProductId) => ({ getInfo: () => ({ usbVendorId, usbProductId }) }), [one, other, same] = [adapter(1, 2), adapter(1, 3), adapter(1, 2)];
   const chosen = (...ports) => { try { return ports.indexOf(portOf(ports, one.getInfo())); } catch (thrown) { return thrown.message.slice(0, 12); } };
@@ -305,6 +286,34 @@ for (const [what, over, sum] of [['a wrong parity', (board) => board.into.error(
   it.memory.put('/dev/board', 50002n, 100n);
   holds('a port in use', [await ends(it.env.connect(fd, 50000n, 13)), it.fault(), await ends(it.env.close(fd))], [-1, E.CONNREFUSED, 0]);
   holds('nobody is served', [it.env.bind(fd, 0n, 0), it.fault(), it.env.listen(fd, 1), it.env.accept4(fd, 0n, 0n, 0)], [-1, E.NOSYS, -1, -1]);
+}
+
+// the worker: what it is handed over has a place each time, and is whole or not there where the power goes ahead of any flush
+{
+  let seed = 1, disk;
+  const asked = {}, path = '/boards/a', choose = () => { seed = (seed * 48271) % 2147483647; return seed >> 6; };
+  const folder = { values: () => [], getDirectoryHandle: async () => folder, getFileHandle: async () => ({ createSyncAccessHandle: async () => disk[disk.push(weak()) - 1] }) };
+  Object.defineProperty(globalThis, 'navigator', { value: { locks: { request: (...it) => it.at(-1)({}) }, storage: { getDirectory: async () => folder } } });
+  Object.assign(globalThis, { onmessage: undefined, fetch: async () => new Response(''), postMessage: (it) => asked[it.id]?.(it) });
+  Object.assign(WebAssembly, { compileStreaming: async () => new WebAssembly.Module(Uint8Array.of(0, 97, 115, 109, 1, 0, 0, 0)) });
+  const ask = (act, given) => new Promise((resolve) => { asked[act] = resolve; onmessage({ data: { id: act, act, ...given } }); });
+  for (let i = 0; i < 40; i++) {
+    disk = [];
+    await from(`worker.js?${i}`);
+    for (let k = 0; k < 20; k += i ? 20 : 1) holds('it can be had, and be gone', [(await ask('put', { path, bytes: bytesOf(`${k}`) })).error, (await ask('get', { path })).bytes, (await ask('remove', { path })).error], [undefined, bytesOf(`${k}`), undefined]);
+    const lose = () => { for (const it of disk) { it.before = undefined; it.lose(choose); } return contents(new Store(disk)).a ?? 'not there'; };
+    let left = i % 6, lost;
+    for (const it of disk) it.before = () => { if (!left--) { lost = lose(); throw new Error('no power'); } };
+    await ask('put', { path, bytes: bytesOf('whole') });
+    holds('it is whole, or not there where the power went', lost === 'not there' || (lost ?? lose()) === 'whole');
+  }
+}
+// what keeps the page: what others keep at its host stays
+{
+  const kept = new Set(['stmflash-old', 'stmflash-/* the sum */', 'others']), heard = {}, caches = { keys: async () => [...kept], delete: async (it) => kept.delete(it) };
+  Object.assign(globalThis, { caches, self: { addEventListener: (name, does) => { heard[name] = does; } } });
+  await from('offline.js').then(() => new Promise((resolve) => heard.activate({ waitUntil: (it) => it.then(resolve) })));
+  holds('what is kept of others stays', [...kept], ['stmflash-/* the sum */', 'others']);
 }
 
 tryImages(await from('image.js'), await from('chips.js'), await from('difference.js'), holds);

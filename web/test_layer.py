@@ -69,7 +69,6 @@ FAULTS = {
         "a lock stays for ever": ("if (it.node?.holder === it) it.node.holder = undefined;", ""),
         "a lock goes with a copy": ("    if (--it.uses) return undefined;\n", "    --it.uses;\n"),
         "a file is never closed": ("    if (it.kind === 'file') it.node?.close();\n", ""),
-        "a terminal": ("isatty: () => 0", "isatty: () => 1"),
         "a link is a move": ("link: () => { throw new Fault(E.PERM); }", "link: (a, b) => { store.rename(path(a), path(b)); return 0; }"),
         "a path is as it was given": ("real = STREAMS.includes(wanted) ? wanted : store.real(wanted)", "real = wanted"),
         "a file is a folder": ("told?.kind !== 'folder'", "!told"),
@@ -90,7 +89,6 @@ FAULTS = {
         "a place is never free again": ("close() { this.uses--; }", "close() {}"),
         "everything is a journal": ("whole.startsWith(`${JOURNALS}/`) ? this.pool", "true ? this.pool"),
         "a journal is the line": ("  next = 2;", "  next = 1;"),
-        "what is made is the file that was there": ("    slot.ino = this.next++;\n", ""),
         "a journal is moved to other files": ("    if (old.startsWith(`${JOURNALS}/`) !== whole.startsWith(`${JOURNALS}/`)) throw new Fault(E.PERM);\n", ""),
         "bytes lie over the heads": ("this.handle.write(bytes, { at: this.base + at })", "this.handle.write(bytes, { at })"),
     },
@@ -99,7 +97,6 @@ FAULTS = {
         "another speed": ("baudRate: this.baud", "baudRate: 115200"),
         "a wrong byte is no end": ("if (this.ended && this.ended !== 'closed') throw new Fault(E.IO);", ""),
         "what came before a wrong byte counts": ("if (this.ended !== 'closed') this.came = [];", ""),
-        "a line that ended is never one again": ("    this.ended = undefined;\n", ""),
         "it sends on a line that ended": ("    if (this.ended) throw new Fault(E.IO);\n", ""),
         "what there was no room for is lost": ("this.came.unshift(first.subarray(most));", ""),
         "nothing in time is an end": ("if (!got) throw new Fault(E.AGAIN);", "if (!got) return 0n;"),
@@ -144,6 +141,8 @@ FAULTS = {
         "each page is the first": ("i++, at += size", "i++"),
         "the last page is enough": ("at + size - it.at >= least ? i", "true ? i"),
     },
+    "worker.js": {"a place is never free again": ("  node.close();\n  if", "  if"), "a name stands ahead of its bytes": ("    node.flush();\n    store.rename", "    store.rename")},
+    "offline.js": {"what others keep is removed": ("it.startsWith('stmflash-') && it !== KEPT", "it !== KEPT")},
     "difference.js": {
         "what an image leaves is written": ("bytes[i] >= 0 && holds", "holds"),
         "a page has its neighbour's bytes": ("Math.min(at + size - low, ", "Math.min(at + size + 1 - low, "),
@@ -165,21 +164,6 @@ def elf(segments):
         at += len(data)
     head = b"\x7fELF\x01\x01\x01" + bytes(9) + struct.pack("<2H5I6H", 2, 40, 1, 0x08000000, 52, 0, 0x5000400, 52, 32, len(heads), 40, 0, 0)
     return head + b"".join(heads + bodies)
-
-
-def bytes_of_hex(text):
-    """What a HEX means, address by address."""
-    found, base = {}, 0
-    for line in text.split():
-        record = bytes.fromhex(line[1:])
-        if sum(record) % 256 or len(record) != record[0] + 5:
-            raise ValueError(line)
-        if record[3] == 4:
-            base = int.from_bytes(record[4:6], "big") << 16
-        elif record[3] == 0:
-            place = base + int.from_bytes(record[1:3], "big")
-            found |= {place + i: it for i, it in enumerate(record[4:-1])}
-    return found
 
 
 class Tried(unittest.TestCase):
@@ -263,6 +247,19 @@ class Layer(Tried):
             with self.assertRaises(SystemExit):
                 list(build.retarget.retarget(build.TARGET, build.without_arm([line])))
 
+    def test_a_page_has_the_sum_of_each_file_and_a_version(self):
+        """One that is the same for the same bytes, and another for any others."""
+        build, versions, module = types.SimpleNamespace(**runpy.run_path(f"{HERE}/build")), [], pathlib.Path(self.room, "module")
+        for folder, data in (("one", b"1"), ("again", b"1"), ("another", b"2")):
+            folder = pathlib.Path(self.room, folder)
+            folder.mkdir()
+            module.write_bytes(data)
+            build.put(folder, "verdict", module)
+            self.assertEqual(run(["sha256sum", "--check", "--quiet", "SHA256SUMS"], cwd=folder).stdout, "")
+            self.assertEqual({line.split()[1] for line in (folder / "SHA256SUMS").read_text().splitlines()}, {*os.listdir(folder)} - {"SHA256SUMS"})
+            versions.append(re.search("'stmflash-(.*)'", (folder / "offline.js").read_text())[1])
+        self.assertEqual([it == versions[0] for it in versions], [True, True, False])
+
     def test_wirings_are_those_of_stmflash_line(self):
         sys.path.insert(0, f"{TOP}/line")
         from stmflash_line.sequences import read_sequence, read_wiring
@@ -288,12 +285,9 @@ class Layer(Tried):
 ${{JSON.stringify(it.parts.map(({{ at, bytes }}) => [at, [...bytes]]))}}\n${{new TextDecoder().decode(it.bytes)}}`);"""
         says, parts, made = run([*NODE, "--input-type=module", "-e", script]).stdout.split("\n", 2)
         self.assertEqual(says, "a: ELF, 1078 bytes from 08000001 to 0802004C")
-        ours = bytes_of_hex(made)
-        self.assertEqual(ours, {at + i: it for at, _, data in segments for i, it in enumerate(data)})
-        self.assertEqual(ours, {at + i: it for at, data in json.loads(parts) for i, it in enumerate(data)})
-        # objcopy knows sections alone: each segment is handed to it as one
-        theirs = {}
-        for i, (at, _, data) in enumerate(segments):
-            pathlib.Path(f"{self.room}/{i}.bin").write_bytes(data)
-            theirs |= bytes_of_hex(run(["objcopy", "-I", "binary", "-O", "ihex", f"--change-addresses={at}", f"{self.room}/{i}.bin", "/dev/stdout"]).stdout)
-        self.assertEqual(ours, theirs)
+        wanted = {at + i: it for at, _, data in segments for i, it in enumerate(data)}
+        self.assertEqual({at + i: it for at, data in json.loads(parts) for i, it in enumerate(data)}, wanted)
+        # objcopy reads what we wrote
+        pathlib.Path(f"{self.room}/made.hex").write_text(made)
+        run(["objcopy", "-I", "ihex", "-O", "binary", "--gap-fill=255", f"{self.room}/made.hex", f"{self.room}/made.bin"], check=True)
+        self.assertEqual(pathlib.Path(f"{self.room}/made.bin").read_bytes(), bytes(wanted.get(at, 255) for at in range(min(wanted), max(wanted) + 1)))

@@ -35,6 +35,9 @@ class Trial(ServedPage):
         tab.js(f"stmflash.take({named(('b.bin', bytes(again)))})")
         self.do(tab, "#compare", r"^Done: 2 of 5 pages differ, in 3 bytes: 1 3\.")
         self.do(tab, "#write", "^Done: segment 2: 2 pages written")
+        self.click(tab, "#journals button")
+        tab.until("document.getElementById('sure').open")
+        self.assertRegex(tab.js("document.getElementById('sure-lines').innerText"), "^segment 2: ")
         # of the chip that was chosen it is known before
         self.choose(tab, "kind", "0410")
         tab.js("document.getElementById('address').value = '08000ffc', document.getElementById('address').oninput()")

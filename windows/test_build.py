@@ -71,6 +71,15 @@ class Build(unittest.TestCase):
         self.assertIn("1 functions have a red zone: compiled once more without", said)
         self.assertIn("noredzone", pathlib.Path(f"{self.room}/new/toolchain/bin/clang").read_text(encoding="utf-8"))
 
+    def test_what_is_linked_has_no_time_and_a_large_stack(self):
+        compiled("int main(void) { return 0; }", [], f"{self.room}/a.o")
+        pathlib.Path(f"{self.room}/main.c").write_text("__attribute__((sysv_abi)) int rattle_main(void);\nint main(void) { return rattle_main(); }\n", encoding="utf-8")
+        with unittest.mock.patch.object(self.build, "LAYER", [f"{self.room}/main.c"]):
+            self.build.link(f"{self.room}/a.o", f"{self.room}/new", f"{self.room}/a.exe")
+        made = pathlib.Path(f"{self.room}/a.exe").read_bytes()
+        head = int.from_bytes(made[60:64], "little")
+        self.assertEqual((made[head + 8:head + 12], int.from_bytes(made[head + 96:head + 104], "little")), (bytes(4), 16 << 20))
+
 
 class Fits(unittest.TestCase):
     """windows/fits.py, of functions that gcc makes here."""

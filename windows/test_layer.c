@@ -79,11 +79,15 @@ static const wchar_t *list; // in the place of an open file's rights; the answer
 static DWORD security;
 static bool is_listed;
 static DWORD refused, came; // the error by which no file is opened; and how a byte of a port came wrong
+static DWORD most = -1;     // so many bytes are written at once
+static int opened;          // so many handles
+static COMMTIMEOUTS waits;
 
 static HANDLE WINAPI tried_create(const wchar_t *path, DWORD access, DWORD share, SECURITY_ATTRIBUTES *rights, DWORD how, DWORD flags, HANDLE like)
 {
     SetLastError(refused);
-    return refused != 0 ? INVALID_HANDLE_VALUE : CreateFileW(path, access, share, rights, how, flags, like);
+    HANDLE it = refused != 0 ? INVALID_HANDLE_VALUE : CreateFileW(path, access, share, rights, how, flags, like);
+    return opened += it != INVALID_HANDLE_VALUE, it;
 }
 
 static BOOL WINAPI tried_errors(HANDLE port, DWORD *errors, COMSTAT *waiting)
@@ -104,21 +108,15 @@ static BOOL WINAPI tried_flush(HANDLE handle)
 
 static BOOL WINAPI tried_lock(HANDLE handle, DWORD how, DWORD none, DWORD low, DWORD high, OVERLAPPED *place)
 {
-    locked = (ULONGLONG)place->OffsetHigh << 32 | place->Offset;
-    return LockFileEx(handle, how, none, low, high, place);
+    return locked = (ULONGLONG)place->OffsetHigh << 32 | place->Offset, LockFileEx(handle, how, none, low, high, place);
 }
 
-static int WINAPI tried_option(SOCKET socket, int level, int name, const char *value, int length)
-{
-    option = level == SOL_SOCKET ? name : option;
-    return setsockopt(socket, level, name, value, length);
-}
+static int WINAPI tried_option(SOCKET socket, int level, int name, const char *value, int length) { return option = level == SOL_SOCKET ? name : option, setsockopt(socket, level, name, value, length); }
 
-static BOOL WINAPI tried_state(HANDLE port, DCB *set)
-{
-    state = *set;
-    return SetCommState(port, set);
-}
+static BOOL WINAPI tried_state(HANDLE port, DCB *set) { return state = *set, SetCommState(port, set); }
+static BOOL WINAPI tried_waits(HANDLE port, COMMTIMEOUTS *set) { return waits = *set, SetCommTimeouts(port, set); }
+
+static BOOL WINAPI tried_write(HANDLE handle, const void *buf, DWORD n, DWORD *done, OVERLAPPED *place) { return WriteFile(handle, buf, n < most ? n : most, done, place); }
 
 static BOOL WINAPI tried_set(HANDLE handle, FILE_INFO_BY_HANDLE_CLASS what, void *value, DWORD size)
 {
@@ -138,15 +136,10 @@ static BOOL WINAPI tried_set(HANDLE handle, FILE_INFO_BY_HANDLE_CLASS what, void
     return MoveFileExW(path, renamed->name, MOVEFILE_REPLACE_EXISTING);
 }
 
-static BOOL WINAPI tried_move(const wchar_t *from, const wchar_t *to, DWORD flags)
-{
-    through += (flags & MOVEFILE_WRITE_THROUGH) != 0;
-    return MoveFileExW(from, to, flags);
-}
+static BOOL WINAPI tried_move(const wchar_t *from, const wchar_t *to, DWORD flags) { return through += (flags & MOVEFILE_WRITE_THROUGH) != 0, MoveFileExW(from, to, flags); }
 
-static BOOL WINAPI tried_signal(HANDLE port, DWORD what)
+static BOOL WINAPI tried_signal(HANDLE, DWORD what)
 {
-    (void)port;
     snprintf(signals + strlen(signals), sizeof signals - strlen(signals), "%s ", what == SETRTS ? "rts" : what == CLRRTS ? "-rts" : what == SETDTR ? "dtr" : "-dtr");
     return TRUE;
 }
@@ -165,6 +158,10 @@ static DWORD WINAPI tried_security(HANDLE handle, SE_OBJECT_TYPE kind, SECURITY_
     return ERROR_SUCCESS;
 }
 
+static HANDLE WINAPI tried_list(const wchar_t *path, WIN32_FIND_DATAW *found) { return opened++, FindFirstFileW(path, found); }
+static BOOL WINAPI tried_end(HANDLE listing) { return opened--, FindClose(listing); }
+static BOOL WINAPI tried_close(HANDLE it) { return opened -= it != INVALID_HANDLE_VALUE, CloseHandle(it); }
+
 static void WINAPI tried_sleep(DWORD millis)
 {
     if (millis != 0 && millis != 50)
@@ -174,9 +171,13 @@ static void WINAPI tried_sleep(DWORD millis)
 
 void *__imp_tried_flush = tried_flush, *__imp_tried_set = tried_set, *__imp_tried_move = tried_move, *__imp_tried_signal = tried_signal,
     *__imp_tried_sleep = tried_sleep, *__imp_tried_lock = tried_lock, *__imp_tried_option = tried_option, *__imp_tried_state = tried_state,
-    *__imp_tried_security = tried_security, *__imp_tried_create = tried_create, *__imp_tried_errors = tried_errors;
+    *__imp_tried_security = tried_security, *__imp_tried_create = tried_create, *__imp_tried_errors = tried_errors, *__imp_tried_waits = tried_waits,
+    *__imp_tried_write = tried_write, *__imp_tried_list = tried_list, *__imp_tried_end = tried_end, *__imp_tried_close = tried_close;
 
 // --- helpers
+
+// a noun closes all that it opened
+#define CLOSES(noun) do { int before = opened; noun; HOLDS(opened == before); } while (0)
 
 static int put_file(const char *name, const char *text)
 {
@@ -194,10 +195,7 @@ static bool holds(const char *name, const char *text)
     return n == (long long)strlen(text) && strcmp(buf, text) == 0;
 }
 
-static bool is_put(long long answer, const char *buf, const char *text)
-{
-    return answer == (long long)strlen(text) && memcmp(buf, text, strlen(text)) == 0 && buf[strlen(text)] == '#';
-}
+static bool is_put(long long answer, const char *buf, const char *text) { return answer == (long long)strlen(text) && memcmp(buf, text, strlen(text)) == 0 && buf[strlen(text)] == '#'; }
 
 static struct statx told(const char *name, int flags)
 {
@@ -219,10 +217,13 @@ static void test_errors(void)
         HOLDS(sysv___xpg_strerror_r(said[i].error, text, sizeof text) == 0 && strcmp(text, said[i].text) == 0);
     sysv_rattle_set_errno(77);
     HOLDS(sysv_rattle_errno() == 77);
-    static const struct { DWORD windows; int error; } same[] = {{ERROR_FILE_NOT_FOUND, 2}, {ERROR_PATH_NOT_FOUND, 2}, {ERROR_ACCESS_DENIED, 13},
-        {ERROR_SHARING_VIOLATION, 16}, {ERROR_LOCK_VIOLATION, 11}, {ERROR_FILE_EXISTS, 17}, {ERROR_ALREADY_EXISTS, 17}, {ERROR_DISK_FULL, 28},
-        {ERROR_NOT_SAME_DEVICE, 18}, {ERROR_WRITE_PROTECT, 30}, {ERROR_TOO_MANY_OPEN_FILES, 24}, {WSAECONNREFUSED, 111}, {WSAECONNRESET, 104},
-        {WSAETIMEDOUT, 110}, {WSAEADDRINUSE, 98}, {ERROR_CRC, 5}};
+    static const struct { DWORD windows; int error; } same[] = {{ERROR_FILE_NOT_FOUND, 2}, {ERROR_PATH_NOT_FOUND, 2}, {ERROR_BAD_NETPATH, 2}, {ERROR_BAD_NET_NAME, 2},
+        {ERROR_INVALID_DRIVE, 2}, {WSAHOST_NOT_FOUND, 2}, {ERROR_CRC, 5}, {ERROR_INVALID_HANDLE, 9}, {ERROR_LOCK_VIOLATION, 11}, {ERROR_IO_PENDING, 11}, {ERROR_NOT_ENOUGH_MEMORY, 12},
+        {ERROR_OUTOFMEMORY, 12}, {ERROR_ACCESS_DENIED, 13}, {ERROR_SHARING_VIOLATION, 16}, {ERROR_FILE_EXISTS, 17}, {ERROR_ALREADY_EXISTS, 17}, {ERROR_NOT_SAME_DEVICE, 18},
+        {ERROR_DIRECTORY, 20}, {ERROR_INVALID_NAME, 22}, {ERROR_INVALID_PARAMETER, 22}, {ERROR_BAD_PATHNAME, 22}, {ERROR_NEGATIVE_SEEK, 22}, {ERROR_TOO_MANY_OPEN_FILES, 24},
+        {ERROR_FILE_TOO_LARGE, 27}, {ERROR_DISK_FULL, 28}, {ERROR_HANDLE_DISK_FULL, 28}, {1295, 28}, {ERROR_WRITE_PROTECT, 30}, {ERROR_BROKEN_PIPE, 32}, {ERROR_NO_DATA, 32},
+        {ERROR_FILENAME_EXCED_RANGE, 36}, {ERROR_DIR_NOT_EMPTY, 39}, {WSAEAFNOSUPPORT, 97}, {WSAEADDRINUSE, 98}, {WSAEACCES, 98}, {WSAECONNRESET, 104}, {WSAECONNABORTED, 104},
+        {WSAETIMEDOUT, 110}, {WSAECONNREFUSED, 111}};
     for (size_t i = 0; i < sizeof same / sizeof *same; i++)
         FAILS(fail_of(same[i].windows), same[i].error);
 }
@@ -377,7 +378,7 @@ static void test_files(void)
         HOLDS(sysv_close(number) == 0);
     HOLDS(sysv_unlink("one") == 0);
     int nothing = sysv_open("NUL", 1, 0);
-    HOLDS(nothing == 3 && sysv_write(nothing, "x", 1) == 1);
+    HOLDS(nothing == 3 && (most = 1, sysv_write(nothing, "xy", 2)) == 1 && (most = -1, sysv_write(nothing, "xy", 2)) == 2);
     FAILS(sysv_lseek(nothing, 0, 0), 29);
     HOLDS(sysv_close(nothing) == 0);
 }
@@ -430,17 +431,13 @@ static void test_locks_and_syncs(void)
     HOLDS(sysv_fsync(two) == 0 && flushes == before + 1 && sysv_fdatasync(two) == 0 && flushes == before + 2 && sysv_fsync(folder) == 0 && flushes == before + 3);
     HOLDS((flushed_by & FILE_WRITE_DATA) != 0);
     FAILS(sysv_fsync(99), 9);
-    CloseHandle(table[one]->handle);
+    tried_close(table[one]->handle);
     table[one]->handle = INVALID_HANDLE_VALUE;
     FAILS(sysv_fsync(one), 9);
     HOLDS(sysv_close(one) == 0 && sysv_close(two) == 0 && sysv_close(folder) == 0);
 }
 
-static DWORD WINAPI let_go_soon(void *handle)
-{
-    Sleep(300);
-    return CloseHandle(handle);
-}
+static DWORD WINAPI let_go_soon(void *handle) { return Sleep(300), CloseHandle(handle); }
 
 static void test_names(bool posix)
 {
@@ -461,7 +458,7 @@ static void test_names(bool posix)
     HOLDS(put_file("new", "3") == 0);
     HANDLE other = CreateFileW(L"old", GENERIC_READ, FILE_SHARE_READ, NULL, OPEN_EXISTING, 0, NULL), thread = CreateThread(NULL, 0, let_go_soon, other, 0, NULL);
     HOLDS(sysv_rename("new", "old") == 0 && holds("old", "3"));
-    WaitForSingleObject(thread, INFINITE);
+    HOLDS(WaitForSingleObject(thread, INFINITE) == 0 && CloseHandle(thread));
     // a name goes at once, also of what is open
     open = sysv_open("old", 0, 0);
     HOLDS(sysv_unlink("old") == 0 && (posix || told("old", 0).nlink == 0));
@@ -570,7 +567,10 @@ static void test_port(const char *port, const char *other)
     HOLDS(state.fParity && state.Parity == EVENPARITY && state.ByteSize == 8 && state.StopBits == ONESTOPBIT && state.fAbortOnError && state.fBinary);
     HOLDS(!state.fOutX && !state.fInX && !state.fNull && !state.fOutxCtsFlow && !state.fOutxDsrFlow);
     wait_for(line, 60000);
-    HOLDS(sysv_send(line, "\x7f", 1, 0) == 1 && sysv_recv(line, buf, 16, 0) == 1 && buf[0] == 0x79);
+    HOLDS((most = 1, sysv_send(line, "\x7f\x7f", 2, 0)) == 1 && sysv_recv(line, buf, 16, 0) == 1 && buf[0] == 0x79);
+    HOLDS(waits.ReadTotalTimeoutConstant == 60000 && waits.WriteTotalTimeoutConstant == 9000);
+    FAILS((most = 0, sysv_send(line, "x", 1, 0)), 11);
+    most = -1;
     wait_for(line, 150);
     ULONGLONG begun = GetTickCount64();
     HOLDS(sysv_write(line, "e", 1) == 1);
@@ -617,20 +617,20 @@ int main(int count, char **given)
     read_words();
     for (int i = 0; i < 3; i++)
         numbered(made(A_FILE, CreateFileW(L"NUL", GENERIC_READ | GENERIC_WRITE, SHARED, NULL, OPEN_EXISTING, 0, NULL)), i);
-    test_errors();
-    test_memory();
-    test_words();
-    test_clock();
-    test_paths();
-    test_files();
-    test_rights();
-    test_locks_and_syncs();
-    test_names(true);
-    test_names(false);
-    test_folder();
-    test_tcp();
+    CLOSES(test_errors());
+    CLOSES(test_memory());
+    CLOSES(test_words());
+    CLOSES(test_clock());
+    CLOSES(test_paths());
+    CLOSES(test_files());
+    CLOSES(test_rights());
+    CLOSES(test_locks_and_syncs());
+    CLOSES(test_names(true));
+    CLOSES(test_names(false));
+    CLOSES(test_folder());
+    CLOSES(test_tcp());
     if (strncmp(given[count - 1], "COM", 3) == 0)
-        test_port(given[count - 2], given[count - 1]);
+        CLOSES(test_port(given[count - 2], given[count - 1]));
     printf("%d of %d hold\n", tried_so_far - wrong, tried_so_far);
     return wrong != 0;
 }

@@ -28,7 +28,7 @@ COMPILER = "x86_64-w64-mingw32-gcc"
 STRICT = ["-O2", "-Wall", "-Wextra", "-Werror", "-mno-red-zone"]
 INSTEAD = {"FlushFileBuffers": "flush", "SetFileInformationByHandle": "set", "MoveFileExW": "move", "EscapeCommFunction": "signal", "Sleep": "sleep",
            "LockFileEx": "lock", "setsockopt": "option", "SetCommState": "state", "GetSecurityInfo": "security", "CreateFileW": "create",
-           "ClearCommError": "errors"}
+           "ClearCommError": "errors", "SetCommTimeouts": "waits", "WriteFile": "write", "FindFirstFileW": "list", "FindClose": "end", "CloseHandle": "close"}
 ASKED_BITS = termios.CSIZE | termios.CSTOPB
 WORDS = ["word", "", "zwei Wörter", "a\\b", "--baud", "57600", "--wiring=dtr-reset,rts-boot0", "end"]
 # what is planted, by file: a text, which is there once, and the one in its place
@@ -38,6 +38,7 @@ FAULTS = {
         "errno isn't set": ("{ error_now = error; }", "{ (void)error; }"),
         "a lock that another has is any fault": ("E(LOCK_VIOLATION, EAGAIN),", ""),
         "a full disk is any fault": ("E(DISK_FULL, ENOSPC),", ""),
+        "a pipe that nobody reads asks for patience": ("E(NO_DATA, EPIPE)", "E(NO_DATA, EAGAIN)"),
         "faults have no text": ("error == error ? texts[i].text", "error == error ? texts[0].text"),
     },
     "memory.c": {
@@ -46,10 +47,7 @@ FAULTS = {
         "a block of no bytes is freed by a realloc": ("realloc(p, n != 0 ? n : a)", "realloc(p, n)"),
         "what overlaps is lost": ("return memmove(to, from, n);", "for (size_t i = 0; i < n; i++) ((char *)to)[i] = ((const char *)from)[i];\n    return to;"),
     },
-    "text.c": {
-        "slashes stay": ("? '/' : *it", "? *it : *it"),
-        "no variable is an empty one": ("        return NULL;\n", "        return _strdup(\"\");\n"),
-    },
+    "text.c": {"slashes stay": ("? '/' : *it", "? *it : *it"), "no variable is an empty one": ("        return NULL;\n", "        return _strdup(\"\");\n")},
     "words.c": {
         "a text that fits just so is too long": ("length <= room", "length < room"),
         "the 0 behind a text is put too": ("memcpy(buf, text, fits ? length : room)", "memcpy(buf, text, fits ? length + 1 : room)"),
@@ -84,6 +82,7 @@ FAULTS = {
     },
     "files.c": {
         "any number": ("for (int number = from;", "for (int number = from + 1;"),
+        "a listing stays open": ("(it->kind == A_LISTING ? FindClose : CloseHandle)(it->handle);", "it->kind == A_LISTING || CloseHandle(it->handle);"),
         "a number that is gone is there": ("    table[number] = NULL;\n    if (--", "    if (--"),
         "a copy closes the file": ("if (--it->numbers == 0)", "if (--it->numbers >= 0)"),
         "each file is made": ("!creates ? OPEN_EXISTING :", ""),
@@ -158,6 +157,9 @@ FAULTS = {
     },
     "port.c": {
         "no parity": (".Parity = EVENPARITY", ".Parity = NOPARITY"),
+        "a port that isn't taken stays open": ("    } else\n        CloseHandle(port);\n", "    }\n"),
+        "a write waits as long as a read": ("it->write_wait});", "it->read_wait});"),
+        "a short write is a whole one": ("n == 0 ? (long long)done", "n == 0 ? (long long)n"),
         "parity isn't looked at": (", .fParity = TRUE,", ","),
         "another speed": ("(DWORD)atoi(speed) : 115200", "115200 : 115200"),
         "two stop bits": ("ONESTOPBIT", "TWOSTOPBITS"),

@@ -10,6 +10,7 @@ from stmflash_line.journals import is_stopped
 from stmflash_line.tied import tied
 
 from .fault import Failed, Fault
+from .journals import rename
 from .owner import Owner, owner_of
 from .patience import UNKNOWN, wait_at_rest
 from .segments import kept_pages
@@ -143,7 +144,7 @@ class Board:
             self.refuse_bad(path)
             if any(kept_pages(path)):
                 self.put_aside()
-                self.journals.take(path)
+                rename(path, self.journals.live)
                 return True
         return False
 

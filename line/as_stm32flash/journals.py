@@ -82,10 +82,6 @@ class Journals(journals.Journals):
             found.setdefault(owner_of(path), []).append(path)
         return found
 
-    def take(self, path):
-        """Makes one that was put aside the one in use."""
-        rename(path, self.live)
-
     def set_apart(self, own):
         """Puts those that may be of this board where no undo looks: what they kept isn't what the flash held any more. Answers
         where they are now, and whose."""
@@ -93,7 +89,7 @@ class Journals(journals.Journals):
         for path in self.kept():
             owner = owner_of(path)
             if owner.may_be(own):
-                name = path.replace("kept-", "ended-")
+                name = os.path.join(self.folder, f"ended-{path[-6:]}")
                 rename(path, name)
                 ended[name] = owner
         self.drop_old()

@@ -93,6 +93,7 @@ def be_started(body, settings, tie, held):
         # the port is another's as soon as who opened it has ended
         os.closerange(3, os.sysconf("SC_OPEN_MAX"))
         signal.pthread_sigmask(signal.SIG_SETMASK, held)
+        os.environ.clear()
         os.environ.update(settings)
         status = body()
     except BaseException:

@@ -53,14 +53,10 @@ def put(stream, text):
         try:
             stream.write(text)
         except UnicodeEncodeError:
-            stream.write(writable(text, stream.encoding))
+            # of names that have no form in an encoding numbers are told
+            stream.write(text.encode(stream.encoding, "backslashreplace").decode(stream.encoding))
         stream.flush()
         return True
     except OSError:
         os.dup2(os.open(os.devnull, os.O_WRONLY), stream.fileno())
         return False
-
-
-def writable(text, encoding):
-    """A text with names that have no form in an encoding: what they are is told by numbers."""
-    return text.encode(encoding, "backslashreplace").decode(encoding)

@@ -108,7 +108,8 @@ class Line:
 def start_companion(words, path):
     beside = os.path.join(words.folder, "stmflash-line")
     call = [sys.executable, beside] if os.path.exists(beside) else ["stmflash-line"]
-    call += [words.port, "--baud", str(words.baud), "--socket", path]
+    # a hand takes its time, and so may an answer
+    call += [words.port, "--baud", str(words.baud), "--idle", "0", "--socket", path]
     call += [f"--wiring={words.wiring}"] if words.wiring else []
     try:
         # a Ctrl-C is ours alone: what was changed is put back over this line. Where we are killed the port is given back

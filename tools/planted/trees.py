@@ -32,7 +32,7 @@ BESIDE = {
     "web/page/": [LAYER + it for it in ("test_the_page", "test_wirings_are_those_of_stmflash_line", "test_images_are_those_of_objcopy")],
     "packaging/completions/": ["test_completions"],
     "packaging/stmflash-line@.service": ["test_packaging", "test_line_service.Unit", "test_line_service.Confinement"],
-    "packaging/70-stmflash.rules": ["test_packaging", "test_line_service.Confinement"],
+    "packaging/70-stmflash.rules": ["test_packaging"],
     "packaging/deb-as-stm32flash": ["test_packaging", "sh packaging/try-deb-as-stm32flash"],
     "packaging/": ["test_packaging", "sh packaging/try-deb --unproved"],
     "Makefile": ["test_packaging", "test_line_service.Unit", "sh packaging/try-deb --unproved", "sh packaging/try-deb-as-stm32flash"],
@@ -101,7 +101,7 @@ def call(words, folder, program, limit, given=()):
     # where a program is, the tests make files that others may not meet
     with tempfile.TemporaryDirectory(prefix="planted-") as room:
         # a package that is tried needn't be small
-        variables = {**os.environ, "STMFLASH": program, "STMFLASH_PATIENCE": PATIENCE, "TMPDIR": room, "DPKG_DEB_COMPRESSOR_TYPE": "none", **dict(given)}
+        variables = {**os.environ, "STMFLASH": program, "STMFLASH_PATIENCE": PATIENCE, "TMPDIR": room, "DPKG_DEB_COMPRESSOR_LEVEL": "0", **dict(given)}
         # in the session of the call: Linux shares processors out by sessions first, and by priorities within each
         ran = subprocess.Popen(words, cwd=folder, env=variables, stdin=subprocess.DEVNULL, stdout=subprocess.PIPE, stderr=subprocess.STDOUT,
                                text=True, errors="replace", process_group=0)
