@@ -6,11 +6,13 @@ The program is the one that the variable STMFLASH names; without it, the one tha
 
 import contextlib
 import fcntl
+import json
 import os
 import pathlib
 import select
 import socket
 import subprocess
+import sys
 import tempfile
 import threading
 import time
@@ -20,6 +22,9 @@ import unittest
 import answers
 
 TOP = os.path.dirname(os.path.dirname(os.path.abspath(__file__)))
+sys.path.append(os.path.join(TOP, "tools", "soak"))
+from journal import untimed  # noqa: E402
+
 # how long a call may take, in seconds, on a machine that is busy with other things
 PATIENCE = int(os.environ.get("STMFLASH_PATIENCE", "300"))
 # how long a host waits until the line counts as quiet, in ms: longer than a busy machine takes to answer
@@ -83,6 +88,11 @@ class Said(typing.NamedTuple):
     status: int
     out: bytes
     err: bytes
+
+
+def told_by(said):
+    """What a line of JSON tells, but for the journal and the time, which each answer of a device has."""
+    return {name: told for name, told in json.loads(said.out).items() if name not in ("journal", "milliseconds")}
 
 
 def lacks(name):
@@ -183,10 +193,14 @@ class Place(unittest.TestCase):
         """Removes those of these that are there."""
         self.remove(*filter(self.is_there, names))
 
+    def raw(self, name):
+        """The bytes of a file."""
+        return pathlib.Path(self.path(name)).read_bytes()
+
     def held(self, name):
-        """The bytes of a file; None where it isn't there."""
+        """The same, but of a journal without what changes with the clock; None where it isn't there."""
         try:
-            return pathlib.Path(self.path(name)).read_bytes()
+            return untimed(self.raw(name))
         except FileNotFoundError:
             return None
 

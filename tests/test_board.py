@@ -64,7 +64,8 @@ class Board(telling.Told):
     def test_a_journal_begins_with_the_board(self):
         self.assertTold(self.at(HERE, "write", "image"), "segment 1: 1 pages written\n")
         self.assertTrue(self.held("journal").startswith(HEAD + b"open 1\n"))
-        self.assertTold(self.call("log", "--journal", "journal"), f"id 0410\nboard {NAME}\nsegment 1: ended, 1 pages: 0\n1 can be undone\n")
+        told = [line for line in self.call("log", "--journal", "journal").out.decode().splitlines() if not line.startswith("  ")]
+        self.assertEqual(told, ["id 0410", f"board {NAME}", "segment 1: ended, 1 pages: 0", "1 can be undone"])
         self.assertTold(self.at(HERE, "undo"), "undone 1\n", flash=COUNTING)
 
     def test_each_session_asks_before_it_and_once_more_and_behind_a_segment(self):

@@ -261,7 +261,8 @@ class BoardMoved(telling.Told):
     def test_a_garbled_size_takes_no_page_too_many(self):
         flash, journal = self.write_here()
         # too small: what lies outside is refused, also what a journal keeps there
-        self.assertFault(self.at("undo", kib=4), "bad journal line 3")
+        before = self.raw("journal").partition(b"page ")[0]
+        self.assertFault(self.at("undo", kib=4), f"bad journal line {before.count(10) + 1}")
         self.assertFault(self.at("erase", "64", kib=64), OUTSIDE, flash=flash, journal=journal)
         # too large: the pages are those of the table
         self.assertFault(self.at("erase", "128", kib=0x8080), OUTSIDE, journal=journal)

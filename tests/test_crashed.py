@@ -5,7 +5,7 @@ import json
 import os
 
 import syncs
-from place import SIZE, WAIT, ZEROS, files, with_page
+from place import SIZE, WAIT, ZEROS, files, told_by, with_page
 from served import Served
 
 HEADER = b"stmjournal 2 0412\n"
@@ -149,7 +149,7 @@ class Crashed(Served):
         said = self.use("undo", "--json")
         self.assertEqual(json.loads(said.out), {"fault": "bad_journal", "says": FAULT, "hint": HINT, "status": 1})
         said = self.use("undo", "--recover", "--json")
-        self.assertEqual((said.status, json.loads(said.out)), (0, {"answer": "undone", "count": 2, "unchanged": []}))
+        self.assertEqual((said.status, told_by(said)), (0, {"answer": "undone", "count": 2, "unchanged": []}))
         self.assertEqual(said.err.decode(), f"note: {note(len(LEFT) - len(GOOD))}\n")
 
     def test_in_a_folder(self):

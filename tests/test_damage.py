@@ -173,7 +173,7 @@ class Damage(telling.Told):
         class Rotting(telling.Stand):
             def heard(stand, came):
                 if came == b"\x43\xbc":
-                    self.store("journal", rotten(self.held("journal"), 0))
+                    self.store("journal", rotten(self.raw("journal"), 0))
 
         said = self.run_on(lambda it: telling.serve_one(self, it, "flash", TOLD, True, Rotting), "write", "--again", "1", "image")
         fault = DAMAGED.format(0, 1)

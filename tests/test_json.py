@@ -6,6 +6,7 @@ import unittest
 
 import answers
 from place import ERASED, SILENT, Place, had, new, text_in
+from telling import sum_of
 
 IMAGE = b"\x00" * 1024
 
@@ -17,13 +18,20 @@ class Json(Place):
         self.assertTrue(said.out.endswith(b"\n"))
         return [json.loads(line) for line in said.out.split(b"\n")[:-1]]
 
+    def of_device(self, told):
+        """An answer of a device without the journal and the time, which each has."""
+        self.assertEqual((told.pop("journal"), type(told.pop("milliseconds"))), ("journal", int))
+        return told
+
     def assertAnswers(self, said, *answers, note=None):
         self.assertEqual(said.err, f"note: {note}\n".encode() if note else b"")
-        self.assertEqual(self.lines(said), list(answers))
+        told = self.lines(said)
+        self.assertEqual([it if it["answer"] in ("log", "kept") else self.of_device(it) for it in told], list(answers))
 
     def assertFails(self, said, name, says, status=1, before=(), **more):
         """One object of a fault behind what was done before, and on standard error the same as without JSON."""
-        self.assertEqual(self.lines(said, status), [*before, {"fault": name, "says": says, **more, "status": status}])
+        told = self.lines(said, status)
+        self.assertEqual([self.of_device(it) if "journal" in it else it for it in told], [*before, {"fault": name, "says": says, **more, "status": status}])
         self.assertEqual(said.err.decode(), f"stmflash: {says}\n" + (f"hint: {more['hint']}\n" if more else ""))
 
     def test_answers(self):
@@ -33,17 +41,18 @@ class Json(Place):
                             "erased": "FF", "version": "22",
                             "codes": ["00", "02", "11", "21", "31", "43", "73", "82", "92"], "tried": 0})
         self.assertAnswers(self.use_image("write", IMAGE, "-v", "--json"),
-                           {"answer": "written_and_verified", "segment": 1, "pages": 1, "bytes": 1024, "again": 1024})
-        self.assertAnswers(self.use_image("write", IMAGE, "--json"), {"answer": "written", "segment": 2, "pages": 0, "bytes": 1024},
-                           note=new(2))
-        self.assertAnswers(self.use_image("verify", IMAGE, "--json"), {"answer": "verified", "bytes": 1024})
+                           {"answer": "written_and_verified", "segment": 1, "pages": 1, "bytes": 1024, "crc": sum_of(IMAGE), "again": 1024})
+        self.assertAnswers(self.use_image("write", IMAGE, "--json"),
+                           {"answer": "written", "segment": 2, "pages": 0, "bytes": 1024, "crc": sum_of(IMAGE)}, note=new(2))
+        self.assertAnswers(self.use_image("verify", IMAGE, "--json"), {"answer": "verified", "bytes": 1024, "crc": sum_of(IMAGE)})
         self.assertAnswers(self.use("erase", "5", "--json"), {"answer": "erased", "segment": 3, "pages": 0}, note=new(3))
         self.assertAnswers(self.use("crc", "-S", "0x08000000:4", "--json"), {"answer": "crc", "crc": "C704DD7B"})
-        self.assertAnswers(self.use("read", "copy", "--json"), {"answer": "done"})
+        self.assertAnswers(self.use("read", "copy", "--json"), {"answer": "done", "bytes": 32768, "crc": sum_of(IMAGE + ERASED[1024:])})
         self.assertFile("copy", IMAGE + ERASED[1024:])
         self.assertAnswers(self.call("log", "--journal", "journal", "--json"),
                            {"answer": "log", "lines": ["id 0412", "segment 1: ended, 1 pages: 0", "segment 2: ended, 0 pages",
-                                                       "segment 3: ended, 0 pages", "3 can be undone"]})
+                                                       "segment 3: ended, 0 pages", "3 can be undone"],
+                            "segments": [{"state": "ended", "segment": k, "pages": [0] if k == 1 else [], "images": []} for k in (1, 2, 3)]})
         self.assertAnswers(self.use("undo", "1", "--json"), {"answer": "undone", "count": 1, "unchanged": [3]}, note=had(3, left=2))
         self.assertAnswers(self.call("keep", "--journal", "journal", "--last", "1", "--json"), {"answer": "kept", "count": 1, "left": 1})
         self.assertAnswers(self.call("keep", "--journal", "journal", "--json"), {"answer": "kept", "count": 1})
@@ -53,11 +62,11 @@ class Json(Place):
         like = "the image holds bytes that a device which loses power in the midst would take for an erase; use -v, and reset before an undo"
         image = bytes(1024) + b"\x7f\x43\xbc"
         self.assertAnswers(self.use_image("write", image, "--json", "--keep"),
-                           {"answer": "written", "segment": 1, "pages": 2, "bytes": 1027, "hint": f"at 400 of the flash {like}"},
+                           {"answer": "written", "segment": 1, "pages": 2, "bytes": 1027, "crc": sum_of(image), "hint": f"at 400 of the flash {like}"},
                            {"answer": "kept", "count": 1})
         self.store("image", image)
         self.assertAnswers(self.use("write", "-v", "-f", "-S", "0x08000100", "--json", "image"),
-                           {"answer": "written_and_verified", "segment": 1, "pages": 1, "bytes": 1027, "again": 259, "hint": f"at 08000500 {like}"})
+                           {"answer": "written_and_verified", "segment": 1, "pages": 1, "bytes": 1027, "crc": sum_of(image), "again": 259, "hint": f"at 08000500 {like}"})
         # as text it is told on a terminal alone, before the write
         self.assertWell(self.use("write", "-f", "-S", "0x08000800", "image"))
 
@@ -88,7 +97,7 @@ class Json(Place):
                       ("erase", "5"), ("undo", "1"), ("undo", "-v")):
             with self.subTest(words=words):
                 told, = self.lines(self.use(*words, "--json"))
-                self.assertEqual((told["board"], told["flash_kib"]), ("00112233445566778899AABB", 16))
+                self.assertEqual((told["board"], told["flash_kib"], told["chip"]), ("00112233445566778899AABB", 16, "0412"))
         told, kept = self.lines(self.use("write", "image", "--keep", "--json"))
         self.assertIn("board", told)
         self.assertEqual(kept, {"answer": "kept", "count": 1})
@@ -96,8 +105,9 @@ class Json(Place):
     def test_each_step_has_a_line(self):
         """What is done behind a write is told behind it, and so is what failed there."""
         self.assertAnswers(self.use_image("write", IMAGE, "--keep", "--json"),
-                           {"answer": "written", "segment": 1, "pages": 1, "bytes": 1024}, {"answer": "kept", "count": 1})
-        written = {"answer": "written", "segment": 1, "pages": 1, "bytes": 1}
+                           {"answer": "written", "segment": 1, "pages": 1, "bytes": 1024, "crc": sum_of(IMAGE)},
+                           {"answer": "kept", "count": 1})
+        written = {"answer": "written", "segment": 1, "pages": 1, "bytes": 1, "crc": sum_of(b"\x01")}
         said = self.use_image("write", b"\x01", "--keep", "--go", "0x09000000", "--json")
         self.assertFails(said, "no_protocol", "device does not follow the protocol", before=[written, {"answer": "kept", "count": 1}])
 

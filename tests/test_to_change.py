@@ -1,9 +1,7 @@
 """Writes and erases that changed nothing: what is told of them, what an undo of them tells, and `undo --to-change`, which goes
 back to the newest that changed something."""
 
-import json
-
-from place import ERASED, WAIT, had, new, with_page
+from place import ERASED, WAIT, had, new, told_by, with_page
 from served import Served
 
 import telling
@@ -98,13 +96,14 @@ class ToChange(Served):
     def test_as_json(self):
         self.write()
         said = self.use("undo", "1", "--json")
-        self.assertEqual(json.loads(said.out), {"answer": "undone", "count": 1, "unchanged": [3]})
+        self.assertEqual(told_by(said), {"answer": "undone", "count": 1, "unchanged": [3]})
         self.assertEqual(said.err.decode(), f"note: {had(3, left=2)}\n")
-        self.assertTold(self.use("write", "b", "--json"), '{"answer":"written","segment":3,"pages":0,"bytes":3000}\n', new(3))
+        said = self.use("write", "b", "--json")
+        self.assertEqual((told_by(said)["pages"], said.err.decode()), (0, f"note: {new(3)}\n"))
         self.assertEqual(self.use("write", "b").status, 0)
         said = self.use("undo", "--to-change", "-v", "--json")
-        self.assertEqual(said.out, b'{"answer":"undone_and_verified","count":3,"bytes":3072,"unchanged":[3,4]}\n')
-        self.assertEqual(json.loads(self.use("undo", "--json").out), {"answer": "undone", "count": 1, "unchanged": []})
+        self.assertEqual(told_by(said), {"answer": "undone_and_verified", "count": 3, "bytes": 3072, "unchanged": [3, 4]})
+        self.assertEqual(told_by(self.use("undo", "--json")), {"answer": "undone", "count": 1, "unchanged": []})
 
     def test_what_is_shown(self):
         """How many pages it goes through is known from the journal."""

@@ -2,7 +2,7 @@
 
 import json
 
-from place import COUNTING, ERASED, TABLE, lacks
+from place import COUNTING, ERASED, TABLE, lacks, told_by
 from refusing import AT, IMAGE, SIZES, OnBoard
 
 from planted_board import PlantedBoard
@@ -118,7 +118,7 @@ class UndoVerified(OnBoard):
         said = self.on(board, "undo", "-v", "--json")
         self.assertEqual(json.loads(said.out), {"fault": "not_held", "says": NOT_HELD, "hint": AGAIN, "status": 1})
         said = self.on(board, "undo", "-v", "--json")
-        self.assertEqual(json.loads(said.out), {"answer": "undone_and_verified", "count": 1, "bytes": 3072, "unchanged": []})
+        self.assertEqual(told_by(said), {"answer": "undone_and_verified", "count": 1, "bytes": 3072, "unchanged": []})
 
     def test_what_is_shown(self):
         """Each page counts twice: it is given back, and read again."""

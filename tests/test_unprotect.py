@@ -4,7 +4,7 @@ import itertools
 import json
 
 from hostile import be_silent
-from place import COUNTING, SILENT, TABLE
+from place import COUNTING, SILENT, TABLE, told_by
 from refusing import AT, DEVICE, NOT_ERASED, NOT_WRITTEN, Guarded, OnBoard
 
 NOW_UNDO = "the board resets itself; now: undo 1"
@@ -216,6 +216,6 @@ class Unprotect(OnBoard):
         said = self.on(board, "protect", "write-unprotect", "--json")
         self.assertEqual(json.loads(said.out), {"fault": "journal_open", "says": OPEN, "hint": IN_SESSION, "status": 1})
         said = self.on(board, *UNPROTECT, "--json")
-        self.assertEqual((said.status, json.loads(said.out)), (0, {"answer": "done", "hint": NOW_UNDO}))
+        self.assertEqual((said.status, told_by(said)), (0, {"answer": "done", "hint": NOW_UNDO}))
         said = self.on(board, "protect", "write-unprotect", "--json", journal="none")
-        self.assertEqual(json.loads(said.out), {"answer": "done"})
+        self.assertEqual(told_by(said), {"answer": "done"})

@@ -239,7 +239,7 @@ class Line(Watching):
         self.assertEqual(said.err, f"stmflash: {text}\n".encode())
         # the end line stands on standard error alone
         said, _ = self.through("crc", "--watch", "--json")
-        self.assertEqual((said.status, list(json.loads(said.out))), (0, ["answer", "crc", "board", "flash_kib"]))
+        self.assertEqual((said.status, list(json.loads(said.out))), (0, ["answer", "crc", "board", "flash_kib", "chip", "journal", "milliseconds"]))
         self.assertRegex(said.err.decode(), rf"\A{WATCHED}\n\Z")
 
     def test_without_it_nothing_is_told(self):

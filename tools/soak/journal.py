@@ -16,6 +16,11 @@ HEADERS = (b"stmjournal 1 0000", b"stmjournal 2 0000", b"stmjournal 3 0000 " + 6
 OPEN, ENDED, RETURNING = "open", "ended", "returning"
 
 
+def untimed(text):
+    """The text of a journal without what it says of the beginning of its segments; any other as it is."""
+    return re.sub(rb"(?m)^(time|image) [^\n]*!\n", b"", text) if b"stmjournal 3 " in text[:64] else text
+
+
 class BadLine(Exception):
     def __init__(self, line):
         super().__init__(line)

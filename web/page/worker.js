@@ -16,8 +16,7 @@ let store;
 /** The files of the pool: those that are there, and new ones, until enough have no name.
  * @param {FileSystemDirectoryHandle} folder */
 async function pool(folder) {
-  /**
-   * A tab that was closed just now may hold a file for a moment longer.
+  /** A tab that was closed just now may hold a file for a moment longer.
    * @param {FileSystemFileHandle} it @param {number} more @returns {Promise<any>} */
   const open = (it, more = 100) => /** @type {any} */ (it).createSyncAccessHandle().catch(async (/** @type {any} */ thrown) => {
     if (thrown?.name !== 'NoModificationAllowedError' || !more) throw thrown;
@@ -28,10 +27,7 @@ async function pool(folder) {
   for await (const it of /** @type {any} */ (folder).values()) handles.push(await open(it));
   store = new Store(handles);
   try {
-    for (let i = 0; store.free() < SPARE; i++) {
-      const name = `${Date.now()}-${i}`, handle = await open(await folder.getFileHandle(name, { create: true }));
-      store.adopt([handle]);
-    }
+    for (let i = 0; store.free() < SPARE; i++) store.adopt([await open(await folder.getFileHandle(`${Date.now()}-${i}`, { create: true }))]);
   } catch {
     // no room: what is there has to do, and a journal that finds none is refused before anything is sent
   }

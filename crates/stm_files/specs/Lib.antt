@@ -1,5 +1,6 @@
 pub mod BatchWait
 pub mod Beginning
+pub mod Begun
 pub mod Checking
 pub mod Crc
 pub mod Cutting

@@ -11,6 +11,8 @@ use Rattle.stm_journal.specs.declared.stage.Stage.{Stage}
 use Rattle.stm_journal.specs.declared.stage.Stage.TheVariants.{Open, Ended, Returning}
 use Rattle.stm_journal.specs.States.{StateData, SegmentData, board_of, depth, intent_at, is_unfinished}
 use Rattle.stm_journal.specs.States.{segment_of}
+use Rattle.stm_files.specs.declared.begun.Note.{Note}
+use Rattle.stm_files.specs.Begun.{begun_text}
 
 -- pages from one to another
 abbrev pub range_text : ℕ → ℕ → List ℕ
@@ -79,6 +81,12 @@ end_text s =
     if is_unfinished s then codes "unfinished, undo first" ++ 10 ∷ []
     else decimal (depth s) ++ codes " can be undone" ++ 10 ∷ []
 
--- the device and its board, a line for each segment, the oldest first, and what can be done next
-abbrev pub log_text : StateData → List ℕ
-log_text s = (logged_device s ++ flat_map (logged_line s) (range_with_len 1 (depth s))) ++ end_text s
+-- the line of segment k, and what is said of its beginning
+abbrev pub noted_line : List Note → StateData → ℕ → List ℕ
+noted_line notes s k = logged_line s k ++ begun_text notes k
+
+-- the device and its board, a line for each segment, the oldest first, with what is said of its
+-- beginning, and what can be done next
+abbrev pub log_text : List Note → StateData → List ℕ
+log_text notes s =
+    (logged_device s ++ flat_map (noted_line notes s) (range_with_len 1 (depth s))) ++ end_text s

@@ -1,6 +1,7 @@
 // The text of a journal that is cut to its newest segments.
 ghost use Rattle.std.specs.Prelude.{◌≡◌, ◌≤◌, ◌<◌, length, IfOk};
 
+use crate::begun::Begun;
 use crate::damage::is_sum;
 use crate::file_fault::FileFault;
 use crate::journal_rig::Source;
@@ -19,16 +20,19 @@ const PIECE: usize = 4096;
 pub struct CutText<R: Files> {
     beside: Replacement<R>,
     alloc: Global,
+    /// What is said of the beginning of segments.
+    begun: Begun,
     /// What isn't written yet.
     bytes: Vec<u8>,
 }
 
 impl<R: Files + AllocGlobal> CutText<R> {
     /// An empty text.
-    pub fn new(alloc: Global, beside: Replacement<R>) -> CutText<R> {
+    pub fn new(alloc: Global, beside: Replacement<R>, begun: Begun) -> CutText<R> {
         CutText {
             beside,
             alloc,
+            begun,
             bytes: Vec::new(alloc),
         }
     }
@@ -99,12 +103,24 @@ impl<R: Files + AllocGlobal> CutText<R> {
         number: u32,
     ) -> Result<(), FileFault<'a>> {
         written(self.add_line("open", number), name)?;
+        written(self.add_notes(k), name)?;
         for i in 0..journal.kept_count(k) {
             if let (Some((page, _)), Some(place)) = (journal.kept(k, i), journal.kept_place(k, i)) {
                 self.add_page(name, source, page, place)?;
             }
         }
         written(self.add_line("end", number), name)
+    }
+
+    /// Adds the lines of the beginning of segment `k`.
+    fn add_notes(&mut self, k: u32) -> io::Result<()> {
+        for note in self.begun.notes() {
+            if note.segment == k {
+                self.bytes.extend_from_slice(&note.words)?;
+                self.bytes.extend_from_slice(b"!\n")?;
+            }
+        }
+        Ok(())
     }
 
     /// Adds a line of a word and a number.

@@ -248,7 +248,7 @@ impl<'a, R: Locks + AllocGlobal> JournalFile<'a, R> {
     {
         let is_open = matches!(self.writing, Writing::Open(_));
         if self.names_board && is_open && !lines.is_empty() && self.stays() {
-            let _ = self.add(lines);
+            let _ = self.append(lines);
         }
     }
 

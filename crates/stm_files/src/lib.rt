@@ -4,6 +4,7 @@
 
 mod batch_wait;
 mod beginning;
+mod begun;
 mod board_name;
 mod bound_socket;
 mod checking;
@@ -54,6 +55,7 @@ mod turns;
 mod unusable;
 
 pub use beginning::is_no_journal;
+pub use begun::{Begun, Note, Noting, add_image_line, begun_lines};
 pub use board_name::BoardName;
 pub use bound_socket::BoundSocket;
 pub use checking::check_journal;

@@ -4,8 +4,9 @@ ghost use Rattle.std.specs.Prelude.{codes, decimal};
 ghost use Rattle.hex.specs.Hex.{encode_upper};
 ghost use Rattle.stm_journal.specs.States.{intent_at, segment_of};
 ghost use Rattle.stm_files.specs.Logging.{logged_device, end_text, intent_text, kept_pages_text, logged_line};
-ghost use Rattle.stm_files.specs.Logging.{log_text, numbers_of, range_text, stage_text};
+ghost use Rattle.stm_files.specs.Logging.{log_text, noted_line, numbers_of, range_text, stage_text};
 
+use crate::begun::Begun;
 use std::alloc::{AllocError, Global};
 use stm_journal::{Intent, Journal, Stage};
 use stm_wire::UniqueId;
@@ -184,15 +185,31 @@ pub fn add_end(out: &mut Vec<u8>, alloc: Global, journal: &Journal) -> Result<()
     out.extend_from_slice(b" can be undone\n")
 }
 
-/// What a journal says: the device and its board, a line for each segment, the oldest first,
-/// and what can be done next.
-pub fn log_lines(alloc: Global, journal: &Journal) -> Result<Vec<u8>, AllocError>
-    ensures { IfOk result (λ text. text.items ≡ log_text journal.now.state) }
+/// Adds the line of segment `k`, where there is one, and what is said of its beginning.
+fn add_noted_segment(
+    out: &mut Vec<u8>,
+    alloc: Global,
+    journal: &Journal,
+    begun: &Begun,
+    k: u32,
+) -> Result<(), AllocError>
+    ensures { OnOk result (out.new.items
+        ≡ out.old.items ++ noted_line begun.now.notes.items journal.now.state k) }
+{
+    add_segment(out, alloc, journal, k)?;
+    begun.add_text(out, k)
+}
+
+/// What a journal says: the device and its board, a line for each segment, the oldest first, and behind
+/// it what is said of its beginning; then what can be done next.
+pub fn log_lines(alloc: Global, journal: &Journal, begun: &Begun) -> Result<Vec<u8>, AllocError>
+    ensures { IfOk result
+        (λ text. text.items ≡ log_text begun.now.notes.items journal.now.state) }
 {
     let mut out = Vec::new(alloc);
     add_device(&mut out, alloc, journal)?;
     for k in 0..journal.depth() {
-        add_segment(&mut out, alloc, journal, k + 1)?;
+        add_noted_segment(&mut out, alloc, journal, begun, k + 1)?;
     }
     add_end(&mut out, alloc, journal)?;
     Ok(out)

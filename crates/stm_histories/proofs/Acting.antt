@@ -157,8 +157,8 @@ module _ {R : Type 0} (view : R → RigState) (laws : Laws view) where
     range-goes range old new result at (Some part) runs = part-goes (Some part) old new result at runs
 
     image-goes : (content : Content) (old new : R) (image : Result Pairs Failure) → At old → ImageOn view table content old new image → Goes old new
-    image-goes (Placed own) old new image at (said, same) = goes-nowhere at.starts old new at.honest at.start same
-    image-goes (AtBase bytes) old new image at asks =
+    image-goes (Placed own names) old new image at (said, same) = goes-nowhere at.starts old new at.honest at.start same
+    image-goes (AtBase bytes names) old new image at asks =
         first-goes (λ fault. Session fault) _ old new image at asks (λ told mid then done. goes-nowhere then.starts mid new then.honest then.start done.0)
 
     -- a step that places its image first

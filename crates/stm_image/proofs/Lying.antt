@@ -1,7 +1,7 @@
 -- Which pairs pieces have.
-use Rattle.std.proofs.Common.{◌≡◌, ◌⊎◌, inl, inr, ℕ, zero, suc, ◌+◌, ◌-◌, ◌<◌, ◌≤◌, List, [], ◌∷◌, ◌++◌, length, drop, get_or, slice_index, refl, ap, ◌∙◌, length-append, length-drop, arith}
+use Rattle.std.proofs.Common.{◌≡◌, ◌⊎◌, inl, inr, ℕ, zero, suc, ◌+◌, ◌-◌, ◌<◌, ◌≤◌, List, [], ◌∷◌, ◌++◌, length, take, drop, map, get_or, slice_index, refl, sym, ap, ◌∙◌, length-append, length-drop, take-append-drop, drop_of_length-le, drop-drop, arith}
 use Rattle.std.specs.Prelude.{Contains, All}
-use Rattle.std.proofs.lemmas.List.{length-take}
+use Rattle.std.proofs.lemmas.List.{length-take, map-append}
 use Rattle.std.proofs.lemmas.List.Elements.{All-take, All-drop, All-get_or, Contains-get_or, Contains-append_left, Contains-append_right, Contains-append_cases}
 use Rattle.std.proofs.lemmas.List.Kept.{AllPairs-cons}
 use Rattle.stm_image.specs.Pairs.{Pairs, AddressesRise, InRange, IsImage, raw_pairs}
@@ -154,6 +154,24 @@ length-pairs_at bytes from to (p ∷ ps) stand within =
     let raw = length-raw p.first (piece_bytes bytes p) in
     let both = length-append (pairs_of_piece bytes p) (pairs_at bytes ps) in
     omega arith
+
+-- the bytes of pieces that stand up to the last of all bytes
+raw_values : (s : ℕ) (bytes : List ℕ) → map (λ p. p.1) (raw_pairs s bytes) ≡ bytes
+raw_values s [] = refl
+raw_values s (b ∷ bytes) = ap (λ (bs : List ℕ). b ∷ bs) (raw_values (s + 1) bytes)
+
+pub values_at : (bytes : List ℕ) (from : ℕ) (ps : List Piece) → Stand from (length bytes) ps → map (λ p. p.1) (pairs_at bytes ps) ≡ drop from bytes
+values_at bytes from [] stand = sym (drop_of_length-le bytes (omega (arith, stand)))
+values_at bytes from (p ∷ ps) stand =
+    let size = piece_size p in
+    let at = stand.0 in
+    let own = raw_values p.first (piece_bytes bytes p) in
+    let more = values_at bytes (from + size) ps stand.3 in
+    let rest : drop size (drop from bytes) ≡ drop (from + size) bytes = drop-drop size from bytes in
+    let first : piece_bytes bytes p ≡ take size (drop from bytes) = ap (λ n. take size (drop n bytes)) at in
+    map-append (λ p. p.1) (pairs_of_piece bytes p) (pairs_at bytes ps)
+    ∙ (ap (λ (xs : List ℕ). xs ++ map (λ p. p.1) (pairs_at bytes ps)) (own ∙ first)
+    ∙ (ap (λ (xs : List ℕ). take size (drop from bytes) ++ xs) (more ∙ sym rest) ∙ take-append-drop size (drop from bytes)))
 
 pub rises_back : (xs ys : Pairs) → AddressesRise (xs ++ ys) → AddressesRise ys
 rises_back [] ys rises = rises

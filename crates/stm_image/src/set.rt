@@ -1,5 +1,5 @@
 //! A set of addresses with a byte each.
-ghost use Rattle.std.specs.Prelude.{◌≡◌, ◌==◌, ◌<◌, All, MatchOption, length};
+ghost use Rattle.std.specs.Prelude.{◌≡◌, ◌==◌, ◌<◌, All, MatchOption, length, map};
 ghost use Rattle.stm_image.specs.Clash.{IsPutOver, Names};
 ghost use Rattle.stm_image.specs.Pairs.{Pairs, IsImage, byte_at, IsNext, HasNone};
 ghost use Rattle.stm_image.specs.Pieces.{AllStand, Apart, AreRuns, pairs_in};
@@ -41,6 +41,13 @@ impl Image {
         ensures { result ≡ (length self.now == 0) }
     {
         self.len() == 0
+    }
+
+    /// The bytes, by rising address.
+    pub fn bytes(&self) -> &[u8]
+        ensures { result.now ≡ map (λ p. p.1) self.now }
+    {
+        self.runs.bytes.as_slice()
     }
 
     /// The byte at an address.

@@ -89,17 +89,17 @@ module _ {R : Type 0} (view : R → RigState) (laws : Laws view) where
 
     placed : (content : Content) (old mid : R) (image : Pairs) → CanCall table (view old)
         → ImageOn view table content old mid (Ok image) → IsPlaced content old mid image
-    placed (Placed own) old mid image can (said, same) =
+    placed (Placed own names) old mid image can (said, same) =
         let own-is : image ≡ own = cc in
-        let P : R → Type 0 = λ x. IsPlaced (Placed own) old x image in
+        let P : R → Type 0 = λ x. IsPlaced (Placed own names) old x image in
         subst P (sym same) (record { can = can; chip = refl; flash = refl; image_is = own-is })
-    placed (AtBase bytes) old mid image can asks = by-told asks.told asks.asks asks.goes_on
+    placed (AtBase bytes names) old mid image can asks = by-told asks.told asks.asks asks.goes_on
       where
         by-told : (told : Result Info Fault) → PromisesInfo table (view old) (view asks.mid) told
             → MatchResult told (λ info. (mid ≡ asks.mid)
             × IsRawImage info.base bytes.items (okay image))
             (λ fault. (mid ≡ asks.mid) × (okay image ≡ Err (Session fault)))
-            → IsPlaced (AtBase bytes) old mid image
+            → IsPlaced (AtBase bytes names) old mid image
         by-told (Err fault) asked (same, failed) = absurd (cc)
         by-told (Ok info) asked (same, is) =
             let d : Device = (view old).device in
@@ -109,7 +109,7 @@ module _ {R : Type 0} (view : R → RigState) (laws : Laws view) where
             can.knows.only asked.describes.chip listed.held (listed.id_is ∙ informs.told.id) in
             let base : info.base ≡ d.chip.base = asked.describes.base
             ∙ ap (λ (c : ChipData). c.base) own in
-            let P : R → Type 0 = λ x. IsPlaced (AtBase bytes) old x image in
+            let P : R → Type 0 = λ x. IsPlaced (AtBase bytes names) old x image in
             subst P (sym same) (record {
               can = still-can old asks.mid can informs.honest informs.left;
               chip = informs.left.make.chip;

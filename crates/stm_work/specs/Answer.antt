@@ -1,9 +1,11 @@
 -- What an answer of the program tells of a session.
-use Rattle.std.specs.Prelude.{◌≡◌, ℕ, Bool, true, false, List, [], ◌∷◌, String, vec_len}
+use Rattle.std.specs.Prelude.{◌≡◌, ℕ, Bool, true, false, List, [], ◌∷◌, String, map, vec_len}
 use Rattle.std.specs.Prelude.{Option, None, Some}
 use Rattle.std.specs.declared.alloc.Global.{Global}
+use Rattle.stm_image.specs.Pairs.{Pairs}
 use Rattle.stm_session.specs.Answers.{OutcomeData, was_written, was_erased, was_verified, was_read}
 use Rattle.stm_session.specs.declared.information.Info.{Info}
+use Rattle.stm_files.specs.PageSum.{page_sum}
 use Rattle.stm_work.specs.declared.answer.Answer.{Answer}
 use Rattle.stm_work.specs.declared.answer.Answer.TheVariants as answer
 use Rattle.stm_work.specs.TriedBoards.{AreTried}
@@ -14,15 +16,16 @@ outcomes_told answer.Nothing = []
 outcomes_told (answer.Told info tried) = []
 outcomes_told (answer.Identified told table) = []
 outcomes_told (answer.Bytes bytes) = was_read bytes.items ∷ []
+outcomes_told (answer.Filed bytes crc) = []
 outcomes_told (answer.Sum crc) = []
-outcomes_told (answer.Written segment pages bytes (Some again)) =
+outcomes_told (answer.Written segment pages bytes crc (Some again)) =
     was_written segment pages ∷ was_verified ∷ []
-outcomes_told (answer.Written segment pages bytes None) = was_written segment pages ∷ []
-outcomes_told (answer.Verified bytes) = was_verified ∷ []
+outcomes_told (answer.Written segment pages bytes crc None) = was_written segment pages ∷ []
+outcomes_told (answer.Verified bytes crc) = was_verified ∷ []
 outcomes_told (answer.Erased segment pages) = was_erased segment pages ∷ []
 outcomes_told (answer.Undone count bytes) = []
 outcomes_told (answer.UndoneBeside count bytes unchanged left) = []
-outcomes_told (answer.Logged text) = []
+outcomes_told (answer.Logged text segments) = []
 outcomes_told (answer.Kept count left) = []
 
 -- it tells what a device is, and how many real boards with its chip were tried, where the texts of
@@ -44,6 +47,15 @@ IsBeside texts other told = told ≡ other
 abbrev pub is_flash : Answer → Bool
 is_flash (answer.Bytes bytes) = true
 is_flash other = false
+
+-- the CRC of an image's bytes, by rising address
+abbrev pub image_sum : Pairs → ℕ
+image_sum image = page_sum (map (λ p. p.1) image)
+
+-- what is told of bytes that are in a file
+abbrev pub filed : Answer → Answer
+filed (answer.Bytes bytes) = answer.Filed (vec_len bytes) (page_sum bytes.items)
+filed other = other
 
 -- it tells bytes, so many
 abbrev pub IsReadAnswer : ℕ → Answer → Type 0

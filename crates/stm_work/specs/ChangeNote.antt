@@ -32,6 +32,6 @@ change_note segment pages kept =
 -- the note on an answer, behind which the journal was kept or wasn't
 abbrev pub note_text : Answer → Option ℕ → List ℕ
 note_text (answer.UndoneBeside count bytes unchanged left) kept = unchanged_note unchanged.items left
-note_text (answer.Written segment pages bytes again) kept = change_note segment pages kept
+note_text (answer.Written segment pages bytes crc again) kept = change_note segment pages kept
 note_text (answer.Erased segment pages) kept = change_note segment pages kept
 note_text _ kept = []

@@ -53,18 +53,18 @@ IsNoHex text _ = ⊥
 
 -- it is known where each byte lies
 abbrev pub IsContentPlaced : (Pairs → Type 0) → Content → Type 0
-IsContentPlaced P (Placed image) = P image
-IsContentPlaced P (AtBase bytes) = ⊥
+IsContentPlaced P (Placed image names) = P image
+IsContentPlaced P (AtBase bytes names) = ⊥
 
 -- the bytes lie where the flash begins
 abbrev pub IsAtBase : List ℕ → Content → Type 0
-IsAtBase bytes (Placed image) = ⊥
-IsAtBase bytes (AtBase own) = own.items ≡ bytes
+IsAtBase bytes (Placed image names) = ⊥
+IsAtBase bytes (AtBase own names) = own.items ≡ bytes
 
 -- it holds the same image, or the same bytes
 abbrev pub IsCopy : Content → Content → Type 0
-IsCopy (Placed image) content = content ≡ Placed image
-IsCopy (AtBase bytes) content = IsAtBase bytes.items content
+IsCopy (Placed image names) content = IsContentPlaced (λ own. own ≡ image) content
+IsCopy (AtBase bytes names) content = IsAtBase bytes.items content
 
 -- What comes of a file's bytes, HEX or raw, and of the range that was given.
 abbrev pub ComesOf : Bool → Option Range → List ℕ → Result Content Failure → Type 0
@@ -87,8 +87,8 @@ IsBaseOf table base = All (λ chip. chip.base ≡ base) table
 
 -- where that lies, whichever chip of a table the device has
 abbrev pub IsPlacedBy : List ChipData → Content → Pairs → Type 0
-IsPlacedBy table (Placed image) set = set ≡ image
-IsPlacedBy table (AtBase bytes) set =
+IsPlacedBy table (Placed image names) set = set ≡ image
+IsPlacedBy table (AtBase bytes names) set =
     (base : ℕ) × IsBaseOf table base × (set ≡ raw_pairs base bytes.items)
 
 -- the image in a file among others
@@ -134,7 +134,7 @@ IsRawImage start bytes (Err failure) = IsNoRawImage start bytes failure
 -- The image that is placed; or the device is asked where its flash begins.
 abbrev pub ImageOn : {R : Type 0} → (R → RigState) → List ChipData → Content → R → R
     → Result Pairs Failure → Type 0
-ImageOn view table (Placed image) old new result = (result ≡ Ok image) × (new ≡ old)
-ImageOn view table (AtBase bytes) old new result =
+ImageOn view table (Placed image names) old new result = (result ≡ Ok image) × (new ≡ old)
+ImageOn view table (AtBase bytes names) old new result =
     AsksThenGoesOn view table (λ fault. Session fault)
     (λ told mid last said. (last ≡ mid) × IsRawImage told.base bytes.items said) old new result

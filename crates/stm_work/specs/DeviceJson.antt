@@ -54,7 +54,9 @@ abbrev pub size_members : Option ℕ → List ℕ
 size_members None = []
 size_members (Some kib) = number_member (codes "flash_kib") kib
 
--- which board it is and the size that it told, where it was asked
+-- which board it is, the size that it told, and its chip, where it was asked
 abbrev pub board_members : Option Board → List ℕ
 board_members None = []
-board_members (Some board) = unique_members board.unique ++ size_members board.size
+board_members (Some board) =
+    unique_members board.unique ++ size_members board.size
+    ++ text_member (codes "chip") (upper_hex 4 board.id)

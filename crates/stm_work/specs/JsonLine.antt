@@ -37,6 +37,10 @@ text_member name text = 0x2C ∷ (text_value name ++ (0x3A ∷ text_value text))
 abbrev pub number_member : List ℕ → ℕ → List ℕ
 number_member name number = 0x2C ∷ (text_value name ++ (0x3A ∷ decimal number))
 
+-- a member whose value is JSON already, behind another
+abbrev pub made_member : List ℕ → List ℕ → List ℕ
+made_member name value = 0x2C ∷ (text_value name ++ (0x3A ∷ value))
+
 -- a line, but no empty one
 abbrev pub unless_empty : List ℕ → List (List ℕ)
 unless_empty [] = []

@@ -40,8 +40,8 @@ use Rattle.stm_work.specs.Steps.{TakesKnown}
 
 -- the image that a content is on this chip: bytes without a place lie where its flash begins
 abbrev pub image_on : ChipData → Content → Pairs
-image_on chip (Placed image) = image
-image_on chip (AtBase bytes) = raw_pairs chip.base bytes.items
+image_on chip (Placed image names) = image
+image_on chip (AtBase bytes names) = raw_pairs chip.base bytes.items
 
 -- The Rig follows the model, 7F settles its device without harm, and the table has its chip.
 pub record CanCall (table : List ChipData) (old : RigState) : Type 0 where

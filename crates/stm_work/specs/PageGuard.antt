@@ -62,7 +62,7 @@ abbrev pub left_with : Doings → ℕ → ℕ → ℕ → List ℕ → List ℕ
 left_with (Erases pages) page erased start held =
     if list_any (λ p. p == page) pages.items then replicate (length held) erased else held
 left_with ErasesAll page erased start held = replicate (length held) erased
-left_with (Writes (Placed image)) page erased start held = lay image start held
-left_with (Writes (AtBase raw)) page erased start held = held
+left_with (Writes (Placed image names)) page erased start held = lay image start held
+left_with (Writes (AtBase raw names)) page erased start held = held
 left_with Nothing page erased start held = held
 left_with Undoes page erased start held = held

@@ -82,15 +82,16 @@ answer_text (answer.Told info tried) = info_text info
 answer_text (answer.Identified told (Some table)) = told_text told ++ table_text (string_bytes table)
 answer_text (answer.Identified told None) = told_text told
 answer_text (answer.Bytes bytes) = bytes.items
+answer_text (answer.Filed bytes crc) = []
 answer_text (answer.Sum crc) = sum_text crc
-answer_text (answer.Written segment pages bytes (Some again)) =
+answer_text (answer.Written segment pages bytes crc (Some again)) =
     written_text segment pages ++ seen_text bytes again
-answer_text (answer.Written segment pages bytes None) = written_text segment pages
-answer_text (answer.Verified bytes) = verified_text bytes
+answer_text (answer.Written segment pages bytes crc None) = written_text segment pages
+answer_text (answer.Verified bytes crc) = verified_text bytes
 answer_text (answer.Erased segment pages) = erased_text segment pages
 answer_text (answer.Undone count bytes) = undone_text count bytes
 answer_text (answer.UndoneBeside count bytes unchanged left) = undone_text count bytes
-answer_text (answer.Logged text) = text.items
+answer_text (answer.Logged text segments) = text.items
 answer_text (answer.Kept count (Some left)) = kept_text count ++ left_text left
 answer_text (answer.Kept count None) = kept_text count
 

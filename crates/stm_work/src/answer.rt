@@ -39,18 +39,27 @@ pub enum Answer {
     },
     /// Bytes of the flash.
     Bytes(Vec<u8>),
+    /// How many bytes were read into a file, and their CRC.
+    Filed {
+        bytes: usize,
+        crc: u32,
+    },
     /// The CRC of bytes of the flash.
     Sum(u32),
-    /// The number of a write's segment, how many pages it changed, and how many bytes the image has;
-    /// how many of them were read again, where it was verified.
+    /// The number of a write's segment, how many pages it changed, how many bytes the image has, and
+    /// their CRC; how many of them were read again, where it was verified.
     Written {
         segment: u32,
         pages: u32,
         bytes: usize,
+        crc: u32,
         again: Option<usize>,
     },
-    /// Of how many bytes the flash has the image's.
-    Verified(usize),
+    /// Of how many bytes the flash has the image's, and their CRC.
+    Verified {
+        bytes: usize,
+        crc: u32,
+    },
     /// The number of an erase's segment, and how many pages it changed.
     Erased {
         segment: u32,
@@ -69,8 +78,11 @@ pub enum Answer {
         unchanged: Vec<u32>,
         left: u32,
     },
-    /// What a journal says, in lines.
-    Logged(Vec<u8>),
+    /// What a journal says, in lines, and its segments as a list of JSON, where it is told.
+    Logged {
+        text: Vec<u8>,
+        segments: Vec<u8>,
+    },
     /// How many segments stay, and how many can still be undone, where some were left.
     Kept {
         count: u32,
@@ -142,10 +154,11 @@ impl Answer {
                 pages,
                 bytes,
                 again: Some(again),
+                ..
             } => print_written_and_verified(*segment, *pages, *bytes, *again, out),
             Answer::Written { segment, pages, .. } => print_written(*segment, *pages, out),
             Answer::Sum(crc) => print_sum(*crc, out),
-            Answer::Verified(bytes) => print_verified(*bytes, out),
+            Answer::Verified { bytes, .. } => print_verified(*bytes, out),
             Answer::Erased { segment, pages } => print_erased(*segment, *pages, out),
             Answer::Undone { count, bytes } | Answer::UndoneBeside { count, bytes, .. } => {
                 print_undone(*count, *bytes, out)
@@ -155,8 +168,10 @@ impl Answer {
                 left: Some(left),
             } => print_kept_but(*count, *left, out),
             Answer::Kept { count, .. } => print_kept(*count, out),
-            Answer::Logged(bytes) | Answer::Bytes(bytes) => out.write_all(bytes.as_slice()),
-            Answer::Nothing => Ok(()),
+            Answer::Logged { text: bytes, .. } | Answer::Bytes(bytes) => {
+                out.write_all(bytes.as_slice())
+            }
+            Answer::Nothing | Answer::Filed { .. } => Ok(()),
         }
     }
 }

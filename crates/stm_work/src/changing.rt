@@ -2,17 +2,27 @@
 ghost use Rattle.std.specs.Prelude.{◌≡◌, ◌∷◌, ℕ, [], length, IfOk, None, Some};
 ghost use Rattle.std.specs.List.{range_with_len};
 ghost use Rattle.stm_session.specs.Meaning.{erases, verifies, writes};
+ghost use Rattle.stm_work.specs.Answer.{image_sum};
 ghost use Rattle.stm_work.specs.Conduct.{ErasesAll, RunsTold, WritesVerified};
 
 use crate::answer::Answer;
 use std::alloc::{AllocError, Global};
 use stm_chip::Table;
+use stm_files::sum_of_page;
 use stm_image::Image;
 use stm_session::{
     Command, Fault, Outcome, a_verified_write_saw_each_byte, info, run,
     write_and_verify as session_write_and_verify,
 };
 use stm_wire::Rig;
+
+/// The CRC of an image's bytes, by rising address: of whole words the one that the chip's own unit
+/// computes.
+fn image_sum(image: &Image) -> u32
+    ensures { result ≡ image_sum image.now }
+{
+    sum_of_page(image.bytes())
+}
 
 /// Writes an image.
 pub fn write<L: Rig>(
@@ -24,9 +34,9 @@ pub fn write<L: Rig>(
     ensures runs { let old = L.view rig.old in let new = L.view rig.new in
         RunsTold table.now (writes image ∷ []) old new result }
     ensures told { IfOk result (λ answer. (segment : ℕ) × (pages : ℕ)
-        × (answer ≡ Answer.Written segment pages (length image) None)) }
+        × (answer ≡ Answer.Written segment pages (length image) (image_sum image) None)) }
 {
-    let bytes = image.len();
+    let (bytes, crc) = (image.len(), image_sum(&image));
     let commands = [Command::Write(image)];
     let report = run(alloc, rig, table, &commands)?;
     let mut outcomes = report.outcomes;
@@ -37,6 +47,7 @@ pub fn write<L: Rig>(
         segment,
         pages,
         bytes,
+        crc,
         again: None,
     })
 }
@@ -52,15 +63,16 @@ pub fn write_and_verify<L: Rig>(
     ensures runs { let old = L.view rig.old in let new = L.view rig.new in
         WritesVerified table.now image old new result }
     ensures told { IfOk result (λ answer. (segment : ℕ) × (pages : ℕ) × (again : ℕ)
-        × (answer ≡ Answer.Written segment pages (length image) (Some again))) }
+        × (answer ≡ Answer.Written segment pages (length image) (image_sum image) (Some again))) }
 {
     a_verified_write_saw_each_byte::<L>();
-    let bytes = image.len();
+    let (bytes, crc) = (image.len(), image_sum(&image));
     let written = session_write_and_verify(alloc, rig, table, image)?;
     Ok(Answer::Written {
         segment: written.segment,
         pages: written.pages,
         bytes,
+        crc,
         again: Some(written.again),
     })
 }
@@ -74,12 +86,12 @@ pub fn verify<L: Rig>(
 ) -> Result<Answer, Fault>
     ensures runs { let old = L.view rig.old in let new = L.view rig.new in
         RunsTold table.now (verifies image ∷ []) old new result }
-    ensures told { IfOk result (λ answer. answer ≡ Answer.Verified (length image)) }
+    ensures told { IfOk result (λ answer. answer ≡ Answer.Verified (length image) (image_sum image)) }
 {
-    let bytes = image.len();
+    let (bytes, crc) = (image.len(), image_sum(&image));
     let commands = [Command::Verify(image)];
     let _ = run(alloc, rig, table, &commands)?;
-    Ok(Answer::Verified(bytes))
+    Ok(Answer::Verified { bytes, crc })
 }
 
 /// Erases pages.

@@ -9,7 +9,7 @@ use crate::failure::Failure;
 use std::alloc::{AllocError, Global};
 use std::fs::Files;
 use stm_chip::Table;
-use stm_files::{foreign_form, read_file};
+use stm_files::{add_image_line, foreign_form, read_file};
 use stm_image::{Image, Unjoined, join, read_hex, read_raw};
 use stm_session::{Fault, info};
 use stm_wire::Rig;
@@ -24,13 +24,13 @@ const RAW: usize = 2 << 20;
 /// What HEX begins with.
 const COLON: u8 = b':';
 
-/// The image that a file holds.
+/// The image that files hold, with the void lines of a journal that name them.
 #[derive(Drop)]
 pub enum Content {
     /// It is known where each byte lies.
-    Placed(Image),
+    Placed(Image, Vec<u8>),
     /// Raw bytes, which lie from the flash's first byte on.
-    AtBase(Vec<u8>),
+    AtBase(Vec<u8>, Vec<u8>),
 }
 
 /// Reads the files of images whole: what they hold together, which for one alone may have no place yet.
@@ -41,11 +41,22 @@ pub fn read_images<'a, R: Files + AllocGlobal>(
 ) -> Result<Content, Failure<'a>>
     ensures { IfOk result (ComeOfFilesBy table.now files.now) }
 {
+    let names = image_lines(rt.alloc(), files)?;
     if let [file] = files {
-        return read_content(rt, file);
+        return read_content(rt, file, names);
     }
     let images = read_placed(rt, table, files)?;
-    Ok(Content::Placed(join_files(rt.alloc(), files, &images)?))
+    let image = join_files(rt.alloc(), files, &images)?;
+    Ok(Content::Placed(image, names))
+}
+
+/// The void lines of a journal that name these files.
+fn image_lines<'a>(alloc: Global, files: &[ImageFile<'a>]) -> Result<Vec<u8>, AllocError> {
+    let mut lines = Vec::new(alloc);
+    for file in files {
+        add_image_line(alloc, &mut lines, file.name)?;
+    }
+    Ok(lines)
 }
 
 /// The images in files as one. Two that differ are told.
@@ -81,7 +92,7 @@ fn read_placed<'a, R: Files + AllocGlobal>(
 {
     let mut images = Vec::new(rt.alloc());
     for file in files {
-        let content = read_content(rt, file)?;
+        let content = read_content(rt, file, Vec::new(rt.alloc()))?;
         images.push(content.among(rt.alloc(), table, file.name)?)?;
     }
     Ok(images)
@@ -103,6 +114,7 @@ fn flash_base(table: &Table) -> Option<u32>
 fn read_content<'a, R: Files + AllocGlobal>(
     rt: &R,
     image: &ImageFile<'a>,
+    names: Vec<u8>,
 ) -> Result<Content, Failure<'a>>
     ensures { IfOk result (ComesOfFile image.now) }
 {
@@ -113,7 +125,7 @@ fn read_content<'a, R: Files + AllocGlobal>(
     if !is_hex(bytes.as_slice(), image.is_raw) {
         check_raw(bytes.as_slice(), image)?;
     }
-    content_of(rt.alloc(), bytes, image.is_raw, image.range)
+    content_of(rt.alloc(), bytes, names, image.is_raw, image.range)
 }
 
 /// Refuses bytes that are more than any flash has, or, unless they are said to be raw, no raw
@@ -132,6 +144,7 @@ fn check_raw<'a>(bytes: &[u8], image: &ImageFile<'a>) -> Result<(), Failure<'a>>
 fn content_of<'a>(
     alloc: Global,
     bytes: Vec<u8>,
+    names: Vec<u8>,
     is_raw: bool,
     range: Option<Range>,
 ) -> Result<Content, Failure<'a>>
@@ -139,9 +152,11 @@ fn content_of<'a>(
 {
     match (is_hex(bytes.as_slice(), is_raw), range) {
         (true, Some(_)) => Err(Failure::Usage(UsageFault::RangeNeedsRaw)),
-        (true, None) => Ok(Content::Placed(read_hex(alloc, bytes.as_slice())?)),
-        (false, Some(range)) => Ok(Content::Placed(place(alloc, bytes.as_slice(), range)?)),
-        (false, None) => Ok(Content::AtBase(bytes)),
+        (true, None) => Ok(Content::Placed(read_hex(alloc, bytes.as_slice())?, names)),
+        (false, Some(range)) => {
+            Ok(Content::Placed(place(alloc, bytes.as_slice(), range)?, names))
+        }
+        (false, None) => Ok(Content::AtBase(bytes, names)),
     }
 }
 
@@ -179,16 +194,26 @@ fn has_room(length: Option<u32>, size: usize) -> bool
 }
 
 impl Content {
+    /// The lines that name its files.
+    pub fn names(&self) -> &[u8] {
+        match self {
+            Content::Placed(_, names) | Content::AtBase(_, names) => names.as_slice(),
+        }
+    }
+
     /// The same once more.
     pub fn copy(&self, alloc: Global) -> Result<Content, AllocError>
         ensures { IfOk result (IsCopy self.now) }
     {
         match self {
-            Content::Placed(image) => Ok(Content::Placed(image.clone()?)),
-            Content::AtBase(bytes) => Ok(Content::AtBase(Vec::from_slice(
-                alloc,
-                bytes.as_slice(),
-            )?)),
+            Content::Placed(image, names) => Ok(Content::Placed(
+                image.clone()?,
+                Vec::from_slice(alloc, names.as_slice())?,
+            )),
+            Content::AtBase(bytes, names) => Ok(Content::AtBase(
+                Vec::from_slice(alloc, bytes.as_slice())?,
+                Vec::from_slice(alloc, names.as_slice())?,
+            )),
         }
     }
 
@@ -198,8 +223,8 @@ impl Content {
         ensures { IfOk result (IsPlacedBy table.now self) }
     {
         match self {
-            Content::Placed(image) => Ok(image),
-            Content::AtBase(bytes) => match flash_base(table) {
+            Content::Placed(image, _) => Ok(image),
+            Content::AtBase(bytes, _) => match flash_base(table) {
                 Some(base) => Ok(read_raw(alloc, bytes.as_slice(), base)?),
                 None => Err(Failure::Usage(UsageFault::GivePlace(name))),
             },
@@ -216,8 +241,8 @@ impl Content {
         ensures { ImageOn L.view table.now self rig.old rig.new result }
     {
         match self {
-            Content::Placed(image) => Ok(image),
-            Content::AtBase(bytes) => {
+            Content::Placed(image, _) => Ok(image),
+            Content::AtBase(bytes, _) => {
                 let told = info(alloc, rig, table)?;
                 Ok(read_raw(alloc, bytes.as_slice(), told.base)?)
             }

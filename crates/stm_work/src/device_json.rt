@@ -111,7 +111,7 @@ fn add_code(alloc: Global, text: &mut Vec<u8>, code: u8) -> Result<(), AllocErro
     Ok(())
 }
 
-/// Adds which board it is and the size that it told, where it told them.
+/// Adds which board it is and the size that it told, where it told them, and its chip.
 #[tactic(auto, using(crate::proofs::TextParts::goes_on))]
 pub fn add_board(
     alloc: Global,
@@ -125,7 +125,8 @@ pub fn add_board(
         return Ok(());
     };
     add_unique(alloc, line, board.unique)?;
-    add_size(line, board.size)
+    add_size(line, board.size)?;
+    line.text("chip", four_digits(alloc, board.id)?.as_str())
 }
 
 /// Adds the unique id of a board, where it told one.

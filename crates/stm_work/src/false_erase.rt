@@ -86,11 +86,11 @@ fn first_placed(image: &Image) -> Option<u32> {
 /// of a block.
 pub fn first_false_erase(content: &Content) -> Option<Hint> {
     match content {
-        Content::Placed(image) => match first_placed(image) {
+        Content::Placed(image, _) => match first_placed(image) {
             Some(address) => Some(Hint::LikeErase(address)),
             None => None,
         },
-        Content::AtBase(bytes) => {
+        Content::AtBase(bytes, _) => {
             let mut at = 0_u32;
             for block in bytes.chunks(BLOCK) {
                 if has_false_erase(block) {

@@ -1,7 +1,7 @@
 // A line of JSON (RFC 8259): one object, whose values are texts, numbers and lists of texts.
 ghost use Rattle.std.specs.Prelude.{◌≡◌, ◌++◌, ◌<◌, ◌∷◌, [], ℕ, List, IfOk, OnOk, decimal};
 ghost use Rattle.stm_work.specs.JsonLine.{by_number, hex_digit, line_end, lines_from};
-ghost use Rattle.stm_work.specs.JsonLine.{lines_member, list_from, number_member, numbers_member};
+ghost use Rattle.stm_work.specs.JsonLine.{lines_member, list_from, made_member, number_member, numbers_member};
 ghost use Rattle.stm_work.specs.JsonLine.{object_of, quoted, quoted_byte, text_member, text_value};
 ghost use Rattle.stm_work.specs.JsonLine.{unless_empty};
 
@@ -66,6 +66,15 @@ impl JsonLine {
         add_numbers(self.alloc, &mut self.text, ",", numbers)?;
         self.text.push(b']')?;
         Ok(())
+    }
+
+    /// Adds a member whose value is JSON already.
+    pub fn made(&mut self, name: &str, value: &[u8]) -> Result<(), AllocError>
+        ensures { OnOk result (self.new.text.items
+            ≡ self.old.text.items ++ made_member name.now value.now) }
+    {
+        self.name(name)?;
+        self.text.extend_from_slice(value)
     }
 
     /// Begins a member behind another.

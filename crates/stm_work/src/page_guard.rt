@@ -16,7 +16,7 @@ use crate::work::Work;
 use std::alloc::{AllocError, Global};
 use std::mem;
 use stm_chip::Table;
-use stm_files::left_line;
+use stm_files::{begun_lines, left_line};
 use stm_image::{Image, read_raw};
 use stm_wire::Chip;
 
@@ -197,8 +197,9 @@ impl<'a> PageGuard<'a> {
         }
     }
 
-    /// These bytes were added to the journal.
-    pub fn added(&mut self, bytes: &[u8]) {
+    /// These bytes were added to the journal. Whether they began a segment.
+    pub fn added(&mut self, bytes: &[u8]) -> bool {
+        let before = self.kept.depth();
         self.kept.append(bytes);
         if self.add_left(bytes).is_err() {
             // a page without its line is as one of an older journal
@@ -206,6 +207,19 @@ impl<'a> PageGuard<'a> {
         }
         if bytes.starts_with(b"end ") {
             self.has_ended = true;
+        }
+        before < self.kept.depth()
+    }
+
+    /// The lines behind the beginning of a segment: when that was, and which images it writes.
+    pub fn begun(&self, now: Option<u64>) -> Vec<u8> {
+        let names = match &self.does {
+            Doings::Writes(content) => content.names(),
+            _ => &[],
+        };
+        match begun_lines(self.alloc, now, names) {
+            Ok(lines) => lines,
+            Err(_) => Vec::new(self.alloc),
         }
     }
 
@@ -240,9 +254,11 @@ impl<'a> PageGuard<'a> {
 
     /// Has raw bytes lie from the flash's first byte on.
     fn place(&mut self, chip: &Chip) -> Result<(), AllocError> {
-        if let Doings::Writes(Content::AtBase(raw)) = &self.does {
+        if let Doings::Writes(Content::AtBase(raw, _)) = &self.does {
             match read_raw(self.alloc, raw.as_slice(), chip.base()) {
-                Ok(image) => self.does = Doings::Writes(Content::Placed(image)),
+                Ok(image) => {
+                    self.does = Doings::Writes(Content::Placed(image, Vec::new(self.alloc)))
+                }
                 Err(_) => return Err(AllocError),
             }
         }
@@ -262,7 +278,7 @@ impl<'a> PageGuard<'a> {
                 erased_if(self.alloc, is_erased, chip.erased(), held)
             }
             Doings::ErasesAll => erased_if(self.alloc, true, chip.erased(), held),
-            Doings::Writes(Content::Placed(image)) => laid(image, start, held),
+            Doings::Writes(Content::Placed(image, _)) => laid(image, start, held),
             _ => Ok(held),
         }
     }

@@ -64,11 +64,11 @@ impl Goal {
 
     fn of_content(content: &Content) -> Goal {
         match content {
-            Content::Placed(image) => match image.next_from(0) {
+            Content::Placed(image, _) => match image.next_from(0) {
                 Some((first, _)) => Goal::Span(first, last_of(image)),
                 None => Goal::Count(0),
             },
-            Content::AtBase(bytes) => match u32::try_from(bytes.len()) {
+            Content::AtBase(bytes, _) => match u32::try_from(bytes.len()) {
                 Ok(size) => Goal::First(size),
                 Err(_) => Goal::Unknown,
             },

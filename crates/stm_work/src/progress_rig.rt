@@ -71,6 +71,14 @@ impl<'a, L: Guarded + Drop, W: Write + Drop, C: Clock> ProgressRig<'a, L, W, C> 
         self.inner.note(&lines);
     }
 
+    /// Says in the journal's file when a segment was begun, and which images it writes.
+    fn note_begun(&mut self)
+        ensures { Stays (L.view self.old.inner) (L.view self.new.inner) }
+    {
+        let lines = self.guard.begun(self.screen.seconds());
+        self.inner.note(&lines);
+    }
+
     /// The inner Rig. Nothing is shown any more; where all was done, the last page is told, and then
     /// what watching came to, where that is to be.
     pub fn finish(self, is_done: bool, watched: Option<Watched>) -> L
@@ -190,7 +198,9 @@ impl<'a, L: Guarded + Drop, W: Write + Drop, C: Clock> Rig for ProgressRig<'a, L
             return self.inner.refuse_append(bytes);
         }
         self.inner.append(bytes)?;
-        self.guard.added(bytes);
+        if self.guard.added(bytes) {
+            self.note_begun();
+        }
         Ok(())
     }
 

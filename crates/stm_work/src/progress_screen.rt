@@ -140,6 +140,11 @@ impl<'a, W: Write + Drop, C: Clock> Screen<'a, W, C> {
         Instant::now(self.clock).ok()
     }
 
+    /// The seconds since 1970, where the clock tells them.
+    pub fn seconds(&self) -> Option<u64> {
+        Some(self.clock.since_1970().ok()?.as_secs())
+    }
+
     /// A byte came.
     pub fn came(&mut self)
         ensures hidden { self.old.style ≡ Hidden → self.new.out ≡ self.old.out }

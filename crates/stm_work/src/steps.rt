@@ -23,6 +23,13 @@ use stm_session::Board;
 use stm_wire::Rig;
 use stm_words::Sequel;
 
+/// Beside which journal a device was used, and how long.
+#[derive(Clone, Copy)]
+pub struct Used<'a> {
+    pub journal: &'a str,
+    pub milliseconds: Option<u64>,
+}
+
 /// How far a call came whose session answered.
 #[derive(Drop)]
 pub struct Steps<'a> {
@@ -34,6 +41,8 @@ pub struct Steps<'a> {
     pub kept: Option<u32>,
     /// Why the step behind these failed.
     pub failure: Option<Failure<'a>>,
+    /// With what the device was used, where that is told.
+    pub used: Option<Used<'a>>,
 }
 
 impl<'a> Steps<'a> {
@@ -185,12 +194,14 @@ fn follow<'a, L: Keeper>(
             answer,
             kept,
             failure: leave(alloc, rig, table, sequel.go).err(),
+            used: None,
         },
         Err(failure) => Steps {
             board,
             answer,
             kept: None,
             failure: Some(failure),
+            used: None,
         },
     }
 }
@@ -247,10 +258,8 @@ pub fn failed_by<'a>(
     match done {
         Ok(steps) if steps.failure.is_none() => Ok(steps),
         Ok(steps) => Ok(Steps {
-            board: steps.board,
-            answer: steps.answer,
-            kept: steps.kept,
             failure: Some(failure),
+            ..steps
         }),
         Err(_) => Err(failure),
     }

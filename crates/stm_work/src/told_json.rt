@@ -3,6 +3,7 @@ ghost use Rattle.std.specs.Prelude.{◌≡◌, ◌++◌, ℕ, List, IfOk, OnOk, 
 ghost use Rattle.stm_work.specs.Answer.{is_flash};
 ghost use Rattle.stm_work.specs.DeviceJson.{info_members};
 ghost use Rattle.stm_work.specs.JsonLine.{number_member, numbers_member, text_member};
+ghost use Rattle.stm_work.specs.ToldJson.{beside_members, crc_member, segments_member, time_member, used_members};
 ghost use Rattle.stm_work.specs.ToldJson.{AreLines, again_members, answer_line, answer_name, change_members};
 ghost use Rattle.stm_work.specs.ToldJson.{kept_line, members_of, next_line};
 ghost use Rattle.stm_work.specs.ToldJson.{next_told, refusal_line, steps_lines, undone_members};
@@ -14,7 +15,7 @@ use crate::device_json::{add_board, add_info, add_told, eight_digits};
 use crate::failure::Failure;
 use crate::hint::Hint;
 use crate::json_line::JsonLine;
-use crate::steps::Steps;
+use crate::steps::{Steps, Used};
 use std::alloc::{AllocError, Global};
 use stm_files::Escaped;
 use stm_session::{Board, Info};
@@ -29,7 +30,7 @@ const FAULT: &str = "fault";
 fn json_of_steps(alloc: Global, steps: &Steps) -> Result<Vec<u8>, AllocError>
     ensures { IfOk result (λ text. text.items ≡ steps_lines steps.now) }
 {
-    let mut text = json_of(alloc, &steps.answer, &steps.board)?;
+    let mut text = json_of(alloc, &steps.answer, &steps.board, &steps.used)?;
     add_kept(alloc, &mut text, steps.kept)?;
     Ok(text)
 }
@@ -43,6 +44,7 @@ fn add_kept(alloc: Global, text: &mut Vec<u8>, kept: Option<u32>) -> Result<(), 
             text.extend_from_slice(json_of(
                 alloc,
                 &Answer::Kept { count, left: None },
+                &None,
                 &None,
             )?.as_slice())
         }
@@ -80,19 +82,64 @@ fn json_of_next(alloc: Global, steps: &Steps, hint: Hint) -> Result<Vec<u8>, All
 {
     let mut line = JsonLine::of(alloc, ANSWER, name_of(&steps.answer))?;
     add_members(alloc, &mut line, &steps.answer)?;
-    add_board(alloc, &mut line, &steps.board)?;
+    add_beside(alloc, &mut line, &steps.board, &steps.used)?;
     add_hint(alloc, &mut line, Behind::Hint(hint))?;
     line.end()
 }
 
-/// The line of an answer, with the board, where the device was asked which it is.
-fn json_of(alloc: Global, answer: &Answer, board: &Option<Board>) -> Result<Vec<u8>, AllocError>
-    ensures { IfOk result (λ line. line.items ≡ answer_line answer.now board.now) }
+/// The line of an answer, with the board, where the device was asked which it is, and with what it was
+/// used.
+fn json_of(
+    alloc: Global,
+    answer: &Answer,
+    board: &Option<Board>,
+    used: &Option<Used>,
+) -> Result<Vec<u8>, AllocError>
+    ensures { IfOk result (λ line. line.items ≡ answer_line answer.now board.now used.now) }
 {
     let mut line = JsonLine::of(alloc, ANSWER, name_of(answer))?;
     add_members(alloc, &mut line, answer)?;
-    add_board(alloc, &mut line, board)?;
+    add_beside(alloc, &mut line, board, used)?;
     line.end()
+}
+
+/// Adds which board it was, and with what it was used.
+#[tactic(auto, using(crate::proofs::TextParts::goes_on))]
+fn add_beside(
+    alloc: Global,
+    line: &mut JsonLine,
+    board: &Option<Board>,
+    used: &Option<Used>,
+) -> Result<(), AllocError>
+    ensures { OnOk result (line.new.text.items
+        ≡ line.old.text.items ++ beside_members board.now used.now) }
+{
+    add_board(alloc, line, board)?;
+    add_used(line, used)
+}
+
+/// Adds with what a device was used, where that is told.
+#[tactic(auto, using(crate::proofs::TextParts::goes_on))]
+fn add_used(line: &mut JsonLine, used: &Option<Used>) -> Result<(), AllocError>
+    ensures { OnOk result (line.new.text.items ≡ line.old.text.items ++ used_members used.now) }
+{
+    match used {
+        Some(used) => {
+            line.text("journal", used.journal)?;
+            add_time(line, used.milliseconds)
+        }
+        None => Ok(()),
+    }
+}
+
+/// Adds how long that took, where a clock told it.
+fn add_time(line: &mut JsonLine, milliseconds: Option<u64>) -> Result<(), AllocError>
+    ensures { OnOk result (line.new.text.items ≡ line.old.text.items ++ time_member milliseconds) }
+{
+    match milliseconds {
+        Some(milliseconds) => line.number("milliseconds", milliseconds),
+        None => Ok(()),
+    }
 }
 
 /// The name that an answer has wherever programs read it.
@@ -100,16 +147,16 @@ pub fn name_of(answer: &Answer) -> &'static str
     ensures { result.now ≡ answer_name answer.now }
 {
     match answer {
-        Answer::Nothing | Answer::Bytes(_) => "done",
+        Answer::Nothing | Answer::Bytes(_) | Answer::Filed { .. } => "done",
         Answer::Told { .. } => "info",
         Answer::Identified { .. } => "identified",
         Answer::Sum(_) => "crc",
         Answer::Written { again: Some(_), .. } => "written_and_verified",
         Answer::Written { .. } => "written",
-        Answer::Verified(_) => "verified",
+        Answer::Verified { .. } => "verified",
         Answer::Erased { .. } => "erased",
         Answer::Undone { bytes, .. } | Answer::UndoneBeside { bytes, .. } => undone_name(*bytes),
-        Answer::Logged(_) => "log",
+        Answer::Logged { .. } => "log",
         Answer::Kept { .. } => "kept",
     }
 }
@@ -152,19 +199,23 @@ fn add_members(alloc: Global, line: &mut JsonLine, answer: &Answer) -> Result<()
             line.text("table", table.as_str())
         }
         Answer::Identified { told, .. } => add_told(alloc, line, told),
-        Answer::Sum(crc) => line.text("crc", eight_digits(alloc, *crc)?.as_str()),
+        Answer::Sum(crc) => add_crc(alloc, line, *crc),
+        Answer::Filed { bytes, crc } | Answer::Verified { bytes, crc } => {
+            add_summed(alloc, line, *bytes, *crc)
+        }
         Answer::Erased { segment, pages } => add_change(line, *segment, *pages),
         Answer::Written {
             segment,
             pages,
             bytes,
+            crc,
             again,
         } => {
             add_change(line, *segment, *pages)?;
             line.number("bytes", *bytes as u64)?;
-            add_again(line, *again)
+            add_again(line, *again)?;
+            add_crc(alloc, line, *crc)
         }
-        Answer::Verified(bytes) => line.number("bytes", *bytes as u64),
         Answer::Undone { count, bytes } => add_undone(line, *count, *bytes),
         Answer::UndoneBeside {
             count,
@@ -172,7 +223,10 @@ fn add_members(alloc: Global, line: &mut JsonLine, answer: &Answer) -> Result<()
             unchanged,
             ..
         } => add_undone_beside(line, *count, *bytes, unchanged.as_slice()),
-        Answer::Logged(text) => line.lines("lines", text.as_slice()),
+        Answer::Logged { text, segments } => {
+            line.lines("lines", text.as_slice())?;
+            add_segments(line, segments.as_slice())
+        }
         Answer::Kept {
             count,
             left: Some(left),
@@ -182,6 +236,34 @@ fn add_members(alloc: Global, line: &mut JsonLine, answer: &Answer) -> Result<()
         }
         Answer::Kept { count, .. } => line.number("count", u64::from(*count)),
     }
+}
+
+/// Adds a CRC.
+fn add_crc(alloc: Global, line: &mut JsonLine, crc: u32) -> Result<(), AllocError>
+    ensures { OnOk result (line.new.text.items ≡ line.old.text.items ++ crc_member crc) }
+{
+    line.text("crc", eight_digits(alloc, crc)?.as_str())
+}
+
+/// Adds how many bytes there are, and their CRC.
+#[tactic(auto, using(crate::proofs::TextParts::goes_on))]
+fn add_summed(alloc: Global, line: &mut JsonLine, bytes: usize, crc: u32) -> Result<(), AllocError>
+    ensures { OnOk result (line.new.text.items ≡ line.old.text.items
+        ++ (number_member (codes "bytes") bytes ++ crc_member crc)) }
+{
+    line.number("bytes", bytes as u64)?;
+    add_crc(alloc, line, crc)
+}
+
+/// Adds the segments of a journal, where they are told.
+fn add_segments(line: &mut JsonLine, segments: &[u8]) -> Result<(), AllocError>
+    ensures { OnOk result
+        (line.new.text.items ≡ line.old.text.items ++ segments_member segments.now) }
+{
+    if segments.is_empty() {
+        return Ok(());
+    }
+    line.made("segments", segments)
 }
 
 /// Adds what a device is, and how many real boards with its chip were tried.

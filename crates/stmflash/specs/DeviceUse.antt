@@ -28,7 +28,7 @@ use Rattle.stm_work.specs.declared.plan.Plan.{Plan}
 use Rattle.stm_work.specs.declared.steps.Steps.{Steps}
 use Rattle.stm_work.specs.declared.work.Work.{Work}
 use Rattle.stm_work.specs.declared.work.Work.TheVariants as work
-use Rattle.stm_work.specs.Answer.{is_flash}
+use Rattle.stm_work.specs.Answer.{filed, is_flash}
 use Rattle.stm_work.specs.Plan.{IsUsePlan, TellsSteps}
 use Rattle.stm_work.specs.Unprotecting.{TellsSilence}
 use Rattle.stm_work.specs.Steps.{Stays}
@@ -118,10 +118,11 @@ pub record TakesAround {R L : Type 0} (view : R → RigState) (inner : R → L)
   pub left : Stays (inner_view (inner new)) (inner_view after)
   pub tells : TellsSteps done told
 
--- Steps whose bytes are in a file: of them it is told of which board they were, and how they failed.
+-- Steps whose bytes are in a file: of them it is told of which board they were, how many, their CRC, and
+-- how they failed.
 pub record AreFiled (taken told : Steps) : Type 0 where
   pub board : told.board ≡ taken.board
-  pub answer : told.answer ≡ answer.Nothing
+  pub answer : told.answer ≡ filed taken.answer
   pub kept : told.kept ≡ None
   pub failure : told.failure ≡ taken.failure
 

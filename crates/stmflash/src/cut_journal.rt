@@ -5,8 +5,8 @@ ghost use Rattle.stm_work.specs.Keeping.{IsCutTo};
 use crate::journal_tasks::load;
 use std::fs::Files;
 use stm_files::{
-    ALONE, CutText, JournalFile, Locks, Replacement, Shown, Unusable, has_same_pages, is_cut,
-    remove_leftovers,
+    ALONE, Begun, CutText, JournalFile, Locks, Replacement, Shown, Unusable, has_same_pages,
+    is_cut, remove_leftovers,
 };
 use stm_journal::Journal;
 use stm_session::Fault;
@@ -19,6 +19,7 @@ pub fn keep_newest<'a, R: Locks + AllocGlobal>(
     rt: &R,
     name: &'a str,
     journal: Journal,
+    begun: Begun,
     mut file: JournalFile<'_, R>,
     last: u32,
 ) -> Result<Answer, Failure<'a>>
@@ -27,7 +28,7 @@ pub fn keep_newest<'a, R: Locks + AllocGlobal>(
     let depth = count_kept(&journal)?;
     let count = given_up(depth, last);
     remove_leftovers(rt, name);
-    let beside = cut_beside(rt, name, &journal, &mut file, count)?;
+    let beside = cut_beside(rt, name, &journal, begun, &mut file, count)?;
     if let Err(e) = file.check_unchanged() {
         beside.discard(rt);
         return Err(Failure::of_reason(Some(e)));
@@ -54,6 +55,7 @@ fn cut_beside<'a, R: Locks + AllocGlobal>(
     rt: &R,
     name: &'a str,
     journal: &Journal,
+    begun: Begun,
     file: &mut JournalFile<'_, R>,
     given_up: u32,
 ) -> Result<Replacement<R>, Failure<'a>> {
@@ -61,7 +63,7 @@ fn cut_beside<'a, R: Locks + AllocGlobal>(
         Ok(beside) => beside,
         Err(e) => return Err(Failure::of_file(&e, Failure::CannotWrite(name))),
     };
-    let mut text = CutText::new(rt.alloc(), beside);
+    let mut text = CutText::new(rt.alloc(), beside, begun);
     let written = text.write(rt, name, journal, file, given_up);
     let beside = text.into_file();
     let is_right = match written {

@@ -9,12 +9,13 @@ use crate::named_files::check_owner;
 use std::alloc::Global;
 use std::fs::Files;
 use stm_files::{
-    JournalFile, JournalRig, Locks, Shown, Source, check_journal, give_up_journal, log_lines,
+    Begun, JournalFile, JournalRig, Locks, Noting, Shown, Source, check_journal, give_up_journal,
+    log_lines,
 };
 use stm_journal::{Journal, JournalFault};
 use stm_session::Fault;
 use stm_words::{Extent, Kept};
-use stm_work::{Answer, Failure, count_kept, find_damaged};
+use stm_work::{Answer, Failure, count_kept, find_damaged, list_segments};
 
 /// Reads a journal, and hands back what it was read from.
 pub fn load<'a, S: Source + Drop>(
@@ -34,8 +35,13 @@ pub fn load<'a, S: Source + Drop>(
 pub fn log<'a, R: Files + AllocGlobal>(rt: &R, name: &'a str) -> Result<Answer, Failure<'a>>
     ensures { IfOk result (λ told. (state : StateData) × TellsLog state told) }
 {
-    let journal = look(rt, name)?;
-    tell(rt.alloc(), &journal)
+    let shown = match Shown::open(rt, name) {
+        Ok(shown) => shown,
+        Err(why) => return Err(Failure::of_journal(why, name)),
+    };
+    let (journal, rig) = load(rt.alloc(), name, Noting::new(rt.alloc(), shown))?;
+    let (_shown, begun) = rig.into_source().into_parts();
+    tell(rt.alloc(), &journal, begun)
 }
 
 /// Reads the journal in a file whole, and tells of what it's made, unless a page of it has another CRC
@@ -52,7 +58,10 @@ pub fn check<'a, R: Files + AllocGlobal>(rt: &R, name: &'a str) -> Result<Answer
         Err(fault) => return Err(unread(name, fault)),
     };
     match find_damaged(rt.alloc(), &mut rig, Extent::Newest(0)) {
-        Ok(None) => Ok(Answer::Logged(text)),
+        Ok(None) => Ok(Answer::Logged {
+            text,
+            segments: Vec::new(rt.alloc()),
+        }),
         Ok(Some(found)) => Err(Failure::PageDamaged(found.page, found.segment)),
         Err(fault) => Err(unread(name, fault)),
     }
@@ -77,10 +86,13 @@ pub fn look<'a, R: Files + AllocGlobal>(rt: &R, name: &'a str) -> Result<Journal
 }
 
 /// What a journal says.
-fn tell<'a>(alloc: Global, journal: &Journal) -> Result<Answer, Failure<'a>>
+fn tell<'a>(alloc: Global, journal: &Journal, begun: Begun) -> Result<Answer, Failure<'a>>
     ensures { IfOk result (TellsLog journal.now.state) }
 {
-    Ok(Answer::Logged(log_lines(alloc, journal)?))
+    Ok(Answer::Logged {
+        text: log_lines(alloc, journal, &begun)?,
+        segments: list_segments(alloc, journal, &begun)?,
+    })
 }
 
 /// Lets the writes and erases of a journal stay: the journal, which has to be there, is removed, or
@@ -99,10 +111,10 @@ pub fn keep<'a, R: Locks + AllocGlobal>(rt: &R, kept: &Kept<'a>) -> Result<Answe
     if let Some(to) = kept.to {
         check_owner(rt, to, kept.trusts_others)?;
     }
-    let (journal, rig) = load(rt.alloc(), kept.journal, file)?;
-    let file = rig.into_source();
+    let (journal, rig) = load(rt.alloc(), kept.journal, Noting::new(rt.alloc(), file))?;
+    let (file, begun) = rig.into_source().into_parts();
     match kept.last {
-        Some(last) => keep_newest(rt, kept.journal, journal, file, last),
+        Some(last) => keep_newest(rt, kept.journal, journal, begun, file, last),
         None => keep_loaded(rt, &journal, &file, kept),
     }
 }

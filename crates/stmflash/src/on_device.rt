@@ -22,14 +22,14 @@ use crate::system::System;
 use std::fs::Files;
 use std::io::{IsTerminal, Read, Write};
 use std::net::Net;
-use std::time::Clock;
+use std::time::{Clock, Instant};
 use stm_files::Locks;
 use stm_session::Fault;
 use stm_watch::Watch;
 use stm_wire::Rig;
 use stm_words::{Device, Options, Sequel, Task};
 use stm_work::{
-    ChipTables, Failure, Hint, Plan, Screen, Steps, Style, Work, begins_journal, failure_of,
+    ChipTables, Failure, Hint, Plan, Screen, Steps, Style, Used, Work, begins_journal, failure_of,
     has_telling_chip, lacks_journal, tell_lacking, tell_nameless, tell_notes, tells_board,
 };
 
@@ -176,6 +176,7 @@ fn use_files<'a, 'r, 'e, R: Locks + Net + Clock + AllocGlobal, E: Write + IsTerm
     if options.recovers {
         recover(rt, options, tables.chips(), err)?;
     }
+    let from = Instant::now(rt).ok();
     let output = Output::open(rt, files)?;
     let is_begun = begins_journal(rt, options, &work);
     let is_lacking = lacks_journal(rt, options, &work);
@@ -191,7 +192,7 @@ fn use_files<'a, 'r, 'e, R: Locks + Net + Clock + AllocGlobal, E: Write + IsTerm
     if is_lacking {
         tell_lacking(options, err);
     }
-    tell_beside(rt, steps, options, tables)
+    tell_beside(rt, steps, options, tables, from)
 }
 
 /// The same, done once or again where its line fails.
@@ -218,21 +219,32 @@ fn use_work<'a, 'r, 'e, R: Locks + Net + Clock + AllocGlobal, E: Write + IsTermi
     }
 }
 
-/// The same steps, beside what the tables say of the answer.
-fn tell_beside<'a, R: AllocGlobal>(
+/// The same steps, beside what the tables say of the answer, and with what the device was used since
+/// then.
+fn tell_beside<'a, R: Clock + AllocGlobal>(
     rt: &R,
     steps: Steps<'a>,
     options: &Options<'a>,
     tables: &ChipTables<'a>,
+    from: Option<Instant>,
 ) -> Result<Steps<'a>, Failure<'a>>
     ensures { IfOk result (AreBeside (table_texts tables.now) steps.entry) }
 {
     Ok(Steps {
+        used: Some(Used {
+            journal: options.journal,
+            milliseconds: milliseconds_since(rt, from),
+        }),
         board: steps.board,
         answer: steps.answer.beside(rt.alloc(), options.table, tables)?,
         kept: steps.kept,
         failure: steps.failure,
     })
+}
+
+/// The milliseconds since then, where the clock tells them.
+fn milliseconds_since<R: Clock>(rt: &R, from: Option<Instant>) -> Option<u64> {
+    u64::try_from(from?.elapsed(rt).ok()?.as_millis()).ok()
 }
 
 /// Does it once: the files are opened, and closed.

@@ -1,12 +1,15 @@
 // Where the bytes of a flash go that were read.
-ghost use Rattle.std.specs.Prelude.{◌≡◌, IfOk, is_some, true};
+ghost use Rattle.std.specs.Prelude.{◌≡◌, IfOk, is_some, length, true};
+ghost use Rattle.stm_files.specs.PageSum.{page_sum};
 ghost use Rattle.stmflash.specs.DeviceUse.{AreOut, AreOutOf, goes_out};
 
 use crate::named_files::NamedFiles;
 use std::fs::{Files, OpenFile, OpenOptions};
 use std::io::{ErrorKind, Write};
 use std::{fs, io};
-use stm_files::{ANYONE, Locks, Replacement, is_same_file, is_untaken, open_stream, try_beside};
+use stm_files::{
+    ANYONE, Locks, Replacement, is_same_file, is_untaken, open_stream, sum_of_page, try_beside,
+};
 use stm_work::{Answer, Failure, Steps};
 
 /// Where the bytes of a flash go that were read.
@@ -127,7 +130,7 @@ fn check_again<'a, R: Locks + AllocGlobal>(
 }
 
 /// Writes the bytes that are for a file, where there are some, and hands the answer on; of bytes
-/// that are in a file nothing more is told.
+/// that are in a file it is told how many they are, and their CRC.
 fn write_out<'a, R: Locks + AllocGlobal>(
     rt: &R,
     steps: Steps<'a>,
@@ -141,12 +144,24 @@ fn write_out<'a, R: Locks + AllocGlobal>(
     if !output.write(rt, bytes.as_slice())? {
         return Ok(steps);
     }
+    let answer = filed(bytes.as_slice());
     Ok(Steps {
         board: steps.board,
-        answer: Answer::Nothing,
+        answer,
         kept: None,
         failure: steps.failure,
+        used: None,
     })
+}
+
+/// What is told of bytes that are in a file.
+fn filed(bytes: &[u8]) -> Answer
+    ensures { result ≡ Answer.Filed (length bytes.now) (page_sum bytes.now) }
+{
+    Answer::Filed {
+        bytes: bytes.len(),
+        crc: sum_of_page(bytes),
+    }
 }
 
 /// The same of what came of a session.

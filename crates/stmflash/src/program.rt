@@ -154,6 +154,7 @@ fn alone<'a>(answer: Answer) -> Steps<'a>
         answer,
         kept: None,
         failure: None,
+        used: None,
     }
 }
 

@@ -112,12 +112,14 @@ impl<'a, R: Locks> JournalFile<'a, R> {
         }
     }
 
-    /// Keeps why a call failed, and hands its kind on.
+    /// Keeps why the first call failed, since none does more behind it, and hands its kind on.
     pub(crate) fn failed_by(&mut self, e: io::Error) -> io::Error
         ensures { self.new ≡ self.old }
     {
         let kind = e.kind();
-        self.reason = Some(e);
+        if self.reason.is_none() {
+            self.reason = Some(e);
+        }
         io::Error::from(kind)
     }
 

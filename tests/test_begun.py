@@ -1,0 +1,168 @@
+"""When a segment was begun, and with the images of which files: what a journal that names its board says, and what `log` tells of it."""
+
+import datetime
+import json
+import os
+import re
+import shutil
+import subprocess
+import unittest
+
+from place import PATIENCE, Place, had, program
+from telling import TABLE
+from test_disk import FULL, files_up_to
+
+BOARD = {"flash.board": b"unique 00112233445566778899AABB\n"}
+HEAD = b"stmjournal 3 0410 00112233445566778899AABB\n"
+# a clock that stands, for a program that is started with this in LD_PRELOAD
+CLOCK = r"""
+#include <stdlib.h>
+#include <sys/syscall.h>
+#include <time.h>
+#include <unistd.h>
+int clock_gettime(clockid_t which, struct timespec *now) {
+    if (which != CLOCK_REALTIME)
+        return syscall(SYS_clock_gettime, which, now);
+    *now = (struct timespec){atoll(getenv("SECONDS")), 0};
+    return 0;
+}
+"""
+
+
+class Noted(Place):
+    begins = {"table": TABLE, **BOARD, "flash": bytes(131072), "image": b"one", "other image!": b"two"}
+
+    def at(self, name, *words, **how):
+        return self.use(name, *words, device="sim:0410:flash", **how)
+
+    def notes(self):
+        """What stands behind each line that begins a segment."""
+        return re.findall(rb"^open \d+\n((?:(?:time|image) [^\n]*!\n)*)", self.raw("journal"), re.M)
+
+
+class Begun(Noted):
+    def log(self):
+        return self.call("log", "--journal", "journal").out.decode().splitlines()
+
+    def assertLogged(self, journal, *lines):
+        """The lines that are told behind that of the only segment."""
+        self.store("journal", HEAD + journal)
+        self.assertEqual([line for line in self.log() if line.startswith("  ")], [f"  {line}" for line in lines])
+
+    def test_a_write_and_an_erase(self):
+        """The time of the PC, in UTC, and each file's name, as its words have it last."""
+        before = datetime.datetime.now(datetime.timezone.utc).replace(microsecond=0, tzinfo=None)
+        self.assertWell(self.at("write", "image", f"{self.folder}/other image!@0x08000400"))
+        self.assertWell(self.at("erase", "9", "3"))
+        after = datetime.datetime.now(datetime.timezone.utc).replace(tzinfo=None)
+        one, two = self.notes()
+        times = [re.match(rb"time (\S+)Z!\n", it)[1].decode() for it in (one, two)]
+        for it in times:
+            self.assertTrue(before <= datetime.datetime.fromisoformat(it) <= after, (before, it, after))
+        self.assertEqual(one.split(b"\n")[1:], [b"image image!", b"image other image!!", b""])
+        self.assertEqual(two.count(b"\n"), 1)
+        # a name that ends in the mark can't be told from a torn line
+        self.assertEqual(self.log()[2:], ["segment 1: ended, 2 pages: 0-1", f"  time {times[0]}Z", "  image image",
+                                          "segment 2: ended, 2 pages: 3 9", f"  time {times[1]}Z", "2 can be undone"])
+        told = json.loads(self.call("log", "--journal", "journal", "--json").out)["segments"]
+        self.assertEqual(told, [{"state": "ended", "segment": 1, "pages": [0, 1], "images": ["image"], "time": times[0] + "Z"},
+                                {"state": "ended", "segment": 2, "pages": [3, 9], "images": [], "time": times[1] + "Z"}])
+        self.assertWell(self.at("undo"))
+
+    def test_what_stays_of_a_journal(self):
+        """`keep --last` carries it over under the new number; an undo's segment leaves none, and the next one has its own."""
+        for image in (b"1", b"2", b"3"):
+            self.store(f"image-{image.decode()}", image)
+            self.assertWell(self.at("write", "-f", "-S", "0x08000000", f"image-{image.decode()}"))
+        newest = self.notes()[2]
+        self.assertWell(self.call("keep", "--journal", "journal", "--last", "1"))
+        self.assertEqual(self.notes(), [newest])
+        self.assertIn("  image image-3", self.log())
+        self.assertWell(self.at("undo", "1"))
+        self.assertWell(self.at("erase", "7"))
+        self.assertEqual([line for line in self.log() if line.startswith("  image")], [])
+
+    def test_a_stop_right_behind(self):
+        """It stands there before the first page is kept; a session that changes nothing and one that is refused before its segment add none."""
+        self.assertEqual(self.at("write", "image", "--stop", "4000").status, 3)
+        self.assertTrue(self.notes()[0].endswith(b"!\nimage image!\n"), self.raw("journal")[:200])
+        self.store("journal", None)
+        self.assertEqual(self.at("write", "-f", "-S", "0x08800000", "image").status, 1)
+        self.assertFalse(self.is_there("journal"))
+
+    def test_a_full_disk(self):
+        """At each byte of it: the session ends before it keeps a page, says why, and is undone once there is room."""
+        self.assertWell(self.at("write", "image"))
+        first = len(HEAD + b"open 1\n")
+        lines = len(self.notes()[0])
+        for more in (0, 1, 26, 27, 28, lines - 1):
+            with self.subTest(more=more):
+                self.store_all({"journal": None, "flash": bytes(131072)})
+                said = self.at("write", "image", before=files_up_to(first + more))
+                self.assertFault(said, "journal failed", hint=FULL, flash=bytes(131072))
+                self.assertEqual(len(self.raw("journal")), first + more)
+                self.assertTold(self.at("undo"), "undone 1\n", had(1, left=0), flash=bytes(131072))
+
+    def test_a_journal_without_a_board(self):
+        self.store("flash.board", None)
+        self.assertWell(self.at("write", "image"))
+        self.assertEqual((self.raw("journal").count(b"time "), self.raw("journal").count(b"image ")), (0, 0))
+
+    def test_names(self):
+        """What isn't printed is escaped; a name that has no room is left out, and those behind it that have are told."""
+        wide, odd = "w" * 153, "a\nb\x1b"
+        for name in (wide, odd):
+            self.store(name, b"x")
+        self.assertWell(self.at("write", f"{wide}@0x08000000", f"{odd}@0x08000400", "image@0x08000800"))
+        self.assertEqual(self.notes()[0].split(b"\n", 1)[1], b"image a\\nb\\x1b!\nimage image!\n")
+        fits = "f" * 152
+        self.store_all({fits: b"y", "journal": None})
+        self.assertWell(self.at("write", f"{fits}@0x08000000"))
+        self.assertEqual(self.notes()[0].split(b"\n", 1)[1], b"image " + fits.encode() + b"!\n")
+
+    def test_the_states(self):
+        for behind, state in ((b"", "open"), (b"end 1\n", "ended"), (b"end 1\nerase 5\n", "returning")):
+            self.store("journal", HEAD + b"open 1\npage 5 00\n" + behind)
+            told = json.loads(self.call("log", "--journal", "journal", "--json").out)["segments"]
+            self.assertEqual(told, [{"state": state, "segment": 1, "pages": [5], "images": []}])
+
+    def test_what_isnt_told(self):
+        """A torn line that was made void, one behind another line, and one that would move a terminal's cursor."""
+        time = b"time 2026-11-29T10:00:00Z"
+        self.assertLogged(b"open 1\n" + time + b"!\nimage a b!\n", time.decode(), "image a b")
+        self.assertLogged(b"open 1\ntime 2026-11!!\nundone 1\nopen 1\nimage fw!!\n")
+        self.assertLogged(b"open 1\npage 5 00\n" + time + b"!\nimage late!\n")
+        self.assertLogged(b"open 1\nimage \x1b[2J!\nimage \xff!\nimage \xc2\x9b!\n" + time + b"!\n")
+        self.assertLogged(time + b"!\nopen 1\nimage " + b"x" * 186 + b"!\n")
+        self.assertLogged(b"open 1\nimage x!\nundone 1\nopen 1\n" + time + b"!\n", time.decode())
+
+
+@unittest.skipIf(shutil.which("gcc") is None or not os.path.exists("/usr/include/stdio.h"), "gcc or libc6-dev is not installed")
+class Dates(Noted):
+    """By a clock that stands."""
+
+    def setUp(self):
+        super().setUp()
+        words = ["gcc", "-shared", "-fPIC", "-O1", "-xc", "-", "-o", self.path("clock.so")]
+        ran = subprocess.run(words, input=CLOCK.encode(), stderr=subprocess.PIPE, timeout=PATIENCE, check=False)
+        self.assertEqual(ran.returncode, 0, ran.stderr.decode())
+
+    def test_dates(self):
+        """At the ends of days, months and years, and in leap years; a clock that isn't set tells none."""
+        if "-under-" in program():
+            # the clock would be qemu's or wine's
+            return
+        starts = [(2026, 1, 1), (2026, 11, 30), (2028, 2, 29), (2028, 3, 1), (2027, 3, 1), (2100, 3, 1), (2096, 12, 31), (2400, 2, 29), (9999, 12, 31)]
+        for date in starts:
+            for second in (0, 86399, 3599 * 17):
+                with self.subTest(date=date, second=second):
+                    when = datetime.datetime(*date, tzinfo=datetime.timezone.utc) + datetime.timedelta(seconds=second)
+                    self.assertTime(int(when.timestamp()), b"time " + when.strftime("%Y-%m-%dT%H:%M:%SZ!\n").encode())
+        self.assertTime(int(datetime.datetime(2026, 1, 1, tzinfo=datetime.timezone.utc).timestamp()) - 1, b"")
+        self.assertTime(0, b"")
+
+    def assertTime(self, seconds, line):
+        self.store("journal", None)
+        variables = {"LD_PRELOAD": self.path("clock.so"), "SECONDS": str(seconds)}
+        self.assertEqual(self.at("erase", "3", variables=variables).status, 0)
+        self.assertEqual(self.notes(), [line])
