@@ -24,6 +24,8 @@ sys.path[:0] = [f"{TOP}/tests", f"{TOP}/line"]
 HERE = os.environ.get("STMFLASH", f"{TOP}/bin/stmflash-unproved-under-wine")
 LINUX = os.environ.get("STMFLASH_LINUX", f"{TOP}/bin/stmflash-unproved")
 KILLS = int(os.environ.get("STMFLASH_WINDOWS_KILLS", "100"))
+# the second in which a segment was begun, and how long a call took
+CLOCK = re.compile(rb"\d{4}-\d\d-\d\dT\d\d:\d\d:\d\dZ|(?<=\"milliseconds\":)\d+")
 # what is told behind each help
 HERE_TOLD = b"""
 On Windows a device is COM3, COM3:57600 or tcp:ADDRESS:PORT, in the place of a Unix socket and of stmflash-line.
@@ -44,12 +46,12 @@ CALLS = [("--help",), (), ("nonsense",), ("write", "--help"), ("sim", "-h"), ("h
 def call(program, folder, *words, given=b"", **more):
     ran = subprocess.run(["stmflash", *words], executable=program, cwd=folder, input=given, capture_output=True, timeout=300, env={"PATH": "/usr/bin:/bin", **more})
     # the time that is left is told where a session takes seconds
-    return ran.returncode, ran.stdout, re.sub(rb", \d+ s left$", b"", ran.stderr, flags=re.MULTILINE)
+    return ran.returncode, CLOCK.sub(b"-", ran.stdout), re.sub(rb", \d+ s left$", b"", ran.stderr, flags=re.MULTILINE)
 
 
 def held(folder):
-    """The bytes of each file below a folder."""
-    return {str(it.relative_to(folder)): it.read_bytes() for it in pathlib.Path(folder).rglob("*") if it.is_file()}
+    """The bytes of each file below a folder, but for what a clock said."""
+    return {str(it.relative_to(folder)): CLOCK.sub(b"-", it.read_bytes()) for it in pathlib.Path(folder).rglob("*") if it.is_file()}
 
 
 def listens(port):
