@@ -51,6 +51,22 @@ class Plain:
         return data
 
 
+class Paced(Plain):
+    """Takes as long as a line of this speed does, with 11 bits a byte, and holds what the device sends back so many seconds more, as
+    adapters do."""
+
+    def __init__(self, baud, hold):
+        self.each, self.hold = 11 / baud, hold
+
+    def to_device(self, data):
+        time.sleep(len(data) * self.each)
+        return data, b""
+
+    def to_host(self, data):
+        time.sleep(len(data) * self.each + self.hold)
+        return data
+
+
 def connect(path):
     device = socket.socket(socket.AF_UNIX, socket.SOCK_STREAM)
     device.connect(path)
