@@ -95,7 +95,8 @@ class Pairs(Served):
                 journal = journal and journal.replace(head, b"")
             # how many bytes came, and how long it takes, another word may change
             err = re.sub(rb"\d+ bytes of replies|, \d+ s left|no answer yet.*\n", b"", said.err)
-            self.known[flags, by] = {"status": said.status, "out": said.out, "err": sorted(err.splitlines()), "flash": self.held("flash"),
+            out = re.sub(rb'(?<="milliseconds":)\d+', b"0", said.out)
+            self.known[flags, by] = {"status": said.status, "out": out, "err": sorted(err.splitlines()), "flash": self.held("flash"),
                                  "line": self.held("flash.line"), "journal": journal, "file": self.held("out"), "kept": self.held("kept")}
         return self.known[flags, by]
 
