@@ -82,7 +82,7 @@ class Journals(Unnamed):
         self.assertTrue(self.held(self.journal()).startswith(f"stmjournal 3 0412 {BOARD}\n".encode()))
         for folder in ("journals", os.path.dirname(self.nameless())):
             self.assertEqual(os.stat(os.path.join(self.state, folder)).st_mode & 0o777, 0o700)
-        self.assertIn(b"1 can be undone\n", self.short("ttyUSB0", "log").out)
+        self.assertIn(b"1 can be undone\n", self.short("ttyUSB0", "log", STMFLASH_JOURNAL="", STMFLASH_JOURNALS="").out)
         self.assertShort(self.short("ttyUSB0", "undo"), "undone 1\n", self.journal())
         self.assertEqual(board.store(), COUNTING)
 
@@ -131,10 +131,10 @@ class Journals(Unnamed):
         os.remove(self.path("bin/stmflash"))
         self.store("bin/stmflash", b'#!/bin/sh\necho "$STMFLASH_FRESH,$STMFLASH_WAIT,$*" >> called\n[ $1 != info ] || echo "{}"\n')
         os.chmod(self.path("bin/stmflash"), 0o755)
-        for words, fresh in (("undo", ""), ("undo --fresh", ""), ("erase", "1")):
+        for words, fresh in (("undo", ""), ("undo --fresh", ""), ("erase", "1"), ("crc --no-board --fresh", "1")):
             self.short("ttyUSB0", "--boot", ",", "--resets", *words.split(), STMFLASH_WAIT="", STMFLASH_FRESH=fresh)
         self.assertEqual(re.sub("info.*none", "info", self.held("called").decode()).split("\n"), [
-            ",500,info", ",,undo", ",500,info --fresh", ",,undo", "1,500,info", ",500,erase", ""])
+            ",500,info", ",,undo", ",500,info --fresh", ",,undo", "1,500,info", ",500,erase", "1,500,crc --no-board --fresh", ""])
 
     def test_xdg_says_where(self):
         self.telling()

@@ -124,20 +124,23 @@ class Played(WiredPlace):
         mode = termios.tcgetattr(self.master)
         started.terminate()
         self.ended(started)
+        self.assertEqual(termios.tcgetattr(self.master), mode)
         return mode
 
     def test_the_board_is_left_whatever_came(self):
-        """After a command that failed, and after a signal, also in the midst of --boot."""
+        """After a command that failed, and after a signal, also in the midst of --boot; the waits of --after are whole."""
         self.assertEqual(self.play("--after", "-rts", "--", "false").status, 1)
         self.assertEqual(self.calls()[0], ["RTS inactive"])
         for boot in ("dtr", "dtr" + 5000 * ","):
             self.remove("calls")
-            started = self.begin("--boot", boot, "--after", "-rts", "--", "sleep", "1000")
+            started = self.begin("--boot", boot, "--after", "-rts,rts", "--", "sleep", "1000")
             self.until(lambda: self.held("calls"), "nothing is played")
             started.send_signal(signal.SIGTERM)
             said = self.ended(started)
             self.assertEqual((said.status, said.err), (128 + signal.SIGTERM, b""))
-            self.assertEqual(self.calls()[0], ["DTR active", "RTS inactive"])
+            calls, times = self.calls()
+            self.assertEqual(calls, ["DTR active", "RTS inactive", "RTS active"])
+            self.assertGreaterEqual(times[2] - times[1], 0.099)
 
 
 class Waits(Place):

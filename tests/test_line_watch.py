@@ -309,9 +309,10 @@ class Boards(WatchedPlace):
                 self.clear("journal", "ttyUSB0", "ttyUSB0.flash")
 
     def test_a_command_that_passes_over_it(self):
-        """The status isn't 0."""
+        """The status isn't 0, also where a client that does well comes behind."""
         self.planted("read-protected")
-        said = self.over("sh", "-c", '"$@" 2>/dev/null; true', "sh", *self.stmflash("read", "copy"))
+        said = self.over("sh", "-c", f'"$@" 2>/dev/null; {sys.executable} -c "import socket; socket.socket(socket.AF_UNIX).connect(\'{{}}\')"', "sh",
+                         *self.stmflash("read", "copy"))
         self.assertLineFault(said, "ttyUSB0: the board does otherwise than the model: 1F came in Read Memory, and 79 was due; "
                              "stmflash-trial tells more")
 

@@ -42,7 +42,8 @@ class Handed(Words):
     def test_what_is_read(self):
         self.flash(COUNTING)
         part = ("-S", "0x08000000:1000")
-        self.assertEqual(self.well("-r", "/dev/stdout", *part).out, COUNTING[:1000])
+        for name in ("/dev/stdout", "/proc/self/fd/1"):
+            self.assertEqual(self.well("-r", name, *part).out, COUNTING[:1000])
         self.assertEqual(self.well("-r", "/dev/stderr", *part).err, COUNTING[:1000])
         with open(self.path("out"), "wb") as out:
             out.write(b"\x00" * 2000)

@@ -452,11 +452,12 @@ class TakingBack(Words):
         """Where it was claimed, a board that wasn't reset would take the connecting byte for one of a command."""
         self.instead(f'echo "$STMFLASH_FRESH $*" >> {self.path("called")}')
         board = self.flash(COUNTING)
-        for settings, claimed in (({}, False), ({"STM32FLASH_RESETS": "1"}, True)):
+        says = {"STM32FLASH_RESETS": "1"}
+        for sequence, settings, claimed in (("brk", {}, False), ("brk", says, True), (":brk", says, False)):
             for words in (("-o", "-s", "0", "-e", "1"), ("--undo",)):
                 self.keep("journal", STOPPED.encode())
                 self.store("called", b"")
-                self.well(*words, "-i", "brk", STMFLASH_FRESH="1", **settings)
+                self.well(*words, "-i", sequence, STMFLASH_FRESH="1", **settings)
                 called = self.held("called").decode().splitlines()
                 self.assertEqual([line for line in called if not line.startswith(" ")], [])
                 self.assertEqual([line.split()[0] for line in called if "--fresh" in line], ["undo"] * claimed)
@@ -890,6 +891,9 @@ class Parts(Place):
             for port, name in (("/dev/ttyUSB3", "pci-usb-0:2"), ("/dev/serial/by-id/adapter", "pci-usb-0:2"), ("/dev/ttyS0", "ttyS0"),
                                ("/dev/ttyUSB1", "ttyUSB1"), ("/dev/ttyUSB10", "pci-usb-0:1")):
                 self.assertEqual(places.name_of(port), name)
+        os.symlink("/dev/ptmx", self.path("board"))
+        with mock.patch.object(places, "is_pty", lambda _: True):
+            self.assertRegex(places.name_of(self.path("board")), "^board-")
 
     def test_the_manual_page_has_every_option(self):
         page = text_in("line", "stmflash-as-stm32flash.1").replace("\\", "")
