@@ -182,15 +182,15 @@ class Calls(unittest.TestCase):
             self.assertEqual((self.port.write(b"a"), self.port.read()), (0, (b"", 0)))
 
     def test_bytes_that_were_lost_before(self):
-        """Before the port was opened they were another program's."""
-        counts = [5, 5, 6]
+        """Before the port was opened they were another program's, and before its reset the board's own."""
+        counts = [5, 5, 6, 8, 8]
 
         def count(_, __, counters):
             counters[10] = counts.pop(0)
 
-        with mock.patch("fcntl.ioctl", side_effect=count), mock.patch("os.read", return_value=b"a"):
+        with mock.patch("fcntl.ioctl", side_effect=count), mock.patch("os.read", return_value=b"a"), mock.patch("termios.tcflush"):
             held = port.Port(self.serial, "PORT", 9600)
-            self.assertEqual([held.read(), held.read()], [(b"a", 0), (b"", 1)])
+            self.assertEqual([held.read(), held.read(), held.forget(), held.read()], [(b"a", 0), (b"", 1), None, (b"a", 0)])
 
     def test_a_driver_that_counts_nothing_is_asked_once(self):
         with mock.patch("fcntl.ioctl", side_effect=OSError(errno.ENOTTY, "")) as ioctl, mock.patch("os.read", return_value=b"a"):

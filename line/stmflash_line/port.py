@@ -46,7 +46,7 @@ class Port:
             termios.tcflush(self.descriptor, termios.TCIFLUSH)
         except termios.error as error:
             raise Gone from error
-        self.unmark = Unmark()
+        self.unmark, self.lost = Unmark(), self.count_lost()
 
     def read(self):
         """What came, up to the first byte that was lost or came with an error, and how many were or did."""
