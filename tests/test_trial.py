@@ -289,22 +289,24 @@ class Words(TrialPlace):
         reader = os.open(self.path("pipe"), os.O_RDONLY | os.O_NONBLOCK)
         self.addCleanup(os.close, reader)
         for name, held in (("link", lambda: self.held("real")), ("pipe", lambda: os.read(reader, 1 << 16))):
-            words = ("--only-read", "--part", b"a\xffb", "--out", name, "--save", b"saved\xff" + name.encode(), *QUICK[1:])
+            words = ("--only-read", "--part", b"a\xffb", "--out", name, "--save", b"saved \xff" + name.encode(), *QUICK[1:])
             said = self.tried("none", *words, PYTHONIOENCODING="utf-8:strict")
             self.assertStatus(said, 0)
             self.assertEqual(tomllib.loads(held().decode())["part"], "a\ufffdb")
-            self.assertIn(f"saved in saved\\udcff{name}: ", said.out.decode())
+            self.assertRegex(said.out.decode(), rf"saved in (saved \\udcff{name}): .* `stmflash write -v -f '\1'`")
         self.assertTrue(os.path.islink(self.path("link")))
         self.assertFile("real.new", b"mine")
         self.remove("real.new")
 
     def test_a_part_of_the_flash_is_no_file(self):
-        """A disk that has no room for all of it; and what came meanwhile under that name is another's."""
+        """A disk that has no room for all of it, and a signal; and what came meanwhile under that name is another's."""
         text = "import resource, faults, saved; resource.setrlimit(resource.RLIMIT_FSIZE, (4096, 4096))\n" \
-               "try:\n    saved.store(sys.argv[1], bytes(8192))\nexcept faults.Ended as ended:\n    print(ended)"
+               "def cut(_): raise faults.Ended('a signal')\nsaved.os.fsync = cut\n" \
+               "try:\n    saved.store(sys.argv[1], bytes(int(sys.argv[2])))\nexcept faults.Ended as ended:\n    print(ended)"
         self.store("came", b"kept")
-        for name, why, held in (("part", "File too large", None), ("came", "File exists", b"kept")):
-            self.assertEqual(of_modules(text, self.path(name)), f"the flash couldn't be saved: {why}\n")
+        for name, size, why, held in (("part", "8192", "the flash couldn't be saved: File too large", None), ("cut", "1", "a signal", None),
+                                      ("came", "1", "the flash couldn't be saved: File exists", b"kept")):
+            self.assertEqual(of_modules(text, self.path(name), size), why + "\n")
             self.assertEqual(self.held(name), held)
 
     def test_a_page_that_is_not_there(self):
@@ -353,7 +355,7 @@ class Ports(LinePlace):
 
     def test_it_opens_the_port(self):
         board = self.board()
-        self.assertHolds(self.line("--port", "ttyUSB0", *self.WORDS, line=(TRIAL,)), board)
+        self.assertHolds(self.line("--port", "ttyUSB0", *self.WORDS, line=(TRIAL,), STMFLASH_DEVICE="none"), board)
         said = self.line("--port", "none", *self.WORDS, "--save", "other", line=(TRIAL,))
         self.assertEqual((said.status, said.out), (2, b""))
         self.assertTrue(said.err.endswith(b"stmflash-trial: stmflash-line didn't open the port; it tells why and what to do above\n"), said.err)
@@ -521,21 +523,9 @@ def of_modules(text, *words, status=0):
     return ran.stdout
 
 
-class Pages(unittest.TestCase):
-    def test_which_are_worked_on(self):
-        """The last two without a word; 255 is never one of them, since its settling byte means everything."""
-        text = "from rows_asking import choose_pages as choose\n" \
-               "for named, count in (([], 32), ([], 1), ([], 256), ([], 257), ([3, 7], 32), ([255], 300), ([256], 300), ([32], 32)):\n" \
-               "    try: print(choose(named, count))\n" \
-               "    except Exception as error: print(error)"
-        self.assertEqual(of_modules(text).splitlines(), [
-            "[30, 31]", "[0]", "[253, 254]", "[254, 256]", "[3, 7]", "--pages: this chip has no such page; give 0 to 299, but for 255", "[256]",
-            "--pages: this chip has no such page; give 0 to 31, but for 255"])
-
-
 PARTS = """
 from types import SimpleNamespace as Of
-import builtins, rows_ending, rows_reading, settling, told, trial
+import builtins, line as ways, rows_asking, rows_ending, rows_reading, settling, socket, told, trial
 from board import Board
 from settling import limit_of
 made = Board.__new__(Board)
@@ -564,6 +554,13 @@ def unasked(): raise settling.Differs('a byte came')
 asking.board.hush = unasked
 tell(lambda it: it.outcome(Of(act=lambda _: 'well', means='x', name='x')).result, asking)
 slow = Of(options={}, refusal=None)
+for named, count in (([], 32), ([], 1), ([], 256), ([], 257), ([3, 7], 32), ([255], 300), ([256], 300), ([32], 32)):
+    tell(lambda it: rows_asking.choose_pages(named, it), count)
+gone = ways.Line.__new__(ways.Line)
+gone.words, gone.companion, gone.buffer, (gone.socket, _) = Of(reset='', port='P', wiring='W'), None, bytearray(), socket.socketpair()
+def closed(): raise ways.Refused('the port has gone')
+gone.open = closed
+for act in (gone.reset, lambda: gone.read(1, 9, 9), lambda: gone.write(b'a')): tell(lambda _: act(), None)
 for seconds in (1, 0.3): rows_ending.need_wait(slow, seconds)
 print(slow.options, *told.judge(slow, [told.Found(rows_reading.save, told.DIFFERS, '', rows_reading.save.means)], 'a signal'), sep='; ')
 """
@@ -577,6 +574,11 @@ class Parts(unittest.TestCase):
             "Differs; page 3 has other bytes when it is read again; what is read can't be trusted", "3606", "0", "None", "Refused; nothing was changed; ",
             # what is due is waited for, and what isn't belongs to the row before it
             "0 2 2", "1 2 2", "2 places, 2 bytes at most", "differs",
+            # the last two pages without a word, and never 255, whose settling byte means everything
+            "[30, 31]", "[0]", "[253, 254]", "[254, 256]", "[3, 7]", "Refused; --pages: this chip has no such page; give 0 to 299, but for 255; ",
+            "[256]", "Refused; --pages: this chip has no such page; give 0 to 31, but for 255; ",
+            # a port that has gone behind a reset ends the trial: nobody says that nothing was changed
+            "Ended; the port has gone; ", "Ended; the line was closed; ", "Ended; the line ended: Broken pipe; ",
             # the longest wait that a row needs; and what a row found goes before a signal
             "{'wait': 1000}; don't use; save: the journal can't keep a page"])
 

@@ -47,7 +47,8 @@ class Line:
 
     def leave(self):
         if self.socket:
-            self.socket.close()
+            # where none comes after it, whoever uses it sees that it has ended
+            self.socket.shutdown(socket.SHUT_RDWR)
         if self.companion:
             self.companion.terminate()
             self.companion.wait()
@@ -64,7 +65,10 @@ class Line:
         elif self.words.port and self.words.wiring:
             # what --wiring does is done anew
             self.leave()
-            self.open()
+            try:
+                self.open()
+            except Refused as refused:
+                raise Ended(str(refused)) from None
         else:
             ask("Press the board's reset, with BOOT0 as it is, and then Enter.")
         time.sleep(0.1)

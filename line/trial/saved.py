@@ -19,7 +19,7 @@ def store(path, data):
                 file.write(data)
                 file.flush()
                 os.fsync(file.fileno())
-            except OSError:
+            except (OSError, Ended):
                 os.remove(path)
                 raise
         folder = os.open(os.path.dirname(os.path.abspath(path)), os.O_RDONLY)

@@ -2,6 +2,7 @@
 
 import contextlib
 import os
+import shlex
 import signal
 import sys
 import time
@@ -83,8 +84,8 @@ class Trial:
         """Tries a row, and keeps what came of it."""
         self.add(self.tried(row))
         if row is SAVE and self.board.saved is not None:
-            self.say(f"saved in {self.words.save}: whatever comes, reset the board, and `stmflash write -v -f {self.words.save}` "
-                     "puts its flash back")
+            self.say(f"saved in {self.words.save}: whatever comes, reset the board, and "
+                     f"`stmflash write -v -f {shlex.quote(self.words.save)}` puts its flash back")
 
     def tried(self, row):
         """What came of a row. A signal ends it, but for the one that puts back."""
