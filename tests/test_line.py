@@ -76,7 +76,7 @@ class Commands(LinePlace):
     def test_names_the_socket(self):
         """Every {} is the socket's path, also inside a word; it stands in a folder of ours alone."""
         script = 'echo "$0" "$1" "$STMFLASH_DEVICE" "$(stat -c %a "$0" "$(dirname "$0")" | xargs)" "${STMFLASH_FRESH-none}"'
-        path, _, rest = self.line("ttyUSB0", "--", "sh", "-c", script, "{}", "is {}{}.").out.decode().partition(" ")
+        path, _, rest = self.line("ttyUSB0", "--", "sh", "-c", script, "{}", "is {}{}.", TMPDIR="temporary").out.decode().partition(" ")
         self.assertTrue(path.startswith(self.path("temporary/")), path)
         self.assertEqual(rest, f"is {path}{path}. {path} 660 700 none\n")
 

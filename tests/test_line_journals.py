@@ -192,7 +192,8 @@ class Tables(Unnamed):
         def said(**more):
             return self.line("ttyUSB0", line=("bin/stmflash-line",), **settings, **more)
 
-        self.assertIn(BOARD.encode(), said().out)
+        for more in ({}, {"STMFLASH_TABLE": ""}):
+            self.assertIn(BOARD.encode(), said(**more).out)
         os.makedirs(self.path(".config/stmflash"))
         self.store(".config/stmflash/chips.toml", b"[[chip]]\n")
         self.assertIn(b"table: chip 1: missing", said().err)

@@ -381,16 +381,18 @@ class BadBytes(unittest.TestCase):
         self.assertTrue(0.03 <= told[0] < PATIENCE and told[1] < told[0], told)
 
     def test_the_next_client_gets_none_of_the_former_ones(self):
-        """A client that took nothing is gone, with bytes for it that its socket had no room for."""
+        """A client that took nothing is gone, with bytes for it that its socket had no room for; its own still go out."""
         while not self.join.into:
             self.assertEqual(self.take(60000 * b"a"), "")
         self.client.close()
         self.join.from_client()
         self.assertIsNone(self.join.client)
         self.assertEqual(self.take(b"nobody's"), "")
-        self.client, self.join.client = socket.socketpair()
+        self.client, ours = socket.socketpair()
         self.client.settimeout(PATIENCE)
         self.addCleanup(self.client.close)
+        self.join.listener, self.join.out = mock.Mock(**{"accept.return_value": (ours, None)}), bytearray(b"sent")
+        self.assertEqual((self.join.accept(), self.join.out), (True, b"sent"))
         self.assertEqual(self.take(b"new"), "")
         self.assertEqual(self.client.recv(100), b"new")
 

@@ -651,10 +651,11 @@ class Parts(Place):
                 mock.patch.object(call.chips, "read_table", lambda _: {}), \
                 mock.patch.object(call.Journals, "make", lambda _: None), \
                 mock.patch.dict(os.environ, STM32FLASH_GPIO_CHIP="chip"), contextlib.redirect_stdout(io.StringIO()):
-            for words in (("-b", "115200"), ("-i", "-rts,dtr:rts"), ("-i", "-rts,dtr"), ("-c", "-i", "-rts,dtr:rts"), ("-i", "rts,4")):
+            for words in (("-b", "115200"), ("-i", "-rts,dtr:rts"), ("-i", "-rts,dtr"), ("-c", "-i", "-rts,dtr:rts"),
+                          ("-c", "-i", "rts,4"), ("-i", "rts,4")):
                 call.outside("here", [*words, "/dev/ttyUSB0"])
         self.assertEqual(asked, [("/dev/ttyUSB0", 115200, None, None),
-                                 *(("/dev/ttyUSB0", 57600, boot, None) for boot in ("-rts,dtr:rts", "-rts,dtr", ":rts")),
+                                 *(("/dev/ttyUSB0", 57600, boot, None) for boot in ("-rts,dtr:rts", "-rts,dtr", ":rts", "")),
                                  ("/dev/ttyUSB0", 57600, "rts,4", "chip")])
 
     def test_the_wait_is_what_is_known_of_the_port(self):
