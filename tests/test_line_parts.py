@@ -163,17 +163,13 @@ class Waits(Place):
         self.assertEqual([patience.wait("/dev/ttyUSB0", baud, 0) for baud in (4000000, 115200, 57600, 9600, 1)], [250, 250, 250, 641, 60000])
         self.assertEqual(patience.wait("/dev/ttyACM0", 9600, 0), 701)
         self.assertIsNone(patience.wait("/dev/ttyUSB1", 115200, 0))
-
-    def test_a_port_of_which_nothing_is_known(self):
-        """stmflash's own wait is added to the time that a reset takes of it; that is 400 ms (test_silence.py)."""
+        # stmflash's own wait is added to the time that a reset takes of it; that is 400 ms (test_silence.py)
         self.assertEqual([patience.wait("/dev/ttyUSB1", 115200, pause) for pause in (0.3, 0.1, 60)], [700, 500, 60000])
-
-    def test_a_port_that_usb_ip_brings(self):
-        """It stands here, and what it hangs on is another machine."""
+        # what USB/IP brings stands here, and what it hangs on is another machine
         os.makedirs(self.path("vhci_hcd.0/adapter"))
-        os.mkdir(self.path("ttyUSB0"))
-        os.symlink(self.path("vhci_hcd.0/adapter"), self.path("ttyUSB0/device"))
-        self.assertIsNone(patience.wait("/dev/ttyUSB0", 115200, 0))
+        os.mkdir(self.path("ttyUSB2"))
+        os.symlink(self.path("vhci_hcd.0/adapter"), self.path("ttyUSB2/device"))
+        self.assertIsNone(patience.wait("/dev/ttyUSB2", 115200, 0))
 
     def test_a_client_whose_byte_waits_for_a_reset_waits_longer(self):
         self.adapter("ttyUSB0", b"1\n")
@@ -339,15 +335,12 @@ class BadBytes(unittest.TestCase):
         self.assertEqual((said, first_of(self.client, 100)), (told, clean))
         self.assertIsNone(self.join.client)
 
-    def test_good_bytes(self):
-        self.assertEqual(self.take(b"a\xff\xff\x00"), "")
-        self.assertEqual(self.client.recv(100), b"a\xff\x00")
-        self.assertIsNotNone(self.join.client)
-
     def test_a_bad_byte_ends_the_line(self):
         self.assertLeft(self.take(b"ab\xff\x00cd\xff\x00ef"), b"ab", 2)
 
-    def test_a_bad_byte_in_pieces(self):
+    def test_a_bad_byte_in_pieces_behind_good_ones(self):
+        self.assertEqual(self.take(b"a\xff\xff\x00"), "")
+        self.assertEqual(self.client.recv(100), b"a\xff\x00")
         for piece in (b"ab\xff", b"\x00"):
             self.assertEqual(self.take(piece), "")
         self.assertLeft(self.take(b"cd"), b"ab", 1)

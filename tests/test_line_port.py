@@ -204,22 +204,18 @@ class Latency(LinePlace):
     def hasten(self, *numbers):
         """What is said, and the timer behind it; `numbers` are what it tells, where it keeps what it will."""
         self.store("adapter.timer", b"16\n")
-        os.symlink("adapter", self.path("PORT"))
         asked, told = mock.Mock(), mock.Mock(side_effect=numbers or None, wraps=opening.read_number)
         with contextlib.redirect_stderr(io.StringIO()) as said, mock.patch.object(opening, "TIMER", self.path("{}.timer")), \
-                mock.patch.object(opening, "read_number", told):
-            opening.hasten(asked, self.path("PORT"))
+                mock.patch.object(opening, "read_number", told), mock.patch.object(os.path, "realpath", {"PORT": "/dev/adapter"}.get):
+            opening.hasten(asked, "PORT")
         asked.set_low_latency_mode.assert_called_once_with(True)
         return said.getvalue(), self.held("adapter.timer")
 
-    def test_a_timer_that_can_be_set(self):
-        self.assertEqual(self.hasten(), ("", b"1"))
-
-    def test_one_that_is_quick_is_left(self):
-        self.assertEqual(self.hasten(2), ("", b"16\n"))
+    def test_a_timer_that_can_be_set_and_one_that_is_quick(self):
+        self.assertEqual((self.hasten(), self.hasten(2)), (("", b"1"), ("", b"16\n")))
 
     def test_one_that_stays_is_told(self):
-        self.assertEqual(self.hasten(16, 16, 16)[0], f"stmflash-line: {self.path('PORT')}: holds bytes back for 16 ms, which makes it slow; "
+        self.assertEqual(self.hasten(16, 16, 16)[0], f"stmflash-line: PORT: holds bytes back for 16 ms, which makes it slow; "
                          f"as root: echo 1 > {self.path('adapter.timer')}\n")
 
     def test_a_port_without_one(self):

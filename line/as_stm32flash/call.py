@@ -83,8 +83,7 @@ def outside(program, given):
     boot = None if asked.sequence is None else asked.entry() + ("" if leave is None else f":{leave}")
     patience = wait(os.environ.get("STMFLASH_WAIT"), asked.port, asked.baud)
     chip = (os.environ.get(CHIP) or None) if sequence.gpio_lines(sequence.read_sequence(asked.entry())) else None
-    return line.use(asked.port, asked.baud, boot, chip,
-                    lambda slowest: ended(lambda: inside(asked, below, table, patience, slowest)))
+    return line.use(asked.port, asked.baud, boot, chip, lambda slowest: ended(lambda: inside(asked, below, table, patience, slowest)))
 
 
 def refuse(asked, below):

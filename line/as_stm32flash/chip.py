@@ -65,8 +65,7 @@ def table_text(chips):
     def value(held):
         return f'"{held}"' if isinstance(held, str) else str(held)
 
-    return "".join("[[chip]]\n" + "".join(f"{key} = {value(chip.entry[key])}\n" for key in KEYS if key in chip.entry)
-                   for chip in chips.values())
+    return "".join("[[chip]]\n" + "".join(f"{key} = {value(chip.entry[key])}\n" for key in KEYS if key in chip.entry) for chip in chips.values())
 
 
 def refuse_outside(chips, address, option):

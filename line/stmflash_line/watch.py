@@ -18,8 +18,7 @@ SHORT = 2
 PROTECTIONS = (0x73, 0x82, 0x92)
 # what each list of codes has
 NEEDED, ERASES = {0x00, 0x02, 0x11, 0x31}, {0x43, 0x44}
-NAMES = {0x00: "Get", 0x02: "Get ID", 0x11: "Read Memory", 0x21: "Go", 0x31: "Write Memory", 0x43: "Erase Memory",
-         0x44: "Extended Erase"}
+NAMES = {0x00: "Get", 0x02: "Get ID", 0x11: "Read Memory", 0x21: "Go", 0x31: "Write Memory", 0x43: "Erase Memory", 0x44: "Extended Erase"}
 
 
 class Otherwise(Exception):

@@ -40,12 +40,10 @@ def make_parser():
                         "inverter; the board is reset into its bootloader, and in the end into its program")
     parser.add_argument("--boot", metavar="SEQUENCE",
                         help="how RTS, DTR, break and GPIO lines are moved once the port is open: '-rts&dtr,-dtr,,:rts&dtr,-dtr'")
-    parser.add_argument("--resets", action="store_true",
-                        help="--boot is a reset: it is played for each client")
+    parser.add_argument("--resets", action="store_true", help="--boot is a reset: it is played for each client")
     parser.add_argument("--after", metavar="SEQUENCE", help="the same for the end; also what follows ':' in --boot")
     parser.add_argument("--gpio-chip", metavar="NAME", help=f"the chip of the GPIO lines that a sequence names; {CHIP} without it")
-    parser.add_argument("--watch", action="store_true",
-                        help="ends the line at the first reply that no device of the model gives, and tells it")
+    parser.add_argument("--watch", action="store_true", help="ends the line at the first reply that no device of the model gives, and tells it")
     parser.add_argument("--socket", metavar="PATH", help="serves this socket, one client after another, until a signal comes")
     parser.add_argument("--idle", type=int, metavar="SECONDS",
                         help="lets go of a client that has sent nothing for so long; with --socket 60 without it; 0: never")

@@ -4,8 +4,7 @@ from faults import Forbidden
 from stmflash_line import model
 from stmflash_line.model import ACK, CONNECT, ERASE, EXTENDED_ERASE, GET, GET_ID, GET_VERSION, NACK, READ, WRITE, fold
 
-__all__ = ["ACK", "CONNECT", "ERASE", "EXTENDED_ERASE", "GET", "GET_ID", "GET_VERSION", "NACK", "NEVER", "READ", "WRITE", "Model",
-           "fold"]
+__all__ = ["ACK", "CONNECT", "ERASE", "EXTENDED_ERASE", "GET", "GET_ID", "GET_VERSION", "NACK", "NEVER", "READ", "WRITE", "Model", "fold"]
 # Go and the protections, those without and with a security area among them: never sent, whatever a board lists
 NEVER = frozenset({0x21, 0x63, 0x64, 0x73, 0x74, 0x82, 0x83, 0x92, 0x93})
 

@@ -112,8 +112,7 @@ def choose_pages(named, count):
     return named or [page for page in range(max(0, count - 3), count) if page != 255][-2:]
 
 
-@row("get-version", "Get Version, where it is listed, brings three bytes between two 79", "nothing: stmflash doesn't send it",
-     "nothing", NOTE)
+@row("get-version", "Get Version, where it is listed, brings three bytes between two 79", "nothing: stmflash doesn't send it", "nothing", NOTE)
 def get_version(board):
     if GET_VERSION not in board.codes:
         raise NotTried("01 isn't listed")
@@ -129,8 +128,7 @@ def settle_by_7f(board):
         board.hush()
 
 
-@row("refuse-address", "a wrong check of an address is refused at once, by Read and by Write", "verdict of an address",
-     "a garbled address is used")
+@row("refuse-address", "a wrong check of an address is refused at once, by Read and by Write", "verdict of an address", "a garbled address is used")
 def refuse_address(board):
     for code in (READ, WRITE):
         for bit in range(8):

@@ -1,6 +1,5 @@
 """--speeds: which speeds of the line a board takes. It is reset before each, asked who it is, and read; nothing is changed."""
 
-import contextlib
 import sys
 import time
 
@@ -55,8 +54,7 @@ def tried(words):
     except Ended as error:
         raise Fails(str(error)) from None
     finally:
-        with contextlib.suppress(Ended):
-            line.close()
+        line.close()
 
 
 def asked(line, chips):

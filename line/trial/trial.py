@@ -48,8 +48,7 @@ class Trial:
                     self.take(row)
         finally:
             self.progress.clear()
-            with contextlib.suppress(Ended, Refused):
-                self.board.line.close()
+            self.board.line.close()
         return self.tell()
 
     def ask(self):
