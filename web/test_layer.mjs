@@ -24,6 +24,7 @@ const soon = (millis = 0) => new Promise((resolve) => setTimeout(resolve, millis
 /** A promise that has to end: `late` where it doesn't. */
 const ends = (it) => Promise.race([it, soon(3000).then(() => 'late')]);
 const bytesOf = (text) => new TextEncoder().encode(text);
+const thrownBy = (does) => { try { return does(); } catch (thrown) { return thrown; } };
 
 // The calls over a memory of one page, and names and texts in it.
 function machine({ words = ['stmflash'], variables = {}, store = new Store([]), line, input } = {}) {
@@ -149,7 +150,7 @@ const make = (store, name, text) => { const node = store.open(`/boards/${name}`,
 const OPERATIONS = {
   'a name is given': [(store) => { store.open('/boards/new', { creates: true }).close(); }, { a: 'A', b: 'B', new: '' }],
   'a name is taken': [(store) => store.remove('/boards/a'), { b: 'B' }],
-  'a name is moved': [(store) => store.rename('/boards/a', '/boards/c'), { b: 'B', c: 'A' }],
+  'a name is moved': [(store) => store.rename('/boards/a', '/boards/é 電'), { b: 'B', 'é 電': 'A' }],
   'a name is moved over another': [(store) => store.rename('/boards/a', '/boards/b'), { b: 'A' }],
 };
 {
@@ -179,10 +180,9 @@ const OPERATIONS = {
   // twice the same start
   const disk = Array.from({ length: 3 }, weak), store = new Store(disk);
   for (const [name, text] of [['a', 'old'], ['b', 'newer']]) make(store, name, text);
-  const headOf = disk.map((it) => it.write);
-  disk[0].write = () => { throw new Error('no'); };
+  const { write } = disk[0];
+  disk[0].write = () => { disk[0].write = write; throw new Error('no'); };
   try { store.rename('/boards/b', '/boards/a'); } catch { /* the older name stays */ }
-  disk[0].write = headOf[0];
   const again = new Store(disk);
   holds('of two files of a name the newer one', contents(again), { a: 'newer' });
   again.remove('/boards/a');
@@ -211,9 +211,7 @@ const OPERATIONS = {
   make(store, 'd', '');
   holds('nothing is left of another file', contents(store), { b: 'C', d: '' });
   make(store, 'e', '');
-  let fault = 0;
-  try { make(store, 'f', ''); } catch (thrown) { fault = thrown.number; }
-  holds('no place left', fault, E.NOSPC);
+  holds('no place left', thrownBy(() => make(store, 'f', '')).number, E.NOSPC);
   store.open('image', { creates: true }).close();
   holds('files beside are in memory', [store.free(), store.look('/image')?.kind, contents(store).image], [0, 'file', undefined]);
 }
@@ -257,7 +255,7 @@ function port() {
   for (const part of [[1, 2, 3], [4, 5, 6]]) await line.connect().then(() => line.send(Uint8Array.from(part))).then(() => line.close());
   holds('a stop, behind so many bytes of all connections', [line.ended, line.sent, board.sent], ['stopped', 4, [1, 2, 3, 4]]);
   const adapter = (usbVendorId, usbProductId) => ({ getInfo: () => ({ usbVendorId, usbProductId }) }), [one, other, same] = [adapter(1, 2), adapter(1, 3), adapter(1, 2)];
-  const chosen = (...ports) => { try { return ports.indexOf(portOf(ports, one.getInfo())); } catch (thrown) { return thrown.message.slice(0, 12); } };
+  const chosen = (...ports) => { const it = thrownBy(() => portOf(ports, one.getInfo())); return ports.includes(it) ? ports.indexOf(it) : it.message.slice(0, 12); };
   holds('the adapter of that kind, which may be plugged in anew; not one of two, nor another', [chosen(other, one), chosen(same), chosen(one, other, same), chosen(other)], [1, 0, 'two adapters', 'the adapter ']);
 }
 for (const [what, over, sum] of [['a wrong parity', (board) => board.into.error(new DOMException('x', 'ParityError')), -1n], ['a lost adapter', (board) => board.into.error(new DOMException('x', 'NetworkError')), -1n],
@@ -288,21 +286,24 @@ for (const [what, over, sum] of [['a wrong parity', (board) => board.into.error(
   holds('nobody is served', [it.env.bind(fd, 0n, 0), it.fault(), it.env.listen(fd, 1), it.env.accept4(fd, 0n, 0n, 0)], [-1, E.NOSYS, -1, -1]);
 }
 
-// the worker: what it is handed over has a place each time, and is whole or not there where the power goes ahead of any flush
+// the worker: what it is handed over has a place each time, and is whole or not there where the power goes ahead of any flush. One page at
+// a time has a file of the pool.
 {
-  let seed = 1, disk;
-  const asked = {}, path = '/boards/a', choose = () => { seed = (seed * 48271) % 2147483647; return seed >> 6; };
-  const folder = { values: () => [], getDirectoryHandle: async () => folder, getFileHandle: async () => ({ createSyncAccessHandle: async () => disk[disk.push(weak()) - 1] }) };
+  let seed = 1, opening = -3;
+  const asked = {}, files = new Map(), path = '/boards/a', choose = () => { seed = (seed * 48271) % 2147483647; return seed >> 6; };
+  const file = (disk, holder) => ({ disk, async createSyncAccessHandle() { if (holder === opening) throw new DOMException('', 'NoModificationAllowedError'); holder = opening; return disk; } });
+  const folder = { values: () => [...files.values()], getDirectoryHandle: async () => folder, getFileHandle: async (name) => files.get(name) ?? files.set(name, file(weak())).get(name) };
   Object.defineProperty(globalThis, 'navigator', { value: { locks: { request: (...it) => it.at(-1)({}) }, storage: { getDirectory: async () => folder } } });
   Object.assign(globalThis, { onmessage: undefined, fetch: async () => new Response(''), postMessage: (it) => asked[it.id]?.(it) });
   Object.assign(WebAssembly, { compileStreaming: async () => new WebAssembly.Module(Uint8Array.of(0, 97, 115, 109, 1, 0, 0, 0)) });
   const ask = (act, given) => new Promise((resolve) => { asked[act] = resolve; onmessage({ data: { id: act, act, ...given } }); });
-  for (let i = 0; i < 40; i++) {
-    disk = [];
-    await from(`worker.js?${i}`);
-    for (let k = 0; k < 20; k += i ? 20 : 1) holds('it can be had, and be gone', [(await ask('put', { path, bytes: bytesOf(`${k}`) })).error, (await ask('get', { path })).bytes, (await ask('remove', { path })).error], [undefined, bytesOf(`${k}`), undefined]);
-    const lose = () => { for (const it of disk) { it.before = undefined; it.lose(choose); } return contents(new Store(disk)).a ?? 'not there'; };
-    let left = i % 6, lost;
+  for (; opening < 40; opening++) {
+    if (opening >= 0) files.clear();
+    await from(`worker.js?${opening}`);
+    if (opening < 0) { holds('each opening has a place for 16 more', [(await ask('put', { path: `/boards/${opening}`, bytes: bytesOf('') })).error, files.size], [undefined, 19 + opening]); continue; }
+    for (let k = 0; k < 20; k += opening ? 20 : 1) holds('it can be had, and be gone', [(await ask('put', { path, bytes: bytesOf(`${k}`) })).error, (await ask('get', { path })).bytes, (await ask('remove', { path })).error], [undefined, bytesOf(`${k}`), undefined]);
+    const disk = [...files.values()].map((it) => it.disk), lose = () => { for (const it of disk) { it.before = undefined; it.lose(choose); } return contents(new Store(disk)).a ?? 'not there'; };
+    let left = opening % 6, lost;
     for (const it of disk) it.before = () => { if (!left--) { lost = lose(); throw new Error('no power'); } };
     await ask('put', { path, bytes: bytesOf('whole') });
     holds('it is whole, or not there where the power went', lost === 'not there' || (lost ?? lose()) === 'whole');
@@ -310,18 +311,17 @@ for (const [what, over, sum] of [['a wrong parity', (board) => board.into.error(
 }
 // what keeps the page: what others keep at its host stays
 {
-  const kept = new Set(['stmflash-old', 'stmflash-/* the sum */', 'others']), heard = {}, caches = { keys: async () => [...kept], delete: async (it) => kept.delete(it) };
-  Object.assign(globalThis, { caches, self: { addEventListener: (name, does) => { heard[name] = does; } } });
-  await from('offline.js').then(() => new Promise((resolve) => heard.activate({ waitUntil: (it) => it.then(resolve) })));
-  holds('what is kept of others stays', [...kept], ['stmflash-/* the sum */', 'others']);
+  const kept = new Set(['stmflash-old', 'stmflash-/* the sum */', 'others']), heard = {}, caches = { keys: async () => [...kept], delete: async (it) => kept.delete(it), open: async () => caches };
+  Object.assign(globalThis, { caches, self: { addEventListener: (name, does) => { heard[name] = does; }, skipWaiting: () => kept.add('at once') } });
+  await from('offline.js');
+  for (const name of ['install', 'activate']) await new Promise((resolve) => heard[name]({ waitUntil: (it) => it.then(resolve) }));
+  holds('what is kept of others stays, and no version counts beside a tab of another', [...kept], ['stmflash-/* the sum */', 'others']);
 }
 
 tryImages(await from('image.js'), await from('chips.js'), await from('difference.js'), holds);
 
-if (process.argv[3]) {
-  const asked = WebAssembly.Module.imports(new WebAssembly.Module(fs.readFileSync(process.argv[3]))).map((it) => it.name).sort();
-  holds('what the module asks for is what is answered', Object.keys(machine().env).sort(), asked);
-}
+const asked = process.argv[3] && WebAssembly.Module.imports(new WebAssembly.Module(fs.readFileSync(process.argv[3]))).map((it) => it.name).sort();
+if (asked) holds('what the module asks for is what is answered', Object.keys(machine().env).sort(), asked);
 if (process.argv.includes('--wirings')) console.log(JSON.stringify(Object.fromEntries(WIRINGS.map((it) => [it, stepsOf(it)]))));
 console.log(`${held} of ${all} hold`);
 process.exitCode = held === all ? 0 : 1;

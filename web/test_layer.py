@@ -36,6 +36,7 @@ FAULTS = {
         "no memory has no address": ("{0, &nothing}", "{0, NULL}"),
         "blocks lie anywhere": ("return (n + 15) & ~(size_t)15;", "return n;"),
         "the last pages are never had": (" || __builtin_wasm_memory_grow(0, least) != (size_t)-1", ""),
+        "what was refused counts as taken": ("    if (!reaches(begin + rounded(size_of(list))))\n        return NULL;\n    last = begin;", "    end = begin + rounded(size_of(list));\n    if (!reaches(end))\n        return NULL;\n    last = begin;"),
         "a carry is lost": ("a1 * b1 + (one >> 32) + (other >> 32)", "a1 * b1 + (one >> 32)"),
         "a shift by nothing": ("else if (n > 0)\n        r.half.low = x.half.low << n,", "else\n        r.half.low = x.half.low << n,"),
     },
@@ -90,6 +91,7 @@ FAULTS = {
         "everything is a journal": ("whole.startsWith(`${JOURNALS}/`) ? this.pool", "true ? this.pool"),
         "a journal is the line": ("  next = 2;", "  next = 1;"),
         "a journal is moved to other files": ("    if (old.startsWith(`${JOURNALS}/`) !== whole.startsWith(`${JOURNALS}/`)) throw new Fault(E.PERM);\n", ""),
+        "a name is as long as its characters": ("view.setUint16(16, text.length", "view.setUint16(16, name.length"),
         "bytes lie over the heads": ("this.handle.write(bytes, { at: this.base + at })", "this.handle.write(bytes, { at })"),
     },
     "line.js": {
@@ -141,8 +143,10 @@ FAULTS = {
         "each page is the first": ("i++, at += size", "i++"),
         "the last page is enough": ("at + size - it.at >= least ? i", "true ? i"),
     },
-    "worker.js": {"a place is never free again": ("  node.close();\n  if", "  if"), "a name stands ahead of its bytes": ("    node.flush();\n    store.rename", "    store.rename")},
-    "offline.js": {"what others keep is removed": ("it.startsWith('stmflash-') && it !== KEPT", "it !== KEPT")},
+    "worker.js": {"a place is never free again": ("  node.close();\n  if", "  if"), "a name stands ahead of its bytes": ("    node.flush();\n    store.rename", "    store.rename"),
+                  "places of two openings have one name": ("`${Date.now()}-${i}`", "`${i}`")},
+    "offline.js": {"what others keep is removed": ("it.startsWith('stmflash-') && it !== KEPT", "it !== KEPT"),
+                   "an update counts beside an open tab": ("keep(cache, name, sum))))", "keep(cache, name, sum))).then(() => self_.skipWaiting()))")},
     "difference.js": {
         "what an image leaves is written": ("bytes[i] >= 0 && holds", "holds"),
         "a page has its neighbour's bytes": ("Math.min(at + size - low, ", "Math.min(at + size + 1 - low, "),

@@ -116,9 +116,9 @@ static void refuses(void)
     memset(kept.p, 9, 100);
     rattle_alloc(100, 1);
     most = pages_there;
-    struct tried t = rattle_alloc((size_t)pages_there * PAGE, 1);
+    struct tried t = rattle_alloc((size_t)1 << 31, 1);
     holds("no memory", !t.ok && t.p != NULL);
-    t = rattle_realloc(kept.p, 100, (size_t)pages_there * PAGE, 1);
+    t = rattle_realloc(kept.p, 100, (size_t)1 << 31, 1);
     holds("a block that can't grow", !t.ok && t.p != NULL);
     holds("stays as it was", ((unsigned char *)kept.p)[0] == 9 && ((unsigned char *)kept.p)[99] == 9);
     t = rattle_alloc((size_t)1 << 62, 1);
