@@ -101,32 +101,28 @@ static void test_realloc(void)
     rattle_dealloc(again.p);
 }
 
-// Whether a text of this length was put into a room of that size, or as much of it as there is room for, and nothing behind it.
-static bool is_put(ssize_t answer, const char *buf, size_t room, const char *text)
+// Whether a text of this length was put into a room of that size, or as much of it as there is room for, and nothing behind it. It's
+// taken away again.
+static bool is_put(ssize_t answer, char *buf, size_t room, const char *text)
 {
     size_t length = strlen(text), put = length < room ? length : room;
-    return answer == (length <= room ? (ssize_t)length : -2) && memcmp(buf, text, put) == 0 && buf[put] == '#';
+    bool is_so = answer == (length <= room ? (ssize_t)length : -2) && memcmp(buf, text, put) == 0 && buf[put] == '#';
+    memset(buf, '#', put);
+    return is_so;
 }
 
 static void test_texts(int count, char **given)
 {
     char buf[64];
+    memset(buf, '#', sizeof buf);
     for (size_t room = 0; room < sizeof buf; room++) {
-        for (int i = 0; i < count; i++) {
-            memset(buf, '#', sizeof buf);
-            // (the program's name is a path of any length)
-            if (i > 0 || strlen(given[0]) < sizeof buf)
-                HOLDS(is_put(rattle_arg((size_t)i, buf, room), buf, room, given[i]));
-        }
-        memset(buf, '#', sizeof buf);
+        // (the program's name is a path of any length)
+        for (int i = strlen(given[0]) >= sizeof buf; i < count; i++)
+            HOLDS(is_put(rattle_arg((size_t)i, buf, room), buf, room, given[i]));
         HOLDS(is_put(rattle_env("FIRST", buf, room), buf, room, "one"));
-        memset(buf, '#', sizeof buf);
         HOLDS(is_put(rattle_env("EMPTY", buf, room), buf, room, ""));
-        for (size_t i = 0; environ[i] != NULL; i++) {
-            memset(buf, '#', sizeof buf);
+        for (size_t i = 0; environ[i] != NULL; i++)
             HOLDS(is_put(rattle_env_at(i, buf, room), buf, room, environ[i]));
-        }
-        memset(buf, '#', sizeof buf);
         HOLDS(rattle_arg((size_t)count, buf, room) == -1 && buf[0] == '#');
         // (the variables stand behind the words)
         HOLDS(rattle_arg((size_t)count + 1, buf, room) == -1 && buf[0] == '#');
@@ -144,14 +140,13 @@ static void test_texts(int count, char **given)
 static void test_long_texts(void)
 {
     static char text[1 << 16], buf[1 << 16];
+    memset(buf, '#', sizeof buf);
     for (size_t length = 200; length < sizeof text; length = length * 5 / 4) {
         memset(text, 'x', length);
         text[length] = '\0';
         HOLDS(setenv("LONG", text, 1) == 0);
-        for (size_t room = length - 1; room <= length + 1; room++) {
-            memset(buf, '#', sizeof buf);
+        for (size_t room = length - 1; room <= length + 1; room++)
             HOLDS(is_put(rattle_env("LONG", buf, room), buf, room, text));
-        }
     }
     HOLDS(unsetenv("LONG") == 0);
 }

@@ -67,7 +67,7 @@ ASKED(long long, recv)(int number, void *buf, size_t room, int flags);
 
 // --- what of Windows is in our hands: each is done, and taken down; POSIX's way may be there or not
 
-static int flushes, through;
+static int flushes, through, renamed_at; // (so many flushes were before a rename)
 static ULONG flushed_by; // the rights of the handle
 static ULONGLONG locked;
 static int option;
@@ -75,8 +75,8 @@ static DCB state;
 static bool has_posix;
 static DWORD posix_flags;
 static char signals[64];
-static const wchar_t *list; // in the place of an open file's rights; the answer that Windows gives; and whether there is a list
-static DWORD security;
+static const wchar_t *list; // in the place of an open file's rights; the answer that Windows gives, and what it was given; and whether there is a list
+static DWORD security, secured;
 static bool is_listed;
 static DWORD refused, came; // the error by which no file is opened; and how a byte of a port came wrong
 static DWORD most = -1;     // so many bytes are written at once
@@ -133,10 +133,11 @@ static BOOL WINAPI tried_set(HANDLE handle, FILE_INFO_BY_HANDLE_CLASS what, void
         return SetFileInformationByHandle(handle, FileDispositionInfo, &remove, sizeof remove);
     if (renamed->root != NULL || renamed->length != wcslen(renamed->name) * sizeof(wchar_t) || GetFinalPathNameByHandleW(handle, path, PATH_ROOM, 0) == 0)
         return FALSE;
+    renamed_at = flushes;
     return MoveFileExW(path, renamed->name, MOVEFILE_REPLACE_EXISTING);
 }
 
-static BOOL WINAPI tried_move(const wchar_t *from, const wchar_t *to, DWORD flags) { return through += (flags & MOVEFILE_WRITE_THROUGH) != 0, MoveFileExW(from, to, flags); }
+static BOOL WINAPI tried_move(const wchar_t *from, const wchar_t *to, DWORD flags) { return through += (flags & ~MOVEFILE_REPLACE_EXISTING) == MOVEFILE_WRITE_THROUGH, MoveFileExW(from, to, flags); }
 
 static BOOL WINAPI tried_signal(HANDLE, DWORD what)
 {
@@ -158,6 +159,8 @@ static DWORD WINAPI tried_security(HANDLE handle, SE_OBJECT_TYPE kind, SECURITY_
     return ERROR_SUCCESS;
 }
 
+static DWORD WINAPI tried_secure(HANDLE handle, SE_OBJECT_TYPE kind, SECURITY_INFORMATION what, PSID owner, PSID group, PACL entries, PACL more) { return secured = what, SetSecurityInfo(handle, kind, what, owner, group, entries, more); }
+
 static HANDLE WINAPI tried_list(const wchar_t *path, WIN32_FIND_DATAW *found) { return opened++, FindFirstFileW(path, found); }
 static BOOL WINAPI tried_end(HANDLE listing) { return opened--, FindClose(listing); }
 static BOOL WINAPI tried_close(HANDLE it) { return opened -= it != INVALID_HANDLE_VALUE, CloseHandle(it); }
@@ -172,7 +175,8 @@ static void WINAPI tried_sleep(DWORD millis)
 void *__imp_tried_flush = tried_flush, *__imp_tried_set = tried_set, *__imp_tried_move = tried_move, *__imp_tried_signal = tried_signal,
     *__imp_tried_sleep = tried_sleep, *__imp_tried_lock = tried_lock, *__imp_tried_option = tried_option, *__imp_tried_state = tried_state,
     *__imp_tried_security = tried_security, *__imp_tried_create = tried_create, *__imp_tried_errors = tried_errors, *__imp_tried_waits = tried_waits,
-    *__imp_tried_write = tried_write, *__imp_tried_list = tried_list, *__imp_tried_end = tried_end, *__imp_tried_close = tried_close;
+    *__imp_tried_write = tried_write, *__imp_tried_list = tried_list, *__imp_tried_end = tried_end, *__imp_tried_close = tried_close,
+    *__imp_tried_secure = tried_secure;
 
 // --- helpers
 
@@ -389,7 +393,8 @@ static void test_rights(void)
     struct statx found;
     HOLDS(one == 3 && sysv_statx(one, "", 0x1000, 0, &found) == 0 && (found.mode & 0777) == 0600 && (told("private", 0).mode & 0777) == 0600);
     HOLDS(put_file("public", "x") == 0 && (told("public", 0).mode & 0777) == 0644);
-    HOLDS(sysv_fchmod(one, 0600) == 0 && (told("private", 0).mode & 0777) == 0600 && sysv_fchmod(one, 0666) == 0 && (told("private", 0).mode & 0777) == 0644);
+    HOLDS(sysv_fchmod(one, 0600) == 0 && (told("private", 0).mode & 0777) == 0600 && secured == 0 && sysv_fchmod(one, 0666) == 0 && (told("private", 0).mode & 0777) == 0644);
+    HOLDS(secured == (DACL_SECURITY_INFORMATION | UNPROTECTED_DACL_SECURITY_INFORMATION));
     HOLDS(sysv_fchmod(one, 0444) == 0 && (told("private", 0).mode & 0222) == 0 && sysv_close(one) == 0);
     FAILS(sysv_fchmod(77, 0600), 9);
     FAILS(sysv_lchown("private", 1007, 1007), 1);
@@ -446,7 +451,7 @@ static void test_names(bool posix)
     HOLDS(put_file("old", "old") == 0 && put_file("new", "new") == 0);
     int before = flushes;
     HOLDS(sysv_rename("new", "old") == 0 && holds("old", "new") && told("new", 0).nlink == 0);
-    HOLDS(posix ? posix_flags == 3 && flushes == before + 1 && through == 0 : through == 1);
+    HOLDS(posix ? posix_flags == 3 && renamed_at == before && flushes == before + 1 && through == 0 : through == 1);
     // over one that this program has open, and its lock
     HOLDS(put_file("new", "2") == 0);
     int open = sysv_open("old", 2, 0);

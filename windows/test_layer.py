@@ -28,7 +28,8 @@ COMPILER = "x86_64-w64-mingw32-gcc"
 STRICT = ["-O2", "-Wall", "-Wextra", "-Werror", "-mno-red-zone"]
 INSTEAD = {"FlushFileBuffers": "flush", "SetFileInformationByHandle": "set", "MoveFileExW": "move", "EscapeCommFunction": "signal", "Sleep": "sleep",
            "LockFileEx": "lock", "setsockopt": "option", "SetCommState": "state", "GetSecurityInfo": "security", "CreateFileW": "create",
-           "ClearCommError": "errors", "SetCommTimeouts": "waits", "WriteFile": "write", "FindFirstFileW": "list", "FindClose": "end", "CloseHandle": "close"}
+           "ClearCommError": "errors", "SetCommTimeouts": "waits", "WriteFile": "write", "FindFirstFileW": "list", "FindClose": "end", "CloseHandle": "close",
+           "SetSecurityInfo": "secure"}
 ASKED_BITS = termios.CSIZE | termios.CSTOPB
 WORDS = ["word", "", "zwei Wörter", "a\\b", "--baud", "57600", "--wiring=dtr-reset,rts-boot0", "end"]
 # what is planted, by file: a text, which is there once, and the one in its place
@@ -110,6 +111,7 @@ FAULTS = {
         "what may not be looked at is safe": ("error == ERROR_ACCESS_DENIED || ", ""),
         "nobody owns it": ("has_rights && is_other(whose) ?", "0 ?"),
         "it stays private": ("(mode & 077) != 0 && ", "0 && "),
+        "a shared file is nobody's": ("| UNPROTECTED_DACL", "| PROTECTED_DACL"),
         "it may be written": ("told.FileAttributes |= FILE_ATTRIBUTE_READONLY;", ""),
         "an owner is given": ("return fail(L_EPERM);", "return 0;"),
     },
@@ -128,6 +130,7 @@ FAULTS = {
     "names.c": {
         "POSIX's way isn't asked for": ("how.flags = REPLACES | POSIX_WAY;", "how.flags = REPLACES;"),
         "the length is in units": ("wcslen(wcscpy(how.name, to)) * sizeof *to", "wcslen(wcscpy(how.name, to))"),
+        "a move to another disk is a copy": ("MOVEFILE_REPLACE_EXISTING | MOVEFILE_WRITE_THROUGH", "MOVEFILE_REPLACE_EXISTING | MOVEFILE_COPY_ALLOWED | MOVEFILE_WRITE_THROUGH"),
         "a name isn't on the disk": ("        FlushFileBuffers(handle);\n", "        ;\n"),
         "a move isn't on the disk": ("MOVEFILE_REPLACE_EXISTING | MOVEFILE_WRITE_THROUGH", "MOVEFILE_REPLACE_EXISTING"),
         "no file is replaced": ("MOVEFILE_REPLACE_EXISTING | MOVEFILE_WRITE_THROUGH", "MOVEFILE_WRITE_THROUGH"),
