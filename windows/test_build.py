@@ -60,6 +60,16 @@ class Build(unittest.TestCase):
         pathlib.Path(f"{self.room}/bin/stmflash").write_bytes(b"another")
         self.assertRaisesRegex(SystemExit, "stmflash.o isn't the object of bin/stmflash", self.taken)
 
+    def test_what_is_made_takes_the_place_of_the_old_one_in_one_step(self):
+        """Whoever has the old one open goes on with it, and it stays where the new one isn't made whole."""
+        old, new = (pathlib.Path(self.room, name) for name in ("old", "new/a program"))
+        old.write_bytes(b"old")
+        os.link(old, new)
+        self.assertRaises(OSError, self.build.retarget.put, new, lambda room, path: os.rename(path, room))
+        self.assertEqual((os.listdir(new.parent), new.read_bytes()), ([new.name], b"old"))
+        self.build.retarget.put(new, lambda room, path: pathlib.Path(path).write_bytes(b"new"))
+        self.assertEqual((os.listdir(new.parent), new.read_bytes(), old.read_bytes()), ([new.name], b"new", b"old"))
+
     def test_one_with_a_red_zone_is_made_once_more_of_the_proofs_that_were_kept(self):
         compiled(Fits.NOT["is below the stack"][0], [], f"{self.room}/stmflash.o")
         shutil.copy(f"{self.room}/stmflash.o", f"{self.room}/stmflash")
