@@ -185,7 +185,7 @@ install:
 	install -m 644 $(completions)/stmflash-line.fish $(share)/fish/vendor_completions.d/stmflash-line.fish
 	install -m 644 $(completions)/stmflash-trial.fish $(share)/fish/vendor_completions.d/stmflash-trial.fish
 	install -d $(lib)/systemd/system $(lib)/udev/rules.d
-	sed 's|/usr/bin/|$(PREFIX)/bin/|' packaging/stmflash-line@.service > $(lib)/systemd/system/stmflash-line@.service
+	sed 's|/usr/bin/|$(PREFIX)/bin/|' packaging/stmflash-line@.service | install -m 644 /dev/stdin $(lib)/systemd/system/stmflash-line@.service
 	install -m 644 packaging/70-stmflash.rules $(lib)/udev/rules.d/70-stmflash.rules
 
 words = $(share)/stmflash-as-stm32flash/as_stm32flash

@@ -3,6 +3,7 @@
 import glob
 import hashlib
 import os
+import pathlib
 import re
 import shutil
 import stat
@@ -14,34 +15,16 @@ import zipfile
 from place import PATIENCE, TOP, is_unproved, program, text_in
 
 
-def settings(path):
-    """What a unit sets, the last of each name."""
-    with open(path, encoding="utf-8") as file:
-        return dict(line.rstrip().split("=", 1) for line in file if "=" in line and not line.startswith("#"))
-
-
-def sum_of(path):
-    with open(path, "rb") as file:
-        return hashlib.md5(file.read()).hexdigest()
-
-
 class Packaging(unittest.TestCase):
     def folder(self):
         """A folder for this test."""
-        made = tempfile.TemporaryDirectory()
-        self.addCleanup(made.cleanup)
-        return made.name
+        return self.enterContext(tempfile.TemporaryDirectory())
 
     def refused(self, path, folder, *words):
         """What is said where no package is made of this program; its folder has that one file then."""
         ran = subprocess.run([os.path.join(TOP, "packaging", "deb"), *words, path, folder], capture_output=True, text=True, timeout=60)
         self.assertEqual((ran.returncode, ran.stdout, os.listdir(folder)), (1, "", ["one"]))
         return ran.stderr
-
-    def make(self, path, said, more=""):
-        """Makes a program that says this."""
-        text = f'#include <stdio.h>\n{more}int main(void) {{ return puts("{said}") < 0; }}\n'
-        subprocess.run(["gcc", "-x", "c", "-", "-o", path], input=text, text=True, check=True)
 
     def needs(self, **packages):
         """Leaves the test out where one of these tools isn't there, with the name of its package."""
@@ -54,8 +37,7 @@ class Packaging(unittest.TestCase):
         folder = self.folder()
         # a program that isn't of the kit, and a file that is none, with the kit's word in it
         other, text = os.path.realpath(shutil.which("readelf")), os.path.join(folder, "one")
-        with open(text, "w", encoding="utf-8") as file:
-            file.write("rattle logic=dac8208d\n")
+        pathlib.Path(text).write_text("rattle logic=dac8208d\n", encoding="utf-8")
         for path in (other, text, *[program().removesuffix("-under-qemu")] * is_unproved()):
             self.assertEqual(self.refused(path, folder), f"packaging/deb: {path} isn't proved, and no package is made of it\n")
 
@@ -68,20 +50,22 @@ class Packaging(unittest.TestCase):
                                    (f"stmflash {version}", "", f"the program says `stmflash {version}`, and not `stmflash {version}, not proved`"),
                                    ("stmflash", "0123456789abcdef", f"{path} is proved in another logic than the code names"),
                                    ("stmflash", "dac8208d650f15bf3e2d", f"the program says `stmflash`, and not `{proved}`")):
-            self.make(path, said, f'__asm__(".ident \\"rattle logic={logic}\\"");\n' if logic else "")
+            text = f'#include <stdio.h>\n__asm__(".ident \\"rattle logic={logic}\\"");\nint main(void) {{ return puts("{said}") < 0; }}\n'
+            subprocess.run(["gcc", "-x", "c", "-", "-o", path], input=text, text=True, check=True)
             self.assertEqual(self.refused(path, folder, *["--unproved"] * (not logic)), f"packaging/deb: {fault}\n")
 
-    def installed(self, *parts):
-        """What `make install` leaves below a folder of ours, which is told as /opt/ours."""
-        folder = self.folder()
-        subprocess.run(["make", "--no-print-directory", "install", "PREFIX=/opt/ours", f"DESTDIR={folder}", f"BINARY={program()}"],
-                       cwd=TOP, check=True, capture_output=True, timeout=60, umask=0o022)
-        return os.path.join(folder, "opt", "ours", *parts)
-
     def test_what_is_installed_knows_where_it_is(self):
-        """Each program is on the path with its page and its completions, and says its words; the unit calls the one beside it. No link leads to
-        where it was packed, and only what is a program can be run."""
-        top = self.installed()
+        """Whoever installs it below another folder, and while the program that was there runs: each is on the path with its page and its completions,
+        and says its words; the unit calls the one beside it. No link leads to where it was packed, and only what is a program can be run."""
+        folder = self.folder()
+        top = os.path.join(folder, "opt", "ours")
+        old = os.path.join(top, "bin", "stmflash")
+        subprocess.run(["install", "-D", shutil.which("sleep"), old], check=True)
+        running = subprocess.Popen([old, "60"])
+        self.addCleanup(running.wait)
+        self.addCleanup(running.kill)
+        subprocess.run(["make", "--no-print-directory", "install", "PREFIX=/opt/ours", f"DESTDIR={folder}", f"BINARY={program()}"],
+                       cwd=TOP, check=True, capture_output=True, timeout=60, umask=0o077)
         for path in glob.glob(f"{top}/**", recursive=True):
             wanted = 0o755 if os.path.isdir(path) or "/bin/" in path else 0o644
             self.assertTrue(os.path.dirname(os.readlink(path)) == "" if os.path.islink(path) else os.stat(path).st_mode & 0o7777 == wanted, path)
@@ -97,8 +81,8 @@ class Packaging(unittest.TestCase):
         for path in ("share/zsh/vendor-completions/_stmflash", "share/doc/stmflash/FORMATS.md", "share/doc/stmflash/MODEL.md", "share/doc/stmflash/answers.schema.json",
                      "share/stmflash/chips.toml", "lib/udev/rules.d/70-stmflash.rules"):
             self.assertTrue(os.path.exists(os.path.join(top, path)), path)
-        unit = os.path.join(top, "lib/systemd/system/stmflash-line@.service")
-        self.assertEqual(settings(unit)["ExecStart"].split()[0], "/opt/ours/bin/stmflash-line")
+        unit = text_in(top, "lib/systemd/system/stmflash-line@.service")
+        self.assertEqual(re.findall("^ExecStart=(.*?) ", unit, re.MULTILINE), ["/opt/ours/bin/stmflash-line"])
 
     def test_a_tagged_adapter_is_nobody_elses(self):
         """ModemManager leaves it alone, whoever sits there may use it, and it is quick."""
@@ -112,10 +96,11 @@ class Packaging(unittest.TestCase):
         # one port is hidden from ModemManager, and no device with all that it has
         self.assertNotIn("ID_MM_DEVICE_IGNORE", done)
 
-    def instead(self, room, does):
-        """The variables by which a script that calls dpkg-deb does this; `tree` is what is packed, and `last` the package."""
-        text = f'#!/bin/sh\nfor last; do [ ! -d "$last/DEBIAN" ] || tree=$last; done\n{does}\n'
-        subprocess.run(["install", "-m", "755", "/dev/stdin", f"{room}/dpkg-deb"], input=text, text=True, check=True)
+    def instead(self, room, **tools):
+        """The variables by which a script that calls one of these tools does this; `tree` is what is packed, and `last` the last word."""
+        for name, does in tools.items():
+            text = f'#!/bin/sh\nfor last; do [ ! -d "$last/DEBIAN" ] || tree=$last; done\n{does}\n'
+            subprocess.run(["install", "-m", "755", "/dev/stdin", f"{room}/{name.replace('_', '-')}"], input=text, text=True, check=True)
         return {**os.environ, "PATH": f"{room}:{os.environ['PATH']}"}
 
     def packed(self, *words):
@@ -123,26 +108,28 @@ class Packaging(unittest.TestCase):
         read by all."""
         self.needs(**{"dpkg-deb": "dpkg-dev"})
         room = self.folder()
-        others = self.instead(room, f'chown -R 1:1 "$tree" 2> /dev/null; exec {shutil.which("dpkg-deb")} "$@"')
+        # (a language's order is another than that of bytes)
+        others = self.instead(room, dpkg_deb=f'chown -R 1:1 "$tree" 2> /dev/null; exec {shutil.which("dpkg-deb")} "$@"',
+                              sort='case "$LC_ALL$1" in C* | *-V) ;; *) set -- -r "$@" ;; esac; exec /usr/bin/sort "$@"')
         made = subprocess.run([os.path.join(TOP, "packaging", words[0]), *words[1:], room], capture_output=True, text=True, timeout=PATIENCE,
-                              check=True, umask=0o077, env=others).stdout.strip()
+                              check=True, umask=0o077, env={**others, "LC_ALL": ""}).stdout.strip()
         contents = subprocess.run(["dpkg-deb", "--contents", made], capture_output=True, text=True, check=True).stdout
         self.assertEqual({line.split()[1] for line in contents.splitlines()}, {"root/root"})
         subprocess.run(["dpkg-deb", "--raw-extract", made, f"{room}/tree"], check=True)
-        with open(f"{room}/tree/DEBIAN/control", encoding="utf-8") as file:
-            fields = dict(line.rstrip("\n").split(": ", 1) for line in file if re.match(r"[\w-]+: ", line))
-        with open(f"{room}/tree/DEBIAN/md5sums", encoding="utf-8") as file:
-            sums = [tuple(line.rstrip("\n").split("  ", 1)) for line in file]
+        fields = dict(re.findall(r"^([\w-]+): (.*)$", text_in(room, "tree/DEBIAN/control"), re.MULTILINE))
+        sums = re.findall(r"^(\w+)  (.*)$", text_in(room, "tree/DEBIAN/md5sums"), re.MULTILINE)
         paths = sorted(glob.glob("usr/**", root_dir=f"{room}/tree", recursive=True))
         modes = {path: os.lstat(f"{room}/tree/{path}").st_mode for path in paths}
-        self.assertEqual(sums, [(sum_of(f"{room}/tree/{path}"), path) for path in paths if stat.S_ISREG(modes[path])])
+        self.assertEqual(sums, [(hashlib.md5(pathlib.Path(room, "tree", path).read_bytes()).hexdigest(), path) for path in paths if stat.S_ISREG(modes[path])])
         self.assertEqual([path for path, mode in modes.items() if not mode & 0o004], [])
+        # (a folder is as large as its file system says)
+        sizes = [-(-os.path.getsize(f"{room}/tree/{path}") // 1024) if stat.S_ISREG(mode) else 1 for path, mode in modes.items()]
+        self.assertEqual(int(fields["Installed-Size"]), sum(sizes))
         packed = glob.glob(f"{room}/tree/usr/share/**/*.gz", recursive=True)
         self.assertGreater(len(packed), 2)
         for path in packed:
-            with open(path, "rb") as file:
-                # no flag that a name stands there, and no time
-                self.assertEqual(file.read(8)[3:], bytes(5), path)
+            # no flag that a name stands there, and no time
+            self.assertEqual(pathlib.Path(path).read_bytes()[3:8], bytes(5), path)
         return fields, f"{room}/tree"
 
     def test_what_is_in_a_package(self):
@@ -152,8 +139,7 @@ class Packaging(unittest.TestCase):
         self.needs(strip="binutils")
         fields, tree = self.packed("deb", "--unproved", program().removesuffix("-under-qemu"))
         self.assertEqual((fields["Package"], fields["Conflicts"], fields["Replaces"]), ("stmflash-unproved", "stmflash", "stmflash"))
-        with open(f"{tree}/usr/bin/stmflash", "rb") as file:
-            packed = file.read()
+        packed = pathlib.Path(tree, "usr/bin/stmflash").read_bytes()
         self.assertNotIn(b".comment", packed[-20000:])
         newest = max(re.findall(rb"GLIBC_([0-9.]+)\0", packed), key=lambda it: [int(part) for part in it.split(b".")]).decode()
         gcc = ["libgcc-s1"] * (b"libgcc_s.so.1" in packed)
@@ -174,6 +160,14 @@ class Packaging(unittest.TestCase):
                              env={**(env or os.environ), "TZ": "Asia-9"}, capture_output=True, text=True, timeout=60)
         return ran.returncode, ran.stderr, ran.stdout
 
+    def test_the_tests_get_their_packages(self):
+        """Each by itself, so that one that isn't to be had keeps no other away. One of which the settings alone are left isn't there."""
+        room = self.folder()
+        held = self.instead(room, id="echo 0", dpkg_query='grep -qsx "$last" there && echo installed || echo config-files',
+                            apt_get='for it; do [ "$it" != ser2net ] || exit 100; done; for it; do echo "$it" >> there; done')
+        ran = subprocess.run([os.path.join(TOP, "tools", "packages"), "--gate"], cwd=room, env=held, capture_output=True, text=True, timeout=60)
+        self.assertEqual((ran.returncode, ran.stdout.split(), ran.stderr.rpartition(": ")[2]), (0, ["ser2net"], "sudo apt-get install ser2net \n"))
+
     def test_a_release(self):
         """It is made of what was committed and has a version, and its sums are those of its files."""
         self.needs(git="git", **{"dpkg-deb": "dpkg-dev"})
@@ -187,8 +181,7 @@ class Packaging(unittest.TestCase):
             unreleased = released.replace("## 0", "## Unreleased\n\n- One.\n\n## 0", 1)
 
             def commit(text):
-                with open(log, "w", encoding="utf-8") as file:
-                    file.write(text)
+                pathlib.Path(log).write_text(text, encoding="utf-8")
                 for words in (["add", "--all"], ["commit", "--quiet", "--message", "one"]):
                     subprocess.run([*git, *words], check=True, env={**os.environ, "GIT_COMMITTER_DATE": "2026-01-02T20:04:06Z"})
 
@@ -196,17 +189,15 @@ class Packaging(unittest.TestCase):
             commit(unreleased)
             self.assertEqual(self.release(clone, folder), (1, "packaging/release: CHANGELOG.md has changes of no version yet\n", ""))
             commit(released)
-            with open(os.path.join(clone, "more"), "w", encoding="utf-8"):
-                pass
+            pathlib.Path(clone, "more").touch()
             self.assertEqual(self.release(clone, folder), (1, "packaging/release: there are changes that aren't committed\n", ""))
             self.assertFalse(os.path.exists(folder))
             os.remove(os.path.join(clone, "more"))
-            status, err, _ = self.release(clone, folder, env=self.instead(room, 'echo $$ > "$last"'))
+            status, err, _ = self.release(clone, folder, env=self.instead(room, dpkg_deb='echo $$ > "$last"'))
             self.assertRegex(f"{status} {err}", r"^1 packaging/release: \S+_all.deb isn't the same when it is made again\n$")
             program, version = os.path.join(room, "one.exe"), released[released.index("## 0") + 3:].split()[0]
             for said in ("0.2.0, not proved", f"{version}, proved by rattle logic dac8208d650f15bf"):
-                with open(program, "w", encoding="utf-8") as file:
-                    file.write(f"MZ {said}")
+                pathlib.Path(program).write_text(f"MZ {said}", encoding="utf-8")
                 status, err, out = self.release(clone, folder, program)
                 if said.endswith("not proved"):
                     self.assertEqual((status, err), (1, f"packaging/zip: {program} isn't proved, and no zip is made of it\n"))
