@@ -31,6 +31,11 @@ def options(text):
 CALL = "stmflash-line /dev/ttyUSB0 --baud 9600 -- stmflash"
 BEHIND = (("ver", "verify"), ("write --prog", "--progress"), ("write the-im", "the-image.hex"))
 
+# behind these stands a file
+FILES = ["stmflash write --table table", *(f"stmflash write {it}" for it in ("", "--table", "--journal", "--keep-to", "--device")), "stmflash info --journals", "stmflash read",
+         "stmflash verify", "stmflash keep", "stmflash log --journal", "stmflash sim --flash", "stmflash sim --socket", "stmflash-line --socket",
+         *(f"stmflash-trial --{it}" for it in ("device", "table", "save", "out"))]
+
 
 class Completions(Place):
     begins = {"the-image.hex": b""}
@@ -57,14 +62,20 @@ class Completions(Place):
         self.assertEqual((ran.returncode, ran.stderr), (0, ""), words)
         return set(ran.stdout.split("\n")) - {""}
 
-    def bash(self, *words, function="_stmflash"):
-        return self.shell("bash", "-c", BASH, "bash", os.path.join(FOLDER, "stmflash.bash"), function, *words)
+    def bash(self, typed):
+        words = typed.split(" ")
+        return self.shell("bash", "-c", BASH, "bash", os.path.join(FOLDER, "stmflash.bash"), f"_{words[0].replace('-', '_')}", *words)
 
-    def fish(self, words):
+    def fish(self, typed):
         """What fish offers, where the completions of all programs are installed."""
         script = 'source $argv[1]; source $argv[2]; source $argv[3]; complete -C $argv[4]'
         files = [os.path.join(FOLDER, name) for name in ("stmflash.fish", "stmflash-line.fish", "stmflash-trial.fish")]
-        return {line.split("\t")[0] for line in self.shell("fish", "--no-config", "-c", script, *files, words)}
+        return {line.split("\t")[0] for line in self.shell("fish", "--no-config", "-c", script, *files, typed)}
+
+    def both(self, offered):
+        """Tries what bash offers behind what is typed, and what fish does: the same."""
+        self.each(offered, lambda typed: self.assertEqual((typed, self.bash(typed) - {"--"}), (typed, offered[typed])))
+        self.each(offered, lambda typed: self.assertEqual((typed, self.fish(typed) - {"--"}), (typed, offered[typed])))
 
     def zsh_makes(self, typed, made):
         """Types this into zsh, and a tab, and waits for what it makes of it."""
@@ -91,35 +102,24 @@ class Completions(Place):
 
     def test_what_follows_in_a_call_of_the_line(self):
         """Behind `--` stands a command, which is completed as it is by itself: subcommands, options and files."""
-        self.each(BEHIND, lambda typed, offered: self.assertEqual(self.bash(*f"{CALL} {typed}".split(" "), function="_stmflash_line"), {offered}))
-
-    def test_what_follows_in_fish(self):
-        self.each(BEHIND, lambda typed, offered: self.assertEqual(self.fish(f"{CALL} {typed}"), {offered}))
-        self.assertIn("true", self.fish("stmflash-line /dev/ttyUSB0 -- tru"))
-        self.assertNotIn("--wiring", self.fish("stmflash-line /dev/ttyUSB0 -- stmflash info --"))
+        self.both({**{f"{CALL} {typed}": {offered} for typed, offered in BEHIND}, "stmflash-line /dev/ttyUSB0 -- stmflash-trial --sp": {"--speeds"}})
+        for offered in (self.bash, self.fish):
+            self.assertIn("true", offered("stmflash-line /dev/ttyUSB0 -- tru"))
 
     def test_what_follows_in_zsh(self):
         if not shutil.which("zsh"):
             self.skipTest("zsh isn't installed")
         self.each(BEHIND, lambda typed, offered: self.zsh_makes(f"{CALL} {typed}", f"-- stmflash {''.join(typed.rpartition(' ')[:2])}{offered} "))
 
-    def test_bash_offers_what_the_program_takes(self):
+    def test_what_each_takes_is_offered(self):
         subcommands = self.subcommands()
-        self.assertEqual(self.bash("stmflash", ""), subcommands)
-        self.assertEqual(self.bash("stmflash", "-"), options(self.help_of()))
-        self.each(subcommands - {"help"}, lambda name: self.assertEqual(self.bash("stmflash", name, "-"), options(self.help_of(name))))
-        self.assertEqual(self.bash("stmflash", "protect", ""), KINDS)
+        self.both({"stmflash ": subcommands, "stmflash -": options(self.help_of()), "stmflash protect ": KINDS, f"{CALL} info -": options(self.help_of("info")),
+                   **{f"stmflash {name} -": options(self.help_of(name)) for name in subcommands - {"help"}},
+                   **{f"{name} -": self.options_of(name) for name in ("stmflash-line", "stmflash-trial")}})
 
-    def test_bash_offers_files_with_blanks(self):
+    def test_files_are_offered_with_their_blanks(self):
         self.store("an image.hex", b"")
-        for words in (("write", "--table", "table"), ("write", "--table"), ("write", "--keep-to"), ("info", "--journals"), ("sim", "--flash"), ("sim", "--socket")):
-            self.assertEqual(self.bash("stmflash", *words, "an"), {"an image.hex"}, words)
-        self.assertEqual(self.bash("stmflash", "info", "--device", "si"), {"sim:"})
-
-    def test_bash_offers_what_the_line_takes(self):
-        self.assertEqual(self.bash("stmflash-line", "-", function="_stmflash_line") - {"--"}, self.options_of("stmflash-line"))
-        self.assertEqual(self.bash("stmflash-line", "/dev/ttyUSB0", "--", "stmflash", "ver", function="_stmflash_line"), {"verify"})
-        self.assertEqual(self.bash("stmflash-line", "/dev/ttyUSB0", "--", "stmflash-trial", "--sp", function="_stmflash_line"), {"--speeds"})
+        self.both({**{f"{words} an": {"an image.hex"} for words in FILES}, "stmflash info --device si": {"sim:"}})
 
     def test_all_offer_the_same_ports(self):
         kinds = set(re.search(r"tty\(([A-Z|]+)\)", text_in(FOLDER, "stmflash.bash"))[1].split("|"))
@@ -127,7 +127,7 @@ class Completions(Place):
             found = re.findall(r"/dev/tty(?:\(([A-Z|]+)\)|([A-Z]+))\*", text_in(FOLDER, name))
             self.assertEqual({kind for one, other in found for kind in (one or other).split("|")}, kinds, name)
 
-    def test_all_offer_what_the_trial_takes(self):
+    def test_zsh_names_what_the_trial_takes(self):
         """And its manual page has it."""
         taken = self.options_of("stmflash-trial")
         self.assertGreater(len(taken), 20)
@@ -135,17 +135,6 @@ class Completions(Place):
         self.assertEqual([option for option in taken - {"-h", "--help"} if f" {option}" not in manual], [])
         part = text_in(FOLDER, "_stmflash").split("$service == stmflash-trial")[1].split("    fi\n")[0]
         self.assertEqual(set(re.findall(r"(?<=')--[a-z-]+(?=\[)|(?<=\()-h|--help(?=\))", part)), taken)
-        self.assertEqual(self.bash("stmflash-trial", "-", function="_stmflash_trial"), taken)
-        self.assertEqual(self.fish("stmflash-trial -"), taken)
-
-    def test_fish_offers_what_the_program_takes(self):
-        subcommands = self.subcommands()
-        self.assertEqual(self.fish("stmflash "), subcommands)
-        self.each(subcommands - {"help"}, lambda name: self.assertEqual(self.fish(f"stmflash {name} -"), options(self.help_of(name))))
-        self.assertEqual(self.fish("stmflash protect "), KINDS)
-
-    def test_fish_offers_what_the_line_takes(self):
-        self.assertEqual(self.fish("stmflash-line -"), self.options_of("stmflash-line"))
 
     def test_zsh_names_what_the_program_takes(self):
         self.shell("zsh", "-n", os.path.join(FOLDER, "_stmflash"))
