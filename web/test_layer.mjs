@@ -118,7 +118,7 @@ const disks = (count) => Array.from({ length: count }, () => inMemory());
   disk.write = () => { throw new DOMException('full', 'QuotaExceededError'); };
   holds('a full disk is told', [it.write(fd, 'x'), it.fault()], [-1n, E.NOSPC]);
   disk.write = () => 0;
-  holds('and where nothing is taken', [it.write(fd, 'x'), it.fault()], [-1n, E.NOSPC]);
+  holds('and where nothing is taken, nor a name', [it.write(fd, 'x'), it.fault(), it.env.unlink(it.path('/boards/a')), it.fault(), it.told(0, '/boards/a').mode], [-1n, E.NOSPC, -1, E.NOSPC, 8]);
   disk.write = (bytes) => Math.min(2, bytes.length);
   holds('a short write is as short as it was', [it.write(fd, 'abcd'), it.env.lseek(fd, 0n, 1)], [2n, 2n]);
 }
@@ -218,9 +218,10 @@ const OPERATIONS = {
 
 // line: over a port that does what it is told
 function port() {
-  const it = { told: [], sent: [], async open(how) { it.told.push(how); it.readable = new ReadableStream({ start: (into) => { it.into = into; } });
+  const it = { told: [], sent: [], async open(how) { it.told.push(how); it.anew();
     it.writable = new WritableStream({ write: async (bytes) => { await soon(); it.sent.push(...bytes); } }); },
-  async close() { it.told.push('closed'); if (it.readable.locked || it.writable.locked) throw new Error('locked'); }, async setSignals(signals) { it.told.push(signals); } };
+  anew() { it.readable = new ReadableStream({ start: (into) => { it.into = into; }, cancel: () => { if (!it.readable.locked) it.anew(); } }); },
+  async close() { it.told.push('closed'); if (it.readable.locked || it.writable.locked) throw new Error('locked'); }, async setSignals(signals) { it.told.push(signals); thrownBy(() => it.into.enqueue(Uint8Array.of(9))); } };
   return it;
 }
 {
@@ -274,10 +275,10 @@ for (const [what, over, sum] of [['a wrong parity', (board) => board.into.error(
 {
   const board = port(), line = new Line(board, 9600, stepsOf('dtr-reset,rts-boot0')), began = performance.now();
   await line.connect();
-  const took = performance.now() - began;
+  const took = performance.now() - began, { came } = line;
   await line.close();
-  holds('a wiring is played, in and out', board.told.filter((it) => it.dataTerminalReady !== undefined || it.requestToSend !== undefined),
-    [{ requestToSend: false }, { dataTerminalReady: true }, { dataTerminalReady: false }, { requestToSend: true }, { dataTerminalReady: true }, { dataTerminalReady: false }]);
+  holds('a wiring is played, in and out of an open port, and what comes by then is no answer', [board.told.map((it) => it.baudRate ?? it), came],
+    [[9600, { requestToSend: false }, { dataTerminalReady: true }, { dataTerminalReady: false }, { requestToSend: true }, { dataTerminalReady: true }, { dataTerminalReady: false }, 'closed'], []]);
   holds('with its waits', took >= 290);
   board.open = async () => { throw new DOMException('in use', 'InvalidStateError'); };
   const it = machine({ line: new Line(board, 9600) }), fd = it.env.socket(1, 1, 0);
@@ -311,11 +312,12 @@ for (const [what, over, sum] of [['a wrong parity', (board) => board.into.error(
 }
 // what keeps the page: what others keep at its host stays
 {
-  const kept = new Set(['stmflash-old', 'stmflash-/* the sum */', 'others']), heard = {}, caches = { keys: async () => [...kept], delete: async (it) => kept.delete(it), open: async () => caches };
+  const kept = new Set(['stmflash-old', 'stmflash-/* the sum */', 'others']), heard = {}, caches = { keys: async () => [...kept], delete: async (it) => kept.delete(it), match: async () => 'any', open: async () => ({ match: async () => 'its own' }) };
   Object.assign(globalThis, { caches, self: { addEventListener: (name, does) => { heard[name] = does; }, skipWaiting: () => kept.add('at once') } });
   await from('offline.js');
   for (const name of ['install', 'activate']) await new Promise((resolve) => heard[name]({ waitUntil: (it) => it.then(resolve) }));
-  holds('what is kept of others stays, and no version counts beside a tab of another', [...kept], ['stmflash-/* the sum */', 'others']);
+  const got = await new Promise((resolve) => heard.fetch({ request: { method: 'GET', url: 'page.css' }, respondWith: resolve }));
+  holds('what is kept of others stays, and no version counts beside a tab of another', [...kept, got], ['stmflash-/* the sum */', 'others', 'its own']);
 }
 
 tryImages(await from('image.js'), await from('chips.js'), await from('difference.js'), holds);

@@ -37,13 +37,14 @@ export class Line {
     }
   }
 
-  /** Opens the port, and resets the board into its bootloader where the wiring can. */
+  /** Opens the port, and resets the board into its bootloader where the wiring can. What its program sent by then, the port drops. */
   async connect() {
     await this.port.open({ baudRate: this.baud, ...OPENED });
     this.isOpen = true;
     this.came = [];
     this.ended = undefined;
     if (this.wiring) await this.play(this.wiring.entry);
+    await this.port.readable.cancel().catch(() => {});
     this.writer = this.port.writable.getWriter();
     this.reader = this.port.readable.getReader();
     this.sending = Promise.resolve();
@@ -140,9 +141,7 @@ export function lineCalls(memory, files, line) {
     }, () => { throw new Fault(E.IO); }),
     close: (/** @type {number} */ number) => after(files.close(number) === 'line' && line?.close(), () => 0),
     // a page serves nobody
-    bind: none,
-    listen: none,
-    accept4: none,
+    bind: none, listen: none, accept4: none,
   };
 }
 
@@ -159,10 +158,7 @@ export class SocketPort {
   /** @param {string} url @param {{ wrongAt?: number, lostAt?: number, holdAt?: number, held?: () => void }} [plan] */
   constructor(url, plan = {}) {
     this.url = url;
-    this.wrongAt = plan.wrongAt ?? Infinity;
-    this.lostAt = plan.lostAt ?? Infinity;
-    this.holdAt = plan.holdAt ?? Infinity;
-    this.held = plan.held;
+    this.plan = { wrongAt: Infinity, lostAt: Infinity, holdAt: Infinity, ...plan };
   }
 
   async open() {
@@ -171,18 +167,19 @@ export class SocketPort {
     socket.binaryType = 'arraybuffer';
     await new Promise((resolve, reject) => { socket.onopen = resolve; socket.onerror = reject; });
     this.socket = socket;
-    this.readable = new ReadableStream({ start: (into) => {
+    const anew = () => { this.readable = new ReadableStream({ cancel: anew, start: (into) => {
       let isOver = false;
       const over = (/** @type {() => void} */ how) => { if (!isOver) how(); isOver = true; };
       socket.onclose = () => over(() => into.close());
       socket.onmessage = ({ data }) => {
         count += data.byteLength;
-        if (count >= this.wrongAt) over(() => into.error(new DOMException('a wrong parity', 'ParityError')));
-        else if (count >= this.lostAt) { over(() => into.error(new DOMException('the device has been lost', 'NetworkError'))); socket.close(); }
-        else if (count >= this.holdAt) this.held?.();
+        if (count >= this.plan.wrongAt) over(() => into.error(new DOMException('a wrong parity', 'ParityError')));
+        else if (count >= this.plan.lostAt) { over(() => into.error(new DOMException('the device has been lost', 'NetworkError'))); socket.close(); }
+        else if (count >= this.plan.holdAt) this.plan.held?.();
         else if (!isOver) into.enqueue(new Uint8Array(data));
       };
-    } });
+    } }); };
+    anew();
     this.writable = new WritableStream({ write: (it) => socket.send(it) });
   }
 
