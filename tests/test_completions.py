@@ -29,12 +29,12 @@ def options(text):
 
 # what is typed behind this, and what is offered there
 CALL = "stmflash-line /dev/ttyUSB0 --baud 9600 -- stmflash"
-BEHIND = (("ver", "verify"), ("write --prog", "--progress"), ("write the-im", "the-image.hex"))
+BEHIND = (("ver", "verify"), ("write --prog", "--progress"), ("write a.hex the-im", "the-image.hex"))
 
 # behind these stands a file
-FILES = ["stmflash write --table table", *(f"stmflash write {it}" for it in ("", "--table", "--journal", "--keep-to", "--device")), "stmflash info --journals", "stmflash read",
-         "stmflash verify", "stmflash keep", "stmflash log --journal", "stmflash sim --flash", "stmflash sim --socket", "stmflash-line --socket",
-         *(f"stmflash-trial --{it}" for it in ("device", "table", "save", "out"))]
+FILES = [f"stmflash{it}" for it in (" write --table table", " write", " write --table", " write --journal", " write --keep-to", " write --device",
+                                    " read", " info --journals", " verify", " keep", " log --journal", " sim --flash",
+                                    " sim --socket", "-line --socket", "-trial --device", "-trial --table", "-trial --save", "-trial --out")]
 
 
 class Completions(Place):
@@ -113,9 +113,9 @@ class Completions(Place):
 
     def test_what_each_takes_is_offered(self):
         subcommands = self.subcommands()
-        self.both({"stmflash ": subcommands, "stmflash -": options(self.help_of()), "stmflash protect ": KINDS, f"{CALL} info -": options(self.help_of("info")),
+        self.both({"stmflash ": subcommands, "stmflash -": options(self.help_of()), f"{CALL} info -": options(self.help_of("info")),
                    **{f"stmflash {name} -": options(self.help_of(name)) for name in subcommands - {"help"}},
-                   **{f"{name} -": self.options_of(name) for name in ("stmflash-line", "stmflash-trial")}})
+                   **{f"{name} -": self.options_of(name) for name in ("stmflash-line", "stmflash-trial")}, "stmflash protect ": KINDS})
 
     def test_files_are_offered_with_their_blanks(self):
         self.store("an image.hex", b"")

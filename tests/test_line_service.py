@@ -92,7 +92,7 @@ class Confinement(Place):
         """A user of its own, no capability, one port. How exposed that is packaging/try-deb looks at."""
         lines = text_in(UNIT).splitlines()
         for line in ("DynamicUser=yes", "Group=dialout", "CapabilityBoundingSet=", "NoNewPrivileges=yes", "ProtectSystem=strict",
-                     "DevicePolicy=closed", "DeviceAllow=/dev/%I rw", "SystemCallFilter=@system-service",
+                     "DevicePolicy=closed", "DeviceAllow=/dev/%I rw", "SystemCallFilter=@system-service", "RuntimeDirectory=stmflash-%i",
                      "RestrictAddressFamilies=AF_UNIX", "ProtectProc=invisible", "ProcSubset=pid", "IPAddressDeny=any", "UMask=0077",
                      "SystemCallArchitectures=native", "SystemCallFilter=~@privileged @resources", "Restart=on-failure", "RestartSec=1",
                      "Documentation=man:stmflash-line(1)", "RuntimeDirectoryMode=0750", *(f"{name}=yes" for name in CONFINING.split()),

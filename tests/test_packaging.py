@@ -1,7 +1,6 @@
 """What packaging/deb refuses: no package says of a program that it is proved which isn't. And what a release is made of."""
 
 import glob
-import hashlib
 import os
 import pathlib
 import re
@@ -58,8 +57,7 @@ class Packaging(unittest.TestCase):
         """Whoever installs it below another folder, and while the program that was there runs: each is on the path with its page and its completions,
         and says its words; the unit calls the one beside it. No link leads to where it was packed, and only what is a program can be run."""
         folder = self.folder()
-        top = os.path.join(folder, "opt", "ours")
-        old = os.path.join(top, "bin", "stmflash")
+        top, old = f"{folder}/opt/ours", f"{folder}/opt/ours/bin/stmflash"
         subprocess.run(["install", "-D", shutil.which("sleep"), old], check=True)
         running = subprocess.Popen([old, "60"])
         self.addCleanup(running.wait)
@@ -91,7 +89,7 @@ class Packaging(unittest.TestCase):
             self.assertTrue(line.startswith('ACTION!="remove", SUBSYSTEM=="tty", TAG=="stmflash", '), line)
         self.assertEqual(len(rules), 2)
         done = "".join(rules)
-        for part in ('ENV{ID_MM_PORT_IGNORE}="1"', 'TAG+="uaccess"', 'ATTR{device/latency_timer}="1"'):
+        for part in ('ENV{ID_MM_PORT_IGNORE}="1"', 'TAG+="uaccess"', 'TEST=="device/latency_timer", ATTR{device/latency_timer}="1"'):
             self.assertIn(part, done)
         # one port is hidden from ModemManager, and no device with all that it has
         self.assertNotIn("ID_MM_DEVICE_IGNORE", done)
@@ -103,7 +101,7 @@ class Packaging(unittest.TestCase):
             subprocess.run(["install", "-m", "755", "/dev/stdin", f"{room}/{name.replace('_', '-')}"], input=text, text=True, check=True)
         return {**os.environ, "PATH": f"{room}:{os.environ['PATH']}"}
 
-    def packed(self, *words):
+    def packed(self, *words, folder=None):
         """What a script packs, whoever calls it: the fields of its control file, and the folder of its files. Each has its sum, is root's, and may be
         read by all."""
         self.needs(**{"dpkg-deb": "dpkg-dev"})
@@ -112,19 +110,19 @@ class Packaging(unittest.TestCase):
         others = self.instead(room, dpkg_deb=f'chown -R 1:1 "$tree" 2> /dev/null; exec {shutil.which("dpkg-deb")} "$@"',
                               sort='case "$LC_ALL$1" in C* | *-V) ;; *) set -- -r "$@" ;; esac; exec /usr/bin/sort "$@"')
         made = subprocess.run([os.path.join(TOP, "packaging", words[0]), *words[1:], room], capture_output=True, text=True, timeout=PATIENCE,
-                              check=True, umask=0o077, env={**others, "LC_ALL": ""}).stdout.strip()
+                              check=True, umask=0o077, env={**others, "LC_ALL": ""}, cwd=folder).stdout.strip()
         contents = subprocess.run(["dpkg-deb", "--contents", made], capture_output=True, text=True, check=True).stdout
         self.assertEqual({line.split()[1] for line in contents.splitlines()}, {"root/root"})
         subprocess.run(["dpkg-deb", "--raw-extract", made, f"{room}/tree"], check=True)
         fields = dict(re.findall(r"^([\w-]+): (.*)$", text_in(room, "tree/DEBIAN/control"), re.MULTILINE))
-        sums = re.findall(r"^(\w+)  (.*)$", text_in(room, "tree/DEBIAN/md5sums"), re.MULTILINE)
+        named = re.findall(r"^\w+  (.*)$", text_in(room, "tree/DEBIAN/md5sums"), re.MULTILINE)
+        subprocess.run(["md5sum", "--check", "--quiet", "DEBIAN/md5sums"], cwd=f"{room}/tree", check=True)
         paths = sorted(glob.glob("usr/**", root_dir=f"{room}/tree", recursive=True))
         modes = {path: os.lstat(f"{room}/tree/{path}").st_mode for path in paths}
-        self.assertEqual(sums, [(hashlib.md5(pathlib.Path(room, "tree", path).read_bytes()).hexdigest(), path) for path in paths if stat.S_ISREG(modes[path])])
+        self.assertEqual(named, [path for path in paths if stat.S_ISREG(modes[path])])
         self.assertEqual([path for path, mode in modes.items() if not mode & 0o004], [])
-        # (a folder is as large as its file system says)
         sizes = [-(-os.path.getsize(f"{room}/tree/{path}") // 1024) if stat.S_ISREG(mode) else 1 for path, mode in modes.items()]
-        self.assertEqual(int(fields["Installed-Size"]), sum(sizes))
+        self.assertEqual(int(fields["Installed-Size"]), sum(sizes), "a folder is as large as its file system says")
         packed = glob.glob(f"{room}/tree/usr/share/**/*.gz", recursive=True)
         self.assertGreater(len(packed), 2)
         for path in packed:
@@ -137,8 +135,11 @@ class Packaging(unittest.TestCase):
         if not is_unproved():
             return
         self.needs(strip="binutils")
-        fields, tree = self.packed("deb", "--unproved", program().removesuffix("-under-qemu"))
-        self.assertEqual((fields["Package"], fields["Conflicts"], fields["Replaces"]), ("stmflash-unproved", "stmflash", "stmflash"))
+        given = pathlib.Path(program().removesuffix("-under-qemu"))
+        held = given.stat().st_mtime_ns
+        fields, tree = self.packed("deb", "--unproved", given.name, folder=given.parent)
+        told = (fields["Package"], fields["Conflicts"], fields["Replaces"], given.stat().st_mtime_ns)
+        self.assertEqual(told, ("stmflash-unproved", "stmflash", "stmflash", held))
         packed = pathlib.Path(tree, "usr/bin/stmflash").read_bytes()
         self.assertNotIn(b".comment", packed[-20000:])
         newest = max(re.findall(rb"GLIBC_([0-9.]+)\0", packed), key=lambda it: [int(part) for part in it.split(b".")]).decode()
@@ -161,10 +162,10 @@ class Packaging(unittest.TestCase):
         return ran.returncode, ran.stderr, ran.stdout
 
     def test_the_tests_get_their_packages(self):
-        """Each by itself, so that one that isn't to be had keeps no other away. One of which the settings alone are left isn't there."""
+        """Each by itself, so that one that isn't to be had keeps no other away, nor does a list. What has its settings left alone isn't there."""
         room = self.folder()
         held = self.instead(room, id="echo 0", dpkg_query='grep -qsx "$last" there && echo installed || echo config-files',
-                            apt_get='for it; do [ "$it" != ser2net ] || exit 100; done; for it; do echo "$it" >> there; done')
+                            apt_get='for it; do case $it in update | ser2net) exit 100 ;; esac; done; for it; do echo "$it" >> there; done')
         ran = subprocess.run([os.path.join(TOP, "tools", "packages"), "--gate"], cwd=room, env=held, capture_output=True, text=True, timeout=60)
         self.assertEqual((ran.returncode, ran.stdout.split(), ran.stderr.rpartition(": ")[2]), (0, ["ser2net"], "sudo apt-get install ser2net \n"))
 
@@ -210,6 +211,5 @@ class Packaging(unittest.TestCase):
             self.assertIn("./stmflash-windows-x64.zip\n", text_in(folder, "SHA256SUMS"))
             self.assertIn("git tag --sign", out)
             notes = text_in(folder, "NOTES.md")
-            self.assertEqual(notes.count("\n## "), 0)
-            self.assertTrue(notes.startswith("## 0") and notes in released)
+            self.assertTrue(notes.startswith("## 0") and notes in released and "\n## " not in notes)
             subprocess.run(["sha256sum", "--check", "--quiet", "SHA256SUMS"], cwd=folder, check=True)

@@ -253,12 +253,13 @@ class Layer(Tried):
 
     def test_a_page_has_the_sum_of_each_file_and_a_version(self):
         """One that is the same for the same bytes, and another for any others."""
-        build, versions, module = types.SimpleNamespace(**runpy.run_path(f"{HERE}/build")), [], pathlib.Path(self.room, "module")
+        versions = []
         for folder, data in (("one", b"1"), ("again", b"1"), ("another", b"2")):
             folder = pathlib.Path(self.room, folder)
             folder.mkdir()
-            module.write_bytes(data)
-            build.put(folder, "verdict", module)
+            for name, held in (("stmflash.wasm", data), ("verdict.txt", b"a verdict\n"), ("older.js", b"// of a page before\n")):
+                (folder / name).write_bytes(held)
+            run([f"{HERE}/build", "--page", folder], check=True)
             self.assertEqual(run(["sha256sum", "--check", "--quiet", "SHA256SUMS"], cwd=folder).stdout, "")
             self.assertEqual({line.split()[1] for line in (folder / "SHA256SUMS").read_text().splitlines()}, {*os.listdir(folder)} - {"SHA256SUMS"})
             versions.append(re.search("'stmflash-(.*)'", (folder / "offline.js").read_text())[1])

@@ -205,7 +205,7 @@ class Page(InFirefox):
         self.assertEqual(self.journal_of(tab), journal)
         self.undo(tab, "of the command line")
         # another file of its name is refused, and so is what is no journal
-        tab.js(f"stmflash.takeJournal({named((JOURNAL, b''))})")
+        tab.js(f"stmflash.takeJournal({named((UNIQUE, b''))})")
         self.assertIn("already", tab.js("document.getElementById('told').innerText"))
         tab.js(f"stmflash.takeJournal({named(('b.journal', b'no journal'))})")
         self.assertTrue(tab.js("document.getElementById('told').innerText").startswith("Not done"))

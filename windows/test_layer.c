@@ -114,6 +114,7 @@ static BOOL WINAPI tried_lock(HANDLE handle, DWORD how, DWORD none, DWORD low, D
 static int WINAPI tried_option(SOCKET socket, int level, int name, const char *value, int length) { return option = level == SOL_SOCKET ? name : option, setsockopt(socket, level, name, value, length); }
 
 static BOOL WINAPI tried_state(HANDLE port, DCB *set) { return state = *set, SetCommState(port, set); }
+static BOOL WINAPI tried_purge(HANDLE port, DWORD what) { return snprintf(signals + strlen(signals), sizeof signals - strlen(signals), "purge "), PurgeComm(port, what); }
 static BOOL WINAPI tried_waits(HANDLE port, COMMTIMEOUTS *set) { return waits = *set, SetCommTimeouts(port, set); }
 
 static BOOL WINAPI tried_write(HANDLE handle, const void *buf, DWORD n, DWORD *done, OVERLAPPED *place) { return WriteFile(handle, buf, n < most ? n : most, done, place); }
@@ -160,7 +161,6 @@ static DWORD WINAPI tried_security(HANDLE handle, SE_OBJECT_TYPE kind, SECURITY_
 }
 
 static DWORD WINAPI tried_secure(HANDLE handle, SE_OBJECT_TYPE kind, SECURITY_INFORMATION what, PSID owner, PSID group, PACL entries, PACL more) { return secured = what, SetSecurityInfo(handle, kind, what, owner, group, entries, more); }
-
 static HANDLE WINAPI tried_list(const wchar_t *path, WIN32_FIND_DATAW *found) { return opened++, FindFirstFileW(path, found); }
 static BOOL WINAPI tried_end(HANDLE listing) { return opened--, FindClose(listing); }
 static BOOL WINAPI tried_close(HANDLE it) { return opened -= it != INVALID_HANDLE_VALUE, CloseHandle(it); }
@@ -176,7 +176,7 @@ void *__imp_tried_flush = tried_flush, *__imp_tried_set = tried_set, *__imp_trie
     *__imp_tried_sleep = tried_sleep, *__imp_tried_lock = tried_lock, *__imp_tried_option = tried_option, *__imp_tried_state = tried_state,
     *__imp_tried_security = tried_security, *__imp_tried_create = tried_create, *__imp_tried_errors = tried_errors, *__imp_tried_waits = tried_waits,
     *__imp_tried_write = tried_write, *__imp_tried_list = tried_list, *__imp_tried_end = tried_end, *__imp_tried_close = tried_close,
-    *__imp_tried_secure = tried_secure;
+    *__imp_tried_secure = tried_secure, *__imp_tried_purge = tried_purge;
 
 // --- helpers
 
@@ -270,7 +270,7 @@ static void test_words(void)
     HOLDS(is_put(sysv_rattle_env("FIRST", buf, 60), buf, "one") && sysv_rattle_env("FIRS", buf, 60) == -1 && sysv_rattle_env("EMPTY", buf, 60) == 0);
     long long n = sysv_rattle_env("XDG_CONFIG_HOME", buf, 60);
     HOLDS(n > 3 && memcmp(buf + 1, ":/", 2) == 0 && n == sysv_rattle_env("APPDATA", buf, 60) && memchr(buf, '\\', (size_t)n) == NULL);
-    HOLDS(sysv_rattle_env("HOME", buf, 60) > 0);
+    HOLDS(sysv_rattle_env("HOME", buf, 60) > 3 && SetEnvironmentVariableW(L"HOME", L"own") && sysv_rattle_env("HOME", buf, 60) == 3);
     bool is_there = false;
     HOLDS(SetEnvironmentVariableW(L"=Q:", L"Q:\\"));
     static char entry[32768];
@@ -568,7 +568,7 @@ static void test_port(const char *port, const char *other)
     char name[32], buf[16];
     int line = sysv_socket(1, 1, 0);
     FAILS(by_name(sysv_connect, line, "COM88"), 2);
-    HOLDS(by_name(sysv_connect, line, port) == 0 && strcmp(signals, "-rts dtr 100 -dtr 200 ") == 0);
+    HOLDS(by_name(sysv_connect, line, port) == 0 && strcmp(signals, "-rts dtr 100 -dtr 200 purge ") == 0);
     HOLDS(state.fParity && state.Parity == EVENPARITY && state.ByteSize == 8 && state.StopBits == ONESTOPBIT && state.fAbortOnError && state.fBinary);
     HOLDS(!state.fOutX && !state.fInX && !state.fNull && !state.fOutxCtsFlow && !state.fOutxDsrFlow);
     wait_for(line, 60000);
@@ -599,7 +599,7 @@ static void test_port(const char *port, const char *other)
     asked_wiring = "inverted-rts-reset";
     signals[0] = 0;
     snprintf(name, sizeof name, "//./%s:19200", other);
-    HOLDS(by_name(sysv_connect, line, name) == 0 && strcmp(signals, "-rts 100 rts 200 ") == 0);
+    HOLDS(by_name(sysv_connect, line, name) == 0 && strcmp(signals, "-rts 100 rts 200 purge ") == 0);
     wait_for(line, 60000);
     HOLDS(sysv_send(line, "\x7f", 1, 0) == 1 && sysv_recv(line, buf, 16, 0) == 1);
     signals[0] = 0;

@@ -28,8 +28,8 @@ COMPILER = "x86_64-w64-mingw32-gcc"
 STRICT = ["-O2", "-Wall", "-Wextra", "-Werror", "-mno-red-zone"]
 INSTEAD = {"FlushFileBuffers": "flush", "SetFileInformationByHandle": "set", "MoveFileExW": "move", "EscapeCommFunction": "signal", "Sleep": "sleep",
            "LockFileEx": "lock", "setsockopt": "option", "SetCommState": "state", "GetSecurityInfo": "security", "CreateFileW": "create",
-           "ClearCommError": "errors", "SetCommTimeouts": "waits", "WriteFile": "write", "FindFirstFileW": "list", "FindClose": "end", "CloseHandle": "close",
-           "SetSecurityInfo": "secure"}
+           "ClearCommError": "errors", "SetCommTimeouts": "waits", "WriteFile": "write", "FindFirstFileW": "list", "FindClose": "end",
+           "CloseHandle": "close", "SetSecurityInfo": "secure", "PurgeComm": "purge"}
 ASKED_BITS = termios.CSIZE | termios.CSTOPB
 WORDS = ["word", "", "zwei Wörter", "a\\b", "--baud", "57600", "--wiring=dtr-reset,rts-boot0", "end"]
 # what is planted, by file: a text, which is there once, and the one in its place
