@@ -1,13 +1,12 @@
 #!/usr/bin/env python3
 """Serves a planted board on a Unix socket, one client after another.
 
-    tests/planted SOCKET [--plant NAME] [--id 0440] [--pages N] [--size BYTES] [--erase 44] [--flash FILE] [--clients N]
+    tests/planted [SOCKET] [--plant NAME] [--id ID] [--pages N] [--size N] [--erase CODE] [--flash FILE] [--clients N] [--list]
 
 SIGUSR1 is a reset, SIGUSR2 a loss of power. The flash is read from FILE where that is there, and written to it behind each client.
 The status is 3 where Go, a protection or an erase of everything came. --list prints the names of all deviations.
 """
 
-import argparse
 import contextlib
 import os
 import select
@@ -16,8 +15,10 @@ import socket
 import sys
 import time
 
-from deviations import DEVIATIONS
-from planted_board import PlantedBoard
+sys.path.append(os.path.join(os.path.dirname(os.path.abspath(__file__)), "..", "..", "tools"))
+from deviations import DEVIATIONS  # noqa: E402
+from planted_board import PlantedBoard  # noqa: E402
+from simulator import words_of  # noqa: E402
 
 
 class Host:
@@ -85,18 +86,8 @@ def without_each(step, data, before):
     return bytes(byte for number, byte in enumerate(data, before + 1) if not step or number % step)
 
 
-def read_words():
-    made = argparse.ArgumentParser(description=__doc__, formatter_class=argparse.RawDescriptionHelpFormatter)
-    made.add_argument("socket", nargs="?")
-    made.add_argument("--plant", default="none", choices=DEVIATIONS, metavar="NAME")
-    for name, default in (("--id", "0440"), ("--pages", 64), ("--size", 1024), ("--erase", "44"), ("--flash", ""), ("--clients", 1)):
-        made.add_argument(name, type=type(default), default=default)
-    made.add_argument("--list", action="store_true")
-    return made.parse_args()
-
-
 def main():
-    words = read_words()
+    words = words_of(__doc__, plant=[*DEVIATIONS], id="0440", pages=64, size=1024, erase="44", flash="", clients=1)
     if words.list:
         print("\n".join(DEVIATIONS))
         return 0
@@ -104,7 +95,7 @@ def main():
     if os.path.exists(words.flash):
         with open(words.flash, "rb") as file:
             flash = file.read()
-    board = PlantedBoard(int(words.id, 16), [words.size] * words.pages, int(words.erase, 16), DEVIATIONS[words.plant].sets, flash=flash)
+    board = PlantedBoard(int(words.id, 16), [words.size] * words.pages, int(words.erase, 16), DEVIATIONS[words.plant or "none"].sets, flash=flash)
     signal.signal(signal.SIGUSR1, lambda *_: board.reset())
     signal.signal(signal.SIGUSR2, lambda *_: board.lose_power())
     if words.flash and flash is None:

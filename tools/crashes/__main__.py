@@ -2,28 +2,14 @@
 
     python3 tools/crashes PROGRAM [--states N] [--seed TEXT] [--only KEY] [--plant FAULT] [--plants] [--jobs N]
 
-Sessions are recorded, call after call (strace), over served simulators and over those in the process. Behind each call states
-are drawn that a crash of the PC may leave then (disk.py says which): of the files by what was synced; and of the device,
-which keeps its power, by how many of the bytes that were sent it has got, those at least that it has replied to. Each state
-is made anew in a folder, and everything is undone there:
+Which states are drawn is told in docs/GATE.md and disk.py, and what has to come of an undo from each in trial.py: how many segments the
+journal has, of which `undone N` has to leave every byte of the flash as it was, is by the second model of tools/soak. What is bad is told
+with a key that --only takes. Beside the states two programs come to one journal, with no crash (race.py).
 
-- `undone N` has to leave every byte of the flash as it was before the journal's first command, and `undo 1`, where the
-  journal has more segments, as it was before the newest. N is how many segments the journal has by the second model of
-  tools/soak.
-- `log --check` has to read the journal before that, and refuses none but one in which lines of a former journal are left.
-- Such a one, or one in which they cut a page short, is refused by `undo`, which then changes nothing, and names `undo --recover`.
-  That has to cut off a part of the end, keep it beside, leave each whole line that was synced, and undo as from any other state.
-- Where the crash left no journal, the flash has to be what it was at first, and `info` has to do, and to leave it so; behind
-  `keep` what it was then.
-- What a session has told to be done is on the disk, whole: the journal, or its new name, or OUT, or the simulator's FILE.
-
-Anything else is bad, and told with a key that --only takes. --states N makes so many states, 3,000 without it, of all
-sessions in turn. --seed gives those that are drawn; without it one is drawn, and printed. Beside them two programs come to
-one journal, with no crash (race.py).
-
---plant has the record broken, as a program with that fault would have made it (plants.py). --plants does it for each fault
-behind the states, until one is bad, which has to come. --jobs is how
-many states are tried at a time. The exit status is 1 where a state is bad, or a fault wasn't found.
+--states N makes so many states, 3,000 without it, of all sessions in turn. --seed gives those that are drawn; without it one is drawn, and
+printed. --plant has the record broken, as a program with that fault would have made it (plants.py). --plants does it for each fault behind
+the states, until one is bad, which has to come. --jobs is how many states are tried at a time. The exit status is 1 where a state is bad,
+or a fault wasn't found.
 """
 
 import concurrent.futures

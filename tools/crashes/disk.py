@@ -1,18 +1,10 @@
 """What a crash of the PC leaves of files, by what a session did to them until then.
 
-Which states are made, of all that POSIX lets a file system leave:
-
-- A byte that was synced never goes: `fsync` and `fdatasync` of a file put its bytes and its length on the disk.
-- What wasn't synced is there or isn't by sectors of 512 or 4,096 bytes, each whole, in any combination. A sector that isn't
-  there as it was written holds what it held on the disk: the synced bytes and NUL, or what an earlier write left and NUL. One
-  without a synced byte may hold bytes of a former file instead: upper-case digits, as of a former journal, any others but LF,
-  or whole lines of a journal, as of a file system that shows such behind a crash (FAT, ext2, ext4 with data=writeback).
-- The length is anything from the least to the greatest that the file had since its sync: behind its data, or ahead of them.
-- A name that was made, linked, removed or renamed since the sync of its folder is changed or isn't, each by itself. A rename
-  within a folder is done whole or not at all. The sync of a file doesn't put its name on the disk.
-
-And which aren't: a disk that says that it synced and didn't; a sector that is torn within; bytes that rot; a folder that is
-lost.
+It is what POSIX lets a file system leave, as docs/GATE.md tells it. A sector that isn't there as it was written holds what it held on the
+disk: the synced bytes and NUL, or what an earlier write left and NUL; one without a synced byte may hold bytes of a former file instead.
+The length is anything from the least to the greatest that the file had since its sync: behind its data, or ahead of them. Names are
+changed or aren't, each by itself; a rename within a folder is done whole or not at all. The sync of a file doesn't put its name on the
+disk. Not made are bytes that rot, and a folder that is lost.
 """
 
 import os

@@ -1,6 +1,11 @@
-"""Random sessions of the built program over its simulator, beside a second model of them. See README.md."""
+"""Random sessions of the built program over its simulator, beside a second model of them. See README.md.
 
-import argparse
+    python3 tools/soak PROGRAM [--sessions N] [--seed TEXT] [--story N] [--only NAMES] [--jobs N]
+
+It plays until there were so many uses of the program, 20,000 without --sessions, or one story alone, with these subcommands alone,
+with commas. --jobs is how many stories are played at a time.
+"""
+
 import functools
 import itertools
 import multiprocessing
@@ -13,13 +18,15 @@ import subprocess
 import sys
 import tempfile
 
-sys.path.insert(0, os.path.dirname(os.path.abspath(__file__)))
+HERE = os.path.dirname(os.path.abspath(__file__))
+sys.path[:0] = [HERE, os.path.dirname(HERE)]
 
 import beginnings
 from journal import BadLine, Journal, untimed
 import meddling
 from program import World
 from session import Fault
+from simulator import words_of
 import stories
 
 
@@ -316,21 +323,11 @@ def play_all(stories, sessions):
 
 
 def main():
-    parser = argparse.ArgumentParser(prog="tools/soak", description=__doc__)
-    parser.add_argument("program", help="the built program")
-    parser.add_argument("--sessions", type=int, default=20000, help="how many uses of the program, at least")
-    parser.add_argument("--seed", help="any text; one is drawn without it, and printed")
-    parser.add_argument("--story", type=int, help="this story alone")
-    parser.add_argument("--only", help="these subcommands alone, with commas")
-    parser.add_argument("--jobs", type=int, default=1, help="how many stories are played at a time")
-    given = parser.parse_args()
-    program = os.path.abspath(given.program)
-    seed = given.seed if given.seed is not None else str(random.SystemRandom().randrange(1000000))
-    allowed = given.only.split(",") if given.only else None
-    one = functools.partial(play, program, seed, allowed)
+    given = words_of(__doc__, sessions=20000, jobs=1)
+    one = functools.partial(play, given.program, given.seed, given.only and given.only.split(","))
     if given.story is not None:
         return play_all(map(one, [given.story]), 0)
-    print("tools/soak: seed %s" % seed, flush=True)
+    print("tools/soak: seed %s" % given.seed, flush=True)
     if given.jobs == 1:
         return play_all(map(one, itertools.count()), given.sessions)
     with multiprocessing.Pool(given.jobs) as pool:

@@ -1,37 +1,18 @@
 #!/usr/bin/env python3
 """Tries the wrong bodies crates/NAME/wrong-bodies/*.edit, many in one check: the prover must refuse each, in its own function.
 
-    python3 tools/wrong-bodies [--built] [--by-hand] [CRATE ..]
-    python3 tools/wrong-bodies --harmless [--built] [CRATE ..]
+    python3 tools/wrong-bodies [--built] [--by-hand | --harmless] [CRATE..]
 
---built takes the libraries below a crate as `rt ci` left them, and builds none. --by-hand tries those of `wrong-bodies/by-hand`
-too, which the gate leaves out.
+When an edit counts as refused, what says nothing, and why, is in docs/GATE.md. An edit is a file as `rt must-fail` reads it: a line
+`file: src/NAME.rt`, then pairs of lines `old: TEXT` and `new: TEXT`, each old text just once in its file. Its twin, where it has one, is a
+file NAME.twin beside it, of the same form. Of each refused edit it is told which clauses it turns, in parentheses: those whose goals aren't
+proved for it. In the end each clause is told with the number of edits that turn it; an edit that turns two counts for both.
 
-An edit is a file as `rt must-fail` reads it: a line `file: src/NAME.rt`, then pairs of lines `old: TEXT` and `new: TEXT`, each
-old text just once in its file. Its twin, where it has one, is a file NAME.twin beside it, of the same form: a body of the same
-function, through which the same ways lead, and which means what it should.
-
-A check takes an edit of every function that has one, and looks at these functions alone; each other one is taken by its contract,
-which `rt ci` has proved that it meets. An edit is refused
-
-- where the prover has values at which a goal of its own function is false;
-- where it isn't proved, and puts one word of the body in the place of another, so that the body itself is its twin;
-- where it isn't proved, and its twin is.
-
-Elsewhere a failed goal says nothing: it may be true, and lack an answer that fits it. Nor does an answer that names what the edit
-took away, or a callee that isn't proved. docs/GATE.md has the reasons. An edit of which that is known has a line
-`# says nothing: REASON`; it fails where the prover proves it.
-
-Of each refused edit it is told which clauses it turns, in parentheses: those whose goals aren't proved for it. In the end each
-clause is told with the number of edits that turn it; an edit that turns two counts for both.
-
-The status is 0 where each edit was refused, or says nothing as it says itself, and 1 where one wasn't or couldn't be tried.
-
---harmless holds this tool itself to what it says: the edits of `wrong-bodies/harmless` mean the same as the body, and none of them
-may count as refused. The status is 0 where each is proved or says nothing.
+--built takes the libraries below a crate as `rt ci` left them, and builds none. --by-hand tries those of `wrong-bodies/by-hand` too, and
+--harmless those of `wrong-bodies/harmless` alone. The status is 0 where each edit was refused, or says nothing as it says itself, and 1
+where one wasn't or couldn't be tried; of harmless ones it is 0 where each is proved or says nothing.
 """
 
-import argparse
 import glob
 import os
 import re
@@ -39,13 +20,15 @@ import sys
 import tempfile
 
 sys.dont_write_bytecode = True
-sys.path.insert(0, os.path.dirname(os.path.abspath(__file__)))
+HERE = os.path.dirname(os.path.abspath(__file__))
+sys.path[:0] = [HERE, os.path.dirname(HERE)]
 
 from clauses import score, turned
 from edits import BadEdit, blamed, check_twin, put_together, read_edit
 from functions import Functions
 from judging import BAD, FAILED, GONE, PASSED, REFUSED, WAITS, judge
 from kit import begin, check, rt, share_work
+from simulator import words_of
 from verdicts import Verdicts
 
 
@@ -193,15 +176,10 @@ def try_crate(crate, edits, is_harmless):
 
 
 def main():
-    parser = argparse.ArgumentParser()
-    parser.add_argument("--built", action="store_true")
-    parser.add_argument("--by-hand", action="store_true")
-    parser.add_argument("--harmless", action="store_true")
-    parser.add_argument("crates", nargs="*")
-    options = parser.parse_args()
+    options = words_of(__doc__)
     rt.rtlib.guarded()
     share_work()
-    crates = [it for it in rt.rtlib.crates_below(os.getcwd()) if not options.crates or it.name in options.crates]
+    crates = [it for it in rt.rtlib.crates_below(os.getcwd()) if not options.crate or it.name in options.crate]
     edits = {it.name: edits_of(it, options) for it in crates}
     crates = [it for it in crates if edits[it.name]]
     for below in {it.name: it for crate in crates for it in crate.below()}.values():
