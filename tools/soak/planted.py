@@ -16,15 +16,18 @@ import subprocess
 import sys
 import tempfile
 
-from stand_in import PLANTED
-
 HERE = os.path.dirname(os.path.abspath(__file__))
 TOP = os.path.dirname(os.path.dirname(HERE))
+sys.path.append(os.path.join(TOP, "tools", "wrong-bodies"))
+
+from edits import pairs_of
+from stand_in import PLANTED
+
 SEED = "planted"
 EDITS = (
-    "crates/stm_session/wrong-bodies/settles_with_connect.edit",
+    "crates/stm_session/wrong-bodies/by-hand/settles_with_connect.edit",
     "crates/stm_session/wrong-bodies/by-hand/keeps_page_one_alone.edit",
-    "crates/stm_session/wrong-bodies/undone_before_its_pages.edit",
+    "crates/stm_session/wrong-bodies/by-hand/undone_before_its_pages.edit",
     "crates/stm_session/wrong-bodies/by-hand/keeps_a_page_behind_its_erase.edit",
     "crates/stm_journal/wrong-bodies/no_mark.edit",
 )
@@ -32,19 +35,12 @@ EDITS = (
 
 def plant(edit, copy):
     """Does the replacements of an edit in the copy's crate."""
-    crate = os.path.join(copy, *edit.split("/")[:2])
-    name = None
-    for line in pathlib.Path(TOP, edit).read_text().splitlines():
-        word, _, text = line.partition(": ")
-        if word == "file":
-            name = os.path.join(crate, text)
-        elif word == "old":
-            old = text
-        elif word == "new":
-            body = pathlib.Path(name).read_text()
-            if body.count(old) != 1:
-                sys.exit("%s: the old text doesn't stand once" % edit)
-            pathlib.Path(name).write_text(body.replace(old, text))
+    for file, old, new in pairs_of(pathlib.Path(TOP, edit).read_text()):
+        path = pathlib.Path(copy, *edit.split("/")[:2], file)
+        body = path.read_text()
+        if body.count(old) != 1:
+            sys.exit("%s: the old text doesn't stand once" % edit)
+        path.write_text(body.replace(old, new))
 
 
 def find(edit):
