@@ -2,17 +2,12 @@
 
 import os
 import socket
-import sys
 import time
 
-from place import TOP
-
-sys.path.insert(0, os.path.join(TOP, "tests", "planted"))
+from place import COUNTING as FLASH
 
 from planted_board import ACK, ERASE, FRESH, GET, GET_ID, NACK, READ, WRITE, PlantedBoard
 
-SIZES = [1024] * 32
-FLASH = bytes(i % 251 for i in range(32768))
 
 
 class Line:
@@ -45,7 +40,7 @@ class Board(PlantedBoard):
     """A board of the model; `more` is what else it has."""
 
     def __init__(self, **more):
-        super().__init__(0x412, SIZES, ERASE, {}, flash=FLASH)
+        super().__init__(0x412, [1024] * 32, ERASE, {}, flash=FLASH)
         vars(self).update(more)
 
 

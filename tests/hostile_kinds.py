@@ -20,7 +20,6 @@ def plain(serve):
 
 
 ALL = ("info", "read", "write", "undo")
-ERASES = ("write", "undo")
 # what may be told: a board that is gone, one that does otherwise than the protocol, a line that ended
 GONE, WRONG, ENDED = "no answer from the device", "device does not follow the protocol", "line failed"
 ID = "the board tells an id of {} bytes: stmflash knows ids of 2 bytes alone, and can't use it"
@@ -67,7 +66,7 @@ def same(byte, command, row, hint):
 
 
 ASKED = {"may_end": ("info",)}
-CHANGED = {"row": "falls silent at an erase or a write", "may_end": ("info", "read"), "is_slow_at": ERASES}
+CHANGED = {"row": "falls silent at an erase or a write", "may_end": ("info", "read"), "is_slow_at": ("write", "undo")}
 NOTHING, ALIKE = "says nothing, or takes nothing", "answers the same to all: 79 or 1F"
 STRANGE, SLOW = "prints, hisses, garbles, or answers another byte to all", "is slower than `--wait`"
 # a reply that is late is told as if it came for nothing

@@ -6,6 +6,7 @@ The program is the one that the variable STMFLASH names; without it, the one tha
 
 import contextlib
 import fcntl
+import functools
 import json
 import os
 import pathlib
@@ -22,7 +23,8 @@ import unittest
 import answers
 
 TOP = os.path.dirname(os.path.dirname(os.path.abspath(__file__)))
-sys.path.append(os.path.join(TOP, "tools", "soak"))
+# the second model, what the tools share, and boards with a fault each
+sys.path += [os.path.join(TOP, *it) for it in (("tools", "soak"), ("tools",), ("tests", "planted"))]
 from journal import untimed  # noqa: E402
 
 # how long a call may take, in seconds, on a machine that is busy with other things
@@ -100,6 +102,20 @@ def lacks(name):
     return f"journal {name} isn't there"
 
 
+def each_of(cases):
+    """Makes a test of what it does for a case: for each of these, as `each` of a place."""
+    cases = list(cases)
+
+    def of(does):
+        @functools.wraps(does)
+        def test(self):
+            self.each(cases, functools.partial(does, self))
+
+        return test
+
+    return of
+
+
 def had(*segments, left):
     """The note on an undo of these, which changed nothing."""
     return f"segment{'s' * (len(segments) > 1)} {', '.join(map(str, segments))} had changed nothing; {left} more can be undone"
@@ -139,6 +155,11 @@ class Place(unittest.TestCase):
         """Stores each of these, by its name."""
         for name, data in files.items():
             self.store(name, data)
+
+    def add(self, name, data):
+        """Adds these bytes to a file."""
+        with open(self.path(name), "ab") as file:
+            file.write(data)
 
     def listen(self, name):
         """A listener on a socket of this name."""

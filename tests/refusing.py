@@ -1,13 +1,8 @@
 """What tests of a board share that refuses a step: the board, what is told of it, and calls of the program on a board that isn't
 there."""
 
-import os
-import sys
-
-from place import TOP, Place
+from place import Place
 from test_giving_up import at_peer
-
-sys.path.insert(0, os.path.join(TOP, "tests", "planted"))
 
 from planted_board import FRESH, READ, REFUSED, PlantedBoard
 
@@ -19,6 +14,8 @@ IMAGE = bytes(range(256)) * 12
 AT = BASE + 4 * 1024
 # what is told of page 5, by its number and by its address
 THEN = "If so: protect write-unprotect --in-session, undo 1"
+NOW_UNDO = "the board resets itself; now: undo 1"
+IN_SESSION = "to undo what a write-protected page refuses: protect write-unprotect --in-session, undo 1"
 NOT_ERASED = f"page 5: the device refused to erase it: is it write-protected? {THEN}"
 NOT_WRITTEN = f"address {AT + 1024:08X}: the device refused to write it: is its page write-protected? {THEN}"
 

@@ -2,6 +2,7 @@
 
 import contextlib
 import socket
+import threading
 import time
 
 from place import PATIENCE, Place, first_of, readable, served
@@ -28,6 +29,25 @@ def relay(line, board, change=lambda replies: replies, heard=lambda came: None, 
             sent += came
             board.sendall(came)
     return sent
+
+
+class Peer:
+    """A listener that hands each of its lines to a function, in a thread of its own."""
+
+    def __init__(self, test, name, serve):
+        self.serve, self.ending, self.listener = serve, threading.Event(), test.listen(name)
+        self.thread = test.beside(self.listener, self.run)
+        test.addCleanup(self.ending.set)
+
+    def run(self):
+        line, _ = self.listener.accept()
+        with line:
+            self.serve(line, self.ending)
+
+    def end(self):
+        self.ending.set()
+        self.listener.shutdown(socket.SHUT_RDWR)
+        self.thread.join(PATIENCE)
 
 
 class Served(Place):
@@ -65,6 +85,32 @@ class Served(Place):
         listener.close()
         self.remove(name)
         self.assertServed()
+
+    def delayed(self, delay, name="slow"):
+        """A peer that hands all on between the program and a simulator that is served. `delay` is asked of each piece that the
+        program sent and answers for how many seconds what follows is held back."""
+
+        def serve(line, ending):
+            board = self.connect()
+            due, held = 0.0, b""
+            while not ending.is_set():
+                heard = readable([line, board], 0.02)
+                if line in heard:
+                    came = line.recv(4096)
+                    if not came:
+                        break
+                    seconds = delay(came)
+                    if seconds:
+                        due = time.monotonic() + seconds
+                    board.sendall(came)
+                if board in heard:
+                    held += board.recv(4096)
+                if held and time.monotonic() >= due:
+                    line.sendall(held)
+                    held = b""
+            self.leave(board)
+
+        Peer(self, name, serve)
 
     def assertReplies(self, client, sent, replies):
         """Just this comes for these bytes."""

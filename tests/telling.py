@@ -7,13 +7,11 @@ answers it (AN3155, section 3.4).
 import contextlib
 import os
 import socket
-import sys
 
-from place import PATIENCE, TOP, WAIT, files, readable, served
+from place import PATIENCE, WAIT, files, readable, served
 from served import Served
 
-sys.path.insert(0, os.path.join(TOP, "line"))
-from as_stm32flash.crc import crc
+from image import crc
 
 ACK = b"\x79"
 NACK = b"\x1f"

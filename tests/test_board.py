@@ -2,6 +2,8 @@
 frame of a segment; named by the journal, and wanted by words."""
 
 import telling
+from place import each_of
+from refusing import IN_SESSION
 from telling import SIZE_AT, UNIQUE_AT
 
 SIZE = 131072
@@ -21,9 +23,7 @@ AGAIN = [*BEFORE, UNIQUE_AT]
 BEHIND = [*AGAIN, UNIQUE_AT]
 # a simulator on a socket lists Get Version too
 INFO = "id 0410\nbase 08000000\npages %d\nsize %d\nerase 43\nerased FF\nversion 22\ncodes 00 01 02 11 21 31 43 73 82 92\n"
-INSIDE = INFO.replace(" 01", "")
 ANOTHER = "journal is of another board"
-OPEN_HINT = "to undo what a write-protected page refuses: protect write-unprotect --in-session, undo 1"
 CHANGED = "another board answers than at first"
 
 
@@ -119,7 +119,7 @@ class Board(telling.Told):
         journal = self.held("journal")
         for words in self.leaving():
             for unique in (HERE, THERE):
-                hint = OPEN_HINT if words == ("protect", "write-unprotect") else None
+                hint = IN_SESSION if words == ("protect", "write-unprotect") else None
                 self.assertFault(self.at(unique, *words), "journal is open, refused", hint=hint, journal=journal)
                 self.assertEqual((self.asked(), self.stands[0].sent), ([], b""))
         self.assertTold(self.at(HERE, "undo"), "undone 1\n")
@@ -263,7 +263,7 @@ class Board(telling.Told):
 
     def test_the_simulator_in_the_program_tells_none(self):
         self.assertFault(self.use("erase", "1", "--board", NAME, device="sim:0410:flash"), "device tells no board")
-        self.assertTold(self.use("info", device="sim:0410:flash"), INSIDE % (128, SIZE))
+        self.assertTold(self.use("info", device="sim:0410:flash"), INFO.replace(" 01", "") % (128, SIZE))
         self.assertTold(self.use("erase", "1", device="sim:0410:flash"), "segment 1: 1 pages erased\n")
         self.assertTrue(self.held("journal").startswith(b"stmjournal 2 0410\n"))
 
@@ -293,16 +293,15 @@ class Board(telling.Told):
         self.assertTold(self.at(HERE, "undo"), "undone 1\n")
         self.assertTrue(self.held("journal").startswith(b"stmjournal 2 0410\nopen 1\n"))
 
-    def test_places_that_tell_nothing(self):
-        for unique, kib in ((None, None), (12 * b"\xff", size(0xFFFF)), (12 * b"\x00", size(0))):
-            with self.subTest(unique=unique, kib=kib):
-                self.assertTold(self.at(unique, "info", kib=kib), INFO % (128, SIZE))
-                self.assertEqual(self.asked(), BEFORE)
-                self.assertTold(self.at(unique, "erase", "127", kib=kib), "segment 1: 1 pages erased\n")
-                self.assertEqual(self.asked(), BEFORE)
-                self.assertTrue(self.held("journal").startswith(b"stmjournal 2 0410\n"))
-                self.remove("journal")
-                self.store("flash", COUNTING)
+    @each_of(((None, None), (12 * b"\xff", size(0xFFFF)), (12 * b"\x00", size(0))))
+    def test_places_that_tell_nothing(self, unique, kib):
+        self.assertTold(self.at(unique, "info", kib=kib), INFO % (128, SIZE))
+        self.assertEqual(self.asked(), BEFORE)
+        self.assertTold(self.at(unique, "erase", "127", kib=kib), "segment 1: 1 pages erased\n")
+        self.assertEqual(self.asked(), BEFORE)
+        self.assertTrue(self.held("journal").startswith(b"stmjournal 2 0410\n"))
+        self.remove("journal")
+        self.store("flash", COUNTING)
 
     def test_info_tells_the_board_and_the_size(self):
         board = f"board {NAME}\n"

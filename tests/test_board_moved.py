@@ -11,7 +11,7 @@ import itertools
 import time
 
 import telling
-from place import NOISE, UNREAD, WAIT
+from place import NOISE, UNREAD, WAIT, each_of
 from telling import ACK, NACK, READ, SIZE_AT, UNIQUE_AT, WRITE, Stand
 from test_board import ANOTHER, CHANGED, COUNTING, HEAD, HERE, THERE, size
 
@@ -199,13 +199,12 @@ class BoardMoved(telling.Told):
 
     # a board that refuses, answers late, or garbled
 
-    def test_each_step_of_a_read_may_be_refused(self):
-        for step in (0, 2):
-            with self.subTest(step=step):
-                self.begin()
-                self.assertTold(self.at("erase", "5", kind=refusing(step)), "segment 1: 1 pages erased\n")
-                self.assertTrue(self.held("journal").startswith(b"stmjournal 2 0410\nopen 1\n"))
-                self.assertTold(self.at("undo", kind=refusing(step)), "undone 1\n", flash=COUNTING)
+    @each_of((0, 2))
+    def test_each_step_of_a_read_may_be_refused(self, step):
+        self.begin()
+        self.assertTold(self.at("erase", "5", kind=refusing(step)), "segment 1: 1 pages erased\n")
+        self.assertTrue(self.held("journal").startswith(b"stmjournal 2 0410\nopen 1\n"))
+        self.assertTold(self.at("undo", kind=refusing(step)), "undone 1\n", flash=COUNTING)
 
     def test_one_that_refuses_is_no_board_of_a_journal(self):
         flash, journal = self.write_here()
@@ -297,24 +296,22 @@ class BoardMoved(telling.Told):
                 self.assertBothAsTheyWere(flash, journal)
         self.assertTold(self.at("undo"), "undone 1\n", flash=COUNTING)
 
-    def test_moved_before_a_journal_was_begun(self):
+    @each_of((("behind the unique id", SETTLED, ("erase", "5")),
+              ("behind the question", FRESH, ("erase", "--board", HERE.hex(), "5")),
+              ("behind Get ID", SETTLED, ("read", "-S", "0x08000000:16", "out"))))
+    def test_moved_before_a_journal_was_begun(self, when, stands, words):
         """Also where the board is wanted, which is compared with the first answer."""
-        for when, stands, words in (("behind the unique id", SETTLED, ("erase", "5")),
-                                    ("behind the question", FRESH, ("erase", "--board", HERE.hex(), "5")),
-                                    ("behind Get ID", SETTLED, ("read", "-S", "0x08000000:16", "out"))):
-            with self.subTest(when=when, stands=stands, words=words):
-                self.assertFault(self.moved(when, stands, *words), CHANGED)
-                self.assertBothAsTheyWere(COUNTING, b"")
-                self.assertFile("out", None)
+        self.assertFault(self.moved(when, stands, *words), CHANGED)
+        self.assertBothAsTheyWere(COUNTING, b"")
+        self.assertFile("out", None)
 
-    def test_moved_between_two_sessions_of_a_call(self):
+    @each_of(((FRESH, ("write", "image")), (SETTLED, ("erase", "--all")), (FRESH, ("read", "out"))))
+    def test_moved_between_two_sessions_of_a_call(self, stands, words):
         """Of raw bytes without a place the device is asked where its flash begins, in a session of its own, and so is it for a whole
         read and an erase of all pages."""
-        for stands, words in ((FRESH, ("write", "image")), (SETTLED, ("erase", "--all")), (FRESH, ("read", "out"))):
-            with self.subTest(stands=stands, words=words):
-                self.assertFault(self.moved("behind Get ID", stands, *words), CHANGED)
-                self.assertBothAsTheyWere(COUNTING, b"")
-                self.assertFile("out", None)
+        self.assertFault(self.moved("behind Get ID", stands, *words), CHANGED)
+        self.assertBothAsTheyWere(COUNTING, b"")
+        self.assertFile("out", None)
 
     def test_a_fresh_board_behind_the_sessions_get_id_answers_nothing(self):
         flash, journal = self.write_here()

@@ -8,6 +8,9 @@ import tomllib
 from place import TOP, WAIT, is_slow, text_in
 from served import Served
 
+from device import Chip
+from program import tell
+
 TABLE = os.path.join(TOP, "chips.toml")
 CHIPS = {f"{chip['id']:04X}": chip for chip in tomllib.loads(text_in(TABLE))["chip"]}
 # the one that no maker sells
@@ -26,23 +29,17 @@ UNIQUE = ("unique: from memory of the reference manual, unchecked",)
 BANKS = ("0430", "0419", "0434", "0467", "0469", "0450", "0415", "0461", "0470", "0471", "0472", "0480", "0482")
 
 
-class Geometry:
-    """What an entry says of its flash."""
+def chip_of(number):
+    """The chip that an entry tells."""
+    entry = CHIPS[number]
+    sizes = [size for count, size in entry["pages"] for _ in range(count)]
+    return Chip(int(number, 16), entry["base"], sizes, entry["erase"] == "extended", entry.get("erased", 255))
 
-    def __init__(self, chip):
-        self.base = chip["base"]
-        self.pages = [size for count, size in chip["pages"] for _ in range(count)]
-        self.size = sum(self.pages)
-        self.erase = {"page": "43", "extended": "44"}[chip["erase"]]
-        self.erased = chip.get("erased", 255)
 
-    def told(self):
-        """The lines of `info` up to the bootloader's version."""
-        return f"base {self.base:08X}\npages {len(self.pages)}\nsize {self.size}\nerase {self.erase}\nerased {self.erased:02X}\nversion "
-
-    def flash(self):
-        """A flash without an erased page."""
-        return (bytes(range(251)) * (self.size // 251 + 1))[:self.size]
+def flash_of(number):
+    """A flash of a chip without an erased page."""
+    size = chip_of(number).size
+    return (bytes(range(251)) * (size // 251 + 1))[:size]
 
 
 class Chips(Served):
@@ -51,32 +48,32 @@ class Chips(Served):
 
     def try_chip(self, number, device, wait=()):
         """What it is; a write into the last page, which keeps all else; and the way back."""
-        chip = Geometry(CHIPS[number])
+        chip = chip_of(number)
         place = chip.size - len(IMAGE)
         told = self.use_chip("info", device=device, wait=wait)
         self.assertWell(told)
-        self.assertTrue(told.out.decode().startswith(f"id {number}\n" + chip.told()), told)
+        self.assertTrue(told.out.startswith(tell(chip, chip.version(), []).partition(b"version")[0]), told)
         self.store("image", IMAGE)
         words = ("-v", "-S", f"0x{chip.base + place:08X}", "image")
         self.assertTold(self.use_chip("write", *words, device=device, wait=wait), f"segment 1: 1 pages written\nverified {len(IMAGE)} bytes\n")
         if not wait:
-            self.assertFile("flash", chip.flash()[:place] + IMAGE)
+            self.assertFile("flash", flash_of(number)[:place] + IMAGE)
         self.assertTold(self.use_chip("undo", device=device, wait=wait), "undone 1\n")
 
     def try_part(self, part):
         for number in sorted(CHIPS)[part::PARTS]:
             # a slow program has the small ones
-            if is_slow() and Geometry(CHIPS[number]).size > 128 << 10:
+            if is_slow() and chip_of(number).size > 128 << 10:
                 continue
             with self.subTest(chip=number):
                 self.clear("journal", "flash.line")
-                before = Geometry(CHIPS[number]).flash()
+                before = flash_of(number)
                 self.store("flash", before)
                 self.try_chip(number, f"sim:{number}:flash")
                 self.assertFile("flash", before)
 
     def try_served(self, number):
-        before = Geometry(CHIPS[number]).flash()
+        before = flash_of(number)
         self.store("flash", before)
         self.serve(3, TABLE, number)
         self.try_chip(number, "board", ("--wait", WAIT))
@@ -124,7 +121,7 @@ class Chips(Served):
 
     def test_the_places_lie_outside_the_flash_and_apart(self):
         for number, chip in CHIPS.items():
-            end = chip["base"] + Geometry(chip).size
+            end = chip["base"] + chip_of(number).size
             places = [chip["unique"]] if "unique" in chip else []
             places += [[chip["size_at"], 2]] if "size_at" in chip else []
             with self.subTest(chip=number):

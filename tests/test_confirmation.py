@@ -3,7 +3,7 @@
 import os
 import pty
 
-from place import COUNTING, ERASED, PATIENCE, Place, files, read_some, readable
+from place import COUNTING, ERASED, PATIENCE, Place, each_of, files, read_some, readable
 
 KIND = "readout-unprotect"
 ASKED = b"this erases the whole flash, and no journal keeps it: it can't be undone\r\ngo on? [y/N] "
@@ -41,27 +41,24 @@ class Confirmation(Place):
         """The flash is as it was, and no line was opened to it, and no journal."""
         self.assertFiles({"flash": COUNTING, "flash.line": None, "journal": None})
 
-    def test_yes_goes_on(self):
-        for typed in (b"y\n", b"yes\n"):
-            with self.subTest(typed=typed):
-                self.store("flash", COUNTING)
-                self.assertEqual(self.on_terminal(typed, "--quiet")[:2], (0, ASKED + typed.replace(b"\n", b"\r\n")))
-                self.assertFile("flash", ERASED)
+    @each_of((b"y\n", b"yes\n"))
+    def test_yes_goes_on(self, typed):
+        self.store("flash", COUNTING)
+        self.assertEqual(self.on_terminal(typed, "--quiet")[:2], (0, ASKED + typed.replace(b"\n", b"\r\n")))
+        self.assertFile("flash", ERASED)
 
-    def test_anything_else_ends(self):
-        for typed in (b"\n", b"n\n", b"no\n", b"Y\n", b"yess\n", b" y\n", b"ye\n", b"yes please\n", b"y" * 300 + b"\n"):
-            with self.subTest(typed=typed):
-                status, shown, _ = self.on_terminal(typed)
-                self.assertEqual((status, shown), (1, ASKED + typed.replace(b"\n", b"\r\n") + REFUSED))
-                self.assertUntouched()
+    @each_of((b"\n", b"n\n", b"no\n", b"Y\n", b"yess\n", b" y\n", b"ye\n", b"yes please\n", b"y" * 300 + b"\n"))
+    def test_anything_else_ends(self, typed):
+        status, shown, _ = self.on_terminal(typed)
+        self.assertEqual((status, shown), (1, ASKED + typed.replace(b"\n", b"\r\n") + REFUSED))
+        self.assertUntouched()
 
-    def test_an_end_of_input_ends(self):
+    @each_of((END, b"y" + END + END))
+    def test_an_end_of_input_ends(self, typed):
         """Also behind a word that would go on, whose line isn't ended."""
-        for typed in (END, b"y" + END + END):
-            with self.subTest(typed=typed):
-                status, shown, _ = self.on_terminal(typed)
-                self.assertEqual((status, shown[:len(ASKED)], shown[-len(REFUSED) - 2:]), (1, ASKED, b"\r\n" + REFUSED))
-                self.assertUntouched()
+        status, shown, _ = self.on_terminal(typed)
+        self.assertEqual((status, shown[:len(ASKED)], shown[-len(REFUSED) - 2:]), (1, ASKED, b"\r\n" + REFUSED))
+        self.assertUntouched()
 
     def test_no_line_is_opened_before(self):
         """A socket where nobody listens isn't connected to, and a journal of another program isn't waited for."""
@@ -91,9 +88,8 @@ class Confirmation(Place):
         self.assertEqual(self.on_terminal(None, "--yes", "--quiet")[:2], (0, b""))
         self.assertFile("flash", ERASED)
 
-    def test_no_other_protection_asks(self):
-        for kind in ("write-unprotect", "readout-protect"):
-            with self.subTest(kind=kind):
-                self.assertEqual(self.on_terminal(None, "--quiet", kind=kind)[:2], (0, b""))
-                self.assertFile("flash", COUNTING)
-                self.remove("flash.line")
+    @each_of(("write-unprotect", "readout-protect"))
+    def test_no_other_protection_asks(self, kind):
+        self.assertEqual(self.on_terminal(None, "--quiet", kind=kind)[:2], (0, b""))
+        self.assertFile("flash", COUNTING)
+        self.remove("flash.line")

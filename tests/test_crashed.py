@@ -5,7 +5,7 @@ import json
 import os
 
 import syncs
-from place import SIZE, WAIT, ZEROS, files, told_by, with_page
+from place import SIZE, WAIT, ZEROS, each_of, files, told_by, with_page
 from served import Served
 
 HEADER = b"stmjournal 2 0412\n"
@@ -56,13 +56,12 @@ class Crashed(Served):
         self.assertTold(self.use("undo", "--recover"), "undone 0\n")
         self.assertFiles({"journal": journal, "journal.cut1": None})
 
-    def test_with_other_words(self):
-        for words, told, left in ((("1",), "undone 1\n", 1), (("-v", "--to-change"), "undone 1, 1024 bytes verified\n", 1),
-                                  (("-v",), "undone 2, 2048 bytes verified\n", 0)):
-            with self.subTest(words=words):
-                self.begin()
-                self.assertTold(self.use("undo", "--recover", *words), told, note(len(LEFT) - len(GOOD)))
-                self.assertTold(self.use("undo"), f"undone {left}\n", holds=(ZEROS, b"idle\n"))
+    @each_of(((("1",), "undone 1\n", 1), (("-v", "--to-change"), "undone 1, 1024 bytes verified\n", 1),
+              (("-v",), "undone 2, 2048 bytes verified\n", 0)))
+    def test_with_other_words(self, words, told, left):
+        self.begin()
+        self.assertTold(self.use("undo", "--recover", *words), told, note(len(LEFT) - len(GOOD)))
+        self.assertTold(self.use("undo"), f"undone {left}\n", holds=(ZEROS, b"idle\n"))
 
     def test_nothing_is_written_over(self):
         self.begin()

@@ -1,13 +1,10 @@
 """The CRC of the flash, and reading it as Intel HEX."""
 
-import os
 import random
-import sys
 
-from place import COUNTING, ERASED, SIZE, TOP, Place
+from place import COUNTING, ERASED, SIZE, Place
 
-sys.path.insert(0, os.path.join(TOP, "line"))
-from as_stm32flash.crc import crc
+from image import crc
 
 BASE = 0x08000000
 

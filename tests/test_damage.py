@@ -4,7 +4,7 @@ no undo gives other bytes back."""
 import random
 
 import telling
-from place import Said
+from place import Said, each_of
 from telling import kept, left, sum_of
 
 SIZE = 256
@@ -112,16 +112,15 @@ class Damage(telling.Told):
         self.store("journal", begun + wrong)
         self.assertRefused(3, 1, "undo")
 
-    def test_old_digits_make_no_line_whole(self):
+    @each_of(range(600, 4000, 200))
+    def test_old_digits_make_no_line_whole(self, steps):
         """Those of a former journal behind a torn CRC: a second mark closes it, so that an undo which was stopped goes on."""
         torn = HEAD + b"open 1\n" + kept(3, part(3)) + b"erase 3\n" + kept(5, part(5), has_sum=False) + b"crc 0BADC0DE"
         begun = COUNTING[:3 * SIZE] + SIZE * b"\xff" + COUNTING[4 * SIZE:]
-        for steps in range(600, 4000, 200):
-            with self.subTest(steps=steps):
-                self.store_all({"flash": begun, "flash.line": None, "journal": torn})
-                self.at("undo", "--stop", str(steps))
-                self.assertEqual(self.at("undo").status, 0)
-                self.assertFile("flash", COUNTING)
+        self.store_all({"flash": begun, "flash.line": None, "journal": torn})
+        self.at("undo", "--stop", str(steps))
+        self.assertEqual(self.at("undo").status, 0)
+        self.assertFile("flash", COUNTING)
 
     def test_a_journal_without_such_lines_goes_on(self):
         """That of an older version of the program, which may have begun one that this one goes on with."""

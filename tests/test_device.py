@@ -2,15 +2,11 @@
 
 import os
 
-from place import COUNTING, ERASED, SILENT, TABLE, ZEROS, Place
+from place import COUNTING, ERASED, SILENT, TABLE, ZEROS, Place, each_of
 
 INFO = "id 0412\nbase 08000000\npages 32\nsize 32768\nerase 43\nerased FF\nversion 22\ncodes 00 02 11 21 31 43 73 82 92\n"
 RAW = "id 0412\nversion 22\ncodes 00 02 11 21 31 43 73 82 92\ntable {}\n"
 BAD_FLASH = "bad simulator file flash"
-# lines that no simulator's file has
-BAD_LINES = (b"rest 43BD\n", b"rest 43bc\n", b"rest \n", b"rest 4\n", b"rest 43BC", b"rest 43BC\n\n", b"rest 02FD\n")
-# words that name no device
-BAD_DEVICES = ("", "sim:0412", "sim:0412:", "sim:412:F", "sim:041G:F")
 
 
 class Device(Place):
@@ -61,22 +57,17 @@ class Device(Place):
         self.store("table", TABLE + b"tried = [{ part = \"a\" }]\n")
         self.assertFault(self.use("info"), "table: chip 1: missing")
 
-    def test_refuses_a_flash_of_another_length(self):
-        for flash in (b"seven", ERASED + b"\xff", ERASED[1:], b""):
-            with self.subTest(length=len(flash)):
-                self.store("flash", flash)
-                self.assertFault(self.use("read", "OUT"), BAD_FLASH)
-                self.assertFiles({"flash": flash, "flash.line": None, "OUT": None})
+    @each_of((b"seven", ERASED + b"\xff", ERASED[1:], b""))
+    def test_refuses_a_flash_of_another_length(self, flash):
+        self.store("flash", flash)
+        self.assertFault(self.use("read", "OUT"), BAD_FLASH)
+        self.assertFiles({"flash": flash, "flash.line": None, "OUT": None})
 
-    def test_refuses_a_line_of_another_form(self):
-        self.store("flash.line", b"fresh\n\n")
-        self.assertFault(self.use("read", "OUT"), BAD_FLASH, holds=(None, b"fresh\n\n"), OUT=None)
-
-    def test_refuses_a_rest_that_does_not_stay(self):
-        for line in BAD_LINES:
-            with self.subTest(line=line):
-                self.store("flash.line", line)
-                self.assertFault(self.use("info"), BAD_FLASH, holds=(None, line))
+    @each_of((b"rest 43BD\n", b"rest 43bc\n", b"rest \n", b"rest 4\n", b"rest 43BC", b"rest 43BC\n\n", b"rest 02FD\n", b"fresh\n\n"))
+    def test_refuses_a_rest_that_does_not_stay(self, line):
+        self.store("flash.line", line)
+        for words in (("info",), ("read", "OUT")):
+            self.assertFault(self.use(*words), BAD_FLASH, holds=(None, line), OUT=None)
 
     def test_goes_on_from_a_rest(self):
         """What stood in the rest is settled by the session, and a session that sends nothing leaves it."""
@@ -92,28 +83,21 @@ class Device(Place):
         self.assertSilent(self.use("protect", "readout-unprotect"), target=ERASED)
         self.assertTrue(os.path.islink(self.path("flash")))
 
-    def test_says_which_file_it_cannot_write(self):
-        self.assertFault(self.use("read", "absent/out"), "cannot write absent/out")
-        self.assertFalse(self.is_there("absent"))
+    @each_of(("flash", "flash.line", "flash.board"))
+    def test_says_which_simulator_file_it_cannot_read(self, name):
+        os.mkdir(self.path(name))
+        self.assertFault(self.use("info"), f"cannot read {name}")
+        os.rmdir(self.path(name))
 
-    def test_says_which_simulator_file_it_cannot_read(self):
-        for name in ("flash", "flash.line", "flash.board"):
-            with self.subTest(name=name):
-                os.mkdir(self.path(name))
-                self.assertFault(self.use("info"), f"cannot read {name}")
-                os.rmdir(self.path(name))
-
-    def test_a_file_may_have_colons_in_its_name(self):
-        for name in ("a:b", ":", "a::"):
-            with self.subTest(name=name):
-                self.store(name, COUNTING)
-                self.assertSilent(self.use("read", "out", device="sim:0412:" + name), out=COUNTING)
-                self.assertFile(name + ".line", b"idle\n")
+    @each_of(("a:b", ":", "a::"))
+    def test_a_file_may_have_colons_in_its_name(self, name):
+        self.store(name, COUNTING)
+        self.assertSilent(self.use("read", "out", device="sim:0412:" + name), out=COUNTING)
+        self.assertFile(name + ".line", b"idle\n")
 
     def test_says_which_device_is_bad(self):
-        for device in BAD_DEVICES:
-            with self.subTest(device=device):
-                self.assertFault(self.use("info", device=device), f"usage: bad device {device}", 2)
+        self.each(("", "sim:0412", "sim:0412:", "sim:412:F", "sim:041G:F"),
+                  lambda device: self.assertFault(self.use("info", device=device), f"usage: bad device {device}", 2))
         self.assertFault(self.use("info", device="sim:0a01:F"), "unknown chip 0A01")
 
     def test_says_what_is_wrong_with_a_table(self):

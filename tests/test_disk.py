@@ -5,7 +5,7 @@ import resource
 import signal
 
 import syncs
-from place import COUNTING, WAIT, ZEROS, Place, files, had, lacks, served, with_page
+from place import COUNTING, WAIT, ZEROS, Place, each_of, files, had, lacks, served, with_page
 from served import Served
 
 # a chip with a flash that is shorter than its journal
@@ -34,7 +34,6 @@ UNSYNCED = "Input/output error"
 SYNCED = [".", *["journal"] * 6]
 # what an undo adds where the page isn't as it was, and where it is
 GIVEN_BACK = b"erase 0\nprogram 0\nundone 1\n"
-UNDONE = b"undone 1\n"
 
 
 def files_up_to(size):
@@ -86,59 +85,55 @@ class Disk(Place):
     def test_a_name_without_a_folder_is_in_this_one(self):
         self.begin_and_go_on("journal")
 
-    def test_a_stop_leaves_a_beginning_in_the_file(self):
+    @each_of(range(len(OPENED) + 1))
+    def test_a_stop_leaves_a_beginning_in_the_file(self, added):
         """A contact is 27 steps, and each byte that is added one: the file has as many bytes as there were steps for."""
-        for added in range(len(OPENED) + 1):
-            with self.subTest(added=added):
-                self.begin(ZEROS)
-                self.assertFault(self.use("erase", "--stop", str(27 + added), "5"), "stopped", 3, holds=(ZEROS, b"idle\n"))
-                self.assertFile("journal", OPENED[:added] if added else None)
-                if added:
-                    self.assertTold(self.use("undo"), "undone %d\n" % (added == len(OPENED)), unkept(added))
-                self.assertHolds(ZEROS, b"idle\n")
+        self.begin(ZEROS)
+        self.assertFault(self.use("erase", "--stop", str(27 + added), "5"), "stopped", 3, holds=(ZEROS, b"idle\n"))
+        self.assertFile("journal", OPENED[:added] if added else None)
+        if added:
+            self.assertTold(self.use("undo"), "undone %d\n" % (added == len(OPENED)), unkept(added))
+        self.assertHolds(ZEROS, b"idle\n")
 
-    def test_a_missing_folder_is_not_made(self):
+    @each_of((("erase", "5"), ("write", "table")))
+    def test_a_missing_folder_is_not_made(self, *words):
         self.store("flash", ZEROS)
-        for name, words in (("erase", ("5",)), ("write", ("table",))):
-            with self.subTest(name=name):
-                said = self.use(name, *words, journal="absent/journal")
-                self.assertFault(said, "journal failed", hint="No such file or directory", holds=(ZEROS, b"idle\n"))
-                self.assertFalse(self.is_there("absent"))
+        said = self.use(*words, journal="absent/journal")
+        self.assertFault(said, "journal failed", hint="No such file or directory", holds=(ZEROS, b"idle\n"))
+        self.assertFalse(self.is_there("absent"))
 
     def begin_small(self, flash=SMALL_FLASH, journal=None):
         """A fresh device of the small chip, with this flash and this journal, and an image for its first page."""
         self.begin(flash, journal)
         self.store_all({"table": SMALL_TABLE, "image": IMAGE})
 
-    def test_a_full_disk_ends_the_journal(self):
+    @each_of(ROOMS)
+    def test_a_full_disk_ends_the_journal(self, room):
         """The disk is full at one byte after another of what a write adds. Nothing stands behind it, the command that its
         line comes before isn't sent, and an undo on a disk with room gives the flash back."""
-        for room in ROOMS:
-            with self.subTest(room=room):
-                self.begin_small(journal=VOID)
-                said = self.use("write", "image", before=files_up_to(len(VOID) + room))
-                self.assertFault(said, "journal failed", hint=FULL, journal=VOID + ENDED[:room])
-                flash = WRITTEN if room >= len(PROGRAMMING) else EMPTIED if room >= len(ERASING) else SMALL_FLASH
-                self.assertHolds(flash, b"idle\n")
-                opened = room >= len(OPENED)
-                if opened:
-                    self.assertFault(self.use("info"), "unfinished command, undo first")
-                self.assertTold(self.use("undo"), "undone %d\n" % opened, unkept(room), holds=(SMALL_FLASH, b"idle\n"))
-                added = (UNDONE if flash == SMALL_FLASH else GIVEN_BACK) if opened else b""
-                self.assertFile("journal", VOID + (mended(ENDED[:room]) if opened else ENDED[:room]) + added)
+        self.begin_small(journal=VOID)
+        said = self.use("write", "image", before=files_up_to(len(VOID) + room))
+        self.assertFault(said, "journal failed", hint=FULL, journal=VOID + ENDED[:room])
+        flash = WRITTEN if room >= len(PROGRAMMING) else EMPTIED if room >= len(ERASING) else SMALL_FLASH
+        self.assertHolds(flash, b"idle\n")
+        opened = room >= len(OPENED)
+        if opened:
+            self.assertFault(self.use("info"), "unfinished command, undo first")
+        self.assertTold(self.use("undo"), "undone %d\n" % opened, unkept(room), holds=(SMALL_FLASH, b"idle\n"))
+        added = (b"undone 1\n" if flash == SMALL_FLASH else GIVEN_BACK) if opened else b""
+        self.assertFile("journal", VOID + (mended(ENDED[:room]) if opened else ENDED[:room]) + added)
 
-    def test_a_full_disk_ends_an_undo(self):
+    @each_of(range(len(GIVEN_BACK)))
+    def test_a_full_disk_ends_an_undo(self, room):
         """The same of what an undo adds, and of the undo after it."""
-        for room in range(len(GIVEN_BACK)):
-            with self.subTest(room=room):
-                self.begin_small(WRITTEN, VOID + ENDED)
-                said = self.use("undo", before=files_up_to(len(VOID + ENDED) + room))
-                self.assertFault(said, "journal failed", hint=FULL, journal=VOID + ENDED + GIVEN_BACK[:room])
-                flash = SMALL_FLASH if room >= len(b"erase 0\nprogram 0\n") else EMPTIED if room >= len(b"erase 0\n") else WRITTEN
-                self.assertHolds(flash, b"idle\n")
-                self.assertTold(self.use("undo"), "undone 1\n", holds=(SMALL_FLASH, b"idle\n"))
-                # the page at work is written though it reads right
-                self.assertFile("journal", VOID + mended(ENDED + GIVEN_BACK[:room]) + GIVEN_BACK)
+        self.begin_small(WRITTEN, VOID + ENDED)
+        said = self.use("undo", before=files_up_to(len(VOID + ENDED) + room))
+        self.assertFault(said, "journal failed", hint=FULL, journal=VOID + ENDED + GIVEN_BACK[:room])
+        flash = SMALL_FLASH if room >= len(b"erase 0\nprogram 0\n") else EMPTIED if room >= len(b"erase 0\n") else WRITTEN
+        self.assertHolds(flash, b"idle\n")
+        self.assertTold(self.use("undo"), "undone 1\n", holds=(SMALL_FLASH, b"idle\n"))
+        # the page at work is written though it reads right
+        self.assertFile("journal", VOID + mended(ENDED + GIVEN_BACK[:room]) + GIVEN_BACK)
 
     def test_a_full_disk_keeps_the_simulators_files(self):
         """What the disk has no room for is told, and a flash of which a part alone was written isn't there."""
@@ -247,20 +242,19 @@ class Disk(Place):
         self.assertTold(said, "undone 1\n")
         self.assertEqual(synced, whole)
 
-    def test_an_undo_is_told_once_the_flash_stands(self):
+    @each_of((1, 2))
+    def test_an_undo_is_told_once_the_flash_stands(self, erases):
         """The disk has room for the journal, and none for the flash: what was undone in memory alone isn't said to be."""
-        for erases in (1, 2):
-            with self.subTest(erases=erases):
-                self.begin(COUNTING)
-                for page in range(erases):
-                    self.assertTold(self.use("erase", str(page)), f"segment {page + 1}: 1 pages erased\n")
-                journal, flash = self.held("journal"), self.held("flash")
-                for _ in range(2):
-                    self.assertFault(self.use("undo", before=files_up_to(20000)), "cannot write flash")
-                    self.assertNotIn(b"undone", self.held("journal"))
-                    self.assertTrue(self.held("journal").startswith(journal))
-                    self.assertFile("flash", flash)
-                self.assertTold(self.use("undo"), f"undone {erases}\n", holds=(COUNTING, b"idle\n"))
+        self.begin(COUNTING)
+        for page in range(erases):
+            self.assertTold(self.use("erase", str(page)), f"segment {page + 1}: 1 pages erased\n")
+        journal, flash = self.held("journal"), self.held("flash")
+        for _ in range(2):
+            self.assertFault(self.use("undo", before=files_up_to(20000)), "cannot write flash")
+            self.assertNotIn(b"undone", self.held("journal"))
+            self.assertTrue(self.held("journal").startswith(journal))
+            self.assertFile("flash", flash)
+        self.assertTold(self.use("undo"), f"undone {erases}\n", holds=(COUNTING, b"idle\n"))
 
 
 class OverSocket(Served):

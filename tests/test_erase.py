@@ -1,25 +1,14 @@
 """What `erase` makes of a flash and a journal, and how it is undone."""
 
-from place import ERASED, ZEROS, Place, new, with_page
+from place import ERASED, ZEROS, Place, each_of, new, with_page
 
-HEAD = b"stmjournal 2 0412\nopen 1\npage 5 "
 PAGES = "usage: give pages or --all"
-# words of `erase`, and what is said of them: a bad number comes before a stop of a socket, and that before the pages
-REFUSED = (
-    ("sim:0412:F", (), PAGES),
-    ("sim:0412:F", ("--all", "3"), PAGES),
-    ("sim:0412:F", ("3", "65536"), "usage: bad number 65536"),
-    *(("sim:0412:F", (pages,), f"usage: bad number {pages}") for pages in ("9-4", "4-65536", "4-", "4-5-6", "4-05")),
-    ("socket", ("--stop", "1", "03"), "usage: bad number 03"),
-    ("socket", ("--stop", "1"), "usage: --stop needs a simulator"),
-    ("socket", (), PAGES),
-)
 
 
 class Erase(Place):
     def test_undoes_a_stopped_erase(self):
         """Stopped after the two bytes of the command, with the intent in the journal; then undone."""
-        stopped = with_page(HEAD, b"0", b"\nerase 5\n")
+        stopped = with_page(b"stmjournal 2 0412\nopen 1\npage 5 ", b"0", b"\nerase 5\n")
         self.store("flash", ZEROS)
         self.assertFault(self.use("erase", "--stop", "3190", "5"), "stopped", 3, holds=(ZEROS, b"rest 43BC\n"), journal=stopped)
         self.assertTold(self.use("undo"), "undone 1\n", holds=(ZEROS, b"idle\n"), journal=stopped + b"erase 5\nprogram 5\nundone 1\n")
@@ -48,8 +37,16 @@ class Erase(Place):
         self.store("flash", ZEROS)
         self.assertFault(self.use("erase", "5", "32"), "address outside the flash", holds=(ZEROS, b"idle\n"), journal=None)
 
-    def test_says_which_pages_it_wants(self):
-        self.each(REFUSED, lambda device, words, text: self.assertFault(self.use("erase", *words, device=device), text, 2))
+    @each_of((("sim:0412:F", (), PAGES),
+              ("sim:0412:F", ("--all", "3"), PAGES),
+              ("sim:0412:F", ("3", "65536"), "usage: bad number 65536"),
+              *(("sim:0412:F", (pages,), f"usage: bad number {pages}") for pages in ("9-4", "4-65536", "4-", "4-5-6", "4-05")),
+              ("socket", ("--stop", "1", "03"), "usage: bad number 03"),
+              ("socket", ("--stop", "1"), "usage: --stop needs a simulator"),
+              ("socket", (), PAGES)))
+    def test_says_which_pages_it_wants(self, device, words, text):
+        """A bad number comes before a stop of a socket, and that before the pages."""
+        self.assertFault(self.use("erase", *words, device=device), text, 2)
 
     def test_a_full_journal_takes_no_command(self):
         """As many segments as there can be, all ended: reading goes on, and nothing is added."""
@@ -58,12 +55,3 @@ class Erase(Place):
         self.assertFault(self.use("erase", "5"), "journal is full")
         self.assertFault(self.use_image("write", b"", "-S", "0x08000000"), "journal is full")
         self.assertTold(self.use_image("verify", b"\xff", "-S", "0x08000000"), "verified 1 bytes\n", journal=journal)
-
-    def test_a_journal_has_a_file_of_its_own(self):
-        """A journal in the simulator's own file would be lost when that is written."""
-        self.store("flash", ZEROS)
-        table = self.held("table")
-        for journal in ("flash", "flash.line", "table", "./flash", self.path("table")):
-            with self.subTest(journal=journal):
-                self.assertFault(self.use("erase", "5", journal=journal), f"cannot write {journal}")
-        self.assertFiles({"flash": ZEROS, "flash.line": None, "table": table})

@@ -11,15 +11,19 @@ import time
 import typing
 
 from place import Place, is_slow
+from test_protected import erase
 
-# by the chip's number: its runs of pages, and of how many bytes a page's number is in an erase
-CHIPS = {
-    "0410": ([(128, 1024)], 1),
-    "0413": ([(4, 16384), (1, 65536), (7, 131072)], 2),
-    "0440": ([(64, 1024)], 2),
-    "0A02": ([(512, 256)], 2),
+from device import Chip
+
+# by the chip's number: how it is erased, and its runs of pages
+RUNS = {
+    "0410": ("page", [[128, 1024]]),
+    "0413": ("extended", [[4, 16384], [1, 65536], [7, 131072]]),
+    "0440": ("extended", [[64, 1024]]),
+    "0A02": ("extended", [[512, 256]]),
 }
-KINDS = {1: "page", 2: "extended"}
+CHIPS = {number: Chip(int(number, 16), 0x08000000, [size for count, size in runs for _ in range(count)], kind == "extended", 0xFF)
+         for number, (kind, runs) in RUNS.items()}
 # how many undos go on at once; of how many devices one was reset, and of how many pages one is tried where all take long
 AT_ONCE, RESET_ONE_IN, SLOW_ONE_IN = 4, 8, 8
 # a page is large from so many bytes on, and behind page 1 the page of this number may be erased
@@ -35,31 +39,22 @@ class Stop(typing.NamedTuple):
     is_reset: bool
 
 
-def sizes(chip):
-    return [size for count, size in CHIPS[chip][0] for _ in range(count)]
-
-
 def frame(chip, page):
-    """The frame that erases one page: the code and its complement, how many there are but one, the page, and the check."""
-    width = CHIPS[chip][1]
-    number = page.to_bytes(width, "big")
-    check = 0
-    for byte in number:
-        check ^= byte
-    return (b"\x43\xbc" if width == 1 else b"\x44\xbb") + bytes(width) + number + bytes([check])
+    """The frame that erases one page."""
+    return erase(page, width=1 + CHIPS[chip].extended)
 
 
 def all_stops():
-    return (Stop(chip, page, sent, is_reset) for chip in CHIPS for page in range(len(sizes(chip)))
+    return (Stop(chip, page, sent, is_reset) for chip in CHIPS for page in range(CHIPS[chip].pages())
             for sent in range(len(frame(chip, page)) + 1) for is_reset in (False, True))
 
 
 def some_stops(chance):
     """One stop of each page, or of some."""
     for chip in CHIPS:
-        pages = range(len(sizes(chip)))
+        pages = range(CHIPS[chip].pages())
         if is_slow():
-            large = [page for page in pages if sizes(chip)[page] >= LARGE]
+            large = [page for page in pages if CHIPS[chip].sizes[page] >= LARGE]
             pages = [page for page in pages if page not in large and (page < 2 or chance.randrange(SLOW_ONE_IN) == 0)] + large[:1]
         for page in pages:
             yield Stop(chip, page, chance.randint(0, len(frame(chip, page))), chance.randrange(RESET_ONE_IN) == 0)
@@ -68,21 +63,20 @@ def some_stops(chance):
 class EveryPage(Place):
     def setUp(self):
         super().setUp()
-        entries = (f'[[chip]]\nid = 0x{chip}\nbase = 0x08000000\npages = {[list(it) for it in runs]}\nerase = "{KINDS[width]}"\n'
-                   for chip, (runs, width) in CHIPS.items())
+        entries = (f'[[chip]]\nid = 0x{chip}\nbase = 0x08000000\npages = {runs}\nerase = "{kind}"\n' for chip, (kind, runs) in RUNS.items())
         self.store("table", "".join(entries).encode())
-        self.flashes = {chip: bytes(i % 251 for i in range(sum(sizes(chip)))) for chip in CHIPS}
+        self.flashes = {number: bytes(i % 251 for i in range(chip.size)) for number, chip in CHIPS.items()}
 
     def undo(self, number, stop):
         """What is wrong behind an undo; None: nothing."""
         flash, journal = f"flash-{number}", f"journal-{number}"
         before, whole = self.flashes[stop.chip], frame(stop.chip, stop.page)
-        start, end = self.place_of(stop.chip, stop.page)
+        part = CHIPS[stop.chip].part(stop.page)
         is_whole = stop.sent == len(whole)
-        self.store(flash, before[:start] + b"\xff" * (end - start) + before[end:] if is_whole else before)
+        self.store(flash, before[:part.start] + b"\xff" * (part.stop - part.start) + before[part.stop:] if is_whole else before)
         stands = f"rest {whole[:stop.sent].hex().upper()}" if stop.sent and not is_whole else "idle"
         self.store(flash + ".line", b"fresh\n" if stop.is_reset else f"{stands}\n".encode())
-        pages = [stop.page] + [COMPANION] * (stop.page == 1 and COMPANION < len(sizes(stop.chip)))
+        pages = [stop.page] + [COMPANION] * (stop.page == 1 and COMPANION < CHIPS[stop.chip].pages())
         kept = f"stmjournal 2 {stop.chip}\nopen 1\n" + "".join(self.kept(stop.chip, page) for page in reversed(pages))
         kept += f"erase {stop.page}\n"
         self.store(journal, kept.encode())
@@ -94,20 +88,15 @@ class EveryPage(Place):
         due = kept + "".join(f"erase {page}\nprogram {page}\n" for page in pages) + "undone 1\n"
         return None if after == due else f"{stop}: {after[len(kept):]}"
 
-    def place_of(self, chip, page):
-        start = sum(sizes(chip)[:page])
-        return start, start + sizes(chip)[page]
-
     def kept(self, chip, page):
         """The line of a journal that keeps a page."""
-        start, end = self.place_of(chip, page)
-        return f"page {page} {self.flashes[chip][start:end].hex().upper()}\n"
+        return f"page {page} {self.flashes[chip][CHIPS[chip].part(page)].hex().upper()}\n"
 
     def test_an_erase_that_was_stopped_is_undone(self):
         seed = time.time_ns()
         stops = list(all_stops() if os.environ.get("STMFLASH_LONG") == "1" else some_stops(random.Random(seed)))
         if not is_slow():
-            self.assertEqual(len({(it.chip, it.page) for it in stops}), sum(len(sizes(chip)) for chip in CHIPS))
+            self.assertEqual(len({(it.chip, it.page) for it in stops}), sum(map(Chip.pages, CHIPS.values())))
         with concurrent.futures.ThreadPoolExecutor(AT_ONCE) as pool:
             told = list(pool.map(self.undo, range(len(stops)), stops))
         wrong = [it for it in told if it is not None]

@@ -6,7 +6,7 @@ import signal
 import socket
 
 import syncs
-from place import COUNTING, ERASED, TABLE, ZEROS, Place, Said, all_from, files, new, served
+from place import COUNTING, ERASED, TABLE, ZEROS, Place, Said, all_from, each_of, files, new, served
 from test_disk import files_up_to
 
 NO_OUTPUT = "it is no file, terminal or pipe that is read"
@@ -14,20 +14,21 @@ NO_OUTPUT = "it is no file, terminal or pipe that is read"
 
 class Files(Place):
     def test_names_that_mean_one_file(self):
-        """The journal in place of the simulator's files, of the image and of the table, whether these are there or not."""
+        """The journal in place of the simulator's files, which would be lost there, of the image and of the table, whether these are there or not."""
         self.store("image", b"\xaa")
         for flash in (None, ZEROS):
             if flash is not None:
                 self.store("N", flash)
                 os.link(self.path("N"), self.path("hard"))
                 os.symlink("N", self.path("soft"))
-            names = ["./N", "./N.line", self.path("N"), "image", "./image", "table"]
+            names = ["N", "N.line", "./N", "./N.line", self.path("N"), "image", "./image", "table", self.path("table")]
             names += ["hard", "soft"] if flash else []
             for journal in names:
                 with self.subTest(journal=journal, flash=flash is not None):
-                    said = self.use("write", "-S", "0x08000000", "image", device="sim:0412:N", journal=journal)
-                    self.assertFault(said, f"cannot write {journal}")
-                    self.assertFiles({"N": flash, "N.line": None, "image": b"\xaa"})
+                    # an erase has no image
+                    for words in (("write", "-S", "0x08000000", "image"), ("erase", "5"))[:1 if "image" in journal else 2]:
+                        self.assertFault(self.use(*words, device="sim:0412:N", journal=journal), f"cannot write {journal}")
+                    self.assertFiles({"N": flash, "N.line": None, "image": b"\xaa", "table": TABLE})
 
     def test_names_in_two_folders_are_two(self):
         """Of files that aren't there, which have one name."""
@@ -46,13 +47,19 @@ class Files(Place):
         self.assertFalse(self.is_there("second"))
 
     def test_out_is_none_of_the_other_files(self):
+        """Whether these are there or not."""
+        os.symlink("journal", self.path("link"))
+        names = ["journal", "./journal", "link", "flash", "./flash", "flash.line", "./flash.line", "table", self.path("table")]
+        self.store("journal", b"stmjournal 1 0412\n")
+        self.each(names, lambda out: self.assertFault(self.use("read", out), f"cannot write {out}"))
+        self.assertFile("journal", b"stmjournal 1 0412\n")
+        self.assertHolds(None, None)
         self.store("flash", COUNTING)
         self.assertTold(self.use("erase", "5"), "segment 1: 1 pages erased\n")
         journal, flash = self.held("journal"), self.held("flash")
         os.link(self.path("journal"), self.path("hard"))
         os.symlink("flash.line", self.path("soft"))
-        self.each(("hard", "soft", "./journal", "./flash", "./flash.line", "table"),
-                  lambda out: self.assertFault(self.use("read", out), f"cannot write {out}"))
+        self.each((*names, "hard", "soft"), lambda out: self.assertFault(self.use("read", out), f"cannot write {out}"))
         self.assertFile("journal", journal)
         self.assertHolds(flash, b"idle\n")
 
@@ -100,24 +107,22 @@ class Files(Place):
                         self.assertEqual(os.readlink(self.path(name)), "flash.board")
                 self.remove(name)
 
-    def test_names_that_end_in_new(self):
+    @each_of(("flash.new", "flash.0.new", "out.stmflash-0.new", "flash.line.0.new"))
+    def test_names_that_end_in_new(self, name):
         """What is written beside a file has a name that no file has, and follows no link."""
-        self.store("victim", b"mine")
-        for name in ("flash.new", "flash.0.new", "out.stmflash-0.new", "flash.line.0.new"):
-            with self.subTest(name=name):
-                self.store("flash", COUNTING)
-                self.assertTold(self.use("erase", "5", journal=name), "segment 1: 1 pages erased\n")
-                self.assertTold(self.use("undo", journal=name), "undone 1\n", flash=COUNTING)
-                self.remove(name)
-                self.assertSilent(self.use("read", name))
-                self.assertFile(name, COUNTING)
-                self.remove(name)
-                os.symlink("victim", self.path(name))
-                self.assertSilent(self.use("read", "out"), out=COUNTING, victim=b"mine")
-                self.remove(name, "out")
-                os.mkfifo(self.path(name))
-                self.assertSilent(self.use("read", "out"), out=COUNTING)
-                self.remove(name, "out")
+        self.store_all({"victim": b"mine", "flash": COUNTING})
+        self.assertTold(self.use("erase", "5", journal=name), "segment 1: 1 pages erased\n")
+        self.assertTold(self.use("undo", journal=name), "undone 1\n", flash=COUNTING)
+        self.remove(name)
+        self.assertSilent(self.use("read", name))
+        self.assertFile(name, COUNTING)
+        self.remove(name)
+        os.symlink("victim", self.path(name))
+        self.assertSilent(self.use("read", "out"), out=COUNTING, victim=b"mine")
+        self.remove(name, "out")
+        os.mkfifo(self.path(name))
+        self.assertSilent(self.use("read", "out"), out=COUNTING)
+        self.remove(name, "out")
 
     def test_out_is_replaced_whole_or_not_at_all(self):
         older = b"older" * 20000
@@ -199,7 +204,9 @@ class Files(Place):
         for out in ("absent/out", "folder"):
             with self.subTest(out=out):
                 os.makedirs(self.path("folder"), exist_ok=True)
-                self.assertFault(self.use("read", out, device="absent-board"), f"cannot write {out}")
+                for device in ("absent-board", "sim:0412:flash"):
+                    self.assertFault(self.use("read", out, device=device), f"cannot write {out}")
+        self.assertFalse(self.is_there("absent"))
         self.store("out", b"older")
         self.assertFault(self.use("read", "out", device="absent-board"), "cannot connect absent-board", out=b"older")
         self.assertEqual([name for name in os.listdir(self.folder) if name.startswith("out")], ["out"])
@@ -305,25 +312,23 @@ class Files(Place):
         self.assertTold(self.use("erase", "6"), "segment 2: 0 pages erased\n", new(2))
         self.assertEqual(os.stat(self.path("journal")).st_mode & 0o777, 0o640)
 
-    def test_what_a_killed_program_left_is_removed(self):
+    @each_of(itertools.product(range(4), (None, COUNTING)))
+    def test_what_a_killed_program_left_is_removed(self, kills, begun):
         """By the next one that has the simulator's file; a file of another name stays."""
         mine = {"flash.0.new": b"mine", "flash.new": b"mine", "flash.stmflash-x.new": b"mine"}
-        for kills, begun in itertools.product(range(4), (None, COUNTING)):
-            with self.subTest(kills=kills, begun=begun is not None):
-                self.store_all({"flash": begun, "flash.line": None, **mine})
-                self.assertEqual(self.use_held(syncs.kill_at(kills), "info")[0].status, -signal.SIGKILL)
-                self.assertWell(self.use("info"))
-                self.assertEqual({name for name in os.listdir(self.folder) if name.endswith(".new")}, set(mine))
-                self.remove(*mine)
+        self.store_all({"flash": begun, "flash.line": None, **mine})
+        self.assertEqual(self.use_held(syncs.kill_at(kills), "info")[0].status, -signal.SIGKILL)
+        self.assertWell(self.use("info"))
+        self.assertEqual({name for name in os.listdir(self.folder) if name.endswith(".new")}, set(mine))
+        self.remove(*mine)
 
-    def test_all_that_killed_programs_left_is_removed(self):
+    @each_of((COUNTING, None))
+    def test_all_that_killed_programs_left_is_removed(self, begun):
         """However many they were, also where the flash is made anew."""
-        for begun in (COUNTING, None):
-            with self.subTest(begun=begun is not None):
-                left = {f"{name}.stmflash-{number}.new": b"left" for name in ("flash", "flash.line") for number in range(3)}
-                self.store_all({"flash": begun, "flash.line": None, **left})
-                self.assertWell(self.use("info"))
-                self.assertEqual([name for name in os.listdir(self.folder) if name.endswith(".new")], [])
+        left = {f"{name}.stmflash-{number}.new": b"left" for name in ("flash", "flash.line") for number in range(3)}
+        self.store_all({"flash": begun, "flash.line": None, **left})
+        self.assertWell(self.use("info"))
+        self.assertEqual([name for name in os.listdir(self.folder) if name.endswith(".new")], [])
 
     def test_what_is_read_is_a_regular_file(self):
         """A pipe without a writer would be waited for, and a device may have no end."""
@@ -347,15 +352,14 @@ class Files(Place):
         self.each(("/dev/stdin", "/dev/fd/0"),
                   lambda name: self.assertTold(self.use("verify", "-S", "0x08000005", name, given=COUNTING[5:500]), "verified 495 bytes\n"))
 
-    def test_a_table_may_come_from_standard_input(self):
+    @each_of(("/dev/stdin", "/dev/fd/0"))
+    def test_a_table_may_come_from_standard_input(self, name):
         """Also by a pipe, whose bytes come once; and of a simulator that is served."""
         self.store("image", b"\xaa")
-        for name in ("/dev/stdin", "/dev/fd/0"):
-            with self.subTest(name=name):
-                words = ("write", "-v", "--keep", "--again", "2", "--table", name, *files()[2:], "image")
-                self.assertTold(self.call(*words, given=TABLE), "segment 1: 1 pages written\nverified 1 bytes\nkept 1\n")
-                self.remove("flash", "flash.line")
-                self.assertFault(self.call(*served(at="table", table=name), given=TABLE), "cannot connect table")
+        words = ("write", "-v", "--keep", "--again", "2", "--table", name, *files()[2:], "image")
+        self.assertTold(self.call(*words, given=TABLE), "segment 1: 1 pages written\nverified 1 bytes\nkept 1\n")
+        self.remove("flash", "flash.line")
+        self.assertFault(self.call(*served(at="table", table=name), given=TABLE), "cannot connect table")
 
     def test_files_without_an_end(self):
         self.store("flash", COUNTING)

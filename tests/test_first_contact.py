@@ -4,9 +4,9 @@ import random
 import typing
 
 from place import is_slow, text_in
-from test_chips import CHIPS, Geometry
+from test_chips import CHIPS, chip_of, flash_of
 from test_greeting import SPEED, Undoing
-from test_protected import check
+from test_protected import BASE, erase, write_to
 
 # pages whose settling bytes are FF and 02; larger ones take long
 LATE_PAGES, LARGE = (255, 511), 4096
@@ -22,34 +22,26 @@ class ChipStop(typing.NamedTuple):
     page: int
     part: float
 
-    def geometry(self):
-        return Geometry(CHIPS[self.chip])
-
     def place(self):
-        pages = self.geometry().pages
-        start = sum(pages[:self.page])
-        return slice(start, start + pages[self.page])
+        return chip_of(self.chip).part(self.page)
 
     def frame(self):
-        chip = self.geometry()
+        chip = chip_of(self.chip)
         if self.command == "erase":
-            width = 1 if chip.erase == "43" else 2
-            body = (0).to_bytes(width, "big") + self.page.to_bytes(width, "big")
-            return (b"\x43\xbc" if width == 1 else b"\x44\xbb") + body + bytes([check(body)])
-        address, data = (chip.base + self.place().start).to_bytes(4, "big"), b"\xff" + bytes(range(256))
-        return b"\x31\xce" + address + bytes([check(address)]) + data + bytes([check(data)])
+            return erase(self.page, width=1 + chip.extended)
+        return write_to(chip.base - BASE + self.place().start, bytes(range(256)))
 
     def journal(self):
-        kept = self.geometry().flash()[self.place()].hex().upper()
+        kept = flash_of(self.chip)[self.place()].hex().upper()
         intents = f"erase {self.page}\n" + f"program {self.page}\n" * (self.command == "write")
         return f"stmjournal 2 {self.chip}\nopen 1\npage {self.page} {kept}\n{intents}".encode()
 
     def stands(self):
         """The flash and the line that are left; a reset leaves nothing of a frame but what a whole one has done."""
-        chip, frame = self.geometry(), self.frame()
-        flash, sent = bytearray(chip.flash()), round(self.part * len(frame))
+        chip, frame = chip_of(self.chip), self.frame()
+        flash, sent = bytearray(flash_of(self.chip)), round(self.part * len(frame))
         if self.command == "write" or sent == len(frame):
-            flash[self.place()] = bytes([chip.erased]) * chip.pages[self.page]
+            flash[self.place()] = bytes([chip.erased]) * chip.sizes[self.page]
         return bytes(flash), b"fresh\n"
 
 
@@ -57,14 +49,14 @@ def stops():
     """An erase and a write of a page, or of some, of each chip that has none too large."""
     draws = random.Random(59)
     for number in sorted(CHIPS):
-        chip = Geometry(CHIPS[number])
+        chip = chip_of(number)
         # a slow program has the small ones
         if chip.size > (128 << 10 if is_slow() else 1 << 20):
             continue
-        last = len(chip.pages) - 1
-        pages = {min(last, draws.randrange(2, 250)), *(page for page in LATE_PAGES if page <= last and chip.erase == "44")}
+        last = chip.pages() - 1
+        pages = {min(last, draws.randrange(2, 250)), *(page for page in LATE_PAGES if page <= last and chip.extended)}
         for page in sorted(pages):
-            if chip.pages[page] <= LARGE:
+            if chip.sizes[page] <= LARGE:
                 yield from (ChipStop(number, command, page, draws.random()) for command in ("erase", "write"))
 
 
@@ -74,7 +66,7 @@ class FirstContact(Undoing):
         self.begin(room, stop, True)
         said, sent = self.undo(room, stop.chip, *SPEED)
         self.assertTold(said, "undone 1\n")
-        self.assertFile(f"{room}/flash", stop.geometry().flash())
+        self.assertFile(f"{room}/flash", flash_of(stop.chip))
         # connected by the first byte, it refuses the second pair's, so that one batch is enough
         byte = 2 if stop.command == "write" or stop.page > 255 else stop.page
         self.assertEqual(sent[:258], b"\x7f" + bytes(257 * [byte]))

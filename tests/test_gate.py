@@ -13,13 +13,12 @@ import shlex
 import shutil
 import subprocess
 import sys
-import tempfile
 import threading
 import time
 import types
 import unittest.mock
 
-from place import TOP, text_in
+from place import TOP, Place, text_in
 
 
 def script(*names):
@@ -44,25 +43,16 @@ def shell(text, *more):
     return GATE.Step(shlex.join(["sh", "-c", text]), *more)
 
 
-class Room(unittest.TestCase):
-    """A test with a folder of its own."""
-
-    def setUp(self):
-        folder = tempfile.TemporaryDirectory(prefix="stmflash-")
-        self.addCleanup(folder.cleanup)
-        self.folder = folder.name
-
+class Room(Place):
     def named(self, name):
         """The path of a file there, as a shell reads it."""
-        return shlex.quote(os.path.join(self.folder, name))
+        return shlex.quote(self.path(name))
 
-    def put(self, path, text):
+    def put(self, name, text):
         """Writes a file there, and answers its path."""
-        path = os.path.join(self.folder, path)
-        os.makedirs(os.path.dirname(path), exist_ok=True)
-        with open(path, "w", encoding="utf-8") as file:
-            file.write(text)
-        return path
+        os.makedirs(os.path.dirname(self.path(name)), exist_ok=True)
+        self.store(name, text.encode())
+        return self.path(name)
 
 
 class Gate(Room):
@@ -149,7 +139,7 @@ class Gate(Room):
 
     def test_a_step_without_its_tools_is_left_out_where_the_call_names_them(self):
         """They are among those that CI installs. Here sh has nothing else but what its first lines call."""
-        os.symlink(shutil.which("dirname"), os.path.join(self.folder, "dirname"))
+        os.symlink(shutil.which("dirname"), self.path("dirname"))
         installed = set(text_in("tools", "packages").replace('"', " ").split())
         for script in ("arm64", "web", "windows"):
             needs = re.findall(r"([\w-]+):\S", re.search(r"for need in ((?:.|\n)*?);", text_in(script, "try"))[1])
@@ -230,7 +220,7 @@ class KeptModule(Room):
     """tools/unproved.py: what the demo made of the whole program is taken for 64-bit ARM where it is of the same text."""
 
     def test_a_module_is_taken_for_the_very_text_that_it_is_of(self):
-        unproved, top, kept = script("tools", "unproved.py"), os.path.join(self.folder, "top"), os.path.join(self.folder, "kept")
+        unproved, top, kept = script("tools", "unproved.py"), self.path("top"), self.path("kept")
         self.put("top/crates/one/src/lib.rt", "one")
         self.assertFalse(unproved.is_kept(kept, top))
         unproved.keep(self.put("module", "a module"), kept, top)
@@ -263,10 +253,10 @@ class Weight(Room):
         super().setUp()
         subprocess.run(["git", "init", "-q", self.folder], check=True)
         for path in (*self.FILES, *self.MADE):
-            self.store(path, 3)
+            self.lay(path, 3)
         self.assertEqual(self.weigh("--record").returncode, 0)
 
-    def store(self, path, lines):
+    def lay(self, path, lines):
         self.put(path, self.MADE.get(path, "") + self.FIRST.get(path, "") + "word\n" * lines)
 
     def weigh(self, *words):
@@ -276,18 +266,18 @@ class Weight(Room):
         self.assertEqual((self.weigh("--check").returncode, self.weigh("--check").stderr), (0, ""))
         for path, group in self.FILES.items():
             with self.subTest(path=path):
-                self.store(path, 4)
+                self.lay(path, 4)
                 ran = self.weigh("--check")
                 self.assertEqual(ran.returncode, 1)
                 self.assertRegex(ran.stderr, rf"^weight: {group}: (\d+), and its record is \d+ \(tools/weight.toml\)\n$")
-                self.store(path, 3)
+                self.lay(path, 3)
         for path in self.MADE:
-            self.store(path, 40)
+            self.lay(path, 40)
         self.assertEqual(self.weigh("--check").returncode, 0)
 
     def test_the_record_falls_and_never_rises(self):
         for lines, records, status in ((9, True, 1), (1, True, 0), (2, False, 1)):
-            self.store("tests/a.py", lines)
+            self.lay("tests/a.py", lines)
             if records:
                 self.weigh("--record")
             self.assertEqual(self.weigh("--check").returncode, status, lines)

@@ -1,13 +1,11 @@
 """Devices that answer nothing, or something else, or late, and when they are given up."""
 
 import itertools
-import socket
-import threading
 import time
 
 from hostile import be_noisy, be_silent, echo, repeating
-from place import ECHO, NOISE, PATIENCE, SILENT, ZEROS, Said, readable, with_page
-from served import Served
+from place import ECHO, NOISE, PATIENCE, SILENT, ZEROS, Said, each_of, with_page
+from served import Peer, Served
 
 NO_ANSWER = Said(1, b"", b"stmflash: no answer from the device\n")
 PROTOCOL = Said(1, b"", b"stmflash: device does not follow the protocol\n")
@@ -21,25 +19,6 @@ WIDE = b'[[chip]]\nid = 0x414\nbase = 0x08000000\npages = [[256, 2048]]\nerase =
 def hinted(said, hint):
     """The same, and what came."""
     return said._replace(err=said.err + f"hint: {hint}\n".encode())
-
-
-class Peer:
-    """A listener that hands each of its lines to a function, in a thread of its own."""
-
-    def __init__(self, test, name, serve):
-        self.serve, self.ending, self.listener = serve, threading.Event(), test.listen(name)
-        self.thread = test.beside(self.listener, self.run)
-        test.addCleanup(self.ending.set)
-
-    def run(self):
-        line, _ = self.listener.accept()
-        with line:
-            self.serve(line, self.ending)
-
-    def end(self):
-        self.ending.set()
-        self.listener.shutdown(socket.SHUT_RDWR)
-        self.thread.join(PATIENCE)
 
 
 def at_peer(test, serve, name, *words, journal="journal"):
@@ -68,32 +47,6 @@ def fall_silent(line, ending):
 
 
 class GivingUp(Served):
-    def relay(self, delay, name="slow"):
-        """A peer that hands all on between the program and a simulator that is served. `delay` is asked of each piece that the
-        program sent and answers for how many seconds what follows is held back."""
-
-        def serve(line, ending):
-            board = self.connect()
-            due, held = 0.0, b""
-            while not ending.is_set():
-                heard = readable([line, board], 0.02)
-                if line in heard:
-                    came = line.recv(4096)
-                    if not came:
-                        break
-                    seconds = delay(came)
-                    if seconds:
-                        due = time.monotonic() + seconds
-                    board.sendall(came)
-                if board in heard:
-                    held += board.recv(4096)
-                if held and time.monotonic() >= due:
-                    line.sendall(held)
-                    held = b""
-            self.leave(board)
-
-        Peer(self, name, serve)
-
     def answer(self, serve, *words, name="info"):
         """What a subcommand says to a peer, and for how many seconds it was at it."""
         began = time.monotonic()
@@ -129,17 +82,16 @@ class GivingUp(Served):
                 self.store_all({"flash": ZEROS, "flash.line": b"fresh\n",
                                 "journal": with_page(b"stmjournal 2 0412\nopen 1\npage 5 ", b"0", b"\nerase 5\n" + greeting)})
                 self.serve(1)
-                self.relay(lambda came: 0.5 if came == b"\x7f" else 0, f"slow{number}")
+                self.delayed(lambda came: 0.5 if came == b"\x7f" else 0, f"slow{number}")
                 self.assertTold(self.use("undo", "--wait", "900", "--give-up", give_up, device=f"slow{number}"), "undone 1\n")
                 self.assertServed()
 
-    def test_noise_is_no_answer(self):
-        for serve in (be_noisy, hiss):
-            with self.subTest(serve.__name__):
-                said, seconds = self.answer(serve, *HASTY)
-                # what is random may begin as an answer does
-                self.assertIn(said, (NO_ANSWER, PROTOCOL, hinted(NO_ANSWER, NOISE), hinted(PROTOCOL, NOISE)))
-                self.assertLess(seconds, 60)
+    @each_of((be_noisy, hiss))
+    def test_noise_is_no_answer(self, serve):
+        said, seconds = self.answer(serve, *HASTY)
+        # what is random may begin as an answer does
+        self.assertIn(said, (NO_ANSWER, PROTOCOL, hinted(NO_ANSWER, NOISE), hinted(PROTOCOL, NOISE)))
+        self.assertLess(seconds, 60)
 
     def test_a_device_that_falls_silent_is_given_up(self):
         """A reply that comes at once, or not at all."""
@@ -157,7 +109,7 @@ class GivingUp(Served):
         for number, (words, last, least, most) in enumerate(cases):
             with self.subTest(words=words, last=last):
                 self.serve(1)
-                self.relay(lambda came, last=last: 100 if came == last else 0, f"slow{number}")
+                self.delayed(lambda came, last=last: 100 if came == last else 0, f"slow{number}")
                 began = time.monotonic()
                 said = self.use(*words, "--wait", "200", "--give-up", "2", device=f"slow{number}")
                 seconds = time.monotonic() - began
@@ -180,7 +132,7 @@ class GivingUp(Served):
         """A device that says nothing for six seconds, in which a host sends 24 bytes."""
         waits = [6]
         self.serve(1)
-        self.relay(lambda _: waits.pop() if waits else 0)
+        self.delayed(lambda _: waits.pop() if waits else 0)
         self.assertWell(self.use("info", "--wait", "250", "--give-up", "0", device="slow"))
         self.assertServed()
 
@@ -208,7 +160,7 @@ class GivingUp(Served):
                 return 6
             return 0
 
-        self.relay(delay)
+        self.delayed(delay)
         self.assertTold(self.use("erase", "5", "--wait", "1000", "--give-up", "2", device="slow"), "segment 1: 1 pages erased\n")
         self.assertEqual(len(slow), 1)
         self.assertServed()

@@ -6,7 +6,7 @@ import socket
 import threading
 import typing
 
-from place import PATIENCE, SILENT, files, served
+from place import PATIENCE, SILENT, each_of, files, served
 from served import Served, relay
 from test_protected import write_to
 
@@ -18,7 +18,6 @@ FLASH = bytes(i % 251 for i in range(1024))
 PAGE, SIZE = 3, 256
 BEGUN = b"stmjournal 2 %s\nopen 1\npage 3 " + FLASH[PAGE * SIZE:].hex().upper().encode() + b"\n"
 GREETING = b"connect!\n"
-SILENCE = b"silent!\n"
 # the frames that an erase and a write of page 3 send, and the line of the journal before each
 ERASES = {NARROW: bytes.fromhex("43bc000303"), WIDE: bytes.fromhex("44bb0000000303")}
 DATA = bytes(range(1, 256)) + b"\x02"
@@ -173,7 +172,7 @@ class Greeting(Undoing):
         said, sent = self.undo(room, stop.chip, *SPEED, is_away=True)
         self.assertFault(said, "no answer from the device", hint=SILENT)
         self.assertEqual(sent[:1], b"\x7f")
-        journal = stop.journal() + GREETING + SILENCE
+        journal = stop.journal() + GREETING + b"silent!\n"
         self.assertFile(f"{room}/journal", journal)
         self.store(f"{room}/flash.line", b"fresh\n")
         said, sent = self.undo(room, stop.chip, *SPEED, *words, is_deaf=True)
@@ -264,13 +263,12 @@ class Greeting(Undoing):
                     self.assertEqual(said.status, status, said)
                 self.assertUndone(room, said, stop, 0)
 
-    def test_what_was_finished(self):
+    @each_of((NARROW, WIDE))
+    def test_what_was_finished(self, chip):
         """Nothing was begun, so that nothing is greeted: the board is settled as before any session."""
-        for chip in (NARROW, WIDE):
-            with self.subTest(chip):
-                room, stop = self.room(chip), Stop(chip, "write", 265)
-                self.begin(room, stop, False)
-                self.store(f"{room}/journal", stop.journal() + b"end 1\n")
-                said, sent = self.undo(room, chip, *SPEED)
-                self.assertUndone(room, said, stop, 0)
-                self.assertEqual(sent[:4], b"\x7f\x7f\x00\xff")
+        room, stop = self.room(chip), Stop(chip, "write", 265)
+        self.begin(room, stop, False)
+        self.store(f"{room}/journal", stop.journal() + b"end 1\n")
+        said, sent = self.undo(room, chip, *SPEED)
+        self.assertUndone(room, said, stop, 0)
+        self.assertEqual(sent[:4], b"\x7f\x7f\x00\xff")

@@ -1,6 +1,6 @@
 """What is told of a device that refuses, says nothing, something else, or just what it hears: the line behind the fault's own."""
 
-from place import BUSY, ECHO, NOISE, SILENT, TABLE, UNREAD, had
+from place import BUSY, ECHO, NOISE, SILENT, TABLE, UNREAD, each_of, had
 from refusing import AT, BASE, DEVICE, NOT_ERASED, NOT_WRITTEN, SIZES, Guarded, OnBoard
 from test_giving_up import HASTY, be_silent, echo, hiss
 
@@ -55,37 +55,25 @@ class Hints(OnBoard):
         self.assertEqual(bytes(board.flash), before)
         self.remove("journal")
 
-    def test_a_page_that_is_not_erased(self):
-        told = NOT_ERASED
-        for code, kind in ((0x43, "page"), (0x44, "extended")):
-            with self.subTest(kind):
-                self.store("table", TABLE.replace(b"page\"", kind.encode() + b"\""))
-                board = Guarded("page", 5, code)
-                before = bytes(board.flash)
-                self.assertFault(self.write_on(board), DEVICE, hint=told)
-                # an undo erases the page too; what is shown of it changes nothing
-                self.assertFault(self.on(board, "undo"), DEVICE, hint=told)
-                shown = self.on(board, "undo", "--progress").err.decode().splitlines()
-                self.assertEqual(shown[-2:], [f"stmflash: {DEVICE}", f"hint: {told}"])
-                self.assertGoesBack(board, before)
+    @each_of((("page", 0x43, NOT_ERASED), ("page", 0x44, NOT_ERASED), ("write", 0x43, NOT_WRITTEN), ("data", 0x43, NOT_WRITTEN)))
+    def test_a_page_that_is_not_erased(self, step, code, told):
+        """Or isn't written. An undo does so too; what is shown of it changes nothing."""
+        self.store("table", TABLE if code == 0x43 else TABLE.replace(b'"page"', b'"extended"'))
+        board = Guarded(step, 5, code)
+        before = bytes(board.flash)
+        self.assertFault(self.write_on(board), DEVICE, hint=told)
+        self.assertFault(self.on(board, "undo"), DEVICE, hint=told)
+        shown = self.on(board, "undo", "--progress").err.decode().splitlines()
+        self.assertEqual(shown[-2:], [f"stmflash: {DEVICE}", f"hint: {told}"])
+        self.assertGoesBack(board, before)
 
-    def test_a_write_that_is_refused(self):
-        told = NOT_WRITTEN
-        for step in ("write", "data"):
-            with self.subTest(step):
-                board = Guarded(step, 5)
-                before = bytes(board.flash)
-                self.assertFault(self.write_on(board), DEVICE, hint=told)
-                self.assertGoesBack(board, before)
-
-    def test_a_command_that_is_refused(self):
-        for code, name in {0x11: "read", 0x31: "write", 0x43: "erase"}.items():
-            with self.subTest(name):
-                board = Guarded("code", code)
-                before = bytes(board.flash)
-                self.assertFault(self.write_on(board), DEVICE, hint=f"the device refused to {name}: is its flash readout-protected?")
-                # what isn't read isn't kept
-                self.assertGoesBack(board, before, had(1, left=0) if name == "read" else None)
+    @each_of({0x11: "read", 0x31: "write", 0x43: "erase"}.items())
+    def test_a_command_that_is_refused(self, code, name):
+        board = Guarded("code", code)
+        before = bytes(board.flash)
+        self.assertFault(self.write_on(board), DEVICE, hint=f"the device refused to {name}: is its flash readout-protected?")
+        # what isn't read isn't kept
+        self.assertGoesBack(board, before, had(1, left=0) if name == "read" else None)
 
     def test_a_read_that_is_refused(self):
         """Also where its count and the complement are the code of Write Memory."""
@@ -105,15 +93,14 @@ class Hints(OnBoard):
         self.assertTold(self.on(board, "undo"), "undone 1\n")
         self.assertEqual(bytes(board.flash), before)
 
-    def test_a_board_that_is_busy_at_any_step(self):
+    @each_of(range(5))
+    def test_a_board_that_is_busy_at_any_step(self, first):
         """Once, before the answer to any of the first steps: to Get, Get ID, a read's code, its address, its count."""
-        for first in range(5):
-            with self.subTest(first=first):
-                board = Busy(first, 1)
-                before = bytes(board.flash)
-                self.assertFault(self.on(board, "read", "OUT"), DEVICE, hint=BUSY)
-                self.assertSilent(self.on(board, "read", "OUT"), OUT=before)
-                self.remove("OUT")
+        board = Busy(first, 1)
+        before = bytes(board.flash)
+        self.assertFault(self.on(board, "read", "OUT"), DEVICE, hint=BUSY)
+        self.assertSilent(self.on(board, "read", "OUT"), OUT=before)
+        self.remove("OUT")
 
     def test_two_acks_for_7f(self):
         """Both are taken, also by a session that says that the board is fresh."""

@@ -13,7 +13,7 @@ import hostile
 from hostile import FLASH, Line
 from hostile_kinds import GIVE_UP, GONE, KINDS, LONG_WAIT
 from place import Place, Said, had, text_in
-from test_giving_up import Peer
+from served import Peer
 
 # how much longer than it waits for an answer a session may take, in seconds; one that took longer beside others, on a busy machine,
 # is tried again alone, so often at most, and so many of them. For the slowest command there is more beside them

@@ -35,7 +35,6 @@ FOREIGN = (
     (b"\n\n", None),
     (b"# a text\n", None),
 )
-LAST_TABLE = b'[[chip]]\nid = 0x412\nbase = 0xFFFF8000\npages = [[32, 1024]]\nerase = "page"\n'
 
 
 class Image(Place):
@@ -66,7 +65,7 @@ class Image(Place):
 
     def test_an_image_past_the_end_of_all_addresses(self):
         """Where the chip has to be known first, a fault of its journal comes before that of the image's place."""
-        self.store("table", LAST_TABLE)
+        self.store("table", b'[[chip]]\nid = 0x412\nbase = 0xFFFF8000\npages = [[32, 1024]]\nerase = "page"\n')
         image = b"\x11" * 32769
         self.assertFault(self.use_image("write", image), "image past the end")
         self.store("journal", b"stmjournal 2 0412\nopen 1\n")

@@ -3,7 +3,7 @@
 import os
 
 import syncs
-from place import Place
+from place import Place, each_of
 
 # a journal without a segment, that was left in the midst of a line
 TORN = b"stmjournal 1 0412\nopen 1\npage 5 FF0A\nend 1\nundone 1\nopen 1\nundone 1\npage 5 FF"
@@ -59,13 +59,12 @@ class Journal(Place):
             for name, words in (("info", ()), ("read", ("out",))):
                 self.assertRefused(name, words, journal, text, b"idle\n")
 
-    def test_is_read_to_its_end(self):
+    @each_of((1 << 20, 2 << 20))
+    def test_is_read_to_its_end(self, size):
         """The last line counts, past 1 MiB and past 2 MiB."""
-        for size in (1 << 20, 2 << 20):
-            with self.subTest(size=size):
-                self.store("journal", b"stmjournal 2 0412\n" + (b"." * 1022 + b"!\n") * (size >> 10) + b"open 1\n")
-                self.assertTold(self.call("log", "--journal", "journal"), "id 0412\nsegment 1: open, 0 pages\nunfinished, undo first\n")
-                self.assertFault(self.use("info"), "unfinished command, undo first")
+        self.store("journal", b"stmjournal 2 0412\n" + (b"." * 1022 + b"!\n") * (size >> 10) + b"open 1\n")
+        self.assertTold(self.call("log", "--journal", "journal"), "id 0412\nsegment 1: open, 0 pages\nunfinished, undo first\n")
+        self.assertFault(self.use("info"), "unfinished command, undo first")
 
     def test_is_read_to_its_end_before_it_is_kept(self):
         journal = b"stmjournal 2 0412\n" + (b"." * 1022 + b"!\n") * (1 << 10) + b"open 1\n"

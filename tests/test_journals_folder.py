@@ -7,11 +7,9 @@ from served import Served
 
 import telling
 
-SIZE = 131072
-COUNTING = bytes(i % 251 for i in range(SIZE))
+COUNTING = bytes(i % 251 for i in range(131072))
 # three boards of one kind
 UNIQUE = {"a": "2B0035000A51363034393332", "b": "2B0035000A5136303439333F", "c": "2B0035000A51363034393340"}
-IMAGE = b"an image"
 NO_UNIQUE = "the board tells no unique id: --journal names its journal"
 UNFINISHED = "unfinished or bad: %s; say --board and all digits of the board that is here"
 # after so many steps of its session, an erase of a board's first page has begun
@@ -34,7 +32,7 @@ class Garbled(telling.Stand):
 class JournalsFolder(Served):
     def setUp(self):
         super().setUp()
-        self.store_all({"table": telling.TABLE, "image": IMAGE})
+        self.store_all({"table": telling.TABLE, "image": b"an image"})
         os.mkdir(self.path("journals"))
         for board, unique in UNIQUE.items():
             self.store_all({board: COUNTING, f"{board}.board": f"unique {unique}\n".encode(), f"{board}.line": b"idle\n"})

@@ -5,14 +5,15 @@ import os
 import signal
 
 import syncs
-from place import Place, ZEROS, new, with_page
+from place import Place, ZEROS, each_of, new, with_page
 from test_disk import files_up_to
 
 IMAGE = b"\x00" * 1024
 WRITTEN = "segment 1: 1 pages written\n"
 OPEN = "journal is open, refused"
-UNFINISHED = "unfinished command, undo first"
 BAD = b"stmjournal 1 0412\nopen 2\n"
+# the words of each way to keep a journal
+WAYS = ((), ("elsewhere",), ("--last", "1"))
 
 
 class Keeping(Place):
@@ -44,7 +45,7 @@ class Keep(Keeping):
         self.assertTold(self.keep(), "kept 1\n")
         self.assertFalse(self.is_there("journal"))
         self.assertFile("flash", flash)
-        for words in ((), ("elsewhere",)):
+        for words in WAYS:
             self.assertFault(self.keep(*words), "cannot read journal", elsewhere=None)
 
     def test_frees_go_and_protect(self):
@@ -66,15 +67,15 @@ class Keep(Keeping):
         """A write that was stopped, and an undo that was."""
         self.store("flash", ZEROS)
         self.assertFault(self.use("erase", "--stop", "3190", "5"), "stopped", 3)
-        for words in ((), ("elsewhere",)):
-            journal = self.held("journal")
-            self.assertFault(self.keep(*words), UNFINISHED, journal=journal, elsewhere=None)
+        journal = self.held("journal")
+        for words in WAYS:
+            self.assertFault(self.keep(*words), "unfinished command, undo first", journal=journal, elsewhere=None)
         self.assertTold(self.use("undo"), "undone 1\n")
         self.assertTold(self.keep(), "kept 0\n", journal=None)
 
     def test_refuses_a_bad_journal(self):
-        for words in ((), ("elsewhere",)):
-            self.store("journal", BAD)
+        self.store("journal", BAD)
+        for words in WAYS:
             self.assertFault(self.keep(*words), "bad journal line 2", journal=BAD, elsewhere=None)
 
     def test_renames_the_journal(self):
@@ -111,21 +112,20 @@ class Keep(Keeping):
         said, _ = self.keep_held(held=syncs.LINK, at=lambda number, process: self.store("elsewhere", b"mine"))
         self.assertFault(said, "cannot write elsewhere", journal=journal, elsewhere=b"mine")
 
-    def test_a_kill_leaves_one_name_or_both(self):
+    @each_of(((None, 0), (0, None)))
+    def test_a_kill_leaves_one_name_or_both(self, fails, kill):
         """With both the journal is still there, and what was begun is ended by the same words."""
-        for fails, kill in ((None, 0), (0, None)):
-            with self.subTest(kill=kill):
-                journal = self.write()
-                said, _ = self.keep_held(fails, at=syncs.kill_at(kill))
-                if fails is None:
-                    self.assertEqual((said.status, said.out, said.err), (-signal.SIGKILL, b"", b""))
-                else:
-                    self.assertFault(said, "cannot write elsewhere")
-                self.assertFiles({"journal": journal, "elsewhere": journal})
-                self.assertFault(self.use("go", "0x08000000"), OPEN)
-                self.assertTold(self.keep("elsewhere"), "kept 1\n", journal=None, elsewhere=journal)
-                self.assertTold(self.use("undo", journal="elsewhere"), "undone 1\n")
-                self.remove("elsewhere")
+        journal = self.write()
+        said, _ = self.keep_held(fails, at=syncs.kill_at(kill))
+        if fails is None:
+            self.assertEqual((said.status, said.out, said.err), (-signal.SIGKILL, b"", b""))
+        else:
+            self.assertFault(said, "cannot write elsewhere")
+        self.assertFiles({"journal": journal, "elsewhere": journal})
+        self.assertFault(self.use("go", "0x08000000"), OPEN)
+        self.assertTold(self.keep("elsewhere"), "kept 1\n", journal=None, elsewhere=journal)
+        self.assertTold(self.use("undo", journal="elsewhere"), "undone 1\n")
+        self.remove("elsewhere")
 
     def test_a_second_name_is_not_the_first(self):
         """The journal by another way to its one name, or by a link to that: it stays."""
@@ -192,18 +192,17 @@ class KeepLast(Keeping):
     def log(self):
         return self.call("log", "--journal", "journal").out.decode().splitlines()
 
-    def test_the_newest_can_still_be_undone(self):
-        for last in (1, 2):
-            with self.subTest(last=last):
-                self.write_thrice()
-                lines = self.log()
-                self.assertTold(self.keep("--last", str(last)), f"kept {3 - last}\n{last} can be undone\n")
-                renumbered = [line.replace(f"segment {k + 4 - last}:", f"segment {k + 1}:") for k, line in enumerate(lines[-1 - last:-1])]
-                self.assertEqual(self.log(), [lines[0], *renumbered, f"{last} can be undone"])
-                self.assertFile("flash", self.flashes[3])
-                for k in range(last):
-                    self.assertTold(self.use("undo", "1"), "undone 1\n", flash=self.flashes[2 - k])
-                self.assertTold(self.use("undo"), "undone 0\n", flash=self.flashes[3 - last])
+    @each_of((1, 2))
+    def test_the_newest_can_still_be_undone(self, last):
+        self.write_thrice()
+        lines = self.log()
+        self.assertTold(self.keep("--last", str(last)), f"kept {3 - last}\n{last} can be undone\n")
+        renumbered = [line.replace(f"segment {k + 4 - last}:", f"segment {k + 1}:") for k, line in enumerate(lines[-1 - last:-1])]
+        self.assertEqual(self.log(), [lines[0], *renumbered, f"{last} can be undone"])
+        self.assertFile("flash", self.flashes[3])
+        for k in range(last):
+            self.assertTold(self.use("undo", "1"), "undone 1\n", flash=self.flashes[2 - k])
+        self.assertTold(self.use("undo"), "undone 0\n", flash=self.flashes[3 - last])
 
     def test_the_text(self):
         """The header, and of each segment that stays its number, its pages as they stood, and its end. What counts as nothing,
@@ -219,37 +218,25 @@ class KeepLast(Keeping):
         self.assertTold(self.keep("--last", "1"), "kept 1\n1 can be undone\n", journal=head + b"open 1\nend 1\n")
         self.assertTold(self.keep("--last", "65535"), "kept 0\n1 can be undone\n")
 
-    def test_a_board_stays_named(self):
-        for head in (b"stmjournal 3 0412 00FF102030405060\n", b"stmjournal 3 0412 " + b"A1" * 12 + b"\n", b"stmjournal 2 0412\n", b"stmjournal 1 0412\n"):
-            with self.subTest(head=head):
-                self.store("journal", b"gone!\n" + head + b"open 1\nend 1\nopen 2\nend 2\n")
-                self.assertTold(self.keep("--last", "1"), "kept 1\n1 can be undone\n", journal=head + b"open 1\nend 1\n")
+    @each_of((b"stmjournal 3 0412 00FF102030405060\n", b"stmjournal 3 0412 " + b"A1" * 12 + b"\n", b"stmjournal 2 0412\n", b"stmjournal 1 0412\n"))
+    def test_a_board_stays_named(self, head):
+        self.store("journal", b"gone!\n" + head + b"open 1\nend 1\nopen 2\nend 2\n")
+        self.assertTold(self.keep("--last", "1"), "kept 1\n1 can be undone\n", journal=head + b"open 1\nend 1\n")
 
-    def test_a_journal_of_nothing(self):
+    @each_of(((b"", b""), (b"!\n", b""), (b"stmjournal 2 0412\n", b"stmjournal 2 0412\n"),
+              (b"stmjournal 2 0412\nopen 1\npage 5 FF\nundone 1\n", b"stmjournal 2 0412\n")))
+    def test_a_journal_of_nothing(self, text, cut):
         """Of no line, of a header alone, and of what was taken off."""
-        for text, cut in ((b"", b""), (b"!\n", b""), (b"stmjournal 2 0412\n", b"stmjournal 2 0412\n"),
-                          (b"stmjournal 2 0412\nopen 1\npage 5 FF\nundone 1\n", b"stmjournal 2 0412\n")):
-            with self.subTest(text=text):
-                self.store("journal", text)
-                self.assertTold(self.keep("--last", "1"), "kept 0\n0 can be undone\n", journal=cut)
+        self.store("journal", text)
+        self.assertTold(self.keep("--last", "1"), "kept 0\n0 can be undone\n", journal=cut)
 
-    def test_pages_of_any_size(self):
+    @each_of((1, 2047, 2048, 2049, 4096, 131072))
+    def test_pages_of_any_size(self, size):
         """Digits that come in several pieces."""
-        for size in (1, 2047, 2048, 2049, 4096, 131072):
-            with self.subTest(size=size):
-                page = b"page 5 " + os.urandom(size).hex().upper().encode() + b"\n"
-                self.store("journal", b"stmjournal 2 0412\nopen 1\nend 1\nopen 2\n" + page + b"end 2\n")
-                self.assertTold(self.keep("--last", "1"), "kept 1\n1 can be undone\n")
-                self.assertFile("journal", b"stmjournal 2 0412\nopen 1\n" + page + b"end 1\n")
-
-    def test_refuses_what_keep_refuses(self):
-        """A stopped command, a bad journal, one that isn't there."""
-        self.assertFault(self.keep("--last", "1"), "cannot read journal")
-        self.assertFault(self.use("erase", "--stop", "3190", "5"), "stopped", 3)
-        journal = self.held("journal")
-        self.assertFault(self.keep("--last", "1"), UNFINISHED, journal=journal)
-        self.store("journal", BAD)
-        self.assertFault(self.keep("--last", "1"), "bad journal line 2", journal=BAD)
+        page = b"page 5 " + os.urandom(size).hex().upper().encode() + b"\n"
+        self.store("journal", b"stmjournal 2 0412\nopen 1\nend 1\nopen 2\n" + page + b"end 2\n")
+        self.assertTold(self.keep("--last", "1"), "kept 1\n1 can be undone\n")
+        self.assertFile("journal", b"stmjournal 2 0412\nopen 1\n" + page + b"end 1\n")
 
     def test_words_that_it_refuses(self):
         journal = self.write()
@@ -306,13 +293,8 @@ class KeepLast(Keeping):
     def test_a_journal_that_changed_meanwhile_stands(self):
         """One that was added to by a program that asks for no lock."""
         journal = self.write_thrice()
-
-        def add(turn, process):
-            if turn == 0:
-                with open(self.path("journal"), "ab") as file:
-                    file.write(b"!\n")
-
-        self.assertFault(self.keep_held(at=add)[0], "journal failed", hint="it was moved, replaced, cut or added to", journal=journal + b"!\n")
+        said, _ = self.keep_held(at=lambda turn, _: turn == 0 and self.add("journal", b"!\n"))
+        self.assertFault(said, "journal failed", hint="it was moved, replaced, cut or added to", journal=journal + b"!\n")
 
     def test_a_text_that_does_not_read_back_takes_no_place(self):
         """A disk may give back another digit than it was handed."""

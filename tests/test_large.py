@@ -1,18 +1,13 @@
 """Flashes, journals and tables as large as the limits allow."""
 
-import os
 import random
-import sys
 
-from place import TOP, Place, is_slow
-
-sys.path.insert(0, os.path.join(TOP, "tools"))
+from place import Place, is_slow
 
 from hex_text import text_of
 
 # a flash in 512 pages, of which one write changes all
 PAGES = 512
-BASE = 0x0800_0000
 CHIPS = 60
 
 
@@ -31,7 +26,7 @@ class Large(Place):
             dice = random.Random(pages)
             before, image = dice.randbytes(size), dice.randbytes(size)
             table = f'[[chip]]\nid = 0x470\nbase = 0x08000000\npages = [[{pages}, {size // pages}]]\nerase = "extended"\n'
-            text = text_of(image, BASE, range(0, len(image), 32)[::-1], 32) if pages > 1 else image
+            text = text_of(image, 0x0800_0000, range(0, len(image), 32)[::-1], 32) if pages > 1 else image
             self.store_all({"table": table.encode(), "flash": before, "image": text, "journal": None, "flash.line": None})
             said = self.use("write", "-v", *(() if pages > 1 else ("-S", "0x08000000")), "image", device="sim:0470:flash")
             self.assertTold(said, f"segment 1: {pages} pages written\nverified {size} bytes\n", flash=image)

@@ -6,7 +6,7 @@ import random
 import re
 
 import telling
-from place import Said, WAIT
+from place import Said, WAIT, each_of
 from telling import OTHERWISE, left
 from test_damage import BEGINS, COUNTING, SIZE, TOLD, erased
 
@@ -41,20 +41,19 @@ class Left(telling.Told):
         pages = re.findall(rb"^page (\d+) ", self.held("journal"), re.M)
         return b"\nend 1\n" + left({page: self.held("flash")[page * SIZE:(page + 1) * SIZE] for page in map(int, pages)})
 
-    def test_the_lines(self):
-        rows = (ERASE, ("erase", "--all"), ("write", "image"), ("write", "-v", "hex"), ("write", "-f", "hex"),
-                ("write", "-v", "-S", "0x080002F0", "image"), ("write", "-S", "0x08000E10:500", "--again", "2", "image"))
-        for holds, device, words in itertools.product((b"", b"erased = 0\n"), ("sim:0410:flash", "board"), rows):
-            with self.subTest(erased=holds, device=device, words=words):
-                self.store("table", BEGINS["table"] + holds)
-                self.begin()
-                if device == "board":
-                    self.serve(1, number="0410")
-                self.assertWell(self.at(*words, "--wait", WAIT, device=device))
-                if device == "board":
-                    self.assertServed()
-                self.assertIn(b"\nleft ", self.lines())
-                self.assertEqual(self.held("journal")[-len(self.lines()):], self.lines())
+    @each_of(itertools.product((b"", b"erased = 0\n"), ("sim:0410:flash", "board"), (
+        ERASE, ("erase", "--all"), ("write", "image"), ("write", "-v", "hex"), ("write", "-f", "hex"),
+        ("write", "-v", "-S", "0x080002F0", "image"), ("write", "-S", "0x08000E10:500", "--again", "2", "image"))))
+    def test_the_lines(self, holds, device, words):
+        self.store("table", BEGINS["table"] + holds)
+        self.begin()
+        if device == "board":
+            self.serve(1, number="0410")
+        self.assertWell(self.at(*words, "--wait", WAIT, device=device))
+        if device == "board":
+            self.assertServed()
+        self.assertIn(b"\nleft ", self.lines())
+        self.assertEqual(self.held("journal")[-len(self.lines()):], self.lines())
 
     def test_where_there_are_none(self):
         """By a journal that names no board, and behind a write that its verify refused."""
@@ -68,24 +67,23 @@ class Left(telling.Told):
             self.assertFault(self.at("write", "-v", "image", "--wait", WAIT, device="stand"), "differs at 08000000")
         self.assertEqual(self.held("journal")[-7:], b"\nend 1\n")
 
-    def test_a_journal_that_is_kept(self):
+    @each_of(("sim:0410:flash", "board"))
+    def test_a_journal_that_is_kept(self, device):
         """It says what its last segment left too, by `--keep-to`, at a simulator and a board."""
-        for device in ("sim:0410:flash", "board"):
-            with self.subTest(device=device):
-                self.begin(ERASE)
-                self.clear("kept")
-                if device == "board":
-                    self.serve(1, number="0410")
-                said = self.at("write", "-v", "--keep-to", "kept", "image", "--wait", WAIT, device=device)
-                self.assertEqual((said.status, self.held("journal")), (0, None))
-                if device == "board":
-                    self.assertServed()
-                lines = left({0: self.held("flash")[:SIZE], 1: self.held("flash")[SIZE:2 * SIZE]})
-                self.assertEqual(self.held("kept")[-len(lines) - 7:], b"\nend 2\n" + lines)
-                changed = other(self.held("flash"), SIZE + 9)
-                self.store("flash", changed)
-                self.assertFault(self.at("undo", "1", journal="kept"), OTHERWISE.format(1, 2))
-                self.assertEqual(self.held("flash")[SIZE:2 * SIZE], changed[SIZE:2 * SIZE])
+        self.begin(ERASE)
+        self.clear("kept")
+        if device == "board":
+            self.serve(1, number="0410")
+        said = self.at("write", "-v", "--keep-to", "kept", "image", "--wait", WAIT, device=device)
+        self.assertEqual((said.status, self.held("journal")), (0, None))
+        if device == "board":
+            self.assertServed()
+        lines = left({0: self.held("flash")[:SIZE], 1: self.held("flash")[SIZE:2 * SIZE]})
+        self.assertEqual(self.held("kept")[-len(lines) - 7:], b"\nend 2\n" + lines)
+        changed = other(self.held("flash"), SIZE + 9)
+        self.store("flash", changed)
+        self.assertFault(self.at("undo", "1", journal="kept"), OTHERWISE.format(1, 2))
+        self.assertEqual(self.held("flash")[SIZE:2 * SIZE], changed[SIZE:2 * SIZE])
 
     def test_journals_in_any_order(self):
         """Three of one board, each of a change of page 3: none is undone but the newest that stands."""

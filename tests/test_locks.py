@@ -6,8 +6,9 @@ import os
 
 import syncs
 import telling
-from place import COUNTING, WAIT, Said, files, new, served
+from place import COUNTING, WAIT, Said, each_of, files, new, served
 from served import Served, relay
+from test_check import HEADER, counted
 from test_crashed import LEFT, WRITTEN
 
 # how many times two programs are started together, without a journal and with one; 100 are run by hand
@@ -79,6 +80,15 @@ class Locks(Served):
         self.assertEqual(told[:6], [b"0 can be undone\n", opened % (0, b""), opened % (0, b""), kept,
                                     opened % (1, b": 5, erasing 5"), b"id 0412\nsegment 1: ended, 1 pages: 5\n1 can be undone\n"])
 
+    def test_a_check_beside_a_session_tells_what_is_there_when_it_begins(self):
+        """What is added meanwhile, here before its first reads, is neither counted nor told."""
+        journal = HEADER + b"open 1\nend 1\n"
+        self.store("journal", journal)
+        said, read = self.hold(("log", "--check", "--journal", "journal"), held=syncs.LSEEK,
+                               at=lambda number, _: number < 8 and self.add("journal", b"open %d\nend %d\n" % (number + 2, number + 2)))
+        self.assertTold(said, "id 0412\nsegment 1: ended, 0 pages\n" + counted(journal) + "1 can be undone\n")
+        self.assertGreater(read.count("journal"), 1)
+
     def test_a_journal_that_was_just_made_is_locked(self):
         """Another program comes when the journal is there and has no line yet."""
         self.store("flash", COUNTING)
@@ -97,25 +107,24 @@ class Locks(Served):
             self.assertFault(other, "journal is in use")
         self.assertTold(self.use("undo"), "undone 1\n", flash=COUNTING)
 
-    def test_locks_are_asked_for_on_a_handle_that_writes(self):
+    @each_of((None, b""))
+    def test_locks_are_asked_for_on_a_handle_that_writes(self, journal):
         """NFS gives no other an exclusive one. Of a journal that is there, of one that is made, and of a simulator's file."""
-        for journal in (None, b""):
-            with self.subTest(journal=journal):
-                self.store_all({"flash": COUNTING, "journal": journal})
-                modes = []
+        self.store_all({"flash": COUNTING, "journal": journal})
+        modes = []
 
-                def look(number, process):
-                    for file in os.listdir(f"/proc/{process}/fd"):
-                        if os.path.basename(os.readlink(f"/proc/{process}/fd/{file}")) in ("journal", "flash"):
-                            with open(f"/proc/{process}/fdinfo/{file}", encoding="ascii") as info:
-                                modes.append(int(info.read().split("flags:")[1].split()[0], 8) & os.O_ACCMODE)
+        def look(number, process):
+            for file in os.listdir(f"/proc/{process}/fd"):
+                if os.path.basename(os.readlink(f"/proc/{process}/fd/{file}")) in ("journal", "flash"):
+                    with open(f"/proc/{process}/fdinfo/{file}", encoding="ascii") as info:
+                        modes.append(int(info.read().split("flags:")[1].split()[0], 8) & os.O_ACCMODE)
 
-                said, locked = self.hold(self.words_on("erase", "5"), held=syncs.FLOCK, at=look)
-                self.assertTold(said, "segment 1: 1 pages erased\n")
-                self.assertIn("journal", locked)
-                self.assertIn("flash", locked)
-                self.assertNotIn(os.O_RDONLY, modes)
-                self.remove("journal")
+        said, locked = self.hold(self.words_on("erase", "5"), held=syncs.FLOCK, at=look)
+        self.assertTold(said, "segment 1: 1 pages erased\n")
+        self.assertIn("journal", locked)
+        self.assertIn("flash", locked)
+        self.assertNotIn(os.O_RDONLY, modes)
+        self.remove("journal")
 
     def test_a_read_only_journal_is_read(self):
         """A handle that reads is asked where there is no other."""

@@ -4,7 +4,7 @@ import os
 import re
 
 import syncs
-from place import Place
+from place import Place, each_of
 
 EMPTY = "0 can be undone\n"
 UNFINISHED = "unfinished, undo first\n"
@@ -24,9 +24,6 @@ FOLLOWED = (
     (b"program 5", "segment 1: returning, 1 pages: 5, writing 5\n" + UNFINISHED),
     (b"undone 1", EMPTY),
 )
-# pages in the order of their lines, and how they are told
-PAGES = (((0, 1, 5), "0-1 5"), ((1, 257, 2, 3), "1 257 2-3"), ((5, 4, 3), "5 4 3"), ((0, 65535), "0 65535"),
-         ((65533, 65534, 65535), "65533-65535"), (tuple(range(512)), "0-511"), ((9, 10, 12, 13, 14, 20), "9-10 12-14 20"))
 MOST = 65535
 # so many bytes of a journal are asked for at a time
 PIECE = 4096
@@ -63,11 +60,12 @@ class Log(Place):
         self.assertFault(self.call("log", "--journal", "journal"), "cannot read journal")
         self.assertEqual(os.listdir(self.folder), [])
 
-    def test_tells_the_pages(self):
-        for pages, told in PAGES:
-            with self.subTest(told=told):
-                journal = b"stmjournal 2 0A02\nopen 1\n" + b"".join(b"page %d 00\n" % page for page in pages) + b"end 1\n"
-                self.assertLog(journal, f"id 0A02\nsegment 1: ended, {len(pages)} pages: {told}\n1 can be undone\n")
+    @each_of((((0, 1, 5), "0-1 5"), ((1, 257, 2, 3), "1 257 2-3"), ((5, 4, 3), "5 4 3"), ((0, 65535), "0 65535"),
+              ((65533, 65534, 65535), "65533-65535"), (tuple(range(512)), "0-511"), ((9, 10, 12, 13, 14, 20), "9-10 12-14 20")))
+    def test_tells_the_pages(self, pages, told):
+        """In the order of their lines."""
+        journal = b"stmjournal 2 0A02\nopen 1\n" + b"".join(b"page %d 00\n" % page for page in pages) + b"end 1\n"
+        self.assertLog(journal, f"id 0A02\nsegment 1: ended, {len(pages)} pages: {told}\n1 can be undone\n")
 
     def test_tells_as_many_segments_as_there_can_be(self):
         numbers = range(1, MOST + 1)
@@ -78,10 +76,6 @@ class Log(Place):
     def test_refuses_a_bad_journal(self):
         self.store("journal", BAD)
         self.assertFault(self.call("log", "--journal", "journal"), "bad journal line 2", journal=BAD)
-
-    def test_says_which_journal_it_cannot_read(self):
-        os.mkdir(self.path("journal"))
-        self.assertFault(self.call("log", "--journal", "journal"), "cannot read journal")
 
     def test_wants_a_journal(self):
         self.assertUsage(self.call("log"))

@@ -70,11 +70,7 @@ class Moved(Served):
         self.assertFails(lambda: os.truncate(self.path("here/journal"), len(self.held("here/journal")) - 1))
 
     def test_added_to(self):
-        def add():
-            with open(self.path("here/journal"), "ab") as file:
-                file.write(b"!\n")
-
-        self.assertFails(add)
+        self.assertFails(lambda: self.add("here/journal", b"!\n"))
 
     def test_what_took_its_name_is_not_removed(self):
         """By `write --keep`, once it has ended; by `keep`, at each place that it reads from."""

@@ -3,13 +3,12 @@
 import os
 import re
 
-from place import ZEROS, Place, lacks
+from place import ZEROS, Place, each_of, lacks
 
 # names with a line end, with sequences that a terminal would take, with a delete, and with controls that have two bytes
 ODD = ("a\nstmflash: cannot read b", "\n", "a\r\n\tb", "\x1b[2K\x1b[1Aa", "a\x07\x7f", "\x85a\x9b2K")
 # names that are told as they are
 PLAIN = ("a b", "é名\U0001f4be", "\\n", "'\"%s{}", "\xa0\u2028")
-NO_TEXT = b"a\xff"
 
 
 def told(name):
@@ -66,15 +65,14 @@ class Names(Place):
             self.assertEqual(told(name), name)
             self.assertEachTold(name)
 
-    def test_other_words_forge_no_line(self):
-        for word in ODD:
-            with self.subTest(word=word):
-                self.assertFault(self.use("go", "--", word), f"usage: bad number {told(word)}", 2)
-                self.assertFault(self.use("info", device=f"sim:{word}"), f"usage: bad device sim:{told(word)}", 2)
+    @each_of(ODD)
+    def test_other_words_forge_no_line(self, word):
+        self.assertFault(self.use("go", "--", word), f"usage: bad number {told(word)}", 2)
+        self.assertFault(self.use("info", device=f"sim:{word}"), f"usage: bad device sim:{told(word)}", 2)
 
     def test_a_name_is_text(self):
         """Of one that isn't nothing is told, and nothing is done."""
-        name = os.fsdecode(NO_TEXT)
+        name = os.fsdecode(b"a\xff")
         self.store("image", b"\xaa")
         uses = (
             ("table", lambda: self.call("info", "--table", name, "--device", "sim:0412:flash", "--journal", "journal")),

@@ -4,10 +4,9 @@ import itertools
 import os
 import random
 
-from place import Place, readable
+from place import Place, each_of, readable
 
 REFUSED = "journal is no journal: name another, or move it away"
-IMAGE = b"\x00" * 1024
 # headers of the three versions
 HEADERS = b"stmjournal 1 0412", b"stmjournal 2 0412", b"stmjournal 3 0412 " + b"0F" * 32
 NOISE = random.Random(1412).randbytes(65536)
@@ -47,7 +46,7 @@ BEGUN = {
 
 
 class NoJournal(Place):
-    begins = {"image": IMAGE}
+    begins = {"image": b"\x00" * 1024}
 
     def called(self, command):
         name, *words = command.split()
@@ -81,23 +80,20 @@ class NoJournal(Place):
                 self.assertFault(said, text)
                 self.assertFiles({name: b"precious", "flash": None})
 
-    def test_what_was_begun_is_a_journal(self):
+    @each_of({**BEGUN, **{f"{end} bytes of {header}": header[:end] for header in HEADERS for end in range(1, len(header) + 1)}}.items())
+    def test_what_was_begun_is_a_journal(self, name, data):
         """It is kept as one without a segment, and goes on as one."""
-        rows = {**BEGUN, **{f"{end} bytes of {header}": header[:end] for header in HEADERS for end in range(1, len(header) + 1)}}
-        for name, data in rows.items():
-            with self.subTest(file=name):
-                self.store("journal", data)
-                self.assertTold(self.called("keep"), "kept 0\n", journal=None)
+        self.store("journal", data)
+        self.assertTold(self.called("keep"), "kept 0\n", journal=None)
 
-    def test_what_was_begun_goes_on(self):
-        for name, data in BEGUN.items():
-            with self.subTest(file=name):
-                self.store("journal", data)
-                self.assertTold(self.called("undo"), "undone 0\n")
-                self.assertTold(self.called("write image"), "segment 1: 1 pages written\n")
-                self.assertTrue(self.held("journal").startswith(data))
-                self.assertTold(self.called("undo"), "undone 1\n")
-                self.remove("journal", "flash", "flash.line")
+    @each_of(BEGUN.items())
+    def test_what_was_begun_goes_on(self, name, data):
+        self.store("journal", data)
+        self.assertTold(self.called("undo"), "undone 0\n")
+        self.assertTold(self.called("write image"), "segment 1: 1 pages written\n")
+        self.assertTrue(self.held("journal").startswith(data))
+        self.assertTold(self.called("undo"), "undone 1\n")
+        self.remove("journal", "flash", "flash.line")
 
     def test_a_header_is_found_behind_void_lines(self):
         """Also past what is read at once; and a bad one is a bad line."""

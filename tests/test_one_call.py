@@ -5,7 +5,7 @@ import fcntl
 import os
 import subprocess
 
-from place import PATIENCE, SIZE, WAIT, ZEROS, Place, Said, files
+from place import PATIENCE, SIZE, WAIT, ZEROS, Place, Said, each_of, files
 from served import Served, relay
 
 IMAGE = b"a new program, whatever it does"
@@ -80,10 +80,9 @@ class OneCall(Place):
                     self.assertFiles({"kept": b"another", "flash": None, "journal": None})
                     self.remove("flash.line")
 
-    def test_bad_numbers(self):
-        for words in (("--keep", "--go", "08"), ("--again", "0"), ("--again", "1001"), ("--again", "x")):
-            with self.subTest(words=words):
-                self.assertFault(self.write(*words), f"usage: bad number {words[-1]}", 2)
+    @each_of((("--keep", "--go", "08"), ("--again", "0"), ("--again", "1001"), ("--again", "x")))
+    def test_bad_numbers(self, *words):
+        self.assertFault(self.write(*words), f"usage: bad number {words[-1]}", 2)
 
     def test_a_write_that_fails_is_followed_by_nothing(self):
         self.store("image", b"x" * (SIZE + 1))
@@ -231,8 +230,7 @@ class Lines(Served):
         with self.start(*words, stdout=subprocess.DEVNULL, stderr=into) as writing, open(told, "rb") as told:
             os.close(into)
             self.until(lambda: len(self.sent) >= 2 and is_free(self.path("journal")), "the journal stays in use")
-            with open(self.path("journal"), "ab") as journal:
-                journal.write(more)
+            self.add("journal", more)
             err = told.read().lstrip(b".")
         return Said(writing.returncode, b"", err)
 

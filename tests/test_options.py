@@ -4,7 +4,7 @@ import os
 import signal
 import socket
 
-from place import COUNTING, ERASED, TABLE, Place, files, is_unproved, served
+from place import COUNTING, ERASED, TABLE, Place, each_of, files, is_unproved, served
 
 SUBCOMMANDS = ("info", "read", "crc", "write", "verify", "erase", "undo", "log", "keep", "go", "protect", "sim")
 CANNOT = b"stmflash: cannot write standard output\n"
@@ -12,7 +12,6 @@ CANNOT = b"stmflash: cannot write standard output\n"
 LENGTHS = (("0", 0), ("255", 255), ("0x0", 0), ("0x00000010", 16))
 # words of the last address of all
 LAST = ("4294967295", "0xFFffFFFF")
-LAST_TABLE = b'[[chip]]\nid = 0x412\nbase = 0xFFFF8000\npages = [[32, 1024]]\nerase = "page"\n'
 # words that are no numbers
 NO_NUMBERS = ("", "08", "00", "4294967296", "10000000000", "0x", "0x123456789", "0X10", "-1", "+1", "0xG")
 # subcommands with further words, of which the one named decides; options come before further words
@@ -105,7 +104,7 @@ class Options(Place):
                 with self.subTest(word=word, words=words):
                     self.assertFault(self.use(name, *words), f"usage: bad number {bad}", 2)
         self.remove("flash", "flash.line")
-        self.store("table", LAST_TABLE)
+        self.store("table", b'[[chip]]\nid = 0x412\nbase = 0xFFFF8000\npages = [[32, 1024]]\nerase = "page"\n')
         self.each(LAST, lambda word: self.assertFault(self.use_image("verify", b"\x00", "-S", word), "differs at FFFFFFFF"))
         # from 0 to the end of this flash there are more bytes than a number of 32 bits says
         self.assertFault(self.use("read", "-S", "0", "out"), "address outside the flash")
@@ -145,31 +144,20 @@ class Options(Place):
         self.remove("out")
         self.each(NO_PARTS, lambda part: self.assertFault(self.use("read", "-S", part, "out"), "address outside the flash", out=None))
 
-    def test_stops_after_steps(self):
+    @each_of((("info", (), "0", 3), ("info", (), "26", 3), ("info", (), "27", 0), ("info", (), "34355", 0),
+              ("read", ("out",), "51", 3), ("read", ("out",), "34355", 3), ("read", ("out",), "34356", 0)))
+    def test_stops_after_steps(self, name, words, steps, status):
         """A contact with a fresh device is 27 steps, with a settled one 25, and a read of a block 268."""
-        for name, words, steps, status in (("info", (), "0", 3), ("info", (), "26", 3), ("info", (), "27", 0), ("info", (), "34355", 0),
-                                           ("read", ("out",), "51", 3), ("read", ("out",), "34355", 3), ("read", ("out",), "34356", 0)):
-            with self.subTest(name=name, steps=steps):
-                self.clear("flash.line")
-                said = self.use(name, "--stop", steps, *words)
-                if status == 3:
-                    self.assertFault(said, "stopped", 3)
-                else:
-                    self.assertWell(said)
-                self.assertFile("out", ERASED if name == "read" and status == 0 else None)
+        self.clear("flash.line")
+        said = self.use(name, "--stop", steps, *words)
+        if status == 3:
+            self.assertFault(said, "stopped", 3)
+        else:
+            self.assertWell(said)
+        self.assertFile("out", ERASED if name == "read" and status == 0 else None)
 
     def test_a_rest_is_no_step(self):
         """The bytes that bring a device to where it stood are no steps."""
         self.store("flash.line", b"rest 11EE0800\n")
         self.assertFault(self.use("info", "--stop", "0"), "stopped", 3, holds=(ERASED, b"rest 11EE0800\n"))
         self.assertFault(self.use("info", "--stop", "1"), "stopped", 3, holds=(ERASED, b"rest 11EE08007F\n"))
-
-    def test_keeps_its_own_files(self):
-        """Nothing is written where the bytes would stand in place of what a run needs."""
-        journal = b"stmjournal 1 0412\n"
-        self.store("journal", journal)
-        os.symlink(self.path("journal"), self.path("link"))
-        self.each(("journal", "table", "flash", "flash.line", "link", "./journal", self.path("table")),
-                  lambda name: self.assertFault(self.use("read", name), f"cannot write {name}"))
-        self.assertFile("journal", journal)
-        self.assertHolds(None, None)

@@ -12,7 +12,7 @@ import sys
 import tempfile
 import xml.etree.ElementTree
 
-from place import TOP, Place, is_unproved, text_in
+from place import TOP, Place, each_of, is_unproved, text_in
 from test_completions import options
 
 
@@ -109,13 +109,12 @@ class Pages(Place):
             missing += [f"{name} {option}" for option in told if option not in page]
         self.assertEqual(missing, [])
 
-    def test_what_is_made_is_what_the_tools_make_now(self):
+    @each_of(MADE.items())
+    def test_what_is_made_is_what_the_tools_make_now(self, tool, page):
         """MAP, PROVED and STATEMENT, each by its tool, and each says so in its first line. No tool leaves out what it should have."""
-        for tool, page in MADE.items():
-            with self.subTest(page=page):
-                ran = subprocess.run([sys.executable, "-B", os.path.join(TOP, "tools", tool), "--check"], cwd=TOP, capture_output=True, text=True)
-                self.assertEqual((ran.returncode, ran.stderr), (0, ""))
-                self.assertEqual(text_in("docs", page).partition("\n")[0], f"<!-- made by tools/{tool}: `make pages`; not by hand -->")
+        ran = subprocess.run([sys.executable, "-B", os.path.join(TOP, "tools", tool), "--check"], cwd=TOP, capture_output=True, text=True)
+        self.assertEqual((ran.returncode, ran.stderr), (0, ""))
+        self.assertEqual(text_in("docs", page).partition("\n")[0], f"<!-- made by tools/{tool}: `make pages`; not by hand -->")
 
     def test_a_page_that_is_not_what_its_tool_makes_is_found(self):
         """In a copy: a page with a line more, and a file without a comment. A clause more is on the page by its name."""

@@ -4,17 +4,15 @@ import itertools
 import os
 import pty
 import re
-import select
 import signal
-import socket
 import subprocess
 import threading
 import time
 
 import telling
 from place import SILENT, Place, all_from, files, read_some, with_page
-from served import Served, relay
-from test_giving_up import Peer, be_silent
+from served import Peer, Served
+from test_giving_up import be_silent
 
 TABLE = b'[[chip]]\nid = 0x410\nbase = 0x08000000\npages = [[128, 1024]]\nerase = "page"\n'
 # one that has a page 257
@@ -422,20 +420,16 @@ class Waiting(Served):
         self.serve(1, number="0410")
         late = [True]
 
-        def stand(line, _):
-            def change(replies):
-                # a block of 256 bytes comes behind its acknowledgement
-                if len(replies) > 200 and late:
-                    late.clear()
-                    time.sleep(1.5)
-                return replies
+        def change(replies):
+            # a block of 256 bytes comes behind its acknowledgement
+            if len(replies) > 200 and late:
+                late.clear()
+                time.sleep(1.5)
+            return replies
 
-            with self.connect("board") as board:
-                relay(line, board, change)
-
-        Peer(self, "late", stand)
         began = time.monotonic()
-        said = self.call(*self.words("read", "--progress", "--wait", "1000", "-S", "0x08000400:3072", "out"))
+        with self.between(change, "late"):
+            said = self.call(*self.words("read", "--progress", "--wait", "1000", "-S", "0x08000400:3072", "out"))
         self.assertEqual((said.status, said.out), (0, b""))
         told = re.fullmatch(rb"page 1 read, 1 of 3 pages, (\d+) s left\npage 2 read, 2 of 3 pages, (\d+) s left\n"
                             rb"page 3 read, 3 of 3 pages\n", said.err)
@@ -444,7 +438,6 @@ class Waiting(Served):
         # twice as long as the first page took, which is a part of all, and a second more at the most
         self.assertIn(first, range(4, int(2 * (time.monotonic() - began)) + 2))
         self.assertLess(second, first)
-        self.assertServed()
 
     def test_what_answers_now_and_then_is_not_silent(self):
         """However long it takes until it is given up: each byte counts anew."""
@@ -465,7 +458,14 @@ class Waiting(Served):
         flash = bytes(range(256)) * 512
         self.store_all({"flash": flash, "image": IMAGE})
         self.serve(2, number="0410")
-        Peer(self, "late", self.stall_at_an_erase)
+        erases = []
+
+        def delay(came):
+            erases.append(came.count(b"\x43\xbc"))
+            return 3600 if sum(erases) == 3 else 0
+
+        # once the third page is to be erased nothing comes any more
+        self.delayed(delay, "late")
         here, there = pty.openpty()
         # a shell's job in the background ignores SIGINT, and hands that on
         with self.start(*self.words("write", *AT, "image"), stdout=subprocess.DEVNULL, stderr=there,
@@ -482,25 +482,3 @@ class Waiting(Served):
         self.assertTrue(shown.endswith(STOPPED.encode() + b"\x1b[K"), shown[-80:])
         self.assertTold(self.use(*STOPPED.split(": ")[1].split(), "--wait", "200", device="board"), "undone 1\n")
         self.assertServed(flash=flash)
-
-    def stall_at_an_erase(self, line, ending):
-        """Hands on what comes on either, until the third page is to be erased: from then on nothing."""
-        board, sent = self.reach("board"), b""
-        while not ending.is_set():
-            ready, _, _ = select.select([line, board], [], [], 0.1)
-            is_stalled = sent.count(b"\x43\xbc") >= 3
-            if board in ready and not is_stalled:
-                line.sendall(board.recv(4096))
-            if line in ready:
-                came = line.recv(4096)
-                if not came:
-                    break
-                sent += came
-                if not is_stalled:
-                    board.sendall(came)
-            if is_stalled:
-                time.sleep(0.01)
-        board.shutdown(socket.SHUT_WR)
-        while board.recv(4096):
-            pass
-        board.close()

@@ -3,29 +3,16 @@ hint says. `sim --readout-protection`: what is refused from a Readout Protect to
 
 import json
 
-from place import COUNTING, ERASED, TABLE, WAIT, served
-from refusing import DEVICE
+from place import COUNTING, ERASED, TABLE, WAIT, each_of, served
+from refusing import AT, BASE, DEVICE, IMAGE, IN_SESSION, NOW_UNDO, THEN
 from served import Served
 
-BASE = 0x08000000
+from device import exclusive_or as check
+
 PAGE = 1024
-# over the pages 4 to 6
-IMAGE = bytes(range(256)) * 12
-AT = BASE + 4 * PAGE
-THEN = "If so: protect write-unprotect --in-session, undo 1"
 NOT_ERASED = f"page 4: the device refused to erase it: is it write-protected? {THEN}"
-NOW_UNDO = "the board resets itself; now: undo 1"
-IN_SESSION = "to undo what a write-protected page refuses: protect write-unprotect --in-session, undo 1"
 UNREAD = "the device refused to read: is its flash readout-protected?"
 WIDE_TABLE = b'[[chip]]\nid = 0x412\nbase = 0x08000000\npages = [[32, 1024]]\nerase = "extended"\n'
-
-
-def check(data):
-    """The exclusive-or of bytes."""
-    found = 0
-    for byte in data:
-        found ^= byte
-    return found
 
 
 def write_to(at, data, more=0):
@@ -151,13 +138,12 @@ class Protected(Served):
                         came += more
                     self.assertServed(client, holds=(COUNTING, b"idle\n"))
 
-    def test_a_refused_write_is_undone(self):
+    @each_of((("4-7", 4), ("5", 5)))
+    def test_a_refused_write_is_undone(self, protected, page):
         """Each step's text names the next, up to the flash as it was before; a write that was done before stays. A protected page is
         the first of the write, or the second, behind one that was written."""
-        for protected, page in (("4-7", 4), ("5", 5)):
-            with self.subTest(protected):
-                self.undone(protected, NOT_ERASED.replace("page 4", f"page {page}"))
-                self.remove("journal", "flash", "flash.line")
+        self.undone(protected, NOT_ERASED.replace("page 4", f"page {page}"))
+        self.remove("journal", "flash", "flash.line")
 
     def undone(self, protected, not_erased):
         self.store_all({"flash": COUNTING, "image": IMAGE, "small": b"stays"})
@@ -231,33 +217,32 @@ class Protected(Served):
 
     # ---- readout protection
 
-    def test_each_code_while_the_flash_is_readout_protected(self):
+    @each_of(((0x43, 0x22, TABLE), (0x44, 0x31, WIDE_TABLE)))
+    def test_each_code_while_the_flash_is_readout_protected(self, code, version, table):
         """Also where its client goes behind the code. The pages stay protected all the while."""
-        for code, version, table in ((0x43, 0x22, TABLE), (0x44, 0x31, WIDE_TABLE)):
-            with self.subTest(erase=code):
-                self.store_all({"flash": COUNTING, "flash.line": None, "table": table})
-                self.serve(2, more=("--protected", "4", "--readout-protection"))
-                client = self.connect()
-                first = b"\x11\xee" + BASE.to_bytes(4, "big") + b"\x08\x00\xff"
-                self.assertReplies(client, b"\x7f" + first, ACK + 3 * ACK + b"\x00")
-                self.assertReplies(client, b"\x82\x7d\x7f", 2 * ACK + ACK)
-                for forbidden in (0x11, 0x21, 0x31, 0x43, 0x44, 0x63, 0x73):
-                    for sent in (forbidden ^ 0xff, forbidden, 0x7f):
-                        self.assertReplies(client, bytes([forbidden, sent]), NACK)
-                    self.assertReplies(client, b"\x02\xfd", GET_ID)
-                self.assertReplies(client, b"\x01\xfe", bytes([0x79, version, 0, 0, 0x79]))
-                codes = bytes([0, 1, 2, 0x11, 0x21, 0x31, code, 0x73, 0x82, 0x92])
-                self.assertReplies(client, b"\x00\xff", bytes([0x79, 10, version, *codes, 0x79]))
-                self.assertReplies(client, b"\x82\x7d\x7f", 2 * ACK + ACK)
-                client.sendall(b"\x11")
-                self.leave(client)
-                client = self.connect()
-                self.assertReplies(client, b"\xee\x02\xfd", NACK + GET_ID)
-                self.assertFile("flash", COUNTING)
-                self.assertReplies(client, b"\x92\x6d\x7f" + first, 2 * ACK + ACK + 3 * ACK + b"\xff")
-                self.assertReplies(client, erase(4, width=code - 0x42) + b"\x73\x8c\x7f" + write_to(4 * PAGE, b"\x00"),
-                                   REFUSED + 3 * ACK + WRITTEN)
-                self.assertServed(client, holds=(ERASED[:4 * PAGE] + b"\x00" + ERASED[4 * PAGE + 1:], b"idle\n"))
+        self.store_all({"flash": COUNTING, "flash.line": None, "table": table})
+        self.serve(2, more=("--protected", "4", "--readout-protection"))
+        client = self.connect()
+        first = b"\x11\xee" + BASE.to_bytes(4, "big") + b"\x08\x00\xff"
+        self.assertReplies(client, b"\x7f" + first, ACK + 3 * ACK + b"\x00")
+        self.assertReplies(client, b"\x82\x7d\x7f", 2 * ACK + ACK)
+        for forbidden in (0x11, 0x21, 0x31, 0x43, 0x44, 0x63, 0x73):
+            for sent in (forbidden ^ 0xff, forbidden, 0x7f):
+                self.assertReplies(client, bytes([forbidden, sent]), NACK)
+            self.assertReplies(client, b"\x02\xfd", GET_ID)
+        self.assertReplies(client, b"\x01\xfe", bytes([0x79, version, 0, 0, 0x79]))
+        codes = bytes([0, 1, 2, 0x11, 0x21, 0x31, code, 0x73, 0x82, 0x92])
+        self.assertReplies(client, b"\x00\xff", bytes([0x79, 10, version, *codes, 0x79]))
+        self.assertReplies(client, b"\x82\x7d\x7f", 2 * ACK + ACK)
+        client.sendall(b"\x11")
+        self.leave(client)
+        client = self.connect()
+        self.assertReplies(client, b"\xee\x02\xfd", NACK + GET_ID)
+        self.assertFile("flash", COUNTING)
+        self.assertReplies(client, b"\x92\x6d\x7f" + first, 2 * ACK + ACK + 3 * ACK + b"\xff")
+        self.assertReplies(client, erase(4, width=code - 0x42) + b"\x73\x8c\x7f" + write_to(4 * PAGE, b"\x00"),
+                           REFUSED + 3 * ACK + WRITTEN)
+        self.assertServed(client, holds=(ERASED[:4 * PAGE] + b"\x00" + ERASED[4 * PAGE + 1:], b"idle\n"))
 
     def at_board(self, name, *words, journal="journal"):
         return self.use(name, "--wait", WAIT, *words, device="board", journal=journal)

@@ -3,7 +3,7 @@
 import time
 
 import syncs
-from place import files
+from place import each_of, files
 from served import Served
 from test_silence import SETSOCKOPT, time_of
 
@@ -11,13 +11,9 @@ from test_silence import SETSOCKOPT, time_of
 TABLE = b'[[chip]]\nid = 0x410\nbase = 0x08000000\npages = [[128, 1024]]\nerase = "page"\n'
 FLASH = bytes(128 * 1024)
 BEFORE = b"stmjournal 2 0410\nopen 1\npage 127 " + b"0" * 2048 + b"\nerase 127\n"
-AFTER = BEFORE + b"connect!\nerase 127\nprogram 127\nundone 1\n"
 # 256 pages, erased by numbers of two bytes
 WIDE = b'[[chip]]\nid = 0xA01\nbase = 0x08000000\npages = [[256, 256]]\nerase = "extended"\n'
-WIDE_FLASH = bytes(256 * 256)
 WIDE_BEFORE = b"stmjournal 2 0A01\nopen 1\npage 3 " + b"0" * 512 + b"\nerase 3\n"
-# what the device may have of the frame 43 BC 00 7F 7F, but for all of it
-RESTS = (b"43", b"43BC", b"43BC00", b"43BC007F")
 # what an undo adds before it sends 7F once
 GREETING = b"connect!\n"
 # a device is given up long before a wait for each of 130 bytes has gone by
@@ -25,19 +21,19 @@ WORDS = ("--wait", "100", "--give-up", "5")
 
 
 class Settling(Served):
-    def test_ends_an_erase_of_page_127(self):
-        """Behind 43 BC the settling byte is a count of 128 pages, and it goes in batches like any other: the device isn't given up."""
-        for rest in RESTS:
-            with self.subTest(rest):
-                self.store_all({"table": TABLE, "flash": FLASH, "flash.line": b"rest " + rest + b"\n", "journal": BEFORE})
-                self.serve(1, number="0410")
-                self.assertTold(self.use("undo", *WORDS, device="board"), "undone 1\n")
-                self.assertServed(holds=(FLASH, b"idle\n"), journal=AFTER)
+    @each_of((b"43", b"43BC", b"43BC00", b"43BC007F"))
+    def test_ends_an_erase_of_page_127(self, rest):
+        """Behind 43 BC the settling byte is a count of 128 pages, and it goes in batches like any other: the device isn't given up.
+        It may have of the frame 43 BC 00 7F 7F all but its end."""
+        self.store_all({"table": TABLE, "flash": FLASH, "flash.line": b"rest " + rest + b"\n", "journal": BEFORE})
+        self.serve(1, number="0410")
+        self.assertTold(self.use("undo", *WORDS, device="board"), "undone 1\n")
+        self.assertServed(holds=(FLASH, b"idle\n"), journal=BEFORE + b"connect!\nerase 127\nprogram 127\nundone 1\n")
 
     def undo(self, stands, *words, page=3, variables=None, greeted=b"", greets=b""):
         """Undoes at a board with a wide chip that stands so, and answers the times that the program sets for its line, one
         behind another that differs from it, and how many seconds it took. The journal says that it was greeted, or comes to say so."""
-        self.store_all({"table": WIDE, "flash": WIDE_FLASH, "flash.line": stands + b"\n"})
+        self.store_all({"table": WIDE, "flash": bytes(256 * 256), "flash.line": stands + b"\n"})
         before = WIDE_BEFORE.replace(b" 3", b" %d" % page) + greeted
         self.store("journal", before)
         self.serve(1, number="0A01")
@@ -63,14 +59,13 @@ class Settling(Served):
         # 22 waits, where there were 512
         self.assertLess(seconds, 30)
 
-    def test_a_device_that_was_reset_is_greeted_at_a_known_speed(self):
+    @each_of((0, 11, 63))
+    def test_a_device_that_was_reset_is_greeted_at_a_known_speed(self, page):
         """By one 7F, so that it is settled by a batch of 256 bytes and two single ones, whatever its page."""
-        for page in (0, 11, 63):
-            with self.subTest(page):
-                waits, seconds = self.undo(b"fresh", "--wait", "500", "--baud", "115200", page=page, greets=GREETING)
-                self.assertIn(525, waits)
-                self.assertNotIn(598, waits)
-                self.assertLess(seconds, 10)
+        waits, seconds = self.undo(b"fresh", "--wait", "500", "--baud", "115200", page=page, greets=GREETING)
+        self.assertIn(525, waits)
+        self.assertNotIn(598, waits)
+        self.assertLess(seconds, 10)
 
     def test_a_device_that_was_reset_behind_a_greeting_takes_a_long_list(self):
         """Of page 11 65,052 bytes: batches of 256 bytes, of 1,024, eight of 7,168, of 6,172 and of 254."""

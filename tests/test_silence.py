@@ -7,7 +7,7 @@ import time
 
 import syncs
 import telling
-from place import files
+from place import each_of, files
 from served import Served
 
 # setsockopt, and its words for how long a read and a write wait: as many seconds, and as many millionths
@@ -22,7 +22,6 @@ SLOW = 60
 LOOK = 1
 FLASH = bytes(128 * 1024)
 FRESH = b"fresh"
-BOARD = b"unique " + 12 * b"A1" + b"\n"
 ACK, NACK = b"\x79", b"\x1f"
 BEFORE = b"stmjournal 2 0410\nopen 1\npage 5 " + b"0" * 2048 + b"\nerase 5\n"
 # and where an undo was stopped behind its 7F, so that the next one sends none ahead of the byte
@@ -41,7 +40,7 @@ def time_of(process, kind=RECEIVE_TIME):
 
 
 class Silence(Served):
-    begins = {"table": telling.TABLE, "flash": FLASH, "flash.board": BOARD}
+    begins = {"table": telling.TABLE, "flash": FLASH, "flash.board": b"unique " + 12 * b"A1" + b"\n"}
 
     def waits(self, *words, whole=WHOLE, device="board"):
         """The times that the program sets, one behind another that differs from it: what is between a look and a whole wait is
@@ -80,16 +79,14 @@ class Silence(Served):
         with self.between(change):
             return self.times(*words, whole=whole, device="stand")
 
-    def test_how_long_is_waited_unless_it_is_said(self):
+    @each_of((("info", (), 400, 4000), ("info", ("--wait", "700"), 700, 7000), ("info", ("--wait", "3000"), 3000, 20000),
+              ("info", ("--wait", "50"), 50, 4000), ("info", ("--give-up", "300"), 400, 300000), ("info", ("--give-up", "1"), 400, 1000),
+              ("info", ("--give-up", "0"), 400, None), ("undo", (), 400, 20000), ("undo", ("--give-up", "5"), 400, 5000)))
+    def test_how_long_is_waited_unless_it_is_said(self, name, words, wait, silence):
         """400 ms for a reply, and ten times as long for what is taken, 4 to 20 seconds, of an undo 20; or as long as is said, above
         what a byte counts."""
-        cases = (("info", (), 400, 4000), ("info", ("--wait", "700"), 700, 7000), ("info", ("--wait", "3000"), 3000, 20000),
-                 ("info", ("--wait", "50"), 50, 4000), ("info", ("--give-up", "300"), 400, 300000), ("info", ("--give-up", "1"), 400, 1000),
-                 ("info", ("--give-up", "0"), 400, None), ("undo", (), 400, 20000), ("undo", ("--give-up", "5"), 400, 5000))
-        for name, words, wait, silence in cases:
-            with self.subTest(name=name, words=words):
-                self.store("journal", BEFORE if name == "undo" else b"")
-                self.assertEqual(self.limits(*words, name=name), (wait, [silence]))
+        self.store("journal", BEFORE if name == "undo" else b"")
+        self.assertEqual(self.limits(*words, name=name), (wait, [silence]))
 
     def test_contact_is_two_whole_waits_and_less_than_a_second(self):
         """Of `info` and `read`, where a device answers: in vain is waited whole twice at most, and by the default that is under a second."""
@@ -158,15 +155,14 @@ class Silence(Served):
                 self.assertEqual([at for at in waited if at >= WHOLE], [WHOLE], waited)
                 self.assertEqual(waited[0], WHOLE)
 
-    def test_an_undo_at_a_device_that_was_not_reset_waits_whole_for_what_ends_the_command_alone(self):
+    @each_of(((BEFORE, b"rest 43BC", 4), (BEFORE + b"program 5\n", b"rest 31CE0800", 5)))
+    def test_an_undo_at_a_device_that_was_not_reset_waits_whole_for_what_ends_the_command_alone(self, journal, stands, most):
         """Before its first byte, behind 7F, behind the one batch or two that ended it, and behind two bytes that made sure of it. The
         session that follows waits whole no more."""
-        for journal, stands, most in ((BEFORE, b"rest 43BC", 4), (BEFORE + b"program 5\n", b"rest 31CE0800", 5)):
-            with self.subTest(stands=stands):
-                self.store_all({"flash": FLASH, "flash.line": stands + b"\n", "journal": journal})
-                waited = self.waited_in_vain("undo")
-                self.assertEqual(waited.count(WHOLE), most, waited)
-                self.assertLess(max(waited), LONG)
+        self.store_all({"flash": FLASH, "flash.line": stands + b"\n", "journal": journal})
+        waited = self.waited_in_vain("undo")
+        self.assertEqual(waited.count(WHOLE), most, waited)
+        self.assertLess(max(waited), LONG)
 
     def test_behind_a_batch_that_is_not_refused_whole_each_wait_is_whole(self):
         """A board that drops the last 1F of a batch, or sends one more: its replies may come late."""
@@ -211,18 +207,17 @@ class Silence(Served):
         self.assertEqual(waits[2:waits.index(LONG)].count(WHOLE), 1)
         self.assertIn("short", waits)
 
-    def test_of_a_lone_7f_the_silence_before_it_counts(self):
+    @each_of((20, 9, 7))
+    def test_of_a_lone_7f_the_silence_before_it_counts(self, give_up):
         """Of an undo at a device that was reset behind a greeting, and ignores two batches and two bytes. What is left of `--give-up` is waited
         for the reply to 7F, but as long as a reply may be late in any case; each other one is waited for as long as ever."""
-        for give_up in (20, 9, 7):
-            with self.subTest(give_up=give_up):
-                self.store("journal", GREETED)
-                waits = self.at(FRESH, "undo", "--give-up", str(give_up))
-                left = 1000 * give_up - IN_VAIN * WHOLE
-                # a time that is set already isn't set again
-                connecting = [left] if left > WHOLE else []
-                self.assertEqual(waits[:len(connecting) + 2], [WHOLE, *connecting, "short"])
-                self.assertIn(1000 * give_up, waits)
+        self.store("journal", GREETED)
+        waits = self.at(FRESH, "undo", "--give-up", str(give_up))
+        left = 1000 * give_up - IN_VAIN * WHOLE
+        # a time that is set already isn't set again
+        connecting = [left] if left > WHOLE else []
+        self.assertEqual(waits[:len(connecting) + 2], [WHOLE, *connecting, "short"])
+        self.assertIn(1000 * give_up, waits)
 
     def test_a_slow_answer_to_7f_makes_the_silence_behind_it_long(self):
         """Four times as long as it took, and 20 ms."""
@@ -241,20 +236,18 @@ class Silence(Served):
         self.assertGreaterEqual(times[2], 4 * SLOW + 20)
         self.assertLess(times[2], WHOLE)
 
-    def test_a_second_acknowledgement_may_come_late(self):
+    @each_of((0.0, 0.08, 0.15, 0.3))
+    def test_a_second_acknowledgement_may_come_late(self, pause):
         """Some bootloaders acknowledge 7F twice. The second 79 comes behind the short wait, and is no answer to what is sent then:
         nothing is known any more, and the device is settled all the same."""
-        for pause in (0.0, 0.08, 0.15, 0.3):
-            with self.subTest(pause=pause):
-                self.store("flash.line", FRESH + b"\n")
-                self.assertWell(self.once(self.twice(pause), "info", "--wait", "1000"))
+        self.store("flash.line", FRESH + b"\n")
+        self.assertWell(self.once(self.twice(pause), "info", "--wait", "1000"))
 
-    def test_a_second_acknowledgement_of_a_device_said_to_be_fresh(self):
+    @each_of((0.0, 0.9))
+    def test_a_second_acknowledgement_of_a_device_said_to_be_fresh(self, pause):
         """It is taken where it follows the first within the short wait, and one that comes later as settling goes on."""
-        for pause in (0.0, 0.9):
-            with self.subTest(pause=pause):
-                self.store_all({"flash": FLASH, "flash.line": FRESH + b"\n", "journal": BEFORE})
-                self.assertWell(self.once(self.twice(pause), "undo", "--fresh", "--wait", "600", "--give-up", "3"))
+        self.store_all({"flash": FLASH, "flash.line": FRESH + b"\n", "journal": BEFORE})
+        self.assertWell(self.once(self.twice(pause), "undo", "--fresh", "--wait", "600", "--give-up", "3"))
 
     def twice(self, pause):
         """A board that acknowledges its first byte twice, a pause between."""

@@ -9,7 +9,7 @@ import threading
 import time
 
 import syncs
-from place import ERASED, PATIENCE, TABLE, WAIT, ZEROS, files, first_of, served, with_page
+from place import ERASED, PATIENCE, TABLE, WAIT, ZEROS, each_of, files, first_of, served, with_page
 from served import Served, relay
 
 ID = bytes([0x79, 0x01, 0x04, 0x12, 0x79])
@@ -116,16 +116,11 @@ class Socket(Served):
 
     def test_tells_a_version_in_two_digits(self):
         """A device of a version below 10."""
-        listener = self.listen("device")
         self.serve(1)
-        host = self.start("info", "--raw", *files("device"), "--wait", WAIT)
-        line, _ = listener.accept()
-        with line, self.connect() as board:
-            relay(line, board, lambda replies: replies.replace(b"\x22\x00\x01", b"\x05\x00\x01"))
-        said = self.ended(host)
+        with self.between(lambda replies: replies.replace(b"\x22\x00\x01", b"\x05\x00\x01")):
+            said = self.use("info", "--raw", "--wait", WAIT, device="stand")
         self.assertWell(said)
         self.assertIn(b"\nversion 05\n", said.out)
-        self.assertServed()
 
     def test_serves_a_client_however_long(self):
         """120,000 bytes, sent without waiting for an answer, and 300,000 that are taken late, beside stops by signals: none is
@@ -234,13 +229,12 @@ class Socket(Served):
         # the one that was refused had asked whether somebody listens, which took the second turn
         self.assertServed(client, other=None)
 
-    def test_who_may_connect_is_as_it_was_said(self):
+    @each_of((((), 0o600), (("--mode", "600"), 0o600), (("--mode", "660"), 0o660), (("--mode", "666"), 0o666)))
+    def test_who_may_connect_is_as_it_was_said(self, words, mode):
         """Its maker alone without a word."""
-        for words, mode in (((), 0o600), (("--mode", "600"), 0o600), (("--mode", "660"), 0o660), (("--mode", "666"), 0o666)):
-            with self.subTest(words=words):
-                self.serve(1, more=words)
-                self.assertEqual(os.stat(self.path("board")).st_mode & 0o777, mode)
-                self.assertServed(self.connect())
+        self.serve(1, more=words)
+        self.assertEqual(os.stat(self.path("board")).st_mode & 0o777, mode)
+        self.assertServed(self.connect())
 
     def test_a_store_that_fails_is_told(self):
         """The flash's file can't be made where another one stands in its place."""

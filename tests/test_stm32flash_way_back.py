@@ -79,8 +79,7 @@ class Unchanged(Words):
 
     def test_what_was_stopped_before_it_changed_anything_is_undone_alone(self):
         board = self.written(self.flash(COUNTING))
-        with open(self.path(self.name("journal")), "ab") as journal:
-            journal.write(b"open 2\n")
+        self.add(self.name("journal"), b"open 2\n")
         said = self.leaves(board, NEW, "--undo")
         self.assertEqual(said.out, b"Undone: a write or an erase at this port that was stopped before it changed anything.\n")
         self.leaves(board, COUNTING, "--undo")

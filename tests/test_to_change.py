@@ -1,7 +1,7 @@
 """Writes and erases that changed nothing: what is told of them, what an undo of them tells, and `undo --to-change`, which goes
 back to the newest that changed something."""
 
-from place import ERASED, WAIT, had, new, told_by, with_page
+from place import ERASED, WAIT, each_of, had, new, told_by, with_page
 from served import Served
 
 import telling
@@ -12,7 +12,6 @@ OF_B = B + ERASED[len(B):]
 # a journal with a write that changed page 5 of zeros, and one that changed nothing
 CHANGED = with_page(b"stmjournal 2 0412\nopen 1\npage 5 ", b"0", b"\nerase 5\nend 1\nopen 2\nend 2\n")
 BACK = ERASED[:5120] + bytes(1024) + ERASED[6144:]
-NOT_BOTH = "usage: give COUNT or --to-change, not both"
 
 
 class ToChange(Served):
@@ -38,17 +37,16 @@ class ToChange(Served):
         self.assertTold(self.use("undo", "1", "-v"), "undone 1, 3072 bytes verified\n", holds=(OF_A, b"idle\n"))
         self.assertTold(self.use("undo"), "undone 1\n", holds=(ERASED, b"idle\n"))
 
-    def test_to_the_newest_change(self):
-        for times, words, text in ((0, ("-v",), "undone 1, 3072 bytes verified\n"), (1, ("-v",), "undone 2, 3072 bytes verified\n"),
-                                   (2, (), "undone 3\n")):
-            with self.subTest(times=times, words=words):
-                self.store("flash", ERASED)
-                self.write(times)
-                note = had(*range(3, 3 + times), left=1) if times else None
-                self.assertTold(self.use("undo", "--to-change", *words), text, note, holds=(OF_A, b"idle\n"))
-                self.assertTold(self.use("undo", "--to-change"), "undone 1\n", holds=(ERASED, b"idle\n"))
-                self.assertTold(self.use("undo", "--to-change"), "undone 0\n")
-                self.remove("journal")
+    @each_of(((0, ("-v",), "undone 1, 3072 bytes verified\n"), (1, ("-v",), "undone 2, 3072 bytes verified\n"),
+              (2, (), "undone 3\n")))
+    def test_to_the_newest_change(self, times, words, text):
+        self.store("flash", ERASED)
+        self.write(times)
+        note = had(*range(3, 3 + times), left=1) if times else None
+        self.assertTold(self.use("undo", "--to-change", *words), text, note, holds=(OF_A, b"idle\n"))
+        self.assertTold(self.use("undo", "--to-change"), "undone 1\n", holds=(ERASED, b"idle\n"))
+        self.assertTold(self.use("undo", "--to-change"), "undone 0\n")
+        self.remove("journal")
 
     def test_stopped_and_again(self):
         """Stopped anywhere, it goes on to the same change when it is called again."""
@@ -84,7 +82,7 @@ class ToChange(Served):
         self.write()
         journal = self.held("journal")
         for count in ("1", "0", "x"):
-            self.assertFault(self.use("undo", "--to-change", count), NOT_BOTH, 2)
+            self.assertFault(self.use("undo", "--to-change", count), "usage: give COUNT or --to-change, not both", 2)
         self.assertFile("journal", journal)
         self.assertHolds(OF_B, b"idle\n")
         self.assertUsage(self.use("undo", "--to-change=1"))

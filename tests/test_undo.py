@@ -1,6 +1,6 @@
 """What `undo` makes of a flash, from journals that were left by others."""
 
-from place import ERASED, TABLE, ZEROS, Place, had, lacks, with_page
+from place import ERASED, TABLE, ZEROS, Place, each_of, had, lacks, with_page
 
 HEAD = b"stmjournal 2 0412\nopen 1\npage 5 "
 # a journal that was left in the midst of a page's line, and the same after its segment was undone
@@ -17,13 +17,6 @@ WIDE_CHIP = "sim:0A01:flash"
 COMPANIONS = b'[[chip]]\nid = 0xA02\nbase = 0x08000000\npages = [[512, 256]]\nerase = "extended"\n'
 PAIRED = b"stmjournal 2 0A02\nopen 1\npage 257 " + 512 * b"0" + b"\npage 1 " + 512 * b"0" + b"\nerase 1\n"
 OTHER_CHIP = b'[[chip]]\nid = 0x410\nbase = 0x08000000\npages = [[128, 1024]]\nerase = "page"\n'
-# journals that aren't undone, what is said of each, and how the line stands then: nothing is sent where the journal alone tells
-REFUSED = (
-    (b"stmjournal 1 0412\nopen 2\n", "bad journal line 2", b"fresh\n"),
-    (b"stmjournal 1 0412\nopen 1\npage 0 FF\n", "bad journal line 3", b"fresh\n"),
-    (b"stmjournal 1 0414\nopen 1\n", "unknown chip 0414", b"fresh\n"),
-    (b"stmjournal 1 0410\nopen 1\n", "journal belongs to another device", b"idle\n"),
-)
 
 
 class Undo(Place):
@@ -80,12 +73,14 @@ class Undo(Place):
         self.assertTold(self.use("undo"), "undone 0\n", holds=(ERASED, b"fresh\n"), journal=b"")
         self.assertFault(self.use("undo", "4294967296"), "usage: bad number 4294967296", 2)
 
-    def test_refuses_to_undo(self):
-        self.store("table", OTHER_CHIP + TABLE)
-        for journal, text, line in REFUSED:
-            with self.subTest(text=text):
-                self.store_all({"journal": journal, "flash.line": b"fresh\n"})
-                self.assertFault(self.use("undo"), text, holds=(ERASED, line), journal=journal)
+    @each_of(((b"stmjournal 1 0412\nopen 2\n", "bad journal line 2", b"fresh\n"),
+              (b"stmjournal 1 0412\nopen 1\npage 0 FF\n", "bad journal line 3", b"fresh\n"),
+              (b"stmjournal 1 0414\nopen 1\n", "unknown chip 0414", b"fresh\n"),
+              (b"stmjournal 1 0410\nopen 1\n", "journal belongs to another device", b"idle\n")))
+    def test_refuses_to_undo(self, journal, text, line):
+        """Nothing is sent where the journal alone tells."""
+        self.store_all({"table": OTHER_CHIP + TABLE, "journal": journal, "flash.line": b"fresh\n"})
+        self.assertFault(self.use("undo"), text, holds=(ERASED, line), journal=journal)
 
     def test_stops_in_the_midst_of_taking_back(self):
         """Steps are counted from the first byte: settling, Get, Get ID, and a page that is read, erased and written."""
@@ -96,19 +91,17 @@ class Undo(Place):
         self.assertTold(self.use("undo"), "undone 1\n")
         self.assertSilent(self.use("read", "-S", "0x08001400:1024", "out"), out=ZEROS[:1024])
 
-    def test_undoes_on_a_fresh_device(self):
+    @each_of(((), ("--fresh",)))
+    def test_undoes_on_a_fresh_device(self, *words):
         """A simulator in the process that was reset is connected behind 512 settling bytes, whatever is said of it."""
         before = with_page(HEAD, b"0", b"\nerase 5\n")
-        mended = before + b"erase 5\nprogram 5\nundone 1\n"
-        for words in ((), ("--fresh",)):
-            with self.subTest(words):
-                # settling, Get, Get ID
-                self.lay(before)
-                self.assertFault(self.use("undo", *words, "--stop", "539"), "stopped", 3, holds=(ERASED, b"idle\n"), journal=before)
-                self.lay(before)
-                self.assertFault(self.use("undo", *words, "--stop", "2716"), "stopped", 3)
-                self.lay(before)
-                self.assertTold(self.use("undo", *words, "--stop", "2717"), "undone 1\n", journal=mended)
+        # settling, Get, Get ID
+        self.lay(before)
+        self.assertFault(self.use("undo", *words, "--stop", "539"), "stopped", 3, holds=(ERASED, b"idle\n"), journal=before)
+        self.lay(before)
+        self.assertFault(self.use("undo", *words, "--stop", "2716"), "stopped", 3)
+        self.lay(before)
+        self.assertTold(self.use("undo", *words, "--stop", "2717"), "undone 1\n", journal=before + b"erase 5\nprogram 5\nundone 1\n")
 
     def lay(self, journal):
         """A device fresh from reset, whose flash is erased, and this journal."""

@@ -2,7 +2,7 @@
 
 import json
 
-from place import COUNTING, ERASED, TABLE, lacks, told_by
+from place import COUNTING, ERASED, TABLE, each_of, lacks, told_by
 from refusing import AT, IMAGE, SIZES, OnBoard
 
 from planted_board import PlantedBoard
@@ -72,20 +72,19 @@ class UndoVerified(OnBoard):
         self.assertTold(self.use("undo", "-v"), "undone 0, 0 bytes verified\n")
         self.assertFile("flash.line", b"fresh\n")
 
-    def test_a_stopped_write(self):
+    @each_of(((TABLE, ("-v",), None), (TABLE, ("-v", "--fresh"), b"fresh\n"), (TELLING, ("-v", "--fresh"), b"fresh\n")))
+    def test_a_stopped_write(self, table, words, line):
         """Also on a device that was reset since, by one 7F; and on one that tells its board, which is asked first."""
-        for table, words, line in ((TABLE, ("-v",), None), (TABLE, ("-v", "--fresh"), b"fresh\n"), (TELLING, ("-v", "--fresh"), b"fresh\n")):
-            with self.subTest(words=words, table=table):
-                self.store_all({"table": table, "flash": COUNTING})
-                self.assertEqual(self.use("write", "--stop", "9000", "-S", f"{AT:#x}", "image").status, 3)
-                self.assertNotEqual(self.held("flash"), COUNTING)
-                if line:
-                    self.store("flash.line", line)
-                said = self.use("undo", *words)
-                self.assertWell(said)
-                self.assertRegex(said.out.decode(), "^undone 1, [1-3]072|2048|1024 bytes verified\n$")
-                self.assertFile("flash", COUNTING)
-                self.remove("journal")
+        self.store_all({"table": table, "flash": COUNTING})
+        self.assertEqual(self.use("write", "--stop", "9000", "-S", f"{AT:#x}", "image").status, 3)
+        self.assertNotEqual(self.held("flash"), COUNTING)
+        if line:
+            self.store("flash.line", line)
+        said = self.use("undo", *words)
+        self.assertWell(said)
+        self.assertRegex(said.out.decode(), "^undone 1, [1-3]072|2048|1024 bytes verified\n$")
+        self.assertFile("flash", COUNTING)
+        self.remove("journal")
 
     def test_a_page_that_holds_other_bytes(self):
         """No segment is undone: a second undo undoes it. Without -v nobody looks."""

@@ -4,11 +4,9 @@ import itertools
 import json
 
 from hostile import be_silent
-from place import COUNTING, SILENT, TABLE, told_by
-from refusing import AT, DEVICE, NOT_ERASED, NOT_WRITTEN, Guarded, OnBoard
+from place import COUNTING, SILENT, TABLE, each_of, told_by
+from refusing import AT, DEVICE, IN_SESSION, NOT_ERASED, NOT_WRITTEN, NOW_UNDO, Guarded, OnBoard
 
-NOW_UNDO = "the board resets itself; now: undo 1"
-IN_SESSION = "to undo what a write-protected page refuses: protect write-unprotect --in-session, undo 1"
 OPEN = "journal is open, refused"
 UNSAID = ("protect", "write-unprotect", "--in-session")
 UNPROTECT = (*UNSAID, "--fresh")
@@ -43,24 +41,23 @@ class Unprotect(OnBoard):
         """It was done, and what is to be done then was told."""
         self.assertEqual((said.status, said.out, said.err.decode()), (0, b"", f"hint: {NOW_UNDO}\n"))
 
-    def test_a_refused_write_is_undone(self):
+    @each_of(REFUSED)
+    def test_a_refused_write_is_undone(self, step, told, words):
         """By each step that a protected page refuses: the board is reset, its protection taken off, and the write undone."""
-        for step, told, words in REFUSED:
-            with self.subTest(step, words=words):
-                board = self.refused(step, told)
-                journal = self.held("journal")
-                board.reset()
-                heard = self.heard(board)
-                self.assertUnprotected(self.on(board, *UNPROTECT))
-                # one 7F and the command, and nothing else; the journal is as it was
-                self.assertEqual(bytes(heard), b"\x7f\x73\x8c")
-                self.assertFile("journal", journal)
-                board.reset()
-                said = self.on(board, "undo", *words)
-                # page 6 wasn't kept yet
-                self.assertTold(said, "undone 1, 2048 bytes verified\n" if "-v" in words else "undone 1\n")
-                self.assertEqual(bytes(board.flash), COUNTING)
-                self.remove("journal")
+        board = self.refused(step, told)
+        journal = self.held("journal")
+        board.reset()
+        heard = self.heard(board)
+        self.assertUnprotected(self.on(board, *UNPROTECT))
+        # one 7F and the command, and nothing else; the journal is as it was
+        self.assertEqual(bytes(heard), b"\x7f\x73\x8c")
+        self.assertFile("journal", journal)
+        board.reset()
+        said = self.on(board, "undo", *words)
+        # page 6 wasn't kept yet
+        self.assertTold(said, "undone 1, 2048 bytes verified\n" if "-v" in words else "undone 1\n")
+        self.assertEqual(bytes(board.flash), COUNTING)
+        self.remove("journal")
 
     def test_nothing_is_said_of_the_board(self):
         """It is greeted and settled as ahead of an undo, reset or not, and asked; and so is it ahead of the undo behind it."""
@@ -103,17 +100,16 @@ class Unprotect(OnBoard):
         journal = self.held("journal")
         self.assertFault(self.at(be_silent, *UNSAID, "--give-up", "1"), NO_ANSWER, hint=SILENT, journal=journal + GREETED)
 
-    def test_another_board(self):
+    @each_of(((b"3 0412 " + 24 * b"4", "journal is of another board"), (b"2 0410", "journal belongs to another device")))
+    def test_another_board(self, header, text):
         """It is asked, and its protection stays."""
-        for header, text in ((b"3 0412 " + 24 * b"4", "journal is of another board"), (b"2 0410", "journal belongs to another device")):
-            with self.subTest(text):
-                self.store("table", TABLE + TABLE.replace(b"412", b"410"))
-                board = Guarded("page", 5)
-                self.store("journal", b"stmjournal " + header + b"\nopen 1\npage 5 " + 2048 * b"5" + b"\nerase 5\n")
-                heard = self.heard(board)
-                self.assertFault(self.on(board, *UNSAID), text)
-                self.assertNotIn(b"\x73\x8c", bytes(heard))
-                self.assertTrue(board.refused)
+        self.store("table", TABLE + TABLE.replace(b"412", b"410"))
+        board = Guarded("page", 5)
+        self.store("journal", b"stmjournal " + header + b"\nopen 1\npage 5 " + 2048 * b"5" + b"\nerase 5\n")
+        heard = self.heard(board)
+        self.assertFault(self.on(board, *UNSAID), text)
+        self.assertNotIn(b"\x73\x8c", bytes(heard))
+        self.assertTrue(board.refused)
 
     def test_with_another_journal(self):
         """It is sent as ever with a journal that has nothing to undo, and nothing is told then."""

@@ -2,7 +2,7 @@
 
 import os
 
-from place import Place, new
+from place import Place, each_of, new
 from test_device import INFO
 
 WORDS = {"table": "table", "device": "sim:0412:flash", "journal": "journal"}
@@ -47,11 +47,10 @@ class Variables(Place):
         words = ("--table", "table", "--device", "sim:0412:flash")
         self.assertUsage(self.call("info", *words, variables={"STMFLASH_JOURNAL": ""}))
 
-    def test_are_text(self):
-        for name in ("STMFLASH_TABLE", "STMFLASH_DEVICE", "STMFLASH_JOURNAL", "STMFLASH_JOURNALS", "STMFLASH_BOARD",
-                     "STMFLASH_WAIT", "STMFLASH_BAUD", "STMFLASH_NO_BOARD", "STMFLASH_FRESH", "STMFLASH_NO_LOCK", "STMFLASH_JSON"):
-            with self.subTest(name=name):
-                self.assertFault(self.call("info", variables={name: os.fsdecode(b"\xff")}), f"usage: {name} is not text", 2)
+    @each_of(("STMFLASH_TABLE", "STMFLASH_DEVICE", "STMFLASH_JOURNAL", "STMFLASH_JOURNALS", "STMFLASH_BOARD",
+              "STMFLASH_WAIT", "STMFLASH_BAUD", "STMFLASH_NO_BOARD", "STMFLASH_FRESH", "STMFLASH_NO_LOCK", "STMFLASH_JSON"))
+    def test_are_text(self, name):
+        self.assertFault(self.call("info", variables={name: os.fsdecode(b"\xff")}), f"usage: {name} is not text", 2)
 
     def test_name_the_journal_of_log_and_keep(self):
         self.assertTold(self.use("erase", "5"), "segment 1: 0 pages erased\n", new(1))

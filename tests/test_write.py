@@ -1,6 +1,6 @@
 """What `write` and `verify` make of a flash and a journal, and how a write is undone."""
 
-from place import ERASED, ZEROS, Place, had, new, with_page
+from place import ERASED, Place, had, new, with_page
 
 
 def flash_from(head):
@@ -51,10 +51,3 @@ class Write(Place):
     def test_tells_where_the_flash_differs(self):
         self.assertFault(self.use_image("verify", b"\xff\x01\x02"), "differs at 08000001")
         self.assertTold(self.use_image("verify", b"\xff\xff", "-S", "0x08007C00:2"), "verified 2 bytes\n", journal=None)
-
-    def test_a_journal_that_cannot_be_made_fails(self):
-        """A journal that can't be made is told, the flash stays, and its folder isn't made."""
-        self.store("flash", ZEROS)
-        self.assertFault(self.use("erase", "5", journal="absent/journal"), "journal failed", hint="No such file or directory")
-        self.assertHolds(ZEROS, b"idle\n")
-        self.assertFalse(self.is_there("absent"))
