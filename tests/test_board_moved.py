@@ -377,20 +377,19 @@ class BoardMoved(telling.Told):
         self.assertFiles({"flash": COUNTING, "journal": journal + b"erase 5\nprogram 5\n"})
         self.assertTold(self.at("undo"), "undone 1\n", flash=COUNTING)
 
-    def test_moved_behind_the_last_frame(self):
+    @each_of((*row, words) for row in ((SETTLED, CHANGED), (FRESH, "no answer from the device"))
+             for words in (("erase", "5"), ("write", "-S", "0x08001400", "image")))
+    def test_moved_behind_the_last_frame(self, stands, fault, words):
         """Another board is told, and so is one that answers nothing. The segment stays unfinished, and the first one comes back."""
-        for (stands, fault), words in itertools.product(((SETTLED, CHANGED), (FRESH, "no answer from the device")),
-                                                        (("erase", "5"), ("write", "-S", "0x08001400", "image"))):
-            with self.subTest(stands=stands, words=words):
-                self.begin()
-                self.assertFault(self.moved("behind the last frame", stands, *words), fault, there=ELSE)
-                self.assertFile("there.line", stands)
-                flash, journal = self.held("flash"), self.held("journal")
-                self.assertNotEqual(page(flash, 5), page(COUNTING, 5))
-                self.assertEqual(with_page(flash, 5, page(COUNTING, 5)), COUNTING)
-                self.assertTrue(journal.startswith(HEAD + b"open 1\npage 5 "))
-                self.assertNotIn(b"end 1", journal)
-                self.assertComesBack(ELSE)
+        self.begin()
+        self.assertFault(self.moved("behind the last frame", stands, *words), fault, there=ELSE)
+        self.assertFile("there.line", stands)
+        flash, journal = self.held("flash"), self.held("journal")
+        self.assertNotEqual(page(flash, 5), page(COUNTING, 5))
+        self.assertEqual(with_page(flash, 5, page(COUNTING, 5)), COUNTING)
+        self.assertTrue(journal.startswith(HEAD + b"open 1\npage 5 "))
+        self.assertNotIn(b"end 1", journal)
+        self.assertComesBack(ELSE)
 
     def test_an_erase_that_is_moved_behind_the_second_question_is_told_at_its_end(self):
         """The journal names the first board, and keeps a page of the other one: it is refused there, and gives that page to the first one."""

@@ -1,8 +1,9 @@
 """The CRC of the flash, and reading it as Intel HEX."""
 
+import itertools
 import random
 
-from place import COUNTING, ERASED, SIZE, Place
+from place import COUNTING, ERASED, SIZE, Place, each_of
 
 from image import crc
 
@@ -82,13 +83,11 @@ class Hex(Place):
         flash = ERASED[:100] + b"abc" + ERASED[103:20000] + b"\xff" * 8 + b"x" + ERASED[20009:]
         self.assertEqual(self.read("--skip-blank", "out.hex", flash=flash), [(BASE + 96, flash[96:112]), (BASE + 20000, flash[20000:20016])])
 
-    def test_a_record_with_one_byte_is_not_blank(self):
+    @each_of(itertools.product(range(16), (b"\x0f", b"\xf0")))
+    def test_a_record_with_one_byte_is_not_blank(self, at, byte):
         """Wherever it stands there, and whichever of its digits it is."""
-        for at in range(16):
-            for byte in (b"\x0f", b"\xf0"):
-                with self.subTest(at=at, byte=byte):
-                    flash = ERASED[:32 + at] + byte + ERASED[33 + at:]
-                    self.assertEqual(self.read("--skip-blank", "out.hex", flash=flash), [(BASE + 32, flash[32:48])])
+        flash = ERASED[:32 + at] + byte + ERASED[33 + at:]
+        self.assertEqual(self.read("--skip-blank", "out.hex", flash=flash), [(BASE + 32, flash[32:48])])
 
     def test_all_blank(self):
         self.store("flash", ERASED)

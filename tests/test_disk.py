@@ -260,19 +260,6 @@ class Disk(Place):
 class OverSocket(Served):
     """The same over a socket: the program alone has no room, the simulator that it talks to has."""
 
-    def begin_served(self, clients):
-        self.store_all({"table": SMALL_TABLE, "flash": SMALL_FLASH, "image": IMAGE})
-        self.serve(clients)
-
-    def assertTakenBack(self, added):
-        """What stands in the journal is this, and by it the flash is given back."""
-        self.assertFile("journal", added)
-        self.assertTold(self.use("undo", "--wait", WAIT, device="board"), "undone %d\n" % (len(added) >= len(OPENED)), unkept(len(added)))
-        self.remove("journal")
-        # once a further client is let go, what those before it left is stored
-        self.leave(self.connect())
-        self.assertFile("flash", SMALL_FLASH)
-
     def test_a_full_disk_ends_the_journal(self):
         """The disk is full at one byte after another of what a write adds; of a page's digits at some, as in the process, above.
         Each place has a board of its own, and some are done side by side: what takes time is a line that has to be quiet."""
@@ -310,16 +297,21 @@ class OverSocket(Served):
         return list(map(self.ended, started))
 
     def test_what_is_not_on_the_disk_is_not_answered(self):
-        self.begin_served(3 * (len(SYNCED) + 1))
+        """By what stands in the journal then the flash is given back."""
+        self.store_all({"table": SMALL_TABLE, "flash": SMALL_FLASH, "image": IMAGE})
+        self.serve(3 * (len(SYNCED) + 1))
         for fails, added in enumerate((b"", b"", OPENED, OPENED, KEPT, ERASING, PROGRAMMING, None)):
             with self.subTest(fails=fails):
                 said, synced = syncs.call(self.folder, ("write", *files("board"), "--wait", WAIT, "image"), fails)
                 self.assertEqual(synced, SYNCED[:fails + 1])
                 if added is None:
                     self.assertTold(said, "segment 1: 1 pages written\n")
-                else:
-                    self.assertFault(said, "journal failed", hint=UNSYNCED)
-                    self.assertTakenBack(added)
+                    continue
+                self.assertFault(said, "journal failed", hint=UNSYNCED, journal=added)
+                undone = "undone %d\n" % (len(added) >= len(OPENED))
+                self.assertTold(self.use("undo", "--wait", WAIT, device="board"), undone, unkept(len(added)))
+                self.remove("journal")
+                # once a further client is let go, what those before it left is stored
+                self.leave(self.connect())
+                self.assertFile("flash", SMALL_FLASH)
         self.leave(self.connect())
-        self.simulator.kill()
-        self.simulator.communicate()

@@ -74,17 +74,16 @@ class GivingUp(Served):
         self.assertGreater(seconds, 3.3)
         self.assertLess(seconds, 4.6)
 
-    def test_a_reply_to_7f_may_be_as_late_as_is_said(self):
+    @each_of(((b"", "4"), (b"connect!\n", "2")))
+    def test_a_reply_to_7f_may_be_as_late_as_is_said(self, greeting, give_up):
         """Also where the silence before it was longer than `--give-up`, as behind a greeting that a reset followed. Of a greeting
         itself the batch behind it is refused, and three whole waits follow, in which the board isn't given up."""
-        for number, (greeting, give_up) in enumerate(((b"", "4"), (b"connect!\n", "2"))):
-            with self.subTest(greeting):
-                self.store_all({"flash": ZEROS, "flash.line": b"fresh\n",
-                                "journal": with_page(b"stmjournal 2 0412\nopen 1\npage 5 ", b"0", b"\nerase 5\n" + greeting)})
-                self.serve(1)
-                self.delayed(lambda came: 0.5 if came == b"\x7f" else 0, f"slow{number}")
-                self.assertTold(self.use("undo", "--wait", "900", "--give-up", give_up, device=f"slow{number}"), "undone 1\n")
-                self.assertServed()
+        self.store_all({"flash": ZEROS, "flash.line": b"fresh\n",
+                        "journal": with_page(b"stmjournal 2 0412\nopen 1\npage 5 ", b"0", b"\nerase 5\n" + greeting)})
+        self.serve(1)
+        self.delayed(lambda came: 0.5 if came == b"\x7f" else 0, f"slow{give_up}")
+        self.assertTold(self.use("undo", "--wait", "900", "--give-up", give_up, device=f"slow{give_up}"), "undone 1\n")
+        self.assertServed()
 
     @each_of((be_noisy, hiss))
     def test_noise_is_no_answer(self, serve):

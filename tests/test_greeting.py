@@ -252,16 +252,15 @@ class Greeting(Undoing):
         self.assertFile(f"{room}/flash", flash)
         self.assertNotIn(GREETING, self.held(f"{room}/journal"))
 
-    def test_a_simulator_in_the_process(self):
+    @each_of(STEPS.items())
+    def test_a_simulator_in_the_process(self, stop, steps):
         """It takes no step more than before, and no line."""
-        for number, (stop, steps) in enumerate(STEPS.items()):
-            with self.subTest(stop):
-                for more, status in ((steps - 1, 3), (steps, 0)):
-                    room = self.room(f"{number}-{more}")
-                    self.begin(room, stop, False)
-                    said = self.call("undo", *files(f"sim:{stop.chip}:flash"), "--stop", str(more), "1", cwd=self.path(room))
-                    self.assertEqual(said.status, status, said)
-                self.assertUndone(room, said, stop, 0)
+        for more, status in ((steps - 1, 3), (steps, 0)):
+            room = self.room(f"{stop.chip}-{stop.command}-{more}")
+            self.begin(room, stop, False)
+            said = self.call("undo", *files(f"sim:{stop.chip}:flash"), "--stop", str(more), "1", cwd=self.path(room))
+            self.assertEqual(said.status, status, said)
+        self.assertUndone(room, said, stop, 0)
 
     @each_of((NARROW, WIDE))
     def test_what_was_finished(self, chip):

@@ -262,7 +262,10 @@ class Locks(Served):
     def assertRaces(self, pair, device):
         """Two uses, started together on one journal, which is there or not; and afterwards the flash is given back. The first
         round that fails is the last one: what it left is the next one's beginning."""
-        self.store_all({"one": b"\x11" * 3000, "two": b"\x22" * 3000})
+        self.store_all({"flash": COUNTING, "one": b"\x11" * 3000, "two": b"\x22" * 3000})
+        if device == "board":
+            # those that find the journal in use may have opened the line before
+            self.serve(100 * ROUNDS)
         for again in range(ROUNDS):
             if again % 2:
                 self.store("journal", b"")
@@ -272,22 +275,11 @@ class Locks(Served):
             self.assertWell(self.call(*self.words(UNDO, device)))
             self.assertSilent(self.call(*self.words(("read", "out"), device)), out=COUNTING)
             self.remove("journal")
-
-    def race_on_simulator(self, pair):
-        self.store("flash", COUNTING)
-        self.assertRaces(pair, "sim:0412:flash")
-
-    def race_on_board(self, pair):
-        """Those that find the journal in use may have opened the line before."""
-        self.store("flash", COUNTING)
-        self.serve(100 * ROUNDS)
-        self.assertRaces(pair, "board")
-        # what the last client left is stored, and nothing is written any more
-        self.leave(self.connect())
-        self.simulator.kill()
-        self.simulator.communicate()
+        if device == "board":
+            # what the last client left is stored, and nothing is written any more
+            self.leave(self.connect())
 
 
 for race, pair in RACES.items():
-    setattr(Locks, f"test_{race}_on_one_simulator", lambda self, pair=pair: self.race_on_simulator(pair))
-    setattr(Locks, f"test_{race}_on_one_board", lambda self, pair=pair: self.race_on_board(pair))
+    for place, device in (("simulator", "sim:0412:flash"), ("board", "board")):
+        setattr(Locks, f"test_{race}_on_one_{place}", lambda self, pair=pair, device=device: self.assertRaces(pair, device))

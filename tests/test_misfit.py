@@ -64,16 +64,15 @@ class Misfit(Served):
         self.assertTold(self.use("undo", device="sim:0A02:flash"), "undone 1\n")
         self.assertHolds(self.flash[:256] + 256 * b"\x55" + self.flash[512:], b"idle\n")
 
-    def test_what_only_the_size_says_is_refused_once_it_is_told(self):
+    @each_of((version, line, *row) for version, line in ((b"1", 1), (b"2", 3))
+             for row in (("sim:0A02:flash", b"idle\n", b""), ("board", b"fresh\n", b"connect!\n")))
+    def test_what_only_the_size_says_is_refused_once_it_is_told(self, version, line, device, stands, more):
         """A fresh board at a socket loses nothing by it: the one 7F connects it, so that it refuses each pair of the intent's byte behind that."""
-        for version, line in ((b"1", 1), (b"2", 3)):
-            for device, stands, more in (("sim:0A02:flash", b"idle\n", b""), ("board", b"fresh\n", b"connect!\n")):
-                with self.subTest(version=version, device=device):
-                    self.begin(UNIQUE + SIZE_AT, b"", version + b" 0A02", (PAGE_1,), b"erase 1")
-                    self.store("flash.line", stands)
-                    if device == "board":
-                        self.serve(1, number="0A02")
-                    self.assertFault(self.use("undo", *SPEED, device=device), f"bad journal line {line}")
-                    if device == "board":
-                        self.assertServed()
-                    self.assertFiles({"flash": self.flash, "flash.line": b"idle\n", "journal": self.journal + more})
+        self.begin(UNIQUE + SIZE_AT, b"", version + b" 0A02", (PAGE_1,), b"erase 1")
+        self.store("flash.line", stands)
+        if device == "board":
+            self.serve(1, number="0A02")
+        self.assertFault(self.use("undo", *SPEED, device=device), f"bad journal line {line}")
+        if device == "board":
+            self.assertServed()
+        self.assertFiles({"flash": self.flash, "flash.line": b"idle\n", "journal": self.journal + more})

@@ -52,14 +52,12 @@ class NoJournal(Place):
         name, *words = command.split()
         return self.call(name, "--journal", "journal", *words) if command in ALONE else self.use(name, *words)
 
-    def assertNone(self, command, data):
+    @each_of(itertools.product(ON_A_DEVICE + ALONE, NONE))
+    def test_is_refused_by_every_command(self, command, file):
         """The call ends with the file's name, and no file is made, removed or changed."""
-        self.store("journal", data)
-        self.assertFault(self.called(command), REFUSED, journal=data)
+        self.store("journal", NONE[file])
+        self.assertFault(self.called(command), REFUSED, journal=NONE[file])
         self.assertEqual(sorted(os.listdir(self.folder)), ["image", "journal", "table"])
-
-    def test_is_refused_by_every_command(self):
-        self.each(itertools.product(ON_A_DEVICE + ALONE, NONE), lambda command, file: self.assertNone(command, NONE[file]))
 
     def test_is_refused_before_a_byte_is_sent(self):
         """Nobody is asked for a line to the device."""

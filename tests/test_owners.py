@@ -8,7 +8,7 @@ import unittest.mock
 
 import place
 import telling
-from place import COUNTING, WAIT, ZEROS, files
+from place import COUNTING, WAIT, ZEROS, each_of, files
 from served import Served
 from test_crashed import LEFT
 
@@ -144,19 +144,18 @@ class Owners(Served):
         self.assertFault(self.use("undo", "--recover"), f"journal {OWNER}")
         self.assertFiles({"journal": LEFT, "journal.cut": None})
 
-    def test_root_trusts_who_called_sudo(self):
+    @each_of((caller, *row) for caller in (OTHER, OTHER + 1, "", "x4242", 1 << 32)
+             for row in ((("erase", "5"), "file"), (("read", "file"), "journal")))
+    def test_root_trusts_who_called_sudo(self, caller, words, journal):
         """A number that isn't one is nobody's."""
-        for caller, (words, journal) in itertools.product((OTHER, OTHER + 1, "", "x4242", 1 << 32),
-                                                          ((("erase", "5"), "file"), (("read", "file"), "journal"))):
-            with self.subTest(caller=caller, words=words):
-                self.begin()
-                self.clear("file")
-                self.make("file", Planted(OTHER, OTHER, 0o660), JOURNAL)
-                said = self.use(*words, journal=journal, variables={"SUDO_UID": str(caller)})
-                if caller == OTHER:
-                    self.assertWell(said)
-                else:
-                    self.assertFault(said, f"file {OWNER}", file=JOURNAL)
+        self.begin()
+        self.clear("file")
+        self.make("file", Planted(OTHER, OTHER, 0o660), JOURNAL)
+        said = self.use(*words, journal=journal, variables={"SUDO_UID": str(caller)})
+        if caller == OTHER:
+            self.assertWell(said)
+        else:
+            self.assertFault(said, f"file {OWNER}", file=JOURNAL)
 
     def test_a_user_trusts_root_and_no_variable(self):
         """What sudo says counts for root alone."""

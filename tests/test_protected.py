@@ -122,30 +122,26 @@ class Protected(Served):
     def test_each_frame_of_a_chip_with_long_numbers(self):
         self.assertRows(WIDE_ROWS, WIDE_TABLE)
 
-    def test_a_frame_that_was_begun_before(self):
+    @each_of((rest, known) for rest in (erase(4), write_to(6 * PAGE, b"\x00\x00"), b"\x43\xbc\xff\x00")
+             for known in range(1, len(rest)))
+    def test_a_frame_that_was_begun_before(self, rest, known):
         """Where a client goes within a frame, or the simulator is served anew, the frame is refused all the same."""
-        for rest in (erase(4), write_to(6 * PAGE, b"\x00\x00"), b"\x43\xbc\xff\x00"):
-            for known in range(1, len(rest)):
-                with self.subTest(rest=rest.hex(), known=known):
-                    self.store_all({"flash": COUNTING, "flash.line": f"rest {rest[:known].hex().upper()}\n".encode()})
-                    self.protect(1, "4-7")
-                    client = self.connect()
-                    client.sendall(rest[known:] + b"\x02\xfd")
-                    came = b""
-                    while not came.endswith(NACK + GET_ID):
-                        more = client.recv(4096)
-                        self.assertNotEqual(more, b"")
-                        came += more
-                    self.assertServed(client, holds=(COUNTING, b"idle\n"))
+        self.store_all({"flash": COUNTING, "flash.line": f"rest {rest[:known].hex().upper()}\n".encode()})
+        self.protect(1, "4-7")
+        client = self.connect()
+        client.sendall(rest[known:] + b"\x02\xfd")
+        came = b""
+        while not came.endswith(NACK + GET_ID):
+            more = client.recv(4096)
+            self.assertNotEqual(more, b"")
+            came += more
+        self.assertServed(client, holds=(COUNTING, b"idle\n"))
 
     @each_of((("4-7", 4), ("5", 5)))
     def test_a_refused_write_is_undone(self, protected, page):
         """Each step's text names the next, up to the flash as it was before; a write that was done before stays. A protected page is
         the first of the write, or the second, behind one that was written."""
-        self.undone(protected, NOT_ERASED.replace("page 4", f"page {page}"))
-        self.remove("journal", "flash", "flash.line")
-
-    def undone(self, protected, not_erased):
+        not_erased = NOT_ERASED.replace("page 4", f"page {page}")
         self.store_all({"flash": COUNTING, "image": IMAGE, "small": b"stays"})
         self.assertTold(self.use("write", "-S", f"{BASE + 8 * PAGE:#x}", "small"), "segment 1: 1 pages written\n")
         before = self.held("flash")
@@ -168,6 +164,7 @@ class Protected(Served):
         self.assertTold(self.use(*undo[:1], *wait, *undo[1:], device="board"), "undone 1\n")
         self.assertServed(flash=before)
         self.assertTold(self.use("undo"), "undone 1\n", flash=COUNTING)
+        self.remove("journal", "flash", "flash.line")
 
     def test_as_json(self):
         """The hint is a part of the fault's line."""

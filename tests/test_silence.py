@@ -164,23 +164,22 @@ class Silence(Served):
         self.assertEqual(waited.count(WHOLE), most, waited)
         self.assertLess(max(waited), LONG)
 
-    def test_behind_a_batch_that_is_not_refused_whole_each_wait_is_whole(self):
+    @each_of((True, False))
+    def test_behind_a_batch_that_is_not_refused_whole_each_wait_is_whole(self, drop):
         """A board that drops the last 1F of a batch, or sends one more: its replies may come late."""
-        for drop in (True, False):
-            with self.subTest(drop=drop):
-                self.store_all({"flash": FLASH, "flash.line": FRESH + b"\n", "journal": BEFORE})
-                came = []
+        self.store_all({"flash": FLASH, "flash.line": FRESH + b"\n", "journal": BEFORE})
+        came = []
 
-                def change(replies, came=came, drop=drop):
-                    count = sum(map(len, came)) + len(replies)
-                    came.append(replies)
-                    if replies != ACK and count == 1 + 128:
-                        return replies[:-1] if drop else replies + NACK
-                    return replies
+        def change(replies):
+            count = sum(map(len, came)) + len(replies)
+            came.append(replies)
+            if replies != ACK and count == 1 + 128:
+                return replies[:-1] if drop else replies + NACK
+            return replies
 
-                times = self.behind(change, WHOLE, "undo", "--baud", "115200")
-                # before 7F; behind the batch, and behind each of the two bytes that follow
-                self.assertGreaterEqual(len([at for at in times[:times.index(LONG)] if at >= WHOLE]), 4, times)
+        times = self.behind(change, WHOLE, "undo", "--baud", "115200")
+        # before 7F; behind the batch, and behind each of the two bytes that follow
+        self.assertGreaterEqual(len([at for at in times[:times.index(LONG)] if at >= WHOLE]), 4, times)
 
     def test_a_late_board_is_waited_for(self):
         """Where an answer took a third of the wait, no wait is shorter where silence is due."""

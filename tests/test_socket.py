@@ -78,38 +78,37 @@ class Socket(Served):
         self.assertTold(said, "id 0412\nversion 22\ncodes 00 01 02 11 21 31 43 73 82 92\ntable table\n")
         self.assertServed()
 
-    def test_has_get_version(self):
+    @each_of((("22", TABLE, b"\x43"), ("31", TABLE.replace(b'"page"', b'"extended"'), b"\x44")))
+    def test_has_get_version(self, version, table, erase):
         """It is listed, in its order and counted, and answered where a command may begin, however its two bytes come; the version is Get's."""
-        for version, (table, erase) in {"22": (TABLE, b"\x43"), "31": (TABLE.replace(b'"page"', b'"extended"'), b"\x44")}.items():
-            with self.subTest(version=version):
-                self.store("table", table)
-                self.serve(2)
-                client = self.connect()
-                # before 7F nothing is answered
-                self.assertReplies(client, b"\x01\xfe\x7f", b"\x79")
-                told = b"\x79" + bytes.fromhex(version) + b"\x00\x00\x79"
-                listed = b"\x79\x0a" + bytes.fromhex(version) + b"\x00\x01\x02\x11\x21\x31" + erase + b"\x73\x82\x92\x79"
-                self.assertReplies(client, b"\x01\xfe", told)
-                self.assertReplies(client, b"\x00\xff", listed)
-                self.assertReplies(client, b"\x01\xfe\x00\xff\x01\xfe\x02\xfd", told + listed + told + ID)
-                for byte, reply in ((b"\x01", b""), (b"\xfe", told), (b"\x00", b""), (b"\xff", listed)):
-                    self.assertReplies(client, byte, reply)
-                    self.assertQuiet(client)
-                # a wrong second byte is refused
-                self.assertReplies(client, b"\x01\xff\x00\xfe\x02\xfe", b"\x1f" * 3)
-                # inside a command they are its data, and in a reply too
-                self.assertReplies(client, b"\x31\xce\x08\x00\x01\x00\x09", b"\x79\x79")
-                self.assertReplies(client, b"\x03\x01\xfe\x00\xff\x03", b"\x79")
-                self.assertReplies(client, b"\x11\xee\x08\x00\x01\x00\x09\x03\xfc", b"\x79\x79\x79\x01\xfe\x00\xff")
-                # the code alone stays with the device, whoever is its client
-                client.sendall(b"\x01")
-                self.leave(client)
-                self.assertFile("flash.line", b"rest 01\n")
-                client = self.connect()
-                self.assertReplies(client, b"\xfe\x01\xfe", told * 2)
-                self.assertServed(client)
-                self.assertFile("flash.line", b"idle\n")
-                self.remove("flash", "flash.line")
+        self.store("table", table)
+        self.serve(2)
+        client = self.connect()
+        # before 7F nothing is answered
+        self.assertReplies(client, b"\x01\xfe\x7f", b"\x79")
+        told = b"\x79" + bytes.fromhex(version) + b"\x00\x00\x79"
+        listed = b"\x79\x0a" + bytes.fromhex(version) + b"\x00\x01\x02\x11\x21\x31" + erase + b"\x73\x82\x92\x79"
+        self.assertReplies(client, b"\x01\xfe", told)
+        self.assertReplies(client, b"\x00\xff", listed)
+        self.assertReplies(client, b"\x01\xfe\x00\xff\x01\xfe\x02\xfd", told + listed + told + ID)
+        for byte, reply in ((b"\x01", b""), (b"\xfe", told), (b"\x00", b""), (b"\xff", listed)):
+            self.assertReplies(client, byte, reply)
+            self.assertQuiet(client)
+        # a wrong second byte is refused
+        self.assertReplies(client, b"\x01\xff\x00\xfe\x02\xfe", b"\x1f" * 3)
+        # inside a command they are its data, and in a reply too
+        self.assertReplies(client, b"\x31\xce\x08\x00\x01\x00\x09", b"\x79\x79")
+        self.assertReplies(client, b"\x03\x01\xfe\x00\xff\x03", b"\x79")
+        self.assertReplies(client, b"\x11\xee\x08\x00\x01\x00\x09\x03\xfc", b"\x79\x79\x79\x01\xfe\x00\xff")
+        # the code alone stays with the device, whoever is its client
+        client.sendall(b"\x01")
+        self.leave(client)
+        self.assertFile("flash.line", b"rest 01\n")
+        client = self.connect()
+        self.assertReplies(client, b"\xfe\x01\xfe", told * 2)
+        self.assertServed(client)
+        self.assertFile("flash.line", b"idle\n")
+        self.remove("flash", "flash.line")
 
     def test_in_the_process_nobody_asks_for_get_version(self):
         self.assertIn(b"\ncodes 00 02 ", self.use("info").out)

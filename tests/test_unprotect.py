@@ -59,25 +59,24 @@ class Unprotect(OnBoard):
         self.assertEqual(bytes(board.flash), COUNTING)
         self.remove("journal")
 
-    def test_nothing_is_said_of_the_board(self):
+    @each_of((*row[:2], is_reset) for row in REFUSED[1:] for is_reset in (False, True))
+    def test_nothing_is_said_of_the_board(self, step, told, is_reset):
         """It is greeted and settled as ahead of an undo, reset or not, and asked; and so is it ahead of the undo behind it."""
-        for (step, told, _), is_reset in itertools.product(REFUSED[1:], (False, True)):
-            with self.subTest(step, is_reset=is_reset):
-                board = self.refused(step, told)
-                journal = self.held("journal")
-                if is_reset:
-                    board.reset()
-                heard = self.heard(board)
-                self.assertUnprotected(self.on(board, *UNSAID))
-                self.assertEqual((bytes(heard[:1]), bytes(heard[-6:])), (b"\x7f", b"\x00\xff\x02\xfd\x73\x8c"))
-                # what resets itself may be greeted anew
-                self.assertFile("journal", journal + GREETED)
-                board.reset()
-                heard.clear()
-                self.assertTold(self.on(board, "undo", "1"), "undone 1\n")
-                self.assertEqual(bytes(heard[:1]), b"\x7f")
-                self.assertEqual(bytes(board.flash), COUNTING)
-                self.remove("journal")
+        board = self.refused(step, told)
+        journal = self.held("journal")
+        if is_reset:
+            board.reset()
+        heard = self.heard(board)
+        self.assertUnprotected(self.on(board, *UNSAID))
+        self.assertEqual((bytes(heard[:1]), bytes(heard[-6:])), (b"\x7f", b"\x00\xff\x02\xfd\x73\x8c"))
+        # what resets itself may be greeted anew
+        self.assertFile("journal", journal + GREETED)
+        board.reset()
+        heard.clear()
+        self.assertTold(self.on(board, "undo", "1"), "undone 1\n")
+        self.assertEqual(bytes(heard[:1]), b"\x7f")
+        self.assertEqual(bytes(board.flash), COUNTING)
+        self.remove("journal")
 
     def test_a_board_that_was_stopped(self):
         """Wherever a frame was cut, the undo behind it gives everything back."""

@@ -18,18 +18,15 @@ def words_but(left=None):
     return [text for name, word in WORDS.items() if name != left for text in ("--" + name, word)]
 
 
-def is_installed():
-    """Whether a chip table is installed on this machine, which then stands in the place of `--table`."""
-    return any(os.path.exists(f"{folder}/share/stmflash/chips.toml") for folder in ("/usr/local", "/usr"))
-
-
 class Variables(Place):
     def test_stand_in_the_place_of_words(self):
         self.assertTold(self.call("info", variables={variable(name): word for name, word in WORDS.items()}), INFO)
+        # one on this machine stands in the place of `--table`
+        is_installed = any(os.path.exists(f"{folder}/share/stmflash/chips.toml") for folder in ("/usr/local", "/usr"))
         for name, word in WORDS.items():
             with self.subTest(name=name):
                 self.assertTold(self.call("info", *words_but(name), variables={variable(name): word}), INFO)
-                if name != "table" or not is_installed():
+                if name != "table" or not is_installed:
                     self.assertUsage(self.call("info", *words_but(name)))
 
     def test_a_word_goes_before(self):
