@@ -3,11 +3,9 @@
 import os
 import random
 
-from place import COUNTING, Place
+from place import BAD, COUNTING, HEADER, Place
 from telling import kept, sum_of
-from test_log import BAD, EMPTY, FOLLOWED
-
-HEADER = b"stmjournal 2 0412\n"
+from test_log import EMPTY, FOLLOWED
 
 
 def page(number, line, data):

@@ -52,7 +52,7 @@ class Chips(Served):
         place = chip.size - len(IMAGE)
         told = self.use_chip("info", device=device, wait=wait)
         self.assertWell(told)
-        self.assertTrue(told.out.startswith(tell(chip, chip.version(), []).partition(b"version")[0]), told)
+        self.assertTrue(told.out.startswith(tell(chip, chip.version(), []).partition(b"version")[0] + b"version "), told)
         self.store("image", IMAGE)
         words = ("-v", "-S", f"0x{chip.base + place:08X}", "image")
         self.assertTold(self.use_chip("write", *words, device=device, wait=wait), f"segment 1: 1 pages written\nverified {len(IMAGE)} bytes\n")

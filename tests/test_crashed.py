@@ -5,12 +5,11 @@ import json
 import os
 
 import syncs
-from place import SIZE, WAIT, ZEROS, each_of, files, told_by, with_page
+from place import HEAD, HEADER, SIZE, UNIQUE, WAIT, ZEROS, each_of, files, told_by, with_page
 from served import Served
 
-HEADER = b"stmjournal 2 0412\n"
 # a segment that was written and is ended, and one of which the line of the last page was on its way
-ENDED = with_page(HEADER + b"open 1\npage 5 ", b"0", b"\nerase 5\nprogram 5\nend 1\n")
+ENDED = with_page(HEAD, b"0", b"\nerase 5\nprogram 5\nend 1\n")
 GOOD = with_page(ENDED + b"open 2\npage 6 ", b"0", b"\nerase 6\n")
 BEGUN = b"page 7 " + b"00" * 300
 # where the first sector begins that was never written
@@ -21,7 +20,6 @@ LINE = GOOD.count(b"\n") + 1
 FAULT = f"bad journal line {LINE}"
 HINT = "a crash of the PC may have left it: undo --recover cuts it off, and keeps it beside"
 WRITTEN = ZEROS[:5120] + b"\xaa" * 1024 + b"\xff" * 1024 + ZEROS[7168:]
-UNIQUE = "2B0035000A51363034393332"
 TABLE = b'[[chip]]\nid = 0x412\nbase = 0x08000000\npages = [[32, 1024]]\nerase = "page"\nunique = [0x1FFFF7E8, 12]\n'
 
 

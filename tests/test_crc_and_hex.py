@@ -28,12 +28,11 @@ class Crc(Place):
     def assertSum(self, data, *words):
         self.assertTold(self.use("crc", *words), f"crc {crc(data):08X}\n")
 
-    def test_known_words(self):
-        # from the polynomial's own arithmetic, and from ST's application notes
-        for data, value in ((b"\0\0\0\0", "C704DD7B"), (bytes.fromhex("78563412"), "DF8A8A2B"), (b"\xff\xff\xff\xff", "00000000")):
-            with self.subTest(data=data):
-                self.store("flash", data + COUNTING[4:])
-                self.assertTold(self.use("crc", "-S", f"0x{BASE:X}:4"), f"crc {value}\n")
+    # from the polynomial's own arithmetic, and from ST's application notes
+    @each_of(((b"\0\0\0\0", "C704DD7B"), (bytes.fromhex("78563412"), "DF8A8A2B"), (b"\xff\xff\xff\xff", "00000000")))
+    def test_known_words(self, data, value):
+        self.store("flash", data + COUNTING[4:])
+        self.assertTold(self.use("crc", "-S", f"0x{BASE:X}:4"), f"crc {value}\n")
 
     def test_parts(self):
         flash = random.Random(3).randbytes(SIZE)

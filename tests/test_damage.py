@@ -4,18 +4,17 @@ no undo gives other bytes back."""
 import random
 
 import telling
-from place import Said, each_of
+from place import UNIQUE, Said, each_of
 from telling import kept, left, sum_of
 
 SIZE = 256
 COUNTING = bytes(i % 251 for i in range(16 * SIZE))
-NAME = "2B0035000A51363034393332"
-TOLD = {telling.UNIQUE_AT: bytes.fromhex(NAME), telling.SIZE_AT: None}
-HEAD = f"stmjournal 3 0410 {NAME}\n".encode()
+TOLD = {telling.UNIQUE_AT: bytes.fromhex(UNIQUE), telling.SIZE_AT: None}
+HEAD = f"stmjournal 3 0410 {UNIQUE}\n".encode()
 DAMAGED = "page {} of segment {} has another CRC in the journal than when it was kept; undo by a copy of the journal, or --trust-journal"
 CHECK = ("log", "--check", "--journal", "journal")
 BEGINS = {"table": telling.TABLE.replace(b"[[128, 1024]]", b"[[16, 256]]"), "flash": COUNTING, "image": b"an image",
-          "flash.board": f"unique {NAME}\n".encode()}
+          "flash.board": f"unique {UNIQUE}\n".encode()}
 # how many digits rot, and by which words all that is there is undone
 ROTS, ALL = 250, (("undo",), ("undo", "-v"), ("undo", "0"), ("undo", "2"))
 

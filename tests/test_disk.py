@@ -5,7 +5,7 @@ import resource
 import signal
 
 import syncs
-from place import COUNTING, WAIT, ZEROS, Place, each_of, files, had, lacks, served, with_page
+from place import COUNTING, HEADER, WAIT, ZEROS, Place, each_of, files, had, lacks, served, with_page
 from served import Served
 
 # a chip with a flash that is shorter than its journal
@@ -19,7 +19,6 @@ EMPTIED = b"\xff" * 256 + SMALL_FLASH[256:]
 SIDE_BY_SIDE = 16
 # a line that counts as nothing, longer than that flash: what is added behind it is cut by a limit that the flash stays below
 VOID = b"\0" * 1022 + b"!\n"
-HEADER = b"stmjournal 2 0412\n"
 OPENED = HEADER + b"open 1\n"
 KEPT = OPENED + b"page 0 " + b"0" * 512 + b"\n"
 ERASING = KEPT + b"erase 0\n"

@@ -1,6 +1,6 @@
 """What `erase` makes of a flash and a journal, and how it is undone."""
 
-from place import ERASED, ZEROS, Place, each_of, new, with_page
+from place import ERASED, HEAD, ZEROS, Place, each_of, new, with_page
 
 PAGES = "usage: give pages or --all"
 
@@ -8,7 +8,7 @@ PAGES = "usage: give pages or --all"
 class Erase(Place):
     def test_undoes_a_stopped_erase(self):
         """Stopped after the two bytes of the command, with the intent in the journal; then undone."""
-        stopped = with_page(b"stmjournal 2 0412\nopen 1\npage 5 ", b"0", b"\nerase 5\n")
+        stopped = with_page(HEAD, b"0", b"\nerase 5\n")
         self.store("flash", ZEROS)
         self.assertFault(self.use("erase", "--stop", "3190", "5"), "stopped", 3, holds=(ZEROS, b"rest 43BC\n"), journal=stopped)
         self.assertTold(self.use("undo"), "undone 1\n", holds=(ZEROS, b"idle\n"), journal=stopped + b"erase 5\nprogram 5\nundone 1\n")

@@ -4,7 +4,7 @@ import itertools
 import time
 
 from hostile import be_noisy, be_silent, echo, repeating
-from place import ECHO, NOISE, PATIENCE, SILENT, ZEROS, Said, each_of, with_page
+from place import ECHO, HEAD, NOISE, PATIENCE, SILENT, ZEROS, Said, each_of, with_page
 from served import Peer, Served
 
 NO_ANSWER = Said(1, b"", b"stmflash: no answer from the device\n")
@@ -68,7 +68,7 @@ class GivingUp(Served):
     def test_a_silent_device_is_given_up_as_soon_by_an_undo(self):
         """The silence before its 7F counts: behind two batches and two bytes just the rest of `--give-up` is waited, which is
         counted from the first byte on. The first draining, before it, is one wait more."""
-        self.store("journal", with_page(b"stmjournal 2 0412\nopen 1\npage 5 ", b"0", b"\nerase 5\n"))
+        self.store("journal", with_page(HEAD, b"0", b"\nerase 5\n"))
         said, seconds = self.answer(be_silent, "--wait", "400", "--give-up", "3", name="undo")
         self.assertEqual(said, hinted(NO_ANSWER, SILENT))
         self.assertGreater(seconds, 3.3)
@@ -78,8 +78,7 @@ class GivingUp(Served):
     def test_a_reply_to_7f_may_be_as_late_as_is_said(self, greeting, give_up):
         """Also where the silence before it was longer than `--give-up`, as behind a greeting that a reset followed. Of a greeting
         itself the batch behind it is refused, and three whole waits follow, in which the board isn't given up."""
-        self.store_all({"flash": ZEROS, "flash.line": b"fresh\n",
-                        "journal": with_page(b"stmjournal 2 0412\nopen 1\npage 5 ", b"0", b"\nerase 5\n" + greeting)})
+        self.store_all({"flash": ZEROS, "flash.line": b"fresh\n", "journal": with_page(HEAD, b"0", b"\nerase 5\n" + greeting)})
         self.serve(1)
         self.delayed(lambda came: 0.5 if came == b"\x7f" else 0, f"slow{give_up}")
         self.assertTold(self.use("undo", "--wait", "900", "--give-up", give_up, device=f"slow{give_up}"), "undone 1\n")

@@ -2,7 +2,7 @@
 
 import itertools
 
-from place import ERASED, TABLE, Place
+from place import ERASED, TABLE, Place, each_of
 
 # four bytes at the flash's first address, in HEX
 HEX = b":020000040800F2\r\n:0400000001020304F2\r\n:00000001FF\r\n"
@@ -71,18 +71,17 @@ class Image(Place):
         self.store("journal", b"stmjournal 2 0412\nopen 1\n")
         self.assertFault(self.use_image("write", image), "unfinished command, undo first")
 
-    def test_what_is_no_raw_image_is_refused(self):
+    @each_of(FOREIGN)
+    def test_what_is_no_raw_image_is_refused(self, image, what):
         """By its first bytes, before the device's files are opened; with -f it is raw all the same."""
-        for image, what in FOREIGN:
-            with self.subTest(image=image):
-                if what is None:
-                    self.assertNotIn(b"image is not raw", self.use_image("verify", image).err)
-                    continue
-                for name, *words in (("write", "-S", "0x08000400"), ("verify",)):
-                    self.assertFault(self.use_image(name, image, *words, device="absent"), f"image is not raw: {what}")
-                self.assertTold(self.use_image("write", image, "-f", "-v", "-S", "0x08000400"),
-                                f"segment 1: 1 pages written\nverified {len(image)} bytes\n")
-                self.remove("flash", "journal")
+        if what is None:
+            self.assertNotIn(b"image is not raw", self.use_image("verify", image).err)
+            return
+        for name, *words in (("write", "-S", "0x08000400"), ("verify",)):
+            self.assertFault(self.use_image(name, image, *words, device="absent"), f"image is not raw: {what}")
+        self.assertTold(self.use_image("write", image, "-f", "-v", "-S", "0x08000400"),
+                        f"segment 1: 1 pages written\nverified {len(image)} bytes\n")
+        self.remove("flash", "journal")
 
     def test_an_image_is_read_to_its_end(self):
         """Of 70 KiB, of 1 MiB and of 2 MiB, ending in 0A and in 00; HEX by whatever name; one byte more than any flash has."""

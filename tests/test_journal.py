@@ -3,12 +3,10 @@
 import os
 
 import syncs
-from place import Place, each_of
+from place import BAD, Place, each_of
 
 # a journal without a segment, that was left in the midst of a line
 TORN = b"stmjournal 1 0412\nopen 1\npage 5 FF0A\nend 1\nundone 1\nopen 1\nundone 1\npage 5 FF"
-# a journal whose second line isn't one
-BAD = b"stmjournal 1 0412\nopen 2\n"
 # a journal whose command was stopped
 UNFINISHED = b"stmjournal 1 0412\nopen 1\n"
 # a journal with a command that was done, on this device and on another

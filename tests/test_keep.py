@@ -5,13 +5,12 @@ import os
 import signal
 
 import syncs
-from place import Place, ZEROS, each_of, new, with_page
+from place import BAD, Place, ZEROS, each_of, new, with_page
 from test_disk import files_up_to
 
 IMAGE = b"\x00" * 1024
 WRITTEN = "segment 1: 1 pages written\n"
 OPEN = "journal is open, refused"
-BAD = b"stmjournal 1 0412\nopen 2\n"
 # the words of each way to keep a journal
 WAYS = ((), ("elsewhere",), ("--last", "1"))
 

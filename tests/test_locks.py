@@ -6,9 +6,9 @@ import os
 
 import syncs
 import telling
-from place import COUNTING, WAIT, Said, each_of, files, new, served
+from place import COUNTING, HEADER, WAIT, Said, each_of, files, new, served
 from served import Served, relay
-from test_check import HEADER, counted
+from test_check import counted
 from test_crashed import LEFT, WRITTEN
 
 # how many times two programs are started together, without a journal and with one; 100 are run by hand

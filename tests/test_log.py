@@ -4,11 +4,10 @@ import os
 import re
 
 import syncs
-from place import Place, each_of
+from place import BAD, Place, each_of
 
 EMPTY = "0 can be undone\n"
 UNFINISHED = "unfinished, undo first\n"
-BAD = b"stmjournal 1 0412\nopen 2\n"
 # the lines of a journal to follow by hand, each with the segments after it
 FOLLOWED = (
     (b"stmjournal 1 0412", EMPTY),

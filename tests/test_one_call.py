@@ -123,14 +123,13 @@ class OneCall(Place):
                 # the last byte of all is Go's answer, behind which the device is gone already
                 self.assertEqual(self.held("flash.line") == b"gone\n", at == gone - 1)
 
-    def test_steps_are_counted_from_where_the_call_begins(self):
-        # how the simulator was brought to where its device stands is none of them
-        for line in (b"idle\n", b"rest 11EE\n"):
-            with self.subTest(line=line):
-                written = self.steps("-v", line=line)
-                self.begin(line)
-                self.assertEqual(self.write("-v", "--keep", *GO, "--stop", str(written + 1)).status, 3)
-                self.assertFile("flash.line", b"rest 7F\n")
+    @each_of((b"idle\n", b"rest 11EE\n"))
+    def test_steps_are_counted_from_where_the_call_begins(self, line):
+        """How the simulator was brought to where its device stands is none of them."""
+        written = self.steps("-v", line=line)
+        self.begin(line)
+        self.assertEqual(self.write("-v", "--keep", *GO, "--stop", str(written + 1)).status, 3)
+        self.assertFile("flash.line", b"rest 7F\n")
 
 
 class Lines(Served):

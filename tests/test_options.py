@@ -50,13 +50,13 @@ class Options(Place):
         self.each(((b"\xff",), (b"info", b"--table", b"table\xff"), (b"\xff", b"--help")),
                   lambda *words: self.assertFault(self.call(*(os.fsdecode(word) for word in words)), "usage: the words are not text", 2))
 
-    def test_a_standard_output_that_is_full_is_told(self):
+    @each_of((("--help",), ("--version",), ("erase", "--help"), ("info", *files()), ("info", *files(), "--raw"), ("read", *files(), "-"),
+              ("erase", *files(), "5"), ("undo", *files()), ("log", "--journal", "journal"), ("keep", "--journal", "journal")))
+    def test_a_standard_output_that_is_full_is_told(self, *words):
         """Whatever is printed, and though all else was done."""
-        for words in (("--help",), ("--version",), ("erase", "--help"), ("info", *files()), ("info", *files(), "--raw"), ("read", *files(), "-"),
-                      ("erase", *files(), "5"), ("undo", *files()), ("log", "--journal", "journal"), ("keep", "--journal", "journal")):
-            with self.subTest(words=words), open("/dev/full", "wb") as out:
-                said = self.call(*words, stdout=out)
-                self.assertEqual((said.status, said.err), (1, CANNOT))
+        with open("/dev/full", "wb") as out:
+            said = self.call(*words, stdout=out)
+        self.assertEqual((said.status, said.err), (1, CANNOT))
 
     def written(self, words, is_fault=False):
         """What a use writes on standard output, or on standard error: each writing apart."""

@@ -8,12 +8,11 @@ import unittest.mock
 
 import place
 import telling
-from place import COUNTING, WAIT, ZEROS, each_of, files
+from place import COUNTING, UNIQUE, WAIT, ZEROS, each_of, files
 from served import Served
 from test_crashed import LEFT
 
 OURS, OTHER = 0, 4242
-UNIQUE = "2B0035000A51363034393332"
 WORD = "--trust-journal"
 JOURNAL = b"stmjournal 2 0412\nopen 1\nend 1\n"
 OWNER = f"is user {OTHER}'s: chown it, or {WORD}"

@@ -11,11 +11,10 @@ import os
 import re
 import shutil
 
-from place import WAIT
+from place import UNIQUE, WAIT
 from served import Served
 
 NUMBER = re.compile(r"\d+")
-UNIQUE = "2B0035000A51363034393332"
 TABLE = b'[[chip]]\nid = 0x410\nbase = 0x08000000\npages = [[4, 256]]\nerase = "page"\nunique = [0x1FFFF7E8, 12]\n'
 # what stands 16 bytes behind the first is the same, and the end is blank
 FLASH = bytes(range(16)) * 40 + b"\xff" * 384

@@ -4,10 +4,9 @@ import os
 import tomllib
 
 import telling
-from place import WAIT, Place, served, text_in
+from place import UNIQUE, WAIT, Place, served, text_in
 
 HEAD = "[[chip]]\n"
-NAME = "2B0035000A51363034393332"
 OTHER = "2B0035000A5136303439333F"
 INFO = "id 0410\nbase 08000000\npages %d\nsize %d\nerase 43\nerased FF\nversion 22\ncodes 00 02 11 21 31 43 73 82 92\n"
 COUNTING = bytes(i % 251 for i in range(65536))
@@ -29,25 +28,25 @@ class SimulatedBoard(telling.Told):
         return self.use(*words, device="sim:0410:flash", **more)
 
     def test_a_part_of_64_kib_has_64_pages(self):
-        self.store("flash.board", f"unique {NAME}\nsize 64\n".encode())
-        self.assertTold(self.at("info"), INFO % (64, 65536) + f"board {NAME}\nflash 64 KiB\n")
+        self.store("flash.board", f"unique {UNIQUE}\nsize 64\n".encode())
+        self.assertTold(self.at("info"), INFO % (64, 65536) + f"board {UNIQUE}\nflash 64 KiB\n")
         self.store("flash", COUNTING)
         self.assertFault(self.at("erase", "64"), "address outside the flash")
         self.assertTold(self.at("erase", "63"), "segment 1: 1 pages erased\n")
-        self.assertTrue(self.held("journal").startswith(f"stmjournal 3 0410 {NAME}\n".encode()))
+        self.assertTrue(self.held("journal").startswith(f"stmjournal 3 0410 {UNIQUE}\n".encode()))
         self.assertTold(self.at("undo"), "undone 1\n")
-        self.assertFiles({"flash": COUNTING, "flash.board": f"unique {NAME}\nsize 64\n".encode()})
+        self.assertFiles({"flash": COUNTING, "flash.board": f"unique {UNIQUE}\nsize 64\n".encode()})
 
     def test_two_boards_of_a_kind_are_told_apart(self):
-        self.store_all({"flash": COUNTING + COUNTING, "flash.board": f"unique {NAME}\n".encode()})
+        self.store_all({"flash": COUNTING + COUNTING, "flash.board": f"unique {UNIQUE}\n".encode()})
         self.assertTold(self.at("write", "image"), "segment 1: 1 pages written\n")
         written, journal = self.held("flash"), self.held("journal")
         self.store("flash.board", f"unique {OTHER}".encode())
         for words in (("undo",), ("erase", "1"), ("info",)):
             self.assertFault(self.at(*words), "journal is of another board", flash=written, journal=journal)
-        self.store("flash.board", f"unique {NAME.lower()}".encode())
+        self.store("flash.board", f"unique {UNIQUE.lower()}".encode())
         self.assertFault(self.at("undo", "--board", OTHER[-4:]), "device is another board")
-        self.assertTold(self.at("undo", "--board", NAME[-4:]), "undone 1\n")
+        self.assertTold(self.at("undo", "--board", UNIQUE[-4:]), "undone 1\n")
         # of what goes into a file nothing is told
         self.assertTold(self.at("read", "out"), "", flash=COUNTING + COUNTING, out=COUNTING + COUNTING)
 
@@ -60,7 +59,7 @@ class SimulatedBoard(telling.Told):
 
     def test_what_no_board_is(self):
         self.each((b"unique 12\n", b"unique\n", b"size\n", b"size x\n", b"size 123456\n", b"size -1\n", b"board 1\n", b"\xff",
-                   f"unique {NAME}0\n".encode(), f" unique {NAME}\n".encode(), b"unique " + 66 * b"1"), self.assertNoBoard)
+                   f"unique {UNIQUE}0\n".encode(), f" unique {UNIQUE}\n".encode(), b"unique " + 66 * b"1"), self.assertNoBoard)
 
     def assertNoBoard(self, text):
         self.store("flash.board", text)
@@ -68,7 +67,7 @@ class SimulatedBoard(telling.Told):
 
     def test_a_text_that_is_too_long(self):
         """Up to 256 bytes are read whole. Of each longer text they say a board too: another size, a shorter unique id, none."""
-        size, unique = b"size 16\n", f"unique {NAME}\n".encode()
+        size, unique = b"size 16\n", f"unique {UNIQUE}\n".encode()
         self.each((size + 249 * b"\n", size + 248 * b"\n" + b"size 64\n", 233 * b"\n" + unique, 257 * b"\n", 255 * b"\n" + size, 4096 * b"\n"),
                   self.assertNoBoard)
         self.store("flash.board", size + 248 * b"\n")
@@ -94,21 +93,21 @@ class GivenBoard(telling.Told):
 
     def test_a_part_of_another_size_with_a_name(self):
         served = INFO.replace("codes 00 02", "codes 00 01 02")
-        board = f"unique {NAME}\nsize 64\n".encode()
-        told = served % (64, 65536) + f"board {NAME}\nflash 64 KiB\n"
-        self.assertTold(self.told("--unique", NAME.lower(), "--size", "64"), told)
+        board = f"unique {UNIQUE}\nsize 64\n".encode()
+        told = served % (64, 65536) + f"board {UNIQUE}\nflash 64 KiB\n"
+        self.assertTold(self.told("--unique", UNIQUE.lower(), "--size", "64"), told)
         self.assertFiles({"flash.board": board, "flash": 65536 * b"\xff"})
         # as the simulator in the process has it
         self.assertTold(self.use("info", device="sim:0410:flash"), told.replace("codes 00 01 02", "codes 00 02"))
         # what isn't given stays
-        self.assertTold(self.told("--unique", OTHER), told.replace(NAME, OTHER))
-        self.assertFile("flash.board", board.replace(NAME.encode(), OTHER.encode()))
-        self.assertTold(self.told(), told.replace(NAME, OTHER))
+        self.assertTold(self.told("--unique", OTHER), told.replace(UNIQUE, OTHER))
+        self.assertFile("flash.board", board.replace(UNIQUE.encode(), OTHER.encode()))
+        self.assertTold(self.told(), told.replace(UNIQUE, OTHER))
 
     def test_a_size_alone(self):
-        self.store("flash.board", f"unique {NAME}\n".encode())
+        self.store("flash.board", f"unique {UNIQUE}\n".encode())
         self.told("--size", "16")
-        self.assertFiles({"flash.board": f"unique {NAME}\nsize 16\n".encode(), "flash": 16384 * b"\xff"})
+        self.assertFiles({"flash.board": f"unique {UNIQUE}\nsize 16\n".encode(), "flash": 16384 * b"\xff"})
 
     def refused(self, text, *more, status=2):
         board = self.held("flash.board")
@@ -117,15 +116,15 @@ class GivenBoard(telling.Told):
         self.assertFalse(self.is_there("board"))
 
     def test_what_is_refused(self):
-        for digits in ("", "2B", 14 * "1", "0x" + NAME, NAME[1:], 33 * "12", NAME[:-1] + "G"):
+        for digits in ("", "2B", 14 * "1", "0x" + UNIQUE, UNIQUE[1:], 33 * "12", UNIQUE[:-1] + "G"):
             self.refused(f"usage: bad unique id {digits}", "--unique", digits)
-        self.refused(f"usage: unique id {NAME[2:]} is not 12 bytes", "--unique", NAME[2:])
-        self.refused(f"usage: unique id {NAME}00 is not 12 bytes", "--unique", NAME + "00")
+        self.refused(f"usage: unique id {UNIQUE[2:]} is not 12 bytes", "--unique", UNIQUE[2:])
+        self.refused(f"usage: unique id {UNIQUE}00 is not 12 bytes", "--unique", UNIQUE + "00")
         for size in ("0", "65535", "x", "-1"):
             self.refused(f"usage: bad number {size}", f"--size={size}")
         head, _, _ = telling.TABLE.partition(b"unique")
         self.store("table", head)
-        self.refused("usage: chip 0410 has no unique in the table", "--unique", NAME)
+        self.refused("usage: chip 0410 has no unique in the table", "--unique", UNIQUE)
         self.refused("usage: chip 0410 has no size_at in the table", "--size", "64")
         self.store("table", telling.TABLE)
         self.assertFile("flash", None)
@@ -160,7 +159,7 @@ class EverySize(Place):
     """Each part of a family has its own pages by the table of the family, and nothing beyond them is touched."""
 
     def part(self, number, length, kib, pages):
-        name = (3 * NAME)[:2 * length]
+        name = (3 * UNIQUE)[:2 * length]
         self.store("flash.board", f"unique {name}\nsize {kib}\n".encode())
         flash = bytes(i % 251 for i in range(1024 * kib))
         self.store("flash", flash)

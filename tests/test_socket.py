@@ -9,13 +9,12 @@ import threading
 import time
 
 import syncs
-from place import ERASED, PATIENCE, TABLE, WAIT, ZEROS, each_of, files, first_of, served, with_page
+from place import ERASED, HEAD, PATIENCE, TABLE, WAIT, ZEROS, each_of, files, first_of, served, with_page
 from served import Served, relay
 
 ID = bytes([0x79, 0x01, 0x04, 0x12, 0x79])
 # a chip that is stored fast
 SMALL_TABLE = b'[[chip]]\nid = 0x412\nbase = 0x08000000\npages = [[2, 256]]\nerase = "page"\n'
-HEAD = b"stmjournal 2 0412\nopen 1\npage 5 "
 
 
 class Socket(Served):

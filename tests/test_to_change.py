@@ -1,7 +1,7 @@
 """Writes and erases that changed nothing: what is told of them, what an undo of them tells, and `undo --to-change`, which goes
 back to the newest that changed something."""
 
-from place import ERASED, WAIT, each_of, had, new, told_by, with_page
+from place import ERASED, HEAD, WAIT, each_of, had, new, told_by, with_page
 from served import Served
 
 import telling
@@ -10,7 +10,7 @@ A, B = b"\x0a" * 4, b"\x0b" * 3000
 OF_A = A + ERASED[len(A):]
 OF_B = B + ERASED[len(B):]
 # a journal with a write that changed page 5 of zeros, and one that changed nothing
-CHANGED = with_page(b"stmjournal 2 0412\nopen 1\npage 5 ", b"0", b"\nerase 5\nend 1\nopen 2\nend 2\n")
+CHANGED = with_page(HEAD, b"0", b"\nerase 5\nend 1\nopen 2\nend 2\n")
 BACK = ERASED[:5120] + bytes(1024) + ERASED[6144:]
 
 

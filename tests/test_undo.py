@@ -1,8 +1,7 @@
 """What `undo` makes of a flash, from journals that were left by others."""
 
-from place import ERASED, TABLE, ZEROS, Place, each_of, had, lacks, with_page
+from place import ERASED, HEAD, TABLE, ZEROS, Place, each_of, had, lacks, with_page
 
-HEAD = b"stmjournal 2 0412\nopen 1\npage 5 "
 # a journal that was left in the midst of a page's line, and the same after its segment was undone
 TORN = b"stmjournal 1 0412\nopen 1\npage 0 FFFF"
 MENDED = b"stmjournal 1 0412\nopen 1\npage 0 FFFF!\nundone 1\n"

@@ -4,7 +4,7 @@ import itertools
 import json
 
 from hostile import be_silent
-from place import COUNTING, SILENT, TABLE, each_of, told_by
+from place import COUNTING, HEAD, SILENT, TABLE, each_of, told_by
 from refusing import AT, DEVICE, IN_SESSION, NOT_ERASED, NOT_WRITTEN, NOW_UNDO, Guarded, OnBoard
 
 OPEN = "journal is open, refused"
@@ -84,7 +84,7 @@ class Unprotect(OnBoard):
         for count in range(len(frame) + 1):
             with self.subTest(count):
                 board = Guarded("none", 5)
-                self.store("journal", b"stmjournal 2 0412\nopen 1\npage 5 " + COUNTING[5120:6144].hex().upper().encode() + b"\nerase 5\n")
+                self.store("journal", HEAD + COUNTING[5120:6144].hex().upper().encode() + b"\nerase 5\n")
                 for byte in b"\x7f" + frame[:count]:
                     board.feed(byte)
                 board.owed.clear()

@@ -2,11 +2,10 @@
 
 import os
 
-from place import Place, each_of, new
+from place import BAD, Place, each_of, new
 from test_device import INFO
 
 WORDS = {"table": "table", "device": "sim:0412:flash", "journal": "journal"}
-BAD = b"stmjournal 1 0412\nopen 2\n"
 
 
 def variable(name):
