@@ -1,6 +1,6 @@
 -- From a work that was done to the steps that are told of it, and to the task that asked for it.
 use Rattle.std.proofs.Common.{◌≡◌, ◌==◌, ◌&&◌, Bool, true, false, List, ℕ, Result, Ok, Err, IfOk}
-use Rattle.std.proofs.Common.{◌∙◌, ap, inl, refl, subst, sym, ⊎_elim}
+use Rattle.std.proofs.Common.{◌∙◌, IsErrAnd, ap, inl, refl, subst, sym, ⊎_elim}
 use Rattle.stm_wire.specs.Rig.{RigState}
 use Rattle.stm_words.specs.declared.options.Options.{Options}
 use Rattle.stm_words.specs.declared.sequel.Sequel.{Sequel}
@@ -38,6 +38,12 @@ says-fresh true words options found is = ⊎_elim taken asked found
       where
         no : false ≡ true → ⊥
         no same = cc
+
+-- nothing is owed where a fault is answered
+pub at-fault : (P : Steps → Type 0) (Q : Failure → Type 0) (came : Result Steps Failure)
+    → IsErrAnd came Q → IfOk came P
+at-fault P Q (Err failure) is = tt
+at-fault P Q (Ok steps) is = absurd is
 
 -- the options of the words themselves, and those beside a journal that was found in a folder
 pub own-options : (words : Options) → words.in_folder ≡ false
@@ -109,7 +115,7 @@ module _ {A B : Type 0} (simulated : A → RigState) (connected : B → RigState
   pub uses-beside : (options : Options) (texts : List (List ℕ)) (does : Work) (sequel : Sequel)
       (is_out named : Bool) (used : Steps) (came : Result Steps Failure) → is_out ≡ named
       → UsesLast simulated connected options texts does sequel (is_out && (sequel.again == 0)) used
-      → IfOk came (AreBeside texts used)
+      → IfOk came (AreBeside texts options.journal.now used)
       → IfOk came (UsesBeside simulated connected options texts does sequel named)
   uses-beside options texts does sequel is_out named used (Err failure) same uses beside = tt
   uses-beside options texts does sequel is_out named used (Ok steps) same uses beside =

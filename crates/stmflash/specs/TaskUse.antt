@@ -1,7 +1,7 @@
 -- From the task that the words name to the steps that are told of it: which work runs on the device,
 -- by which options, and what the tables add to its answer.
 use Rattle.std.specs.Prelude.{◌≡◌, ◌⊎◌, ◌++◌, ◌==◌, ◌&&◌, ℕ, Bool, true, false, not}
-use Rattle.std.specs.Prelude.{List, Some, codes, bytes_eq, is_some}
+use Rattle.std.specs.Prelude.{IsSomeAnd, List, Some, codes, bytes_eq, is_some}
 use Rattle.std.specs.Borrow.{Bor}
 use Rattle.hex.specs.Hex.{encode_upper}
 use Rattle.stm_wire.specs.Rig.{RigState}
@@ -17,8 +17,9 @@ use Rattle.stm_work.specs.TaskWork.{IsWorkFor}
 use Rattle.stmflash.specs.WriteUse.{UsesLast}
 use Rattle.stmflash.specs.declared.on_device.Prepared.{Prepared}
 
--- Steps with an answer beside what the tables say; all else of them is as it was.
-pub record AreBeside (texts : List (List ℕ)) (used told : Steps) : Type 0 where
+-- Steps beside what the tables say, that name the journal that was used; all else is as it was.
+pub record AreBeside (texts : List (List ℕ)) (name : List ℕ) (used told : Steps) : Type 0 where
+  pub by : IsSomeAnd told.used (λ it. it.journal.now ≡ name)
   pub board : told.board ≡ used.board
   pub answer : IsBeside texts used.answer told.answer
   pub kept : told.kept ≡ used.kept
@@ -47,7 +48,7 @@ pub record UsesBeside {A B : Type 0} (simulated : A → RigState) (connected : B
   pub used : Steps
   pub uses : UsesLast simulated connected options texts does sequel
       (is_out && (sequel.again == 0)) used
-  pub beside : AreBeside texts used steps
+  pub beside : AreBeside texts options.journal.now used steps
 
 -- the name of a board's journal in a folder
 abbrev pub journal_name : List ℕ → List ℕ → List ℕ

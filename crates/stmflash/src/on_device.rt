@@ -25,11 +25,10 @@ use std::net::Net;
 use std::time::{Clock, Instant};
 use stm_files::Locks;
 use stm_session::Fault;
-use stm_watch::Watch;
 use stm_wire::Rig;
 use stm_words::{Device, Options, Sequel, Task};
 use stm_work::{
-    ChipTables, Failure, Hint, Plan, Screen, Steps, Style, Used, Work, begins_journal, failure_of,
+    ChipTables, Failure, Hint, Plan, Steps, Used, Work, begins_journal, failure_of,
     has_telling_chip, lacks_journal, tell_lacking, tell_nameless, tell_notes, tells_board,
 };
 
@@ -228,7 +227,7 @@ fn tell_beside<'a, R: Clock + AllocGlobal>(
     tables: &ChipTables<'a>,
     from: Option<Instant>,
 ) -> Result<Steps<'a>, Failure<'a>>
-    ensures { IfOk result (AreBeside (table_texts tables.now) steps.entry) }
+    ensures { IfOk result (AreBeside (table_texts tables.now) options.now.journal.now steps.entry) }
 {
     Ok(Steps {
         used: Some(Used {
@@ -263,29 +262,19 @@ pub fn use_once<'a, 'r, 'e, R: Locks + Net + Clock + AllocGlobal, E: Write + IsT
         ⟦<ShownSimulator<'r, 'e, R, E> as Rig>⟧.view ⟦<ShownSocket<'r, 'e, R, E> as Rig>⟧.view
         options.now (table_texts tables.now) work sequel.now (goes_out output.entry)) }
 {
-    let style = Style::of(rt, options, err);
-    let screen = Screen::new(err, rt, rt.alloc(), style);
     let chips = tables.chips();
-    // nothing is known of the device yet
-    let watch = Watch::of_nothing(rt.alloc())?;
     match options.device {
         Device::Simulator { id, file } => {
             let Some(chip) = chips.find(id) else {
                 return Err(Failure::Session(Fault::UnknownChip(id)));
             };
-            let chip = chip.clone()?;
-            let tells = tells_board(&chip);
-            let plan = Plan::of(rt, options, tables, work, sequel, tells)?;
-            on_simulator(
-                rt, options, plan, chips, watch, file, chip, output, screen, hint,
-            )
+            let plan = Plan::of(rt, options, tables, work, sequel, tells_board(chip))?;
+            on_simulator(rt, options, plan, chips, file, chip, output, err, hint)
         }
         Device::Socket(path) => {
             let is_told = has_telling_chip(chips);
             let plan = Plan::of(rt, options, tables, work, sequel, is_told)?;
-            on_socket(
-                rt, options, plan, chips, watch, path, line, output, screen, hint,
-            )
+            on_socket(rt, options, plan, chips, path, line, output, err, hint)
         }
     }
 }

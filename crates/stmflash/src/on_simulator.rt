@@ -4,34 +4,25 @@ ghost use Rattle.std.specs.Prelude.{◌≡◌, IfOk, None, Ok};
 ghost use Rattle.stmflash.specs.DeviceUse.{UsesPlan, goes_out};
 
 use crate::output::{Output, write_done};
-use crate::planned_session::{Shown, Taken, checked_extent, failed_if, take_on};
-use std::io::Write;
+use crate::planned_session::{ShownSimulator, Taken, checked_extent, failed_if, take_on};
+use std::io::{IsTerminal, Write};
 use std::time::Clock;
 use stm_chip::Table;
 use stm_files::{FileFault, JournalFile, Locks, SimulatorFiles, SimulatorRig, Unusable};
 use stm_watch::Watch;
 use stm_wire::{Chip, Rig};
-use stm_words::Options;
-use stm_work::{Failure, Hint, Plan, Screen, Steps, done_on, read_journal};
+use stm_words::{Extent, Options};
+use stm_work::{Failure, Hint, Plan, Steps, done_on, read_journal};
 
-/// Does what a plan says on a simulator in the process. `chips` are those by which it is shown.
-pub fn on_simulator<'a, 's, R: Locks + Clock + AllocGlobal, W: Write + Drop>(
-    rt: &R,
+/// A simulator of this chip in a file, which is stored where its journal can't be read.
+fn open_simulator<'a: 'r, 'r, R: Locks + AllocGlobal>(
+    rt: &'r R,
     options: &Options<'a>,
-    plan: Plan<'a>,
-    chips: &Table,
-    watch: Watch,
+    name: &'a str,
+    checked: Option<Extent>,
     file: &'a str,
-    chip: Chip,
-    output: Output<'a, R>,
-    screen: Screen<'s, W, R>,
-    hint: &mut Option<Hint>,
-) -> Result<Steps<'a>, Failure<'a>>
-    ensures { IfOk result (UsesPlan
-        ⟦<Shown<'s, SimulatorRig<'s, 's, R>, W, R> as Rig>⟧.view
-        (goes_out output.entry) None plan.entry) }
-{
-    let name = plan.journal;
+    chip: &Chip,
+) -> Result<SimulatorRig<'r, 'a, R>, Failure<'a>> {
     let opened = match JournalFile::open(rt, name, options.without_lock, options.trusts_others) {
         // a simulator of which nothing else is known is fresh
         Err(Unusable::Unread(e)) => Err(Unusable::Unread(e)),
@@ -39,16 +30,14 @@ pub fn on_simulator<'a, 's, R: Locks + Clock + AllocGlobal, W: Write + Drop>(
         opened => opened,
     };
     let mut files = SimulatorFiles::open(rt, file, options.without_lock)?.beside(name);
-    let loaded = files.load(chip)?;
-    match read_journal(rt, opened, name, checked_extent(&plan.work, options)) {
+    let loaded = files.load(chip.clone()?)?;
+    match read_journal(rt, opened, name, checked) {
         Ok((journal, bytes)) => {
-            let memory = files.begin(loaded, bytes)?;
-            let mut rig = SimulatorRig::new(memory, journal, files);
+            let mut rig = SimulatorRig::new(files.begin(loaded, bytes)?, journal, files);
             if let Some(steps) = options.stop {
                 rig.stop_after(u64::from(steps));
             }
-            let trusts = options.trusts_others;
-            use_simulator(rt, rig, plan, chips, trusts, watch, output, screen, hint)
+            Ok(rig)
         }
         Err(failure) => {
             let memory = files.begin(loaded, Vec::new(rt.alloc()))?;
@@ -58,34 +47,28 @@ pub fn on_simulator<'a, 's, R: Locks + Clock + AllocGlobal, W: Write + Drop>(
     }
 }
 
-/// Does it on a simulator that is ready, and stores it.
-fn use_simulator<'a, 's, R: Locks + Clock + AllocGlobal, W: Write + Drop>(
-    rt: &R,
-    rig: SimulatorRig<'_, 'a, R>,
+/// Does what a plan says on a simulator in the process, and stores it. `chips` are those by which it
+/// is shown.
+pub fn on_simulator<'a, 'r, 'e, R: Locks + Clock + AllocGlobal, E: Write + IsTerminal>(
+    rt: &'r R,
+    options: &Options<'a>,
     plan: Plan<'a>,
     chips: &Table,
-    trusts: bool,
-    watch: Watch,
+    file: &'a str,
+    chip: &Chip,
     output: Output<'a, R>,
-    screen: Screen<'s, W, R>,
+    err: &'e mut E,
     hint: &mut Option<Hint>,
 ) -> Result<Steps<'a>, Failure<'a>>
-    ensures { IfOk result (UsesPlan
-        ⟦<Shown<'s, SimulatorRig<'s, 's, R>, W, R> as Rig>⟧.view
+    ensures { IfOk result (UsesPlan ⟦<ShownSimulator<'r, 'e, R, E> as Rig>⟧.view
         (goes_out output.entry) None plan.entry) }
 {
+    // nothing is known of the device yet
+    let watch = Watch::of_nothing(rt.alloc())?;
     let name = plan.journal;
-    let Taken { rig, done } = take_on(
-        rt.alloc(),
-        rig,
-        plan,
-        None,
-        chips,
-        trusts,
-        watch,
-        screen,
-        hint,
-    );
+    let checked = checked_extent(&plan.work, options);
+    let rig = open_simulator(rt, options, name, checked, file, chip)?;
+    let Taken { rig, done } = take_on(rt, options, rig, plan, None, chips, watch, err, hint);
     let is_unstored = rig.is_unstored();
     let (memory, journal, mut files) = rig.into_parts();
     let done = done_on(journal, name, done);

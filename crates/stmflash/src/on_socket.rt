@@ -6,10 +6,10 @@ ghost use Rattle.stmflash.specs.DeviceUse.{UsesPlan, goes_out, greeting_for};
 use crate::first_question::Line;
 use crate::greeted_session::greeting_for;
 use crate::output::{Output, write_done};
-use crate::planned_session::{Shown, Taken, checked_extent, failed_if, take_on};
+use crate::planned_session::{ShownSocket, Taken, checked_extent, failed_if, take_on};
 use std::fs;
 use std::fs::Files;
-use std::io::Write;
+use std::io::{IsTerminal, Write};
 use std::net::Net;
 use std::os::unix::fs::FileTypeExt;
 use std::os::unix::net::UnixStream;
@@ -19,7 +19,7 @@ use stm_files::{JournalFile, Locks, SocketLine, SocketRig};
 use stm_watch::Watch;
 use stm_wire::Rig;
 use stm_words::Options;
-use stm_work::{Failure, Hint, Plan, Screen, Steps, done_on, serving_journal};
+use stm_work::{Failure, Hint, Plan, Steps, Work, done_on, serving_journal};
 
 /// The least and the most seconds without an answer after which a line is given up, unless that is
 /// said.
@@ -64,45 +64,46 @@ pub fn connect_line<'a, 'r, R: Files + Net + Clock>(
     }
 }
 
+/// A journal, and the line to what listens at a socket: the one that there is, or a new one.
+fn open_socket<'a: 'r, 'r, R: Locks + Net + Clock + AllocGlobal>(
+    rt: &'r R,
+    options: &Options<'a>,
+    name: &'a str,
+    work: &Work,
+    path: &'a str,
+    line: Option<Line<'r, R>>,
+) -> Result<SocketRig<'r, UnixStream, R>, Failure<'a>> {
+    let opened = JournalFile::open(rt, name, options.without_lock, options.trusts_others);
+    let journal = serving_journal(rt, opened, name, checked_extent(work, options))?;
+    let line = match line {
+        Some(line) => line,
+        None => connect_line(rt, options, path, give_up_of(options, work.is_undo()))?,
+    };
+    Ok(SocketRig::new(line, journal))
+}
+
 /// Does what a plan says on what listens at a socket, by the line that there is, or a new one.
 /// `chips` are those by which it is shown.
-pub fn on_socket<'a, 'r, R: Locks + Net + Clock + AllocGlobal, W: Write + Drop>(
+pub fn on_socket<'a, 'r, 'e, R: Locks + Net + Clock + AllocGlobal, E: Write + IsTerminal>(
     rt: &'r R,
     options: &Options<'a>,
     plan: Plan<'a>,
     chips: &Table,
-    watch: Watch,
     path: &'a str,
     line: Option<Line<'r, R>>,
     output: Output<'a, R>,
-    screen: Screen<'_, W, R>,
+    err: &'e mut E,
     hint: &mut Option<Hint>,
 ) -> Result<Steps<'a>, Failure<'a>>
-    ensures { IfOk result (UsesPlan
-        ⟦<Shown<'r, SocketRig<'r, UnixStream, R>, W, R> as Rig>⟧.view
+    ensures { IfOk result (UsesPlan ⟦<ShownSocket<'r, 'e, R, E> as Rig>⟧.view
         (goes_out output.entry) (greeting_for plan.entry.work options.now) plan.entry) }
 {
+    // nothing is known of the device yet
+    let watch = Watch::of_nothing(rt.alloc())?;
     let name = plan.journal;
-    let opened = JournalFile::open(rt, name, options.without_lock, options.trusts_others);
-    let journal = serving_journal(rt, opened, name, checked_extent(&plan.work, options))?;
-    let line = match line {
-        Some(line) => line,
-        None => connect_line(rt, options, path, give_up_of(options, plan.work.is_undo()))?,
-    };
-    let rig = SocketRig::new(line, journal);
+    let rig = open_socket(rt, options, name, &plan.work, path, line)?;
     let greeting = greeting_for(&plan.work, options);
-    let trusts = options.trusts_others;
-    let Taken { rig, done } = take_on(
-        rt.alloc(),
-        rig,
-        plan,
-        greeting,
-        chips,
-        trusts,
-        watch,
-        screen,
-        hint,
-    );
+    let Taken { rig, done } = take_on(rt, options, rig, plan, greeting, chips, watch, err, hint);
     let done = failed_if(rig.has_given_up(), done, Failure::NoAnswer);
     let done = done_on(rig.into_journal(), name, done);
     write_done(rt, done, output)

@@ -3,8 +3,8 @@ ghost use Rattle.stmflash.specs.DeviceUse.{TakesAround};
 ghost use Rattle.stm_work.specs.Plan.{TellsSteps};
 
 use crate::greeted_session::take_greeted;
-use std::alloc::Global;
-use std::io::Write;
+use std::fs::Files;
+use std::io::{IsTerminal, Write};
 use std::os::unix::net::UnixStream;
 use std::time::Clock;
 use stm_chip::Table;
@@ -14,7 +14,7 @@ use stm_watch::{Watch, WatchRig};
 use stm_wire::Rig;
 use stm_words::{Extent, Options};
 use stm_work::{
-    Course, Failure, Guarded, Hint, PageGuard, Plan, ProgressRig, Screen, Steps, Work,
+    Course, Failure, Guarded, Hint, PageGuard, Plan, ProgressRig, Screen, Steps, Style, Work,
     done_watched, failed_by, failure_of, watched,
 };
 
@@ -45,22 +45,32 @@ pub fn checked_extent(work: &Work, options: &Options) -> Option<Extent> {
 
 /// Does what a plan says, on a Rig; it is shown, and its last turns are kept. What they tell of a
 /// session that was broken off becomes `hint`. `chips` are those by which it is shown.
-pub fn take_on<'a, 's, L: Guarded + Drop, W: Write + Drop, C: Clock>(
-    alloc: Global,
+pub fn take_on<
+    'a,
+    'r,
+    'e,
+    L: Guarded + Drop,
+    R: Files + Clock + AllocGlobal,
+    E: Write + IsTerminal,
+>(
+    rt: &'r R,
+    options: &Options<'a>,
     rig: L,
     plan: Plan<'a>,
     greeting: Option<Greeting>,
     chips: &Table,
-    trusts_others: bool,
     watch: Watch,
-    screen: Screen<'s, W, C>,
+    err: &'e mut E,
     hint: &mut Option<Hint>,
 ) -> Taken<'a, L>
-    ensures { TakesAround ⟦<Shown<'s, L, W, C> as Rig>⟧.view (λ shown. shown.inner.inner) L.view
-        watch greeting plan.entry rig result.rig result.done }
+    ensures { TakesAround ⟦<Shown<'r, L, &'e mut E, R> as Rig>⟧.view (λ shown. shown.inner.inner)
+        L.view watch greeting plan.entry rig result.rig result.done }
 {
+    let alloc = rt.alloc();
+    let style = Style::of(rt, options, err);
+    let screen = Screen::new(err, rt, alloc, style);
     let course = Course::new(chips, plan.work.goal());
-    let guard = PageGuard::of(alloc, chips, &plan.work, trusts_others);
+    let guard = PageGuard::of(alloc, chips, &plan.work, options.trusts_others);
     let is_watched = plan.is_watched();
     let mut rig = WatchRig::new(ProgressRig::new(rig, guard, course, screen), watch);
     let done = take_greeted(alloc, &mut rig, plan, greeting);

@@ -1,5 +1,5 @@
 use Rattle.stmflash.proofs.DeviceUse.{ok-of, tells-again, uses-plan}
-use Rattle.stmflash.proofs.on_simulator.use_simulator.Goals as goal
+use Rattle.stmflash.proofs.on_simulator.on_simulator.Goals as goal
 
 pub returns : goal.returns
 returns g c =
