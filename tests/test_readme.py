@@ -27,7 +27,7 @@ def told(block):
 
 
 # what stands in for rt, which proves nothing here, and for Debian's own: fish isn't there, and no call installs it
-STAND_INS = {"rt": "exit 0", "dpkg": '[ "$2" != fish ]', "apt-get": 'echo "$@" >> "$HOME/installed"'}
+STAND_INS = {"rt": "exit 0", "dpkg-query": '[ "$4" = fish ] || echo installed', "apt-get": 'echo "$@" >> "$HOME/installed"'}
 # nobody: a user that may do nothing
 NOBODY = 65534
 
