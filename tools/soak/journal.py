@@ -18,7 +18,7 @@ OPEN, ENDED, RETURNING = "open", "ended", "returning"
 
 def untimed(text):
     """The text of a journal without what it says of the beginning of its segments; any other as it is."""
-    return re.sub(rb"(?m)^(time|image) [^\n]*!\n", b"", text) if b"stmjournal 3 " in text[:64] else text
+    return re.sub(rb"(?m)^(time|image) [^\n]*!\n", b"", text) if re.search(rb"(?m)^stmjournal 3 ", text) else text
 
 
 class BadLine(Exception):
