@@ -14,9 +14,10 @@ from place import PATIENCE, TOP, Place, readable, text_in
 
 FOLDER = os.path.join(TOP, "packaging", "completions")
 KINDS = {"write-unprotect", "readout-protect", "readout-unprotect"}
-# runs the completion of the words after the second, and prints what it offers
-BASH = '''. "$1"; shift; function=$1; shift
-COMP_WORDS=("$@"); COMP_CWORD=$(($# - 1)); "$function"; printf '%s\\n' "${COMPREPLY[@]}"'''
+# prints each text that may be typed before each word that is offered behind it
+BASH = """. "$1"; shift; for typed; do COMP_WORDS=($typed); [[ $typed != *" " ]] || COMP_WORDS+=(""); COMP_CWORD=$((${#COMP_WORDS[@]} - 1))
+"_${COMP_WORDS[0]//-/_}"; for it in "${COMPREPLY[@]}"; do echo "$typed: $it"; done; done"""
+FISH = 'for it in $argv[1..3]; source $it; end; for typed in $argv[4..]; for it in (complete -C "$typed"); echo "$typed: $it"; end; end'
 
 
 def options(text):
@@ -33,7 +34,7 @@ BEHIND = (("ver", "verify"), ("write --prog", "--progress"), ("write a.hex the-i
 
 # behind these stands a file
 FILES = [f"stmflash{it}" for it in (" write --table table", " write", " write --table", " write --journal", " write --keep-to", " write --device",
-                                    " read", " info --journals", " verify", " keep", " log --journal", " sim --flash",
+                                    " read", " verify", " keep", " log --journal", " sim --flash",
                                     " sim --socket", "-line --socket", "-trial --device", "-trial --table", "-trial --save", "-trial --out")]
 
 
@@ -62,20 +63,15 @@ class Completions(Place):
         self.assertEqual((ran.returncode, ran.stderr), (0, ""), words)
         return set(ran.stdout.split("\n")) - {""}
 
-    def bash(self, typed):
-        words = typed.split(" ")
-        return self.shell("bash", "-c", BASH, "bash", os.path.join(FOLDER, "stmflash.bash"), f"_{words[0].replace('-', '_')}", *words)
-
-    def fish(self, typed):
-        """What fish offers, where the completions of all programs are installed."""
-        script = 'source $argv[1]; source $argv[2]; source $argv[3]; complete -C $argv[4]'
-        files = [os.path.join(FOLDER, name) for name in ("stmflash.fish", "stmflash-line.fish", "stmflash-trial.fish")]
-        return {line.split("\t")[0] for line in self.shell("fish", "--no-config", "-c", script, *files, typed)}
-
-    def both(self, offered):
-        """Tries what bash offers behind what is typed, and what fish does: the same."""
-        self.each(offered, lambda typed: self.assertEqual((typed, self.bash(typed) - {"--"}), (typed, offered[typed])))
-        self.each(offered, lambda typed: self.assertEqual((typed, self.fish(typed) - {"--"}), (typed, offered[typed])))
+    def both(self, offered, but="--"):
+        """Tries what bash offers behind what is typed, and what fish does, where the completions of all programs are installed: the same, but for
+        some words."""
+        names = [[os.path.join(FOLDER, f"stmflash{it}") for it in those] for those in ((".bash",), (".fish", "-line.fish", "-trial.fish"))]
+        for said in (self.shell("bash", "-c", BASH, "bash", *names[0], *offered), self.shell("fish", "--no-config", "-c", FISH, *names[1], *offered)):
+            found = {typed: set() for typed in offered}
+            for typed, _, word in (line.split("\t")[0].partition(": ") for line in said):
+                found[typed] |= {word.removesuffix("/")} if not re.fullmatch(but, word) else set()
+            self.each(offered, lambda typed: self.assertEqual((typed, found[typed]), (typed, offered[typed])))
 
     def zsh_makes(self, typed, made):
         """Types this into zsh, and a tab, and waits for what it makes of it."""
@@ -102,9 +98,8 @@ class Completions(Place):
 
     def test_what_follows_in_a_call_of_the_line(self):
         """Behind `--` stands a command, which is completed as it is by itself: subcommands, options and files."""
-        self.both({**{f"{CALL} {typed}": {offered} for typed, offered in BEHIND}, "stmflash-line /dev/ttyUSB0 -- stmflash-trial --sp": {"--speeds"}})
-        for offered in (self.bash, self.fish):
-            self.assertIn("true", offered("stmflash-line /dev/ttyUSB0 -- tru"))
+        self.both({**{f"{CALL} {typed}": {offered} for typed, offered in BEHIND}, "stmflash-line /dev/ttyUSB0 -- stmflash-trial --sp": {"--speeds"},
+                   "stmflash-line /dev/ttyUSB0 -- tru": {"true"}}, "tru(?!e$).*")
 
     def test_what_follows_in_zsh(self):
         if not shutil.which("zsh"):
@@ -120,6 +115,21 @@ class Completions(Place):
     def test_files_are_offered_with_their_blanks(self):
         self.store("an image.hex", b"")
         self.both({**{f"{words} an": {"an image.hex"} for words in FILES}, "stmflash info --device si": {"sim:"}})
+
+    def test_all_offer_the_same_behind_an_option(self):
+        """Files, folders, some words or nothing."""
+        os.mkdir(self.path("a-folder"))
+        files = os.listdir(self.folder)
+        takes = {name: options(self.help_of(name)) for name in self.subcommands() - {"help"}}
+        wanted = {}
+        for number, part in enumerate(re.split(r"\$service == |\n    help=", text_in(FOLDER, "_stmflash"))):
+            for option, action in re.findall(r"""['"](?:\([^)]*\))?\*?(-\w|--[a-z-]+)\[[^]]*\]:(?:\\.|[^:'"])*:((?:\\.|[^'"])*)""", part):
+                words = {"_files": files, "_files -/": ["a-folder"], "_stmflash_device": [*files, "sim:"]}.get(action, re.findall(r"[\w,-]+", action))
+                call = (None, "-line", "-trial", f" {next((it for it in takes if option in takes[it]), 'none')}")[number]
+                wanted[f"stmflash{call} {option} "] = set() if action.startswith("{") else set(words)
+        self.assertGreater(len(wanted), 35)
+        # (which ports there are is the machine's)
+        self.both(wanted, "/dev/.*|gpiochip.*|inverted-")
 
     def test_all_offer_the_same_ports(self):
         kinds = set(re.search(r"tty\(([A-Z|]+)\)", text_in(FOLDER, "stmflash.bash"))[1].split("|"))

@@ -1,6 +1,7 @@
 # Completion of stmflash, stmflash-line and stmflash-trial for bash.
 
 _stmflash_files() { mapfile -t COMPREPLY < <(compgen -f -- "$1"); }
+_stmflash_folders() { mapfile -t COMPREPLY < <(compgen -d -- "$1"); }
 _stmflash_words() { mapfile -t COMPREPLY < <(compgen -W "$2" -- "$1"); }
 _stmflash_ports() { mapfile -t COMPREPLY < <(compgen -G "$1*" | grep -E '^/dev/(tty(USB|ACM|AMA|S)|serial/)'); }
 
@@ -17,13 +18,15 @@ _stmflash() {
         fi
     done
     case $before in
-        --table | --journal | --journals | --flash | --socket | --keep-to) _stmflash_files "$word"; return ;;
+        --table | --journal | --flash | --socket | --keep-to) _stmflash_files "$word"; return ;;
+        --journals) _stmflash_folders "$word"; return ;;
+        --mode) _stmflash_words "$word" "600 660 666"; return ;;
         --device)
             _stmflash_files "$word"
             [[ sim: == "$word"* ]] && COMPREPLY+=(sim:)
             return ;;
         --baud) _stmflash_words "$word" "9600 19200 38400 57600 115200"; return ;;
-        --wait | --stop | --give-up | --board | --id | --unique | --size | --protected | --clients | --mode | -S | --go | --again | --last) return ;;
+        --wait | --stop | --give-up | --board | --id | --unique | --size | --protected | --clients | -S | --go | --again | --last) return ;;
     esac
     if [[ $word != -* ]]; then
         case $subcommand in
@@ -89,7 +92,8 @@ _stmflash_trial() {
         --device | --table | --save | --out) _stmflash_files "$word"; return ;;
         --port) _stmflash_ports "${word:-/dev/tty}"; return ;;
         --baud) _stmflash_words "$word" "9600 19200 38400 57600 115200"; return ;;
-        --wiring | --pages | --skip | --part | --reset | --wait | --pause) return ;;
+        --wiring) _stmflash_words "$word" "dtr-reset,rts-boot0 rts-reset,dtr-boot0 dtr-reset rts-reset inverted-"; return ;;
+        --pages | --skip | --part | --reset | --wait | --pause) return ;;
     esac
     _stmflash_words "$word" "$where --map --every-byte --patient --only-read --yes --progress --quiet --speeds --rows --help -h"
 }

@@ -28,7 +28,7 @@ complete -c stmflash -n "__stmflash_in help" -a "$all"
 complete -c stmflash -n "__stmflash_in $device sim" -l table -r -F -d 'The chip table'
 complete -c stmflash -n "__stmflash_in $device" -l device -r -F -a 'sim:' -d 'sim:ID:FILE, or the path of a Unix socket'
 complete -c stmflash -n "__stmflash_in $device log keep" -l journal -r -F -d 'The journal of what was done'
-complete -c stmflash -n "__stmflash_in $device" -l journals -r -F -d 'A folder in which each board has its journal'
+complete -c stmflash -n "__stmflash_in $device" -l journals -x -a '(__fish_complete_directories)' -d 'A folder in which each board has its journal'
 complete -c stmflash -n "__stmflash_in $device keep sim" -l no-lock -d 'Goes on where there are no locks'
 complete -c stmflash -n "__stmflash_in $device keep" -l trust-journal -d 'Uses files of others too'
 complete -c stmflash -n "__stmflash_in $device" -l wait -x -d 'Milliseconds that a reply may take'
