@@ -89,6 +89,20 @@ class Blocks(Clone, Place):
         self.assertEqual(said, told(used))
 
 
+class Demo(Clone, Place):
+    def test_it_fails_where_the_program_does(self):
+        """Where none is built, where info fails, and where any other of its calls does nothing."""
+        self.clone()
+        self.script("clone/tools/try-unproved", f'shift 3\nexec {self.path("program")} "$@"')
+        for number, status in ((1, 1), (3, 1), (4, 0), (5, 0), (6, 0), (7, 0)):
+            self.store("calls", b"")
+            self.script("program", f"""echo >> {self.path("calls")}; [ "$(wc -l < {self.path("calls")})" != {number} ] || {{ echo "at $PWD"; exit {status}; }}
+                [ "$1" != sim ] || cp "$0" "$TMPDIR/program"; exec {program()} "$@\"""")
+            ran = subprocess.run(["sh", "tools/demo.sh"], cwd=self.path("clone"), env={**os.environ, "PATH": f"{self.path('stand-ins')}:{os.environ['PATH']}"},
+                                 timeout=PATIENCE, capture_output=True, text=True)
+            self.assertEqual((ran.returncode, number > 1 or f"\nat {self.path('clone')}/crates/stmflash\n" in ran.stdout), (1, True), (number, ran.stdout))
+
+
 class Readme(Place):
     def test_the_demo_says_what_it_lacks(self):
         """Without rt one line says so, and where it comes from; nothing is built."""

@@ -41,14 +41,7 @@ ln -sf ../../line/stmflash-line ../../line/stmflash-trial "$top/bin/unproved"
 wait
 
 # A flash of 32 KiB with something to see in it.
-i=0
-: > "$demo/text"
-while [ "$i" -lt 2048 ]; do
-    printf 'stmflash %06d\n' "$i" >> "$demo/text"
-    i=$((i + 1))
-done
-head -c 32768 "$demo/text" > "$demo/flash.bin"
-
+awk 'BEGIN { for (i = 0; i < 2048; i++) printf "stmflash %06d\n", i }' > "$demo/flash.bin"
 cp "$demo/flash.bin" "$demo/before.bin"
 printf 'a new program, which is not there yet' > "$demo/image.bin"
 cp "$top/chips.toml" "$demo/chips.toml"
@@ -58,10 +51,8 @@ cd "$demo"
 use() {
     echo
     echo "> stmflash $1 --table chips.toml --device sim:0412:flash.bin --journal journal $2"
-    name=$1
-    words=$2
     # shellcheck disable=SC2086
-    "$program" "$name" --table chips.toml --device sim:0412:flash.bin --journal journal $words 2>&1 || true
+    "$program" "$1" --table chips.toml --device sim:0412:flash.bin --journal journal $2 2>&1
 }
 
 # Shows the flash from the place of the image on.
@@ -69,16 +60,23 @@ show() {
     echo "  the flash from 08000400 on: $(tail -c +1025 flash.bin | head -c 40 | tr '\377\n' '.|')"
 }
 
+# Ends the demo where a write left the flash as it was.
+wrote() {
+    ! cmp -s flash.bin before.bin || { echo "make demo: the write changed nothing" >&2; exit 1; }
+}
+
 use info ""
 show
-use write "-S 0x08000400 --stop 3500 image.bin"
+use write "-S 0x08000400 --stop 3500 image.bin" || true
 show
+wrote
 echo "  where the line was left: $(cut -c 1-40 flash.bin.line)"
 use undo ""
 show
 cmp flash.bin before.bin
 use write "-v -S 0x08000400 image.bin"
 show
+wrote
 use undo ""
 show
 cmp flash.bin before.bin
