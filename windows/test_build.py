@@ -9,6 +9,7 @@ import importlib.util
 import io
 import os
 import pathlib
+import runpy
 import shutil
 import subprocess
 import tempfile
@@ -32,10 +33,11 @@ def compiled(text, flags, to):
 
 class Build(unittest.TestCase):
     def setUp(self):
-        loader = importlib.machinery.SourceFileLoader("windows_build", f"{HERE}/build")
+        self.room = self.enterContext(tempfile.TemporaryDirectory(prefix="a test_"))
+        os.symlink(os.path.dirname(HERE), f"{self.room}/top")
+        loader = importlib.machinery.SourceFileLoader("windows_build", f"{self.room}/top/windows/build")
         self.build = importlib.util.module_from_spec(importlib.util.spec_from_loader(loader.name, loader))
         loader.exec_module(self.build)
-        self.room = self.enterContext(tempfile.TemporaryDirectory(prefix="stmflash-"))
         os.makedirs(f"{self.room}/kit/bin")
         os.makedirs(f"{self.room}/kit/toolchain/bin")
         os.mkdir(f"{self.room}/new")
@@ -49,6 +51,10 @@ class Build(unittest.TestCase):
         with contextlib.redirect_stdout(said):
             made = self.build.proved_object(f"{self.room}/new")
         return made, said.getvalue()
+
+    def test_the_layer_is_each_file_but_its_test(self):
+        """Wherever it is."""
+        self.assertEqual({os.path.basename(it) for it in self.build.LAYER}, {it for it in os.listdir(HERE) if it.endswith(".c")} - {"test_layer.c"})
 
     def test_takes_the_object_of_the_proved_program_alone(self):
         self.assertRaisesRegex(SystemExit, "there is no proved program", self.taken)
@@ -69,6 +75,10 @@ class Build(unittest.TestCase):
         self.assertEqual((os.listdir(new.parent), new.read_bytes()), ([new.name], b"old"))
         self.build.retarget.put(new, lambda room, path: pathlib.Path(path).write_bytes(b"new"))
         self.assertEqual((os.listdir(new.parent), new.read_bytes(), old.read_bytes()), ([new.name], b"new", b"old"))
+        for name in ("arm64", "windows"):
+            with unittest.mock.patch.multiple(self.build.retarget, asked=lambda *tools: (True, str(new)), unproved_module=lambda *words: None, compile_module=lambda *words: None):
+                self.assertRaises((OSError, subprocess.CalledProcessError), runpy.run_path, f"{self.room}/top/{name}/build", run_name="__main__")
+            self.assertEqual((os.listdir(new.parent), new.read_bytes()), ([new.name], b"new"), name)
 
     def test_one_with_a_red_zone_is_made_once_more_of_the_proofs_that_were_kept(self):
         compiled(Fits.NOT["is below the stack"][0], [], f"{self.room}/stmflash.o")
