@@ -252,18 +252,25 @@ class Layer(Tried):
                 list(build.retarget.retarget(build.TARGET, build.without_arm([line])))
 
     def test_a_page_has_the_sum_of_each_file_and_a_version(self):
-        """One that is the same for the same bytes, and another for any others."""
-        versions = []
-        for folder, data in (("one", b"1"), ("again", b"1"), ("another", b"2")):
-            folder = pathlib.Path(self.room, folder)
+        """One that is the same for the same bytes, and another for any others, of whichever file."""
+        page, folder, versions = pathlib.Path(self.room, "web/page"), pathlib.Path(self.room, "one"), []
+        shutil.copytree(f"{HERE}/page", page)
+        shutil.copy(f"{TOP}/chips.toml", self.room)
+        put = runpy.run_path(f"{HERE}/build")["put"]
+        put.__globals__.update(HERE=page.parent, TOP=self.room)
+        sources = [it for it in (pathlib.Path(self.room, "chips.toml"), pathlib.Path(shutil.copy(f"{HERE}/build", self.room)), *page.iterdir()) if it.name != "offline.js"]
+        for path in (None, None, *sources):
+            if path:
+                path.write_bytes(path.read_bytes() + b"\n")
+            shutil.rmtree(folder, ignore_errors=True)
             folder.mkdir()
-            for name, held in (("stmflash.wasm", data), ("verdict.txt", b"a verdict\n"), ("older.js", b"// of a page before\n")):
-                (folder / name).write_bytes(held)
-            run([f"{HERE}/build", "--page", folder], check=True)
-            self.assertEqual(run(["sha256sum", "--check", "--quiet", "SHA256SUMS"], cwd=folder).stdout, "")
-            self.assertEqual({line.split()[1] for line in (folder / "SHA256SUMS").read_text().splitlines()}, {*os.listdir(folder)} - {"SHA256SUMS"})
+            put(folder, "a verdict", sources[1])
             versions.append(re.search("'stmflash-(.*)'", (folder / "offline.js").read_text())[1])
-        self.assertEqual([it == versions[0] for it in versions], [True, True, False])
+        self.assertEqual((versions[0], len({*versions})), (versions[1], len(sources) + 1))
+        (folder / "older.js").write_bytes(b"// of a page before\n")
+        run([f"{HERE}/build", "--page", folder], check=True, env={**os.environ, "TMPDIR": "/dev/shm"})
+        self.assertEqual(run(["sha256sum", "--check", "--quiet", "SHA256SUMS"], cwd=folder).stdout, "")
+        self.assertEqual({line.split()[1] for line in (folder / "SHA256SUMS").read_text().splitlines()}, {*os.listdir(folder)} - {"SHA256SUMS"})
 
     def test_wirings_are_those_of_stmflash_line(self):
         sys.path.insert(0, f"{TOP}/line")
