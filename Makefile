@@ -161,40 +161,41 @@ lib = $(DESTDIR)$(PREFIX)/lib
 completions = packaging/completions
 
 install:
-	@test -x $(BINARY) || { echo "make install: there is no $(BINARY); run make before" >&2; exit 1; }
-	install -d $(DESTDIR)$(PREFIX)/bin $(share)/man/man1 $(share)/stmflash
-	install -m 755 $(BINARY) $(DESTDIR)$(PREFIX)/bin/stmflash
-	install -m 644 stmflash.1 $(share)/man/man1/stmflash.1
-	install -m 644 chips.toml $(share)/stmflash/chips.toml
-	install -d $(share)/doc/stmflash
-	install -m 644 docs/FORMATS.md docs/MODEL.md docs/answers.schema.json $(share)/doc/stmflash
-	install -d $(share)/bash-completion/completions $(share)/zsh/vendor-completions $(share)/fish/vendor_completions.d
-	install -m 644 $(completions)/stmflash.bash $(share)/bash-completion/completions/stmflash
-	install -m 644 $(completions)/_stmflash $(share)/zsh/vendor-completions/_stmflash
-	install -m 644 $(completions)/stmflash.fish $(share)/fish/vendor_completions.d/stmflash.fish
-	install -m 755 line/stmflash-line $(DESTDIR)$(PREFIX)/bin/stmflash-line
-	install -d $(share)/stmflash/stmflash_line
-	install -m 644 line/stmflash_line/*.py $(share)/stmflash/stmflash_line
-	install -m 644 line/stmflash-line.1 $(share)/man/man1/stmflash-line.1
-	install -m 755 line/stmflash-trial $(DESTDIR)$(PREFIX)/bin/stmflash-trial
-	install -m 644 line/stmflash-trial.1 $(share)/man/man1/stmflash-trial.1
-	install -d $(share)/stmflash/trial
-	install -m 644 line/trial/*.py $(share)/stmflash/trial
-	ln -sf stmflash $(share)/bash-completion/completions/stmflash-line
-	ln -sf stmflash $(share)/bash-completion/completions/stmflash-trial
-	install -m 644 $(completions)/stmflash-line.fish $(share)/fish/vendor_completions.d/stmflash-line.fish
-	install -m 644 $(completions)/stmflash-trial.fish $(share)/fish/vendor_completions.d/stmflash-trial.fish
-	install -d $(lib)/systemd/system $(lib)/udev/rules.d
-	sed 's|/usr/bin/|$(PREFIX)/bin/|' packaging/stmflash-line@.service | install -m 644 /dev/stdin $(lib)/systemd/system/stmflash-line@.service
-	install -m 644 packaging/70-stmflash.rules $(lib)/udev/rules.d/70-stmflash.rules
+	@test -x "$(BINARY)" || { echo "make install: there is no $(BINARY); run make before" >&2; exit 1; }
+	install -d "$(DESTDIR)$(PREFIX)/bin" "$(share)/man/man1" "$(share)/stmflash"
+	install -m 755 "$(BINARY)" "$(DESTDIR)$(PREFIX)/bin/stmflash"
+	install -m 644 stmflash.1 "$(share)/man/man1/stmflash.1"
+	install -m 644 chips.toml "$(share)/stmflash/chips.toml"
+	install -d "$(share)/doc/stmflash"
+	install -m 644 docs/FORMATS.md docs/MODEL.md docs/answers.schema.json "$(share)/doc/stmflash"
+	install -d "$(share)/bash-completion/completions" "$(share)/zsh/vendor-completions" "$(share)/fish/vendor_completions.d"
+	install -m 644 $(completions)/stmflash.bash "$(share)/bash-completion/completions/stmflash"
+	install -m 644 $(completions)/_stmflash "$(share)/zsh/vendor-completions/_stmflash"
+	install -m 644 $(completions)/stmflash.fish "$(share)/fish/vendor_completions.d/stmflash.fish"
+	install -m 755 line/stmflash-line "$(DESTDIR)$(PREFIX)/bin/stmflash-line"
+	install -d "$(share)/stmflash/stmflash_line"
+	install -m 644 line/stmflash_line/*.py "$(share)/stmflash/stmflash_line"
+	install -m 644 line/stmflash-line.1 "$(share)/man/man1/stmflash-line.1"
+	install -m 755 line/stmflash-trial "$(DESTDIR)$(PREFIX)/bin/stmflash-trial"
+	install -m 644 line/stmflash-trial.1 "$(share)/man/man1/stmflash-trial.1"
+	install -d "$(share)/stmflash/trial"
+	install -m 644 line/trial/*.py "$(share)/stmflash/trial"
+	ln -sf stmflash "$(share)/bash-completion/completions/stmflash-line"
+	ln -sf stmflash "$(share)/bash-completion/completions/stmflash-trial"
+	install -m 644 $(completions)/stmflash-line.fish "$(share)/fish/vendor_completions.d/stmflash-line.fish"
+	install -m 644 $(completions)/stmflash-trial.fish "$(share)/fish/vendor_completions.d/stmflash-trial.fish"
+	install -d "$(lib)/systemd/system" "$(lib)/udev/rules.d"
+	install -m 644 packaging/stmflash-line@.service "$(lib)/systemd/system"
+	sed -i 's|/usr/bin/|$(PREFIX)/bin/|' "$(lib)/systemd/system/stmflash-line@.service"
+	install -m 644 packaging/70-stmflash.rules "$(lib)/udev/rules.d/70-stmflash.rules"
 
 words = $(share)/stmflash-as-stm32flash/as_stm32flash
 
 install-as-stm32flash:
-	install -d $(DESTDIR)$(PREFIX)/bin $(words) $(share)/man/man1
-	install -m 755 line/stm32flash $(DESTDIR)$(PREFIX)/bin/stm32flash
-	install -m 644 line/as_stm32flash/*.py $(words)
-	install -m 644 line/stmflash-as-stm32flash.1 $(share)/man/man1/stmflash-as-stm32flash.1
+	install -d "$(DESTDIR)$(PREFIX)/bin" "$(words)" "$(share)/man/man1"
+	install -m 755 line/stm32flash "$(DESTDIR)$(PREFIX)/bin/stm32flash"
+	install -m 644 line/as_stm32flash/*.py "$(words)"
+	install -m 644 line/stmflash-as-stm32flash.1 "$(share)/man/man1/stmflash-as-stm32flash.1"
 
 deb: $(STMFLASH_BINARY)
 	@mkdir -p bin

@@ -1,5 +1,6 @@
 """What packaging/deb refuses: no package says of a program that it is proved which isn't. And what a release is made of."""
 
+import concurrent.futures
 import glob
 import os
 import pathlib
@@ -14,10 +15,23 @@ import zipfile
 from place import PATIENCE, TOP, is_unproved, program, text_in
 
 
+# what is installed, by its folder, and what it is a copy of
+INSTALLED = {"bin/": "line/stmflash-line line/stmflash-trial", "share/man/man1/": "stmflash.1 line/stmflash-line.1 line/stmflash-trial.1",
+             "share/stmflash/": "chips.toml", "share/stmflash/stmflash_line/": "line/stmflash_line/*.py", "share/stmflash/trial/": "line/trial/*.py",
+             "share/doc/stmflash/": "docs/FORMATS.md docs/MODEL.md docs/answers.schema.json", "share/fish/vendor_completions.d/": "packaging/completions/*.fish",
+             "share/bash-completion/completions/": "packaging/completions/*.bash", "share/zsh/vendor-completions/": "packaging/completions/_*",
+             "lib/udev/rules.d/": "packaging/*.rules", "lib/systemd/system/": "packaging/*.service"}
+
+
+def copies(of):
+    """The files that these patterns name, each behind the name of its copy."""
+    return [(os.path.basename(it).removesuffix(".bash"), it) for pattern in of.split() for it in glob.glob(pattern, root_dir=TOP)]
+
+
 class Packaging(unittest.TestCase):
     def folder(self):
-        """A folder for this test."""
-        return self.enterContext(tempfile.TemporaryDirectory())
+        """A folder for this test, with a blank in its name."""
+        return self.enterContext(tempfile.TemporaryDirectory(prefix="a test_"))
 
     def refused(self, path, folder, *words):
         """What is said where no package is made of this program; its folder has that one file then."""
@@ -64,23 +78,21 @@ class Packaging(unittest.TestCase):
         self.addCleanup(running.kill)
         subprocess.run(["make", "--no-print-directory", "install", "PREFIX=/opt/ours", f"DESTDIR={folder}", f"BINARY={program()}"],
                        cwd=TOP, check=True, capture_output=True, timeout=60, umask=0o077)
-        for path in glob.glob(f"{top}/**", recursive=True):
-            wanted = 0o755 if os.path.isdir(path) or "/bin/" in path else 0o644
-            self.assertTrue(os.path.dirname(os.readlink(path)) == "" if os.path.islink(path) else os.stat(path).st_mode & 0o7777 == wanted, path)
+        wanted = {to + name: pathlib.Path(TOP, it).read_bytes() for to, of in INSTALLED.items() for name, it in copies(of)}
+        wanted |= {f"share/bash-completion/completions/stmflash{it}": "stmflash" for it in ("-line", "-trial")}
+        unit = "lib/systemd/system/stmflash-line@.service"
+        wanted |= {"bin/stmflash": pathlib.Path(program()).read_bytes(), unit: wanted[unit].replace(b"=/usr/bin/", b"=/opt/ours/bin/")}
+        found = {it: os.path.join(top, it) for it in glob.glob("**", root_dir=top, recursive=True)}
+        held = {name: os.readlink(it) if os.path.islink(it) else pathlib.Path(it).read_bytes() for name, it in found.items() if not os.path.isdir(it)}
+        self.assertEqual([it for it in {*held, *wanted} if held.get(it) != wanted.get(it)], [])
+        for path in found.values():
+            self.assertEqual(os.stat(path).st_mode & 0o7777, 0o755 if os.path.isdir(path) or "/bin/" in path else 0o644, path)
         for name in ("stmflash", "stmflash-line", "stmflash-trial"):
-            for path in (f"bin/{name}", f"share/man/man1/{name}.1", f"share/fish/vendor_completions.d/{name}.fish",
-                         f"share/bash-completion/completions/{name}"):
-                self.assertTrue(os.path.exists(os.path.join(top, path)), path)
             # (what runs one of another processor finds it by the name that it has here)
             if name != "stmflash" or not program().endswith("-under-qemu"):
                 ran = subprocess.run([os.path.join(top, "bin", name), "--help"], capture_output=True, text=True, timeout=60)
                 self.assertEqual((ran.returncode, ran.stderr), (0, ""))
                 self.assertIn(f"{name} ", ran.stdout)
-        for path in ("share/zsh/vendor-completions/_stmflash", "share/doc/stmflash/FORMATS.md", "share/doc/stmflash/MODEL.md", "share/doc/stmflash/answers.schema.json",
-                     "share/stmflash/chips.toml", "lib/udev/rules.d/70-stmflash.rules"):
-            self.assertTrue(os.path.exists(os.path.join(top, path)), path)
-        unit = text_in(top, "lib/systemd/system/stmflash-line@.service")
-        self.assertEqual(re.findall("^ExecStart=(.*?) ", unit, re.MULTILINE), ["/opt/ours/bin/stmflash-line"])
 
     def test_a_tagged_adapter_is_nobody_elses(self):
         """ModemManager leaves it alone, whoever sits there may use it, and it is quick."""
@@ -108,9 +120,14 @@ class Packaging(unittest.TestCase):
         room = self.folder()
         # (a language's order is another than that of bytes)
         others = self.instead(room, dpkg_deb=f'chown -R 1:1 "$tree" 2> /dev/null; exec {shutil.which("dpkg-deb")} "$@"',
-                              sort='case "$LC_ALL$1" in C* | *-V) ;; *) set -- -r "$@" ;; esac; exec /usr/bin/sort "$@"')
+                              sort='[ "$LC_ALL" = C ] || set -- -r "$@"; exec /usr/bin/sort "$@"')
+        others |= {"LC_ALL": "C.UTF-8", "LANGUAGE": "sv:ja:zh_CN:de:fr", "TMPDIR": self.folder()}
+        at = subprocess.run([f"{TOP}/packaging/{words[0]}", *words[1:]], capture_output=True, text=True, timeout=PATIENCE, cwd=folder or room,
+                            env=self.instead(self.folder(), dpkg_deb='echo "$last" >&2; exit 1')).stderr
+        self.assertEqual(os.path.dirname(at), f"{TOP}/bin", "where no folder is named")
         made = subprocess.run([os.path.join(TOP, "packaging", words[0]), *words[1:], room], capture_output=True, text=True, timeout=PATIENCE,
-                              check=True, umask=0o077, env={**others, "LC_ALL": ""}, cwd=folder).stdout.strip()
+                              check=True, umask=0o077, env=others, cwd=folder).stdout.strip()
+        self.assertEqual(os.listdir(others["TMPDIR"]), [])
         contents = subprocess.run(["dpkg-deb", "--contents", made], capture_output=True, text=True, check=True).stdout
         self.assertEqual({line.split()[1] for line in contents.splitlines()}, {"root/root"})
         subprocess.run(["dpkg-deb", "--raw-extract", made, f"{room}/tree"], check=True)
@@ -135,7 +152,7 @@ class Packaging(unittest.TestCase):
         if not is_unproved():
             return
         self.needs(strip="binutils")
-        given = pathlib.Path(program().removesuffix("-under-qemu"))
+        given = pathlib.Path(shutil.copy(program().removesuffix("-under-qemu"), self.folder()))
         held = given.stat().st_mtime_ns
         fields, tree = self.packed("deb", "--unproved", given.name, folder=given.parent)
         told = (fields["Package"], fields["Conflicts"], fields["Replaces"], given.stat().st_mtime_ns)
@@ -145,6 +162,28 @@ class Packaging(unittest.TestCase):
         newest = max(re.findall(rb"GLIBC_([0-9.]+)\0", packed), key=lambda it: [int(part) for part in it.split(b".")]).decode()
         gcc = ["libgcc-s1"] * (b"libgcc_s.so.1" in packed)
         self.assertEqual(fields["Depends"].split(", "), [f"libc6 (>= {newest})", *gcc, "python3", "python3-serial"])
+
+    def test_any_call_of_a_tool_that_fails(self):
+        """Without a word, the first and the last of each tool: then no package is made or named, and nothing is left."""
+        self.needs(**{"dpkg-deb": "dpkg-dev"})
+        script, *words = ("deb", "--unproved", program().removesuffix("-under-qemu")) if is_unproved() else ("deb-as-stm32flash",)
+        # (what is there, and which processor is this one, isn't what the package is made of)
+        named = {it for file in (f"packaging/{script}", "Makefile") for it in re.findall(r"[a-z][a-z0-9-]+", text_in(file))} - {"rm", "sh", "uname"}
+        tools = {it: f'echo >> "$CALLS/{it}"; [ "{it} $(/usr/bin/wc -l < "$CALLS/{it}")" != "$FAILS" ] || exit 1; exec {shutil.which(it)} "$@"'
+                 for it in named if shutil.which(it)}
+        stand_ins = self.instead(self.folder(), **tools)
+
+        def pack(fails):
+            calls, folder, temporary = self.folder(), self.folder(), self.folder()
+            env = {**stand_ins, "CALLS": calls, "FAILS": fails, "TMPDIR": temporary, "SOURCE_DATE_EPOCH": ""}
+            ran = subprocess.run([f"{TOP}/packaging/{script}", *words, folder], capture_output=True, text=True, timeout=PATIENCE, env=env)
+            return calls, (fails, ran.returncode == 0, ran.stdout, os.listdir(folder), os.listdir(temporary))
+
+        calls, made = pack("")
+        each = [f"{it} {number}" for it in os.listdir(calls) for number in {1, os.path.getsize(f"{calls}/{it}")}]
+        self.assertTrue(made[1] and len(each) > 20)
+        with concurrent.futures.ThreadPoolExecutor(4) as pool:
+            self.assertEqual([it for _, it in pool.map(pack, each) if it[1:] != (False, "", [], [])], [])
 
     def test_what_the_package_of_stm32flashs_words_wants(self):
         """Just the stmflash that it was made beside, whose answers it reads; it stands in the place of Debian's own."""
@@ -194,13 +233,19 @@ class Packaging(unittest.TestCase):
             self.assertEqual(self.release(clone, folder), (1, "packaging/release: there are changes that aren't committed\n", ""))
             self.assertFalse(os.path.exists(folder))
             os.remove(os.path.join(clone, "more"))
-            status, err, _ = self.release(clone, folder, env=self.instead(room, dpkg_deb='echo $$ > "$last"'))
-            self.assertRegex(f"{status} {err}", r"^1 packaging/release: \S+_all.deb isn't the same when it is made again\n$")
+            older = pathlib.Path(folder, "stmflash_0.1.0-1_amd64.deb")
+            older.parent.mkdir()
+            older.touch()
+            self.assertEqual(self.release(clone, folder), (1, f"packaging/release: there is something in {folder}, which may be an older release\n", ""))
+            older.unlink()
             program, version = os.path.join(room, "one.exe"), released[released.index("## 0") + 3:].split()[0]
-            for said in ("0.2.0, not proved", f"{version}, proved by rattle logic dac8208d650f15bf"):
+            for name, does in (("_all.deb", {"dpkg_deb": 'echo $$ > "$last"'}), ("a.zip", {"python3": 'echo $$ > "$last/a.zip"'})):
+                status, err, _ = self.release(clone, folder, program, env=self.instead(self.folder(), **{"python3": "", **does}))
+                self.assertRegex(f"{status} {err}", rf"^1 packaging/release: \S*{name} isn't the same when it is made again\n$")
+            for said in ("0.2.0, not proved", "9.2.0, proved by rattle logic dac8208d650f15bf", f"{version}, proved by rattle logic dac8208d650f15bf"):
                 pathlib.Path(program).write_text(f"MZ {said}", encoding="utf-8")
                 status, err, out = self.release(clone, folder, program)
-                if said.endswith("not proved"):
+                if not said.startswith(f"{version}, proved"):
                     self.assertEqual((status, err), (1, f"packaging/zip: {program} isn't proved, and no zip is made of it\n"))
             self.assertEqual((status, err), (0, ""))
             with zipfile.ZipFile(os.path.join(folder, "stmflash-windows-x64.zip")) as made:

@@ -9,6 +9,7 @@ import subprocess
 from boards import LinePlace
 from place import COUNTING, PATIENCE, TOP, WAIT, Place, program, text_in
 from test_image import HEX
+from test_packaging import INSTALLED
 from test_plain import MANUALS, plain
 
 
@@ -165,9 +166,7 @@ class Manuals(Place):
 
     def test_the_pages_that_they_name_are_installed(self):
         named = {it for name in MANUALS for it in re.findall(r"\b(?:[A-Z]+\.md|\w+\.schema\.json)\b", page(name))}
-        self.assertEqual(named, {"FORMATS.md", "MODEL.md", "answers.schema.json"})
-        self.assertEqual(re.findall(r"^\tinstall -m 644 (docs/.*) \$\(share\)/doc/stmflash$", page("Makefile"), re.M),
-                         [" ".join(f"docs/{it}" for it in sorted(named))])
+        self.assertEqual(INSTALLED["share/doc/stmflash/"].split(), [f"docs/{it}" for it in sorted(named)])
 
     def test_the_examples_run(self):
         """Those of stmflash(1) but for the last, one after the other, at a simulator that they serve."""

@@ -142,5 +142,5 @@ FAULTS = {
     "the zip has local times": ("packaging/zip", "time.gmtime(", "time.localtime(", "test_packaging.Packaging.test_a_release"),
     "the zip's files lie anywhere": ("packaging/zip", 'ZipInfo(f"stmflash-{version}/{name}"', "ZipInfo(name", "test_packaging.Packaging.test_a_release"),
     "modules can be run": ("Makefile", "install -m 644 line/trial", "install -m 755 line/trial", "test_packaging.Packaging.test_what_is_installed_knows_where_it_is"),
-    "a link leads to where it was packed": ("Makefile", "ln -sf stmflash $(share)/bash-completion/completions/stmflash-trial", "ln -sf $(share)/bash-completion/completions/stmflash $(share)/bash-completion/completions/stmflash-trial", "test_packaging.Packaging.test_what_is_installed_knows_where_it_is"),
+    "a link leads to where it was packed": ("Makefile", "ln -sf stmflash \"$(share)/bash-completion/completions/stmflash-trial", "ln -sf $(share)/bash-completion/completions/stmflash \"$(share)/bash-completion/completions/stmflash-trial", "test_packaging.Packaging.test_what_is_installed_knows_where_it_is"),
 }
