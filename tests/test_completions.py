@@ -30,7 +30,7 @@ def options(text):
 
 # what is typed behind this, and what is offered there
 CALL = "stmflash-line /dev/ttyUSB0 --baud 9600 -- stmflash"
-BEHIND = (("ver", "verify"), ("write --prog", "--progress"), ("write a.hex the-im", "the-image.hex"))
+BEHIND = (("ver", "verify"), ("write --prog", "--progress"), ("write a.hex the-im", "the-image.hex"), (r"write it\'s.hex --prog", "--progress"))
 
 # behind these stands a file
 FILES = [f"stmflash{it}" for it in (" write --table table", " write", " write --table", " write --journal", " write --keep-to", " write --device",

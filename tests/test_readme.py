@@ -103,17 +103,16 @@ class Demo(Clone, Place):
                                  timeout=PATIENCE, capture_output=True, text=True)
             self.assertEqual((ran.returncode, number > 1 or f"\nat {self.path('clone')}/crates/stmflash\n" in ran.stdout), (1, True), (number, ran.stdout))
 
-
-class Readme(Place):
-    def test_the_demo_says_what_it_lacks(self):
+    def test_it_says_what_it_lacks(self):
         """Without rt one line says so, and where it comes from; nothing is built."""
         os.mkdir(self.path("bin"))
         for name in ("sh", "dirname", "python3"):
-            os.symlink(shutil.which(name), self.path(os.path.join("bin", name)))
-        ran = subprocess.run(["sh", os.path.join(TOP, "tools", "demo.sh")], env={"PATH": self.path("bin")}, capture_output=True, text=True)
-        self.assertEqual((ran.returncode, ran.stdout, ran.stderr),
-                         (1, "", 'make demo: there is no rt on the path (README, "Build, install, test")\n'))
+            os.symlink(shutil.which(name), self.path(f"bin/{name}"))
+        ran = subprocess.run(["sh", f"{TOP}/tools/demo.sh"], env={"PATH": self.path("bin")}, capture_output=True, text=True)
+        self.assertEqual((ran.returncode, ran.stdout, ran.stderr), (1, "", 'make demo: there is no rt on the path (README, "Build, install, test")\n'))
 
+
+class Readme(Place):
     def test_behind_make(self):
         """`make` leaves in bin what the demo leaves in bin/unproved."""
         self.assertIn("\tmkdir -p bin && cp crates/stmflash/out/stmflash bin/stmflash\n"
