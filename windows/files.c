@@ -90,7 +90,7 @@ ASKED(int, fcntl)(int number, int command, long long from)
     return command != 1030 ? fail(L_EINVAL) : numbered(it, (int)from);
 }
 
-// read: up to 1 GiB. The end of a pipe is an error for Windows. A console ends its lines by CR LF.
+// read: up to 1 GiB. The end of a pipe is an error for Windows. A console ends its lines by CR LF; where a read has just the CR, it reads on.
 ASKED(long long, read)(int number, void *buf, size_t room)
 {
     OPENED(it, number);
@@ -105,7 +105,7 @@ ASKED(long long, read)(int number, void *buf, size_t room)
     for (DWORD i = 0; it->kind == A_CONSOLE && i < n; i++)
         if (text[i] != '\r')
             *to++ = text[i];
-    return it->kind == A_CONSOLE ? to - text : n;
+    return it->kind != A_CONSOLE || n == 0 ? n : to != text ? to - text : sysv_read(number, buf, room);
 }
 
 // write: up to 1 GiB, and it answers how many bytes went.

@@ -364,6 +364,15 @@ static void test_files(void)
     FAILS(sysv_fcntl(3, 1030, 0), 9);
     FAILS(sysv_read(3, buf, 1), 9);
     FAILS(sysv_write(-1, buf, 1), 9);
+    // a console ends its lines by CR LF, and none of its reads is an end before the end: a reader of single bytes takes each line
+    HOLDS(put_file("typed", "y\r\n\r\nyes\r\n") == 0);
+    for (size_t room = 1, n = 0; room <= sizeof buf; room++, n = 0) {
+        int typed = sysv_open("typed", 0, 0);
+        table[typed]->kind = A_CONSOLE;
+        for (long long got; n < sizeof buf && (got = sysv_read(typed, buf + n, room < sizeof buf - n ? room : sizeof buf - n)) > 0;)
+            n += (size_t)got;
+        HOLDS(n == 7 && memcmp(buf, "y\n\nyes\n", 7) == 0 && sysv_isatty(typed) && sysv_close(typed) == 0);
+    }
     // what is added goes to the end, also beside another that adds
     int first = sysv_open("added", 02102, 0600), second = sysv_open("added", 02001, 0);
     HOLDS(first == 3 && second == 4 && sysv_write(first, "1", 1) == 1 && sysv_write(second, "2", 1) == 1 && sysv_write(first, "3", 1) == 1);
