@@ -13,57 +13,38 @@ void read_words(void);
 static int tried_so_far, wrong;
 
 #define HOLDS(fact) (tried_so_far++, (fact) || (wrong++, printf("line %d: %s\n", __LINE__, #fact), false))
-#define FAILS(call, error) HOLDS((call) < 0 && sysv_rattle_errno() == (error))
+// (the fault stays until another comes)
+#define FAILS(call, error) HOLDS((call) < 0 && sysv_rattle_errno() == (error) && sysv_rattle_errno() == (error))
 
 struct tried { bool ok; void *p; };
 struct when { long long sec; unsigned nsec; int none; };
 struct statx { unsigned mask, blksize; unsigned long long attributes; unsigned nlink, uid, gid; unsigned short mode, none0;
     unsigned long long ino, size, blocks, more; struct when atime, btime, ctime, mtime; unsigned major, minor, dev_major, dev_minor;
     unsigned long long none[14]; };
-ASKED(int, rattle_errno)(void);
+// what the program asks for, by files
+ASKED(int, rattle_errno)(void), sysv___xpg_strerror_r(int error, char *buf, size_t room);
 ASKED(void, rattle_set_errno)(int error);
-ASKED(int, __xpg_strerror_r)(int error, char *buf, size_t room);
-ASKED(struct tried, rattle_alloc)(size_t n, size_t a);
-ASKED(struct tried, rattle_realloc)(void *p, size_t kept, size_t n, size_t a);
+ASKED(struct tried, rattle_alloc)(size_t n, size_t a), sysv_rattle_realloc(void *p, size_t kept, size_t n, size_t a);
 ASKED(void, rattle_dealloc)(void *p);
-ASKED(int, memcmp)(const void *one, const void *other, size_t n);
-ASKED(int, bcmp)(const void *one, const void *other, size_t n);
-ASKED(void *, memmove)(void *to, const void *from, size_t n);
-ASKED(void *, memcpy)(void *to, const void *from, size_t n);
-ASKED(void *, memset)(void *to, int byte, size_t n);
-ASKED(long long, rattle_arg)(size_t i, char *buf, size_t room);
-ASKED(long long, rattle_env)(const char *name, char *buf, size_t room);
-ASKED(long long, rattle_env_at)(size_t i, char *buf, size_t room);
+ASKED(int, memcmp)(const void *one, const void *other, size_t n), sysv_bcmp(const void *one, const void *other, size_t n);
+ASKED(void *, memmove)(void *to, const void *from, size_t n), *sysv_memcpy(void *to, const void *from, size_t n), *sysv_memset(void *to, int byte, size_t n);
+ASKED(long long, rattle_arg)(size_t i, char *buf, size_t room), sysv_rattle_env(const char *name, char *buf, size_t room), sysv_rattle_env_at(size_t i, char *buf, size_t room);
 ASKED(int, clock_gettime)(int clock, long long *time);
-ASKED(int, open)(const char *name, int flags, unsigned mode);
-ASKED(int, close)(int number);
-ASKED(int, fcntl)(int number, int command, long long from);
-ASKED(long long, read)(int number, void *buf, size_t room);
-ASKED(long long, write)(int number, const void *buf, size_t n);
+ASKED(int, open)(const char *name, int flags, unsigned mode), sysv_close(int number), sysv_fcntl(int number, int command, long long from),
+    sysv_ftruncate(int number, long long length), sysv_isatty(int number);
 ASKED(long long, lseek)(int number, long long offset, int whence);
-ASKED(int, ftruncate)(int number, long long length);
-ASKED(int, isatty)(int number);
-ASKED(int, fchmod)(int number, unsigned mode);
-ASKED(int, lchown)(const char *name, unsigned owner, unsigned group);
-ASKED(int, poll)(void *asked, unsigned long long count, int wait);
-ASKED(int, flock)(int number, int how);
-ASKED(int, fsync)(int number);
-ASKED(int, fdatasync)(int number);
+ASKED(int, fchmod)(int number, unsigned mode), sysv_lchown(const char *name, unsigned owner, unsigned group);
+ASKED(int, flock)(int number, int how), sysv_fsync(int number), sysv_fdatasync(int number);
 ASKED(int, statx)(int number, const char *name, int flags, unsigned mask, struct statx *found);
 ASKED(char *, realpath)(const char *name, char *resolved);
-ASKED(int, unlink)(const char *name);
-ASKED(int, rename)(const char *from, const char *to);
-ASKED(int, link)(const char *from, const char *to);
+ASKED(int, unlink)(const char *name), sysv_rename(const char *from, const char *to), sysv_link(const char *from, const char *to);
 ASKED(int, rattle_open_dir_at)(int folder, const char *name);
 ASKED(long long, getdents64)(int number, unsigned char *buf, size_t room);
-ASKED(int, socket)(int family, int type, int protocol);
-ASKED(int, connect)(int number, const unsigned char *address, unsigned length);
-ASKED(int, bind)(int number, const unsigned char *address, unsigned length);
-ASKED(int, listen)(int number, int most);
-ASKED(int, accept4)(int number, unsigned char *address, unsigned *length, int flags);
-ASKED(int, setsockopt)(int number, int level, int name, const void *value, unsigned length);
-ASKED(long long, send)(int number, const void *buf, size_t n, int flags);
-ASKED(long long, recv)(int number, void *buf, size_t room, int flags);
+ASKED(int, socket)(int family, int type, int protocol), sysv_connect(int number, const unsigned char *address, unsigned length),
+    sysv_bind(int number, const unsigned char *address, unsigned length), sysv_listen(int number, int most),
+    sysv_accept4(int number, unsigned char *address, unsigned *length, int flags), sysv_poll(void *asked, unsigned long long count, int wait),
+    sysv_setsockopt(int number, int level, int name, const void *value, unsigned length);
+ASKED(long long, send)(int number, const void *buf, size_t n, int flags), sysv_recv(int number, void *buf, size_t room, int flags);
 
 // --- what of Windows is in our hands: each is done, and taken down; POSIX's way may be there or not
 
@@ -80,7 +61,8 @@ static DWORD security, secured;
 static bool is_listed;
 static DWORD refused, came; // the error by which no file is opened; and how a byte of a port came wrong
 static DWORD most = -1;     // so many bytes are written at once
-static int opened;          // so many handles
+static const wchar_t *leads; // where Windows says that an open file is; NULL: what it says
+static int opened;          // so many handles, listings and sockets: one that is closed twice counts so too
 static COMMTIMEOUTS waits;
 
 static HANDLE WINAPI tried_create(const wchar_t *path, DWORD access, DWORD share, SECURITY_ATTRIBUTES *rights, DWORD how, DWORD flags, HANDLE like)
@@ -110,13 +92,10 @@ static BOOL WINAPI tried_lock(HANDLE handle, DWORD how, DWORD none, DWORD low, D
 {
     return locked = (ULONGLONG)place->OffsetHigh << 32 | place->Offset, LockFileEx(handle, how, none, low, high, place);
 }
-
 static int WINAPI tried_option(SOCKET socket, int level, int name, const char *value, int length) { return option = level == SOL_SOCKET ? name : option, setsockopt(socket, level, name, value, length); }
-
 static BOOL WINAPI tried_state(HANDLE port, DCB *set) { return state = *set, SetCommState(port, set); }
 static BOOL WINAPI tried_purge(HANDLE port, DWORD what) { return snprintf(signals + strlen(signals), sizeof signals - strlen(signals), "purge "), PurgeComm(port, what); }
 static BOOL WINAPI tried_waits(HANDLE port, COMMTIMEOUTS *set) { return waits = *set, SetCommTimeouts(port, set); }
-
 static BOOL WINAPI tried_write(HANDLE handle, const void *buf, DWORD n, DWORD *done, OVERLAPPED *place) { return WriteFile(handle, buf, n < most ? n : most, done, place); }
 
 static BOOL WINAPI tried_set(HANDLE handle, FILE_INFO_BY_HANDLE_CLASS what, void *value, DWORD size)
@@ -160,10 +139,19 @@ static DWORD WINAPI tried_security(HANDLE handle, SE_OBJECT_TYPE kind, SECURITY_
     return ERROR_SUCCESS;
 }
 
+static DWORD WINAPI tried_final(HANDLE handle, wchar_t *path, DWORD room, DWORD how)
+{
+    return leads != NULL ? (DWORD)wcslen(wcscpy(path, leads)) : GetFinalPathNameByHandleW(handle, path, room, how);
+}
+
 static DWORD WINAPI tried_secure(HANDLE handle, SE_OBJECT_TYPE kind, SECURITY_INFORMATION what, PSID owner, PSID group, PACL entries, PACL more) { return secured = what, SetSecurityInfo(handle, kind, what, owner, group, entries, more); }
 static HANDLE WINAPI tried_list(const wchar_t *path, WIN32_FIND_DATAW *found) { return opened++, FindFirstFileW(path, found); }
 static BOOL WINAPI tried_end(HANDLE listing) { return opened--, FindClose(listing); }
 static BOOL WINAPI tried_close(HANDLE it) { return opened -= it != INVALID_HANDLE_VALUE, CloseHandle(it); }
+static SOCKET counted(SOCKET it) { return opened += it != INVALID_SOCKET, it; }
+static SOCKET WSAAPI tried_socket(int family, int kind, int protocol) { return counted(socket(family, kind, protocol)); }
+static SOCKET WSAAPI tried_accept(SOCKET server, struct sockaddr *who, int *length) { return counted(accept(server, who, length)); }
+static int WSAAPI tried_shut(SOCKET it) { return opened--, closesocket(it); }
 
 static void WINAPI tried_sleep(DWORD millis)
 {
@@ -176,7 +164,8 @@ void *__imp_tried_flush = tried_flush, *__imp_tried_set = tried_set, *__imp_trie
     *__imp_tried_sleep = tried_sleep, *__imp_tried_lock = tried_lock, *__imp_tried_option = tried_option, *__imp_tried_state = tried_state,
     *__imp_tried_security = tried_security, *__imp_tried_create = tried_create, *__imp_tried_errors = tried_errors, *__imp_tried_waits = tried_waits,
     *__imp_tried_write = tried_write, *__imp_tried_list = tried_list, *__imp_tried_end = tried_end, *__imp_tried_close = tried_close,
-    *__imp_tried_secure = tried_secure, *__imp_tried_purge = tried_purge;
+    *__imp_tried_secure = tried_secure, *__imp_tried_purge = tried_purge, *__imp_tried_socket = tried_socket, *__imp_tried_accept = tried_accept,
+    *__imp_tried_shut = tried_shut, *__imp_tried_final = tried_final;
 
 // --- helpers
 
@@ -271,14 +260,17 @@ static void test_words(void)
     long long n = sysv_rattle_env("XDG_CONFIG_HOME", buf, 60);
     HOLDS(n > 3 && memcmp(buf + 1, ":/", 2) == 0 && n == sysv_rattle_env("APPDATA", buf, 60) && memchr(buf, '\\', (size_t)n) == NULL);
     HOLDS(sysv_rattle_env("HOME", buf, 60) > 3 && SetEnvironmentVariableW(L"HOME", L"own") && sysv_rattle_env("HOME", buf, 60) == 3);
-    bool is_there = false;
-    HOLDS(SetEnvironmentVariableW(L"=Q:", L"Q:\\"));
-    static char entry[32768];
+    // each entry is a name and its value, also where they aren't ASCII
+    int found = 0;
+    HOLDS(SetEnvironmentVariableW(L"=Q:", L"Q:\\") && SetEnvironmentVariableW(L"NÄME", L"C:\\имя\\名前"));
+    static char entry[32768], value[32768];
     for (size_t i = 0; (n = sysv_rattle_env_at(i, entry, sizeof entry)) != -1; i++) {
-        is_there |= n == 9 && memcmp(entry, "FIRST=one", 9) == 0;
-        HOLDS(n > 0 && entry[0] != '=');
+        long long length = HOLDS(n > 0 && memchr(entry + 1, '=', (size_t)n - 1) != NULL) ? strchr(entry + 1, '=') - entry : 0;
+        entry[length] = 0;
+        HOLDS(entry[0] != 0 && sysv_rattle_env(entry, value, sizeof value) == n - length - 1 && memcmp(value, entry + length + 1, (size_t)(n - length - 1)) == 0);
+        found += strcmp(entry, "FIRST") == 0 || (strcmp(entry, "NÄME") == 0 && memcmp(value, "C:/имя/名前", (size_t)(n - length - 1)) == 0);
     }
-    HOLDS(is_there && sysv_rattle_env_at(100000, entry, 9) == -1);
+    HOLDS(found == 2 && sysv_rattle_env_at(100000, entry, 9) == -1);
 }
 
 static void test_clock(void)
@@ -323,10 +315,19 @@ static void test_paths(void)
     HOLDS(sysv_realpath("./", other) == other && strncmp(real, other, strlen(other)) == 0);
     HOLDS(sysv_realpath("none", real) == NULL && sysv_rattle_errno() == 2);
     HOLDS(sysv_realpath("/dev/stdin", real) == real && strcmp(real, "/dev/stdin") == 0);
+    // a name leads where Windows says that the open file is: behind each link, and in the case in which it was made
+    static wchar_t too_far[5000];
+    static const struct { const wchar_t *leads; const char *real; } ways[] = {{L"\\\\?\\C:\\Real\\имя", "C:/Real/имя"}, {L"\\\\?\\UNC\\server\\share\\x", "//server/share/x"}, {L"C:\\x", "C:/x"}};
+    for (size_t i = 0; i < sizeof ways / sizeof *ways; i++)
+        HOLDS((leads = ways[i].leads, sysv_realpath(name, real)) == real && strcmp(real, ways[i].real) == 0);
+    HOLDS((leads = memset(too_far, 'x', sizeof too_far - 2), sysv_realpath(name, real)) == NULL && sysv_rattle_errno() == 36);
+    HOLDS((leads = L"", sysv_realpath("./", real)) == real && (leads = NULL, sysv_realpath("./", other)) == other && strncmp(real, other, strlen(other)) == 0);
     // names in every script, and case that counts for nothing
     static const char *const scripts[] = {"näme ü", "имя", "名前", "\xf0\x9f\x93\x9f", "اسم"};
-    for (size_t i = 0; i < sizeof scripts / sizeof *scripts; i++)
-        HOLDS(put_file(scripts[i], "x") == 0 && told(scripts[i], 0).size == 1);
+    for (size_t i = 0; i < sizeof scripts / sizeof *scripts; i++) {
+        HOLDS(put_file("any", "x") == 0 && sysv_rename("any", scripts[i]) == 0 && holds(scripts[i], "x") && told(scripts[i], 0).size == 1);
+        HOLDS(sysv_realpath(scripts[i], real) == real && strcmp(strrchr(real, '/') + 1, scripts[i]) == 0);
+    }
     HOLDS(put_file("Board.journal", "x") == 0);
     struct statx one = told("Board.journal", 0), two = told("BOARD.JOURNAL", 0);
     HOLDS(one.ino != 0 && one.ino == two.ino && one.dev_minor == two.dev_minor && one.ino != told("име", 0).ino);
@@ -407,19 +408,30 @@ static void test_rights(void)
     HOLDS(sysv_fchmod(one, 0444) == 0 && (told("private", 0).mode & 0222) == 0 && sysv_close(one) == 0);
     FAILS(sysv_fchmod(77, 0600), 9);
     FAILS(sysv_lchown("private", 1007, 1007), 1);
-    // who may what, as Windows writes it: SY the system, BA administrators, BU users, AU who has logged in, WD everybody
-    static const struct { const wchar_t *list; unsigned file, folder, owner; } each[] = {{L"O:BAD:(A;;FA;;;SY)(A;;FA;;;BA)", 0600, 01700, 0},
-        {L"O:SYD:(A;;FR;;;BU)", 0644, 01744, 0}, {L"O:BAD:(A;;0x1301bf;;;AU)", 0666, 01766, 0}, {L"O:BAD:(A;;FA;;;WD)", 0666, 0766, 0},
-        {L"O:BAD:(A;;SD;;;WD)", 0622, 01700, 0}, {L"O:BAD:(A;;WD;;;WD)", 0622, 0722, 0}, {L"O:BAD:(D;;FA;;;WD)(A;;FA;;;BA)", 0600, 01700, 0},
-        {L"O:BAD:(A;OICIIO;FA;;;WD)", 0600, 01700, 0}, {L"O:WDD:(A;;FA;;;WD)", 0644, 01744, 0}, {L"O:S-1-5-21-1-2-3-1007D:(A;;FA;;;BA)", 0600, 01700, 1007},
-        {L"O:BAD:(A;;FA;;;S-1-3-4)", 0600, 01700, 0}};
-    for (size_t i = 0; i < sizeof each / sizeof *each; i++) {
-        list = each[i].list, is_listed = true;
+    // who may what, as Windows writes it: SY the system, BA administrators, BU users, AU who has logged in, WD everybody; as much by a mark (%ls):
+    // what is a folder's, or is handed on
+    static const wchar_t *const marks[] = {L"", L"ID", L"OICI", L"CIID", L"NPOI"};
+    static const struct { const wchar_t *list; unsigned file, folder, owner; } each[] = {
+        {L"O:BAD:(A;%ls;FA;;;SY)(A;%ls;FA;;;BA)", 0600, 01700, 0},
+        {L"O:SYD:(A;%ls;FR;;;BU)", 0644, 01744, 0},
+        {L"O:BAD:(A;%ls;0x1301bf;;;AU)", 0666, 01766, 0},
+        {L"O:BAD:(A;%ls;FA;;;WD)", 0666, 0766, 0},
+        {L"O:BAD:(A;%ls;SD;;;WD)", 0622, 01700, 0},
+        {L"O:BAD:(A;%ls;WD;;;WD)", 0622, 0722, 0},
+        {L"O:BAD:(D;%ls;FA;;;WD)(A;%ls;FA;;;BA)", 0600, 01700, 0},
+        {L"O:BAD:(A;OICIIO;FA;;;WD)", 0600, 01700, 0},
+        {L"O:WDD:(A;%ls;FA;;;WD)", 0644, 01744, 0},
+        {L"O:S-1-5-21-1-2-3-1007D:(A;%ls;FA;;;BA)", 0600, 01700, 1007},
+        {L"O:BAD:(A;%ls;FA;;;S-1-3-4)", 0600, 01700, 0}};
+    wchar_t marked[100];
+    is_listed = true, list = marked;
+    for (size_t i = 0; i < sizeof each / sizeof *each * 5; i++) {
+        _snwprintf(marked, 100, each[i / 5].list, marks[i % 5], marks[i % 5]);
         found = told("public", 0);
-        if (!HOLDS((found.mode & 01777) == each[i].file && found.uid == each[i].owner && found.gid == found.uid && (told(".", 0).mode & 01777) == each[i].folder))
+        if (!HOLDS((found.mode & 01777) == each[i / 5].file && found.uid == each[i / 5].owner && found.gid == found.uid && (told(".", 0).mode & 01777) == each[i / 5].folder))
             printf("    %ls: %o, %o, %u\n", list, found.mode, told(".", 0).mode, found.uid);
     }
-    list = each[0].list, is_listed = false;
+    is_listed = false;
     HOLDS((told(".", 0).mode & 01777) == 0766);
     security = ERROR_ACCESS_DENIED;
     HOLDS((told(".", 0).mode & 01777) == 0766);

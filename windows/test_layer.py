@@ -29,7 +29,8 @@ STRICT = ["-O2", "-Wall", "-Wextra", "-Werror", "-mno-red-zone"]
 INSTEAD = {"FlushFileBuffers": "flush", "SetFileInformationByHandle": "set", "MoveFileExW": "move", "EscapeCommFunction": "signal", "Sleep": "sleep",
            "LockFileEx": "lock", "setsockopt": "option", "SetCommState": "state", "GetSecurityInfo": "security", "CreateFileW": "create",
            "ClearCommError": "errors", "SetCommTimeouts": "waits", "WriteFile": "write", "FindFirstFileW": "list", "FindClose": "end",
-           "CloseHandle": "close", "SetSecurityInfo": "secure", "PurgeComm": "purge"}
+           "CloseHandle": "close", "SetSecurityInfo": "secure", "PurgeComm": "purge", "socket": "socket", "accept": "accept", "closesocket": "shut",
+           "GetFinalPathNameByHandleW": "final"}
 ASKED_BITS = termios.CSIZE | termios.CSTOPB
 WORDS = ["word", "", "zwei Wörter", "a\\b", "--baud", "57600", "--wiring=dtr-reset,rts-boot0", "end"]
 # what is planted, by file: a text, which is there once, and the one in its place
@@ -42,12 +43,9 @@ FAULTS = {
         "a pipe that nobody reads asks for patience": ("E(NO_DATA, EPIPE)", "E(NO_DATA, EAGAIN)"),
         "faults have no text": ("error == error ? texts[i].text", "error == error ? texts[0].text"),
     },
-    "memory.c": {
-        "no memory is an address all the same": ("{false, &nothing}", "{true, &nothing}"),
-        "no memory has no address": ("{false, &nothing}", "{false, NULL}"),
-        "a block of no bytes is freed by a realloc": ("realloc(p, n != 0 ? n : a)", "realloc(p, n)"),
-        "what overlaps is lost": ("return memmove(to, from, n);", "for (size_t i = 0; i < n; i++) ((char *)to)[i] = ((const char *)from)[i];\n    return to;"),
-    },
+    "memory.c": {"no memory is an address all the same": ("{false, &nothing}", "{true, &nothing}"), "no memory has no address": ("{false, &nothing}", "{false, NULL}"),
+                 "a block of no bytes is freed by a realloc": ("realloc(p, n != 0 ? n : a)", "realloc(p, n)"),
+                 "what overlaps is lost": ("return memmove(to, from, n);", "for (size_t i = 0; i < n; i++) ((char *)to)[i] = ((const char *)from)[i];\n    return to;")},
     "text.c": {"slashes stay": ("? '/' : *it", "? *it : *it"), "no variable is an empty one": ("        return NULL;\n", "        return _strdup(\"\");\n")},
     "words.c": {
         "a text that fits just so is too long": ("length <= room", "length < room"),
@@ -59,11 +57,8 @@ FAULTS = {
         "the wiring is the program's": ('asked("--wiring", true)', 'asked("--wiring", false)'),
         "no settings": ('"APPDATA"', '"APPDAT"'),
     },
-    "clock.c": {
-        "both clocks are one": ("if (clock == 1)", "if (clock != 1)"),
-        "a tick is 10 ns": ("second = {.QuadPart = 10000000}", "second = {.QuadPart = 100000000}"),
-        "parts of a second are below 0": ("* 1000000000 / second", "* -1000000000 / second"),
-    },
+    "clock.c": {"both clocks are one": ("if (clock == 1)", "if (clock != 1)"), "a tick is 10 ns": ("second = {.QuadPart = 10000000}", "second = {.QuadPart = 100000000}"),
+                "parts of a second are below 0": ("* 1000000000 / second", "* -1000000000 / second")},
     "paths.c": {
         "a device is a file": (" || is_device(path) || is_device(given)", ""),
         "a stream is a file": (" || colon != NULL", ""),
@@ -79,9 +74,11 @@ FAULTS = {
         "all places are one": ("found->ino = found->ino * 31 + (unsigned char)*p;", ""),
         "its user isn't told": ("found->uid = found->gid = owner;", ""),
         "NUL takes nothing": (".rdev_minor = 3", ".rdev_minor = 4"),
+        "a link above isn't followed": ("n != 0 && n < PATH_ROOM ? final_room : path_room", "path_room"),
         "a path has its prefix": ("        path += 4;\n", "        path += 0;\n"),
     },
     "files.c": {
+        "a console's CR alone is an end": (" : to != text ? to - text : sysv_read(number, buf, room);", " : to - text;"),
         "any number": ("for (int number = from;", "for (int number = from + 1;"),
         "a listing stays open": ("(it->kind == A_LISTING ? FindClose : CloseHandle)(it->handle);", "it->kind == A_LISTING || CloseHandle(it->handle);"),
         "a number that is gone is there": ("    table[number] = NULL;\n    if (--", "    if (--"),
@@ -101,6 +98,7 @@ FAULTS = {
         "an owner is another": ("IsWellKnownSid(who, WinCreatorOwnerRightsSid) || ", ""),
         "the system is another": (" || IsWellKnownSid(who, WinLocalSystemSid)", ""),
         "an entry of what is made later": (" && !(entry->Header.AceFlags & INHERIT_ONLY_ACE)", ""),
+        "what others may by the folder is no matter": ("& INHERIT_ONLY_ACE)", "& (INHERIT_ONLY_ACE | INHERITED_ACE))"),
         "what is denied is allowed": (" && entry->Header.AceType != ACCESS_DENIED_ACE_TYPE", ""),
         "who adds may take": ("is_folder && !(may & TAKES)", "0"),
         "who takes may add": ("is_folder && !(may & TAKES)", "is_folder"),
@@ -115,18 +113,12 @@ FAULTS = {
         "it may be written": ("told.FileAttributes |= FILE_ATTRIBUTE_READONLY;", ""),
         "an owner is given": ("return fail(L_EPERM);", "return 0;"),
     },
-    "locks.c": {
-        "the lock is on the first byte": ("{.Offset = 0xfffffffe, .OffsetHigh = 0x7fffffff}", "{0}"),
-        "two have it": ("how & 2 ? LOCKFILE_EXCLUSIVE_LOCK : 0", "0"),
-        "it waits for ever": ("how & 4 ? LOCKFILE_FAIL_IMMEDIATELY", "0 ? LOCKFILE_FAIL_IMMEDIATELY"),
-        "it is never let go": ("UnlockFileEx(it->handle, 0, 1, 0, &place)", "TRUE"),
-    },
-    "syncs.c": {
-        "a sync is left out": ("FlushFileBuffers(it->handle) || it->kind == A_FOLDER", "1"),
-        "a sync that failed is done": ("|| it->kind == A_FOLDER ? 0 : failed()", "|| true ? 0 : failed()"),
-        "a sync of data is left out": ("return sysv_fsync(number);", "return at(number) ? 0 : -1;"),
-        "a folder's is left out": ("return FlushFileBuffers(it->handle) ||", "return it->kind != A_FOLDER ? (FlushFileBuffers(it->handle) ? 0 : failed()) :"),
-    },
+    "locks.c": {"the lock is on the first byte": ("{.Offset = 0xfffffffe, .OffsetHigh = 0x7fffffff}", "{0}"), "two have it": ("how & 2 ? LOCKFILE_EXCLUSIVE_LOCK : 0", "0"),
+                "it waits for ever": ("how & 4 ? LOCKFILE_FAIL_IMMEDIATELY", "0 ? LOCKFILE_FAIL_IMMEDIATELY"), "it is never let go": ("UnlockFileEx(it->handle, 0, 1, 0, &place)", "TRUE")},
+    "syncs.c": {"a sync is left out": ("FlushFileBuffers(it->handle) || it->kind == A_FOLDER", "1"),
+                "a sync that failed is done": ("|| it->kind == A_FOLDER ? 0 : failed()", "|| true ? 0 : failed()"),
+                "a sync of data is left out": ("return sysv_fsync(number);", "return at(number) ? 0 : -1;"),
+                "a folder's is left out": ("return FlushFileBuffers(it->handle) ||", "return it->kind != A_FOLDER ? (FlushFileBuffers(it->handle) ? 0 : failed()) :")},
     "names.c": {
         "POSIX's way isn't asked for": ("how.flags = REPLACES | POSIX_WAY;", "how.flags = REPLACES;"),
         "the length is in units": ("wcslen(wcscpy(how.name, to)) * sizeof *to", "wcslen(wcscpy(how.name, to))"),
@@ -139,21 +131,16 @@ FAULTS = {
         "a name that stays": ("MoveFileExW(room_one, room_two, MOVEFILE_WRITE_THROUGH)", "0 && room_two[0]"),
         "a link that can't be given up": ("return !is_posix ? fail(L_EPERM) :", "return"),
     },
-    "folder.c": {
-        "a name that has no room is lost": ("        if (!fits)\n            return used != 0 ? (long long)used : fail(length == 0 ? L_ENOMEM : L_EINVAL);\n", ""),
-        "an entry is as long as its name": ("(19 + strlen(name) + 1 + 7) / 8 * 8", "(19 + strlen(name))"),
-        "lengths are below 256": ("buf[used] = 1;", "buf[used] = 0;"),
-        "a file is a folder": ("!(is & FILE_ATTRIBUTE_DIRECTORY) ||", ""),
-        "each other entry is lost": ("&it->next);\n        if", "&it->next) || !FindNextFileW(it->handle, &it->next);\n        if"),
-    },
-    "line.c": {
-        "any socket": ("family != 1 ?", "0 ?"),
-        "a wait has no microseconds": (" + (parts[1] + 999) / 1000", ""),
-        "the time to write is that to read": ("name == 20 ? &it->read_wait : &it->write_wait", "name == 21 ? &it->read_wait : &it->write_wait"),
-        "a socket that isn't connected sends": ("A_PORT ? 0 : fail(L_ENOTSOCK)", "A_PORT ? 0 : fail(L_EIO)"),
-    },
+    "folder.c": {"a name that has no room is lost": ("        if (!fits)\n            return used != 0 ? (long long)used : fail(length == 0 ? L_ENOMEM : L_EINVAL);\n", ""),
+                 "an entry is as long as its name": ("(19 + strlen(name) + 1 + 7) / 8 * 8", "(19 + strlen(name))"), "lengths are below 256": ("buf[used] = 1;", "buf[used] = 0;"),
+                 "a file is a folder": ("!(is & FILE_ATTRIBUTE_DIRECTORY) ||", ""),
+                 "each other entry is lost": ("&it->next);\n        if", "&it->next) || !FindNextFileW(it->handle, &it->next);\n        if")},
+    "line.c": {"any socket": ("family != 1 ?", "0 ?"), "a wait has no microseconds": (" + (parts[1] + 999) / 1000", ""),
+               "the time to write is that to read": ("name == 20 ? &it->read_wait : &it->write_wait", "name == 21 ? &it->read_wait : &it->write_wait"),
+               "a socket that isn't connected sends": ("A_PORT ? 0 : fail(L_ENOTSOCK)", "A_PORT ? 0 : fail(L_EIO)")},
     "tcp.c": {
         "an address is shared": ("SO_EXCLUSIVEADDRUSE", "SO_REUSEADDR"),
+        "a socket is closed with its fault, and again": ("!= 0)\n        return failed_socket();", "!= 0)\n        return failed_socket(), closesocket(it->socket), -1;"),
         "a port is any text": (' || port[strspn(port, "0123456789")] != 0', ""),
         "nothing in time is an end": ("if (!is_ready(it->socket, POLLRDNORM, it->read_wait))\n        return fail(L_EAGAIN);", "if (!is_ready(it->socket, POLLRDNORM, it->read_wait))\n        return 0;"),
         "a read waits for ever": ("return wait == 0 ||", "return true ||"),
@@ -194,6 +181,10 @@ class Port:
     def __init__(self):
         self.master, self.slave = os.openpty()
         tty.setraw(self.slave)
+        # as a program before may have left it
+        left = termios.tcgetattr(self.slave)
+        left[0], left[2] = left[0] | termios.IXON | termios.IXOFF, left[2] | termios.CSTOPB
+        termios.tcsetattr(self.slave, termios.TCSANOW, left)
         self.name, self.settings = f"COM{next(Port.numbers)}", []
         self.link = f"{wine.PREFIX}/dosdevices/{self.name.lower()}"
         if os.path.lexists(self.link):
