@@ -111,6 +111,7 @@ class Page(InFirefox):
         # a journal of another board: nothing is sent but what asks which it is
         other = self.journal_of(tab, "kitchen").replace(UNIQUE.encode(), UNIQUE[::-1].encode())
         tab.js(f"stmflash.takeJournal({named(('other.journal', other))})")
+        self.assertEqual(tab.js("document.getElementById('journals').innerText").count("1 can be undone"), 2)
         self.choose(tab, "board", "other")
         self.do(tab, "#write", "^Not done: .*another board")
         self.choose(tab, "board", "kitchen")
