@@ -14,10 +14,7 @@
 extern char **environ;
 
 // types.rt, `Tried`: whether there is memory, and where. Where there is none, the address is still that of a byte.
-struct tried {
-    bool ok;
-    void *p;
-};
+struct tried { bool ok; void *p; };
 
 static char nothing;
 
