@@ -1,15 +1,20 @@
-"""Tries arm64/layer.c on this machine, as 64-bit ARM code under qemu, and with faults planted; and the kit's own functions.
+"""Tries arm64/layer.c on this machine, as 64-bit ARM code under qemu, and with faults planted; the kit's own functions; and how a program is
+linked with it.
 
     python3 -m unittest discover -s arm64
 
 test_layer.c says what each function has to do. That the kit's own ones do it too shows that this is what the kit asks.
 """
 
+import contextlib
 import os
 import pathlib
+import re
+import runpy
 import shutil
 import subprocess
 import tempfile
+import types
 import unittest
 
 HERE = os.path.dirname(os.path.abspath(__file__))
@@ -32,6 +37,7 @@ FAULTS = {
     "there is one word more": ("i < word_count", "i <= word_count + 1000000"),
     "no environment is read": ("return put(environ != NULL ? environ[k] : NULL", "return put(environ[k]"),
     "entries are counted from 1": ("k < i)", "k + 1 < i)"),
+    "errno is answered once": ("    return errno;", "    int error = errno;\n    errno = 0;\n    return error;"),
     "errno is answered as 0": ("return errno;", "return 0;"),
     "errno isn't set": ("    errno = error;", "    (void)error;"),
     "a link is taken for a folder": (" | O_NOFOLLOW", ""),
@@ -85,3 +91,23 @@ class Layer(unittest.TestCase):
                 self.assertEqual(text.count(old), 1)
                 pathlib.Path(self.changed).write_text(text.replace(old, new), encoding="utf-8")
                 self.assertNotEqual(self.run_over([self.changed], flags=["-O2", "-w"]).returncode, 0)
+
+
+class Build(unittest.TestCase):
+    def test_links_what_is_asked_for_as_the_kit_does(self):
+        """And nothing where the layer lacks a name, or has one more."""
+        build = types.SimpleNamespace(**runpy.run_path(f"{HERE}/build"))
+        if shutil.which(build.COMPILER) is None:
+            self.skipTest(f"there is no {build.COMPILER}")
+        room = self.enterContext(tempfile.TemporaryDirectory())
+        made, program = f"{room}/made.o", f"{room}/program"
+        names = sorted(set(re.findall(r"^\w.*\b(rattle_\w+)\(", pathlib.Path(f"{HERE}/layer.c").read_text(encoding="utf-8"), re.MULTILINE)))
+        for asked, ends in ((names[1:], self.assertRaises(SystemExit)), ([*names, "rattle_more"], self.assertRaises(SystemExit)), (names, contextlib.nullcontext())):
+            text = "".join(f"void {it}(void);\n" for it in asked) + f"int main(void) {{ {''.join(f'{it}(); ' for it in asked)}return 0; }}\n"
+            subprocess.run([build.COMPILER, "-fPIE", "-c", "-x", "c", "-o", made, "-"], input=text.encode(), check=True)
+            with ends:
+                build.link(made, f"{room}/layer.o", program)
+        told = subprocess.run(["readelf", "-dlW", program], capture_output=True, text=True, check=True).stdout
+        # anywhere, its tables of calls bound and sealed at the start, and no code on the stack
+        for it in (r"file type is DYN", r"FLAGS_1.* NOW PIE", r"GNU_RELRO", r"GNU_STACK .* RW +0x"):
+            self.assertRegex(told, it)
