@@ -14,10 +14,7 @@ struct block {
     struct block *next;
 };
 
-struct tried {
-    _Bool ok;
-    void *p;
-};
+struct tried { _Bool ok; void *p; };
 
 extern unsigned char __heap_base;
 static struct block *waiting[LISTS];
@@ -37,8 +34,7 @@ static size_t list_for(size_t size)
     if (size <= 4 * 4)
         return 0;
     size_t power = 63 - (size_t)__builtin_clzll(size - 1);
-    size_t list = (power - 4) * 4 + (((size - 1) >> (power - 2)) & 3) + 1;
-    return list;
+    return (power - 4) * 4 + (((size - 1) >> (power - 2)) & 3) + 1;
 }
 
 // Whether memory reaches so far. It grows by a sixteenth at least, and by a megabyte.

@@ -46,11 +46,9 @@ function machine({ words = ['stmflash'], variables = {}, store = new Store([]), 
   holds('nothing is put behind it', memory.bytes(8, 8).every((it) => it === 7));
   holds('an empty word, a length in bytes, and no word', [env.rattle_arg(1n, 0n, 8n), env.rattle_arg(2n, 0n, 100n), env.rattle_arg(3n, 0n, 8n)], [0n, 12n, -1n]);
   holds('no room', [env.rattle_arg(0n, 0n, 3n), new TextDecoder().decode(memory.bytes(0, 3))], [-2n, 'stm']);
-  holds('a variable, and an empty one', [env.rattle_env(path('FIRST'), 0n, 8n), env.rattle_env(path('EMPTY'), 0n, 8n)], [3n, 0n]);
-  holds('none', [env.rattle_env(path('NONE'), 0n, 8n), env.rattle_env(path('toString'), 0n, 8n)], [-1n, -1n]);
+  holds('a variable, an empty one, and none', ['FIRST', 'EMPTY', 'NONE', 'toString'].map((it) => env.rattle_env(path(it), 0n, 8n)), [3n, 0n, -1n, -1n]);
   holds('entries', [env.rattle_env_at(0n, 0n, 20n), env.rattle_env_at(1n, 0n, 20n), env.rattle_env_at(2n, 0n, 20n)], [9n, 6n, -1n]);
-  holds('the last fault', [env.rattle_set_errno(17), env.rattle_errno()], [undefined, 17]);
-  holds('what it says', [env.__xpg_strerror_r(28, 0n, 100n), memory.text(0n)], [0, 'No space left on device']);
+  holds('the last fault, until another comes, and what one says', [env.rattle_set_errno(17), env.rattle_errno(), env.rattle_errno(), env.__xpg_strerror_r(28, 0n, 100n), memory.text(0n)], [undefined, 17, 17, 0, 'No space left on device']);
 }
 
 // clock
@@ -96,8 +94,7 @@ const disks = (count) => Array.from({ length: count }, () => inMemory());
   for (const fd of [list, top]) for (let at = 30000, end = at + Number(env.getdents64(fd, 30000n, 1000n)); at < end; at += view.getUint16(at + 16, true)) names.push([view.getUint8(at + 18), it.memory.text(BigInt(at + 19))]);
   holds('names and kinds, once', [names, env.getdents64(list, 30000n, 1000n)], [[[8, 'a'], [8, 'second'], [4, 'boards']], 0n]);
   holds('no room for a name', [env.getdents64(env.rattle_open_dir_at(-100, it.path('/boards')), 30000n, 4n), it.fault()], [-1n, E.INVAL]);
-  holds('a real path', [env.realpath(it.path('boards//./a'), 40000n), it.memory.text(40000n)], [40000n, '/boards/a']);
-  holds('none of none', [env.realpath(it.path('boards/none'), 40000n), it.fault()], [0n, E.NOENT]);
+  holds('a real path, and none of none', [env.realpath(it.path('boards//./a'), 40000n), it.memory.text(40000n), env.realpath(it.path('boards/none'), 40000n), it.fault()], [40000n, '/boards/a', 0n, E.NOENT]);
   holds('no links', [env.readlink(it.path('/boards/a'), 0n, 9n), it.fault(), env.readlink(it.path('/none'), 0n, 9n), it.fault()], [-1n, E.INVAL, -1n, E.NOENT]);
   holds('no second names', [env.link(it.path('/boards/a'), it.path('/boards/b', 5000n)), it.fault(), it.told(0, '/boards/a') !== false, it.told(0, '/boards/b')], [-1, E.PERM, true, false]);
   holds('a journal stays among them', [env.rename(it.path('/boards/a'), it.path('/a', 5000n)), it.fault()], [-1, E.PERM]);
@@ -228,8 +225,7 @@ function port() {
   const board = port(), line = new Line(board, 57600), it = machine({ line }), { env } = it;
   const address = (name) => { it.memory.bytes(50000n, 110).fill(0); it.memory.put(name, 50002n, 100n); return 50000n; };
   const fd = env.socket(1, 1, 0);
-  holds('a file is no line', [env.send(1, 0n, 1n, 0), it.fault()], [-1n, E.NOTSOCK]);
-  holds('another name', [await env.connect(fd, address('/dev/other'), 110), it.fault()], [-1, E.CONNREFUSED]);
+  holds('a file is no line, nor is another name', [env.send(1, 0n, 1n, 0), it.fault(), await env.connect(fd, address('/dev/other'), 110), it.fault()], [-1n, E.NOTSOCK, -1, E.CONNREFUSED]);
   holds('the line is one', [it.told(0, '/dev/board').mode, await env.connect(fd, address('/dev/board'), 110)], [12, 0]);
   holds('eight bits, even parity, one stop bit', [board.told[0].baudRate, board.told[0].dataBits, board.told[0].parity, board.told[0].stopBits], [57600, 8, 'even', 1]);
   const recv = async (room) => { const got = await ends(env.recv(fd, 9000n, BigInt(room), 0)); return typeof got === 'bigint' && got > 0n ? it.memory.bytes(9000n, got).slice() : got; };
@@ -252,9 +248,13 @@ function port() {
   holds('and all that was sent went out before', board.sent, [0x7f, 0, 255]);
 }
 {
-  const board = port(), line = new Line(board, 9600, undefined, undefined, 4);
-  for (const part of [[1, 2, 3], [4, 5, 6]]) await line.connect().then(() => line.send(Uint8Array.from(part))).then(() => line.close());
-  holds('a stop, behind so many bytes of all connections', [line.ended, line.sent, board.sent], ['stopped', 4, [1, 2, 3, 4]]);
+  for (const connections of [[[6]], [[3], [3]], [[2, 2, 2]], [[1, 1], [1, 1, 1, 1]]]) for (let stop = 0; stop < 6; stop++) {
+    const board = port(), line = new Line(board, 9600, undefined, undefined, stop);
+    let count = 0;
+    const send = (size) => thrownBy(() => line.send(Uint8Array.from({ length: size }, () => ++count)));
+    for (const sends of connections) await line.connect().then(() => sends.forEach(send)).then(() => line.close());
+    holds('a stop, behind so many bytes of all sends and connections', [line.ended, line.sent, board.sent], ['stopped', stop, [1, 2, 3, 4, 5, 6].slice(0, stop)]);
+  }
   const adapter = (usbVendorId, usbProductId) => ({ getInfo: () => ({ usbVendorId, usbProductId }) }), [one, other, same] = [adapter(1, 2), adapter(1, 3), adapter(1, 2)];
   const chosen = (...ports) => { const it = thrownBy(() => portOf(ports, one.getInfo())); return ports.includes(it) ? ports.indexOf(it) : it.message.slice(0, 12); };
   holds('the adapter of that kind, which may be plugged in anew; not one of two, nor another', [chosen(other, one), chosen(same), chosen(one, other, same), chosen(other)], [1, 0, 'two adapters', 'the adapter ']);

@@ -31,7 +31,7 @@ FAULTS = {
     "memory.c": {
         "a list has blocks that are too small": ("& 3) + 1;", "& 3);"),
         "heads aren't counted": ("list_for(n + HEAD);\n    struct block *b = waiting", "list_for(n);\n    struct block *b = waiting"),
-        "the old block is gone where there is no memory": ("    void *to = take(n != 0 ? n : a);\n", "    rattle_dealloc(p);\n    void *to = take(n != 0 ? n : a);\n"),
+        "the old block is gone where there is no memory": ("        return tried(NULL);\n    __builtin_memcpy", "        return rattle_dealloc(p), tried(NULL);\n    __builtin_memcpy"),
         "memory isn't asked for": ("if (far <= there_is)", "if (far <= there_is || 1)"),
         "no memory has no address": ("{0, &nothing}", "{0, NULL}"),
         "blocks lie anywhere": ("return (n + 15) & ~(size_t)15;", "return n;"),
@@ -40,21 +40,12 @@ FAULTS = {
         "a carry is lost": ("a1 * b1 + (one >> 32) + (other >> 32)", "a1 * b1 + (one >> 32)"),
         "a shift by nothing": ("else if (n > 0)\n        r.half.low = x.half.low << n,", "else\n        r.half.low = x.half.low << n,"),
     },
-    "memory.js": {
-        "a text goes on behind its end": ("all.indexOf(0, Number(at))", "all.indexOf(0, Number(at)) + 1"),
-        "a text that is too long isn't told": (": -2n", ": room"),
-        "no text is an empty one": ("return -1n;", "return 0n;"),
-    },
-    "words.js": {
-        "words are counted from 1": ("words[Number(i)]", "words[Number(i) + 1]"),
-        "variables that nobody set": ("Object.hasOwn(variables, wanted) ? variables[wanted] : undefined", "variables[wanted] && String(variables[wanted])"),
-        "a fault is forgotten": ("last.fault = number;", ""),
-        "faults have no text": ("SAYS[number] ??", "undefined ??"),
-    },
-    "clock.js": {
-        "both clocks are one": ("(which === 0 ? source.timeOrigin : 0)", "source.timeOrigin"),
-        "nanoseconds are thousandths": ("* 1e6", "* 1e3"),
-    },
+    "memory.js": {"a text goes on behind its end": ("all.indexOf(0, Number(at))", "all.indexOf(0, Number(at)) + 1"), "a text that is too long isn't told": (": -2n", ": room"),
+                  "no text is an empty one": ("return -1n;", "return 0n;")},
+    "words.js": {"words are counted from 1": ("words[Number(i)]", "words[Number(i) + 1]"),
+                 "variables that nobody set": ("Object.hasOwn(variables, wanted) ? variables[wanted] : undefined", "variables[wanted] && String(variables[wanted])"),
+                 "a fault is forgotten": ("last.fault = number;", ""), "faults have no text": ("SAYS[number] ??", "undefined ??")},
+    "clock.js": {"both clocks are one": ("(which === 0 ? source.timeOrigin : 0)", "source.timeOrigin"), "nanoseconds are thousandths": ("* 1e6", "* 1e3")},
     "files.js": {
         "a sync is left out": ("this.at(number).node?.flush?.(); return 0;", "return 0;"),
         "a sync of data is left out": ("fdatasync: flush", "fdatasync: () => 0"),
@@ -114,22 +105,17 @@ FAULTS = {
         "no reset": ("if (this.wiring) await this.play(this.wiring.entry);", ""),
         "no waits in a reset": ("if (wait) await", "if (!signals) void"),
         "a stop sends all": ("bytes.subarray(0, this.stopAt - this.sent)", "bytes"),
+        "bytes count once they went out": ("    this.sent += part.length;\n    this.sending = /** @type {WritableStreamDefaultWriter} */ (this.writer).write(part)",
+                                           "    this.sending = /** @type {WritableStreamDefaultWriter} */ (this.writer).write(part).then(() => { this.sent += part.length; })"),
         "a stop ends nothing": ("if (part.length < bytes.length) this.end('stopped');", ""),
         "one of two equal adapters": ("if (same.length === 1)", "if (same.length)"),
         "any adapter": ("it.usbProductId === info.usbProductId", "true"),
     },
-    "wiring.js": {
-        "a raised signal is high": ("isHigh === pins[pin].isInverted", "isHigh !== pins[pin].isInverted"),
-        "reset is held for good": (", at('reset', true)], settled", "], settled"),
-        "the way out is the way in": ("leave: [at('boot0', false)", "leave: [at('boot0', true)"),
-    },
-    "program.js": {
-        "a fault is an answer": ("WIDE.includes(name) ? (name === 'realpath' ? 0n : -1n) : -1", "WIDE.includes(name) ? 0n : 0"),
-        "a promise fails": ("answer.catch(failed)", "answer"),
-    },
-    "faults.js": {
-        "a full disk is any fault": ("thrown?.name === 'QuotaExceededError' ? E.NOSPC : E.IO", "E.IO"),
-    },
+    "wiring.js": {"a raised signal is high": ("isHigh === pins[pin].isInverted", "isHigh !== pins[pin].isInverted"),
+                  "reset is held for good": (", at('reset', true)], settled", "], settled"), "the way out is the way in": ("leave: [at('boot0', false)", "leave: [at('boot0', true)")},
+    "program.js": {"a fault is an answer": ("WIDE.includes(name) ? (name === 'realpath' ? 0n : -1n) : -1", "WIDE.includes(name) ? 0n : 0"),
+                   "a promise fails": ("answer.catch(failed)", "answer")},
+    "faults.js": {"a full disk is any fault": ("thrown?.name === 'QuotaExceededError' ? E.NOSPC : E.IO", "E.IO")},
     "image.js": {
         "ELF for 64 bits is read": ("bytes[4] !== 1 ||", ""),
         "ELF for any processor is read": ("view.getUint16(18, true) !== 40", "false"),
@@ -138,20 +124,14 @@ FAULTS = {
         "the last record of 64 KiB goes on": ("if (high !== place >>> 16)", "if (high < 0)"),
         "a segment has no end": ("kind === 4 ? Infinity : 65536]", "Infinity]"),
     },
-    "chips.js": {
-        "pages that a smaller part lacks": ("it.at + it.size <= ends", "it.at < ends"),
-        "each page is the first": ("i++, at += size", "i++"),
-        "the last page is enough": ("at + size - it.at >= least ? i", "true ? i"),
-    },
+    "chips.js": {"pages that a smaller part lacks": ("it.at + it.size <= ends", "it.at < ends"), "each page is the first": ("i++, at += size", "i++"),
+                 "the last page is enough": ("at + size - it.at >= least ? i", "true ? i")},
     "worker.js": {"a place is never free again": ("  node.close();\n  if", "  if"), "a name stands ahead of its bytes": ("    node.flush();\n    store.rename", "    store.rename"),
                   "places of two openings have one name": ("`${Date.now()}-${i}`", "`${i}`")},
     "offline.js": {"what others keep is removed": ("it.startsWith('stmflash-') && it !== KEPT", "it !== KEPT"),
                    "an update counts beside an open tab": ("keep(cache, name, sum))))", "keep(cache, name, sum))).then(() => self_.skipWaiting()))")},
-    "difference.js": {
-        "what an image leaves is written": ("bytes[i] >= 0 && holds", "holds"),
-        "a page has its neighbour's bytes": ("Math.min(at + size - low, ", "Math.min(at + size + 1 - low, "),
-        "an image of any length": ("!(high - low <= MOST) || ", ""),
-    },
+    "difference.js": {"what an image leaves is written": ("bytes[i] >= 0 && holds", "holds"),
+                      "a page has its neighbour's bytes": ("Math.min(at + size - low, ", "Math.min(at + size + 1 - low, "), "an image of any length": ("!(high - low <= MOST) || ", "")},
 }
 
 

@@ -54,33 +54,28 @@ static int is_whole(const struct held_block *b)
     return ((size_t)b->at & 15) == 0 && (size_t)b->at + b->size <= pages_there * PAGE;
 }
 
-// Any calls in any order: every block keeps its bytes, whatever is done with the others.
+// Any calls in any order, of which some are refused: every block keeps its bytes, whatever is done with the others, or can't be.
 static void mix(void)
 {
     size_t wrong = 0;
     for (size_t i = 0; i < ROUNDS; i++) {
         struct held_block *b = &blocks[any(BLOCKS)];
-        size_t size = any(20) ? any(300) : any(70000);
-        if (b->at == NULL) {
-            struct tried t = rattle_alloc(size, 8);
-            wrong += !t.ok;
-            *b = (struct held_block){t.p, size, (unsigned char)any(256)};
-            memset(b->at, b->is, size);
-        } else if (any(2)) {
-            wrong += !is_whole(b);
+        int is_refused = any(10) == 0;
+        size_t size = is_refused ? (size_t)1 << (any(2) ? 31 : 62) : any(20) ? any(300) : any(70000), kept = b->size < size ? b->size : size;
+        wrong += b->at != NULL && !is_whole(b);
+        if (b->at != NULL && any(2)) {
             rattle_dealloc(b->at);
-            b->at = NULL;
-        } else {
-            wrong += !is_whole(b);
-            size_t kept = b->size < size ? b->size : size;
-            struct tried t = rattle_realloc(b->at, kept, size, 8);
-            wrong += !t.ok;
-            b->at = t.p;
-            b->size = kept;
-            wrong += !is_whole(b);
-            b->size = size;
-            memset(b->at, b->is, size);
+            *b = (struct held_block){0};
+            continue;
         }
+        struct tried t = b->at == NULL ? rattle_alloc(size, 8) : rattle_realloc(b->at, kept, size, 8);
+        wrong += t.ok == is_refused || t.p == NULL;
+        if (is_refused)
+            continue;
+        *b = (struct held_block){t.p, kept, b->is};
+        wrong += !is_whole(b);
+        *b = (struct held_block){t.p, size, (unsigned char)any(256)};
+        memset(b->at, b->is, size);
     }
     for (size_t i = 0; i < BLOCKS; i++)
         wrong += blocks[i].at != NULL && !is_whole(&blocks[i]);
@@ -110,19 +105,8 @@ static void grows(void)
     holds("no bytes have an address too", none.ok && another.ok && none.p != another.p);
 }
 
-static void refuses(void)
+static void is_used_up(void)
 {
-    struct tried kept = rattle_alloc(100, 1);
-    memset(kept.p, 9, 100);
-    rattle_alloc(100, 1);
-    most = pages_there;
-    struct tried t = rattle_alloc((size_t)1 << 31, 1);
-    holds("no memory", !t.ok && t.p != NULL);
-    t = rattle_realloc(kept.p, 100, (size_t)1 << 31, 1);
-    holds("a block that can't grow", !t.ok && t.p != NULL);
-    holds("stays as it was", ((unsigned char *)kept.p)[0] == 9 && ((unsigned char *)kept.p)[99] == 9);
-    t = rattle_alloc((size_t)1 << 62, 1);
-    holds("more than there can be", !t.ok && t.p != NULL);
     most = pages_there + 1;
     struct tried small = {1, NULL};
     for (size_t i = 0; small.ok && i < 1 << 24; i++)
@@ -158,7 +142,7 @@ int main(void)
     computes();
     mix();
     grows();
-    refuses();
+    is_used_up();
     printf("%zu of %zu hold\n", held, all);
     return held == all ? 0 : 1;
 }
