@@ -1,7 +1,7 @@
 // Tries what the page answers to the program, noun by noun: node web/test_layer.mjs [FOLDER [MODULE]]
 //
 // FOLDER has the files to be tried, web/page where none is given: test_layer.py hands over copies with a fault planted in one. It
-// ends with 0 where all holds; behind --first at once where something doesn't. With a MODULE it compares what that asks for with answers.
+// ends with 0 where all holds; behind --first at once where something doesn't: so what takes long comes last. With a MODULE it compares what that asks for with answers.
 import * as fs from 'node:fs';
 import * as os from 'node:os';
 import { pathToFileURL } from 'node:url';
@@ -120,6 +120,92 @@ const disks = (count) => Array.from({ length: count }, () => inMemory());
   holds('a short write is as short as it was', [it.write(fd, 'abcd'), it.env.lseek(fd, 0n, 1)], [2n, 2n]);
 }
 
+// line: over a port that does what it is told
+function port() {
+  const it = { told: [], sent: [], async open(how) { it.told.push(how); it.anew();
+    it.writable = new WritableStream({ write: async (bytes) => { await soon(); it.sent.push(...bytes); } }); },
+  anew() { it.readable = new ReadableStream({ start: (into) => { it.into = into; }, cancel: () => { if (!it.readable.locked) it.anew(); } }); },
+  async close() { it.told.push('closed'); if (it.readable.locked || it.writable.locked) throw new Error('locked'); }, async setSignals(signals) { it.told.push(signals); thrownBy(() => it.into.enqueue(Uint8Array.of(9))); } };
+  return it;
+}
+{
+  const board = port(), line = new Line(board, 57600), it = machine({ line }), { env } = it;
+  const address = (name) => { it.memory.bytes(50000n, 110).fill(0); it.memory.put(name, 50002n, 100n); return 50000n; };
+  const fd = env.socket(1, 1, 0);
+  holds('a file is no line, nor is another name', [env.send(1, 0n, 1n, 0), it.fault(), await env.connect(fd, address('/dev/other'), 110), it.fault()], [-1n, E.NOTSOCK, -1, E.CONNREFUSED]);
+  holds('the line is one', [it.told(0, '/dev/board').mode, await env.connect(fd, address('/dev/board'), 110)], [12, 0]);
+  holds('eight bits, even parity, one stop bit', [board.told[0].baudRate, board.told[0].dataBits, board.told[0].parity, board.told[0].stopBits], [57600, 8, 'even', 1]);
+  const recv = async (room) => { const got = await ends(env.recv(fd, 9000n, BigInt(room), 0)); return typeof got === 'bigint' && got > 0n ? it.memory.bytes(9000n, got).slice() : got; };
+  for (const [at, parts] of [[16, 0n], [24, 30000n]]) it.memory.view().setBigInt64(at, parts, true);
+  holds('a wait is set', env.setsockopt(fd, 1, 20, 16n, 16), 0);
+  it.memory.view().setBigInt64(16, 60n, true);
+  holds('and another one, for what is sent, is no matter', env.setsockopt(fd, 1, 21, 16n, 16), 0);
+  const began = performance.now();
+  holds('nothing comes in time', [await recv(9), it.fault(), performance.now() - began > 20], [-1n, E.AGAIN, true]);
+  setTimeout(() => board.into.enqueue(Uint8Array.of(1, 2, 3, 4, 5)), 10);
+  env.setsockopt(fd, 1, 20, 16n, 16);
+  holds('what comes is taken, in order, and no more than there is room for', [await recv(2), await recv(9)], [[1, 2], [3, 4, 5]]);
+  it.memory.bytes(9000n, 3n).set([0x7f, 0, 255]);
+  holds('sent', env.send(fd, 9000n, 3n, 0), 3n);
+  it.memory.bytes(9000n, 3n).fill(0);
+  const copy = env.fcntl(fd, 1030, 0n);
+  await env.close(copy);
+  holds('open as long as one has it', board.told.includes('closed'), false);
+  holds('closed, which isn\'t why it ended', [await ends(env.close(fd)), board.told.at(-1), line.ended], [0, 'closed', undefined]);
+  holds('and all that was sent went out before', board.sent, [0x7f, 0, 255]);
+}
+{
+  for (const connections of [[[6]], [[3], [3]], [[2, 2, 2]], [[1, 1], [1, 1, 1, 1]]]) for (let stop = 0; stop < 6; stop++) {
+    const board = port(), line = new Line(board, 9600, undefined, undefined, stop);
+    let count = 0;
+    const send = (size) => thrownBy(() => line.send(Uint8Array.from({ length: size }, () => ++count)));
+    for (const sends of connections) await line.connect().then(() => sends.forEach(send)).then(() => line.close());
+    holds('a stop, behind so many bytes of all sends and connections', [line.ended, line.sent, board.sent], ['stopped', stop, [1, 2, 3, 4, 5, 6].slice(0, stop)]);
+  }
+  const adapter = (usbVendorId, usbProductId) => ({ getInfo: () => ({ usbVendorId, usbProductId }) }), [one, other, same] = [adapter(1, 2), adapter(1, 3), adapter(1, 2)];
+  const chosen = (...ports) => { const it = thrownBy(() => portOf(ports, one.getInfo())); return ports.includes(it) ? ports.indexOf(it) : it.message.slice(0, 12); };
+  holds('the adapter of that kind, which may be plugged in anew; not one of two, nor another', [chosen(other, one), chosen(same), chosen(one, other, same), chosen(other)], [1, 0, 'two adapters', 'the adapter ']);
+}
+for (const [what, over, sum] of [['a wrong parity', (board) => board.into.error(new DOMException('x', 'ParityError')), -1n], ['a lost adapter', (board) => board.into.error(new DOMException('x', 'NetworkError')), -1n],
+  ['an end', (board) => board.into.close(), 0n]]) {
+  const board = port(), line = new Line(board, 9600), it = machine({ line }), fd = it.env.socket(1, 1, 0);
+  it.memory.put('/dev/board', 50002n, 100n);
+  await it.env.connect(fd, 50000n, 13);
+  setTimeout(() => { if (sum) board.into.enqueue(Uint8Array.of(9)); over(board); }, 5);
+  await soon(20);
+  holds(`${what} ends the line`, [await ends(it.env.recv(fd, 9000n, 9n, 0)), await ends(it.env.recv(fd, 9000n, 9n, 0))], [sum, sum]);
+  holds(`${what}: no more is sent`, [it.env.send(fd, 9000n, 1n, 0), it.fault()], [-1n, E.IO]);
+  holds(`${what}: it still closes`, [await ends(it.env.close(fd)), board.told.at(-1)], [0, 'closed']);
+  await line.connect();
+  holds(`${what}: opened anew it is whole`, [line.ended], [undefined]);
+}
+{
+  const board = port(), line = new Line(board, 9600, stepsOf('dtr-reset,rts-boot0')), began = performance.now();
+  await line.connect();
+  const took = performance.now() - began, { came } = line;
+  await line.close();
+  holds('a wiring is played, in and out of an open port, and what comes by then is no answer', [board.told.map((it) => it.baudRate ?? it), came],
+    [[9600, { requestToSend: false }, { dataTerminalReady: true }, { dataTerminalReady: false }, { requestToSend: true }, { dataTerminalReady: true }, { dataTerminalReady: false }, 'closed'], []]);
+  holds('with its waits', took >= 290);
+  board.open = async () => { throw new DOMException('in use', 'InvalidStateError'); };
+  const it = machine({ line: new Line(board, 9600) }), fd = it.env.socket(1, 1, 0);
+  it.memory.put('/dev/board', 50002n, 100n);
+  holds('a port in use', [await ends(it.env.connect(fd, 50000n, 13)), it.fault(), await ends(it.env.close(fd))], [-1, E.CONNREFUSED, 0]);
+  holds('nobody is served', [it.env.bind(fd, 0n, 0), it.fault(), it.env.listen(fd, 1), it.env.accept4(fd, 0n, 0n, 0)], [-1, E.NOSYS, -1, -1]);
+}
+
+// what keeps the page: what others keep at its host stays
+{
+  const kept = new Set(['stmflash-old', 'stmflash-/* the sum */', 'others']), heard = {}, caches = { keys: async () => [...kept], delete: async (it) => kept.delete(it), match: async () => 'any', open: async () => ({ match: async () => 'its own' }) };
+  Object.assign(globalThis, { caches, self: { addEventListener: (name, does) => { heard[name] = does; }, skipWaiting: () => kept.add('at once') } });
+  await from('offline.js');
+  for (const name of ['install', 'activate']) await new Promise((resolve) => heard[name]({ waitUntil: (it) => it.then(resolve) }));
+  const got = await new Promise((resolve) => heard.fetch({ request: { method: 'GET', url: 'page.css' }, respondWith: resolve }));
+  holds('what is kept of others stays, and no version counts beside a tab of another', [...kept, got], ['stmflash-/* the sum */', 'others', 'its own']);
+}
+
+tryImages(await from('image.js'), await from('chips.js'), await from('difference.js'), holds);
+
 // the store: names on the disk. A disk that loses its power has of each sector that was written since the last flush the old bytes, the
 // new ones, or some of both.
 function weak() {
@@ -213,80 +299,6 @@ const OPERATIONS = {
   holds('files beside are in memory', [store.free(), store.look('/image')?.kind, contents(store).image], [0, 'file', undefined]);
 }
 
-// line: over a port that does what it is told
-function port() {
-  const it = { told: [], sent: [], async open(how) { it.told.push(how); it.anew();
-    it.writable = new WritableStream({ write: async (bytes) => { await soon(); it.sent.push(...bytes); } }); },
-  anew() { it.readable = new ReadableStream({ start: (into) => { it.into = into; }, cancel: () => { if (!it.readable.locked) it.anew(); } }); },
-  async close() { it.told.push('closed'); if (it.readable.locked || it.writable.locked) throw new Error('locked'); }, async setSignals(signals) { it.told.push(signals); thrownBy(() => it.into.enqueue(Uint8Array.of(9))); } };
-  return it;
-}
-{
-  const board = port(), line = new Line(board, 57600), it = machine({ line }), { env } = it;
-  const address = (name) => { it.memory.bytes(50000n, 110).fill(0); it.memory.put(name, 50002n, 100n); return 50000n; };
-  const fd = env.socket(1, 1, 0);
-  holds('a file is no line, nor is another name', [env.send(1, 0n, 1n, 0), it.fault(), await env.connect(fd, address('/dev/other'), 110), it.fault()], [-1n, E.NOTSOCK, -1, E.CONNREFUSED]);
-  holds('the line is one', [it.told(0, '/dev/board').mode, await env.connect(fd, address('/dev/board'), 110)], [12, 0]);
-  holds('eight bits, even parity, one stop bit', [board.told[0].baudRate, board.told[0].dataBits, board.told[0].parity, board.told[0].stopBits], [57600, 8, 'even', 1]);
-  const recv = async (room) => { const got = await ends(env.recv(fd, 9000n, BigInt(room), 0)); return typeof got === 'bigint' && got > 0n ? it.memory.bytes(9000n, got).slice() : got; };
-  for (const [at, parts] of [[16, 0n], [24, 30000n]]) it.memory.view().setBigInt64(at, parts, true);
-  holds('a wait is set', env.setsockopt(fd, 1, 20, 16n, 16), 0);
-  it.memory.view().setBigInt64(16, 60n, true);
-  holds('and another one, for what is sent, is no matter', env.setsockopt(fd, 1, 21, 16n, 16), 0);
-  const began = performance.now();
-  holds('nothing comes in time', [await recv(9), it.fault(), performance.now() - began > 20], [-1n, E.AGAIN, true]);
-  setTimeout(() => board.into.enqueue(Uint8Array.of(1, 2, 3, 4, 5)), 10);
-  env.setsockopt(fd, 1, 20, 16n, 16);
-  holds('what comes is taken, in order, and no more than there is room for', [await recv(2), await recv(9)], [[1, 2], [3, 4, 5]]);
-  it.memory.bytes(9000n, 3n).set([0x7f, 0, 255]);
-  holds('sent', env.send(fd, 9000n, 3n, 0), 3n);
-  it.memory.bytes(9000n, 3n).fill(0);
-  const copy = env.fcntl(fd, 1030, 0n);
-  await env.close(copy);
-  holds('open as long as one has it', board.told.includes('closed'), false);
-  holds('closed, which isn\'t why it ended', [await ends(env.close(fd)), board.told.at(-1), line.ended], [0, 'closed', undefined]);
-  holds('and all that was sent went out before', board.sent, [0x7f, 0, 255]);
-}
-{
-  for (const connections of [[[6]], [[3], [3]], [[2, 2, 2]], [[1, 1], [1, 1, 1, 1]]]) for (let stop = 0; stop < 6; stop++) {
-    const board = port(), line = new Line(board, 9600, undefined, undefined, stop);
-    let count = 0;
-    const send = (size) => thrownBy(() => line.send(Uint8Array.from({ length: size }, () => ++count)));
-    for (const sends of connections) await line.connect().then(() => sends.forEach(send)).then(() => line.close());
-    holds('a stop, behind so many bytes of all sends and connections', [line.ended, line.sent, board.sent], ['stopped', stop, [1, 2, 3, 4, 5, 6].slice(0, stop)]);
-  }
-  const adapter = (usbVendorId, usbProductId) => ({ getInfo: () => ({ usbVendorId, usbProductId }) }), [one, other, same] = [adapter(1, 2), adapter(1, 3), adapter(1, 2)];
-  const chosen = (...ports) => { const it = thrownBy(() => portOf(ports, one.getInfo())); return ports.includes(it) ? ports.indexOf(it) : it.message.slice(0, 12); };
-  holds('the adapter of that kind, which may be plugged in anew; not one of two, nor another', [chosen(other, one), chosen(same), chosen(one, other, same), chosen(other)], [1, 0, 'two adapters', 'the adapter ']);
-}
-for (const [what, over, sum] of [['a wrong parity', (board) => board.into.error(new DOMException('x', 'ParityError')), -1n], ['a lost adapter', (board) => board.into.error(new DOMException('x', 'NetworkError')), -1n],
-  ['an end', (board) => board.into.close(), 0n]]) {
-  const board = port(), line = new Line(board, 9600), it = machine({ line }), fd = it.env.socket(1, 1, 0);
-  it.memory.put('/dev/board', 50002n, 100n);
-  await it.env.connect(fd, 50000n, 13);
-  setTimeout(() => { if (sum) board.into.enqueue(Uint8Array.of(9)); over(board); }, 5);
-  await soon(20);
-  holds(`${what} ends the line`, [await ends(it.env.recv(fd, 9000n, 9n, 0)), await ends(it.env.recv(fd, 9000n, 9n, 0))], [sum, sum]);
-  holds(`${what}: no more is sent`, [it.env.send(fd, 9000n, 1n, 0), it.fault()], [-1n, E.IO]);
-  holds(`${what}: it still closes`, [await ends(it.env.close(fd)), board.told.at(-1)], [0, 'closed']);
-  await line.connect();
-  holds(`${what}: opened anew it is whole`, [line.ended], [undefined]);
-}
-{
-  const board = port(), line = new Line(board, 9600, stepsOf('dtr-reset,rts-boot0')), began = performance.now();
-  await line.connect();
-  const took = performance.now() - began, { came } = line;
-  await line.close();
-  holds('a wiring is played, in and out of an open port, and what comes by then is no answer', [board.told.map((it) => it.baudRate ?? it), came],
-    [[9600, { requestToSend: false }, { dataTerminalReady: true }, { dataTerminalReady: false }, { requestToSend: true }, { dataTerminalReady: true }, { dataTerminalReady: false }, 'closed'], []]);
-  holds('with its waits', took >= 290);
-  board.open = async () => { throw new DOMException('in use', 'InvalidStateError'); };
-  const it = machine({ line: new Line(board, 9600) }), fd = it.env.socket(1, 1, 0);
-  it.memory.put('/dev/board', 50002n, 100n);
-  holds('a port in use', [await ends(it.env.connect(fd, 50000n, 13)), it.fault(), await ends(it.env.close(fd))], [-1, E.CONNREFUSED, 0]);
-  holds('nobody is served', [it.env.bind(fd, 0n, 0), it.fault(), it.env.listen(fd, 1), it.env.accept4(fd, 0n, 0n, 0)], [-1, E.NOSYS, -1, -1]);
-}
-
 // the worker: what it is handed over has a place each time, and is whole or not there where the power goes ahead of any flush. One page at
 // a time has a file of the pool.
 {
@@ -310,18 +322,6 @@ for (const [what, over, sum] of [['a wrong parity', (board) => board.into.error(
     holds('it is whole, or not there where the power went', lost === 'not there' || (lost ?? lose()) === 'whole');
   }
 }
-// what keeps the page: what others keep at its host stays
-{
-  const kept = new Set(['stmflash-old', 'stmflash-/* the sum */', 'others']), heard = {}, caches = { keys: async () => [...kept], delete: async (it) => kept.delete(it), match: async () => 'any', open: async () => ({ match: async () => 'its own' }) };
-  Object.assign(globalThis, { caches, self: { addEventListener: (name, does) => { heard[name] = does; }, skipWaiting: () => kept.add('at once') } });
-  await from('offline.js');
-  for (const name of ['install', 'activate']) await new Promise((resolve) => heard[name]({ waitUntil: (it) => it.then(resolve) }));
-  const got = await new Promise((resolve) => heard.fetch({ request: { method: 'GET', url: 'page.css' }, respondWith: resolve }));
-  holds('what is kept of others stays, and no version counts beside a tab of another', [...kept, got], ['stmflash-/* the sum */', 'others', 'its own']);
-}
-
-tryImages(await from('image.js'), await from('chips.js'), await from('difference.js'), holds);
-
 const asked = process.argv[3] && WebAssembly.Module.imports(new WebAssembly.Module(fs.readFileSync(process.argv[3]))).map((it) => it.name).sort();
 if (asked) holds('what the module asks for is what is answered', Object.keys(machine().env).sort(), asked);
 if (process.argv.includes('--wirings')) console.log(JSON.stringify(Object.fromEntries(WIRINGS.map((it) => [it, stepsOf(it)]))));
