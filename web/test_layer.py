@@ -26,6 +26,10 @@ HERE = os.path.dirname(os.path.abspath(__file__))
 TOP = os.path.dirname(HERE)
 MODULE = f"{TOP}/bin/web/stmflash.wasm"
 NODE = ["node", "--experimental-wasm-memory64", "--no-warnings"]
+# tries copies of the page, each in a thread of one node, some at once, since each mostly waits for its lines: their statuses
+EACH = """const { Worker } = require('worker_threads'), [layer, ...left] = process.argv.slice(1), all = [], some = left.entries();
+    const one = (folder) => new Promise((ends) => new Worker(layer, { argv: [folder, '', '--first'], stdout: true }).on('error', () => {}).on('exit', ends));
+    Promise.all([1, 2, 3, 4].map(async () => { for (const [i, it] of some) all[i] = await one(it); })).then(() => console.log(...all))"""
 # what is planted, by file: a text, which is there once, and the one in its place
 FAULTS = {
     "memory.c": {
@@ -183,17 +187,14 @@ class Layer(Tried):
         self.assertEqual((made.returncode, made.stderr), (0, ""))
         return run([program])
 
-    def with_fault(self, number, name, old, new):
-        """What comes of a copy with a fault; nothing where its text isn't there once."""
-        folder = f"{self.room}/{number}"
-        shutil.copytree(f"{HERE}/page", folder)
-        shutil.copy(f"{HERE}/memory.c", folder)
-        path = pathlib.Path(folder, name)
-        text = path.read_text()
-        path.write_text(text.replace(old, new))
-        if text.count(old) != 1:
-            return None
-        return self.try_memory(f"{folder}/{name}", "-w") if name.endswith(".c") else self.try_page(folder, "", "--first")
+    def with_fault(self, name, old, new):
+        """The folder of a copy with a fault."""
+        folder = tempfile.mkdtemp(dir=self.room)
+        shutil.copytree(f"{HERE}/page", folder, dirs_exist_ok=True)
+        path = pathlib.Path(shutil.copy(f"{HERE}/memory.c", folder)).with_name(name)
+        self.assertEqual(path.read_text().count(old), 1, f"{name} has this once: {old}")
+        path.write_text(path.read_text().replace(old, new))
+        return folder
 
     def test_the_page(self):
         self.assertHolds(self.try_page(f"{HERE}/page"))
@@ -206,14 +207,14 @@ class Layer(Tried):
         self.assertEqual((ran.returncode, ran.stdout), (0, ""))
 
     def test_finds_each_fault(self):
-        planted = [(name, what, *edit) for name, faults in FAULTS.items() for what, edit in faults.items()]
-        # each mostly waits for its lines
-        with concurrent.futures.ThreadPoolExecutor(2) as pool:
-            ran = list(pool.map(lambda it: self.with_fault(it[0], it[1][0], *it[1][2:]), enumerate(planted)))
-        for (name, what, *_), came in zip(planted, ran):
-            with self.subTest(f"{name}: {what}"):
-                self.assertIsNotNone(came, "its text isn't there once")
-                self.assertNotEqual(came.returncode, 0)
+        planted = [("nothing", f"{HERE}/page"), *((f"{name}: {what}", self.with_fault(name, *edit)) for name, faults in FAULTS.items() for what, edit in faults.items())]
+        with concurrent.futures.ThreadPoolExecutor() as pool:
+            told = pool.submit(run, [*NODE, "-e", EACH, f"{HERE}/test_layer.mjs", *(it for what, it in planted if not what.startswith("memory.c"))])
+            found = {what: self.try_memory(f"{it}/memory.c", "-w").returncode for what, it in planted if what.startswith("memory.c")}
+        told = iter(told.result().stdout.split())
+        for what, _ in planted:
+            with self.subTest(what):
+                (self.assertEqual if what == "nothing" else self.assertNotEqual)(str(found[what] if what in found else next(told)), "0")
 
     def test_the_proved_module_is_retargeted(self):
         """What is 64-bit ARM's goes, and neighbours are added lane by lane; other code of one processor ends the build."""
