@@ -13,8 +13,10 @@ import time
 
 # how long anything may take, in seconds, on a machine that is busy with other things
 PATIENCE = int(os.environ.get("STMFLASH_PATIENCE", "120"))
+# without what a window loads of its own before anybody opens it, which takes half of a start
 WORDS = ["--headless=new", "--no-sandbox", "--disable-gpu", "--no-first-run", "--disable-extensions", "--disable-background-networking",
-         "--disable-component-update", "--remote-debugging-pipe"]
+         "--disable-component-update", "--no-startup-window", "--remote-debugging-pipe",
+         "--disable-features=WebUIOmniboxPopup,WebUIOmniboxAimPopup,WebUIOmniboxFullPopup,PreloadTopChromeWebUI,SpareRendererForSitePerProcess"]
 
 
 # what Firefox neither asks nor restores
@@ -38,7 +40,7 @@ class Browser:
             os.dup2(one, 3)
             os.dup2(two, 4)
 
-        self.begin([*WORDS, f"--user-data-dir={profile}", "about:blank"], close_fds=False, preexec_fn=hand_over)
+        self.begin([*WORDS, f"--user-data-dir={profile}"], close_fds=False, preexec_fn=hand_over)
         os.close(theirs)
         os.close(other)
 
