@@ -73,7 +73,7 @@ def named(given):
 
 class ServedPage(unittest.TestCase):
     # moments of a stop that one part of a test tries
-    browser_of, samples = Browser, 5
+    browser_of, samples = Browser, 10
     # one of the table that has 128 pages of 1,024 bytes
     chip, size = "0410", 131072
 

@@ -146,7 +146,7 @@ class Page(InFirefox):
 
     def test_a_board_that_its_wiring_resets(self):
         """It is undone without a word of that, wherever it was stopped; and goes back into its program, where nothing reaches it but a reset."""
-        for i in range(self.samples):
+        for i in range(5):
             tab = self.stopped_behind_a_wiring()
             self.undo(tab, f"by a wiring, {i}")
             self.assertLine(b"gone\n")
@@ -322,8 +322,8 @@ def run(test):
 
 
 def main():
-    """Some at once, since each mostly waits. One that failed is run once more when all have ended, with nothing beside it, and this is told:
-    a machine that is busy with other things answers late."""
+    """Some at once, since each mostly waits, and first those in parts, which take longest. One that failed is run once more when all have
+    ended, with nothing beside it, and this is told: a machine that is busy with other things answers late."""
     os.environ["STMFLASH_WEB_SEED"] = str(SEED)
     print(f"web/test_page: seed {SEED}", flush=True)
     kinds = [it for it in (Trial, Newcomer, InFirefox, Page) if shutil.which(it.browser_of.program)]
@@ -335,6 +335,7 @@ def main():
         for name in unittest.defaultTestLoader.getTestCaseNames(kind):
             parts = times * STOPS.get(name.removeprefix("test_"), 0) // kind.samples if kind is Page else 1
             failed += ((f"{kind.__name__}.{name}", part) for part in range(max(parts, 1)))
+    failed.sort(key=lambda it: it[0].partition(".test_")[2] not in STOPS)
     for at_once, os.environ["STMFLASH_WEB_WAIT"] in ((AT_ONCE, "500"), (1, "1000")):
         with concurrent.futures.ProcessPoolExecutor(at_once) as pool:
             failed = list(filter(None, pool.map(run, failed)))
