@@ -140,7 +140,7 @@ FAULTS = {
 
 
 def run(words, **how):
-    return subprocess.run(words, capture_output=True, text=True, timeout=120, **how)
+    return subprocess.run(words, capture_output=True, text=True, timeout=600, **how)
 
 
 def elf(segments):
