@@ -324,6 +324,5 @@ class Board(telling.Told):
         self.assertFault(self.at(HERE, "write", "-S", "0x08010000", "image", kib=size(64)), outside)
         self.assertFault(self.at(HERE, "write", "-S", "0x0800FFFC", "image", kib=size(64)), outside, journal=None)
         self.assertTold(self.at(HERE, "write", "-S", "0x0800FFF8", "image", kib=size(64)), "segment 1: 1 pages written\n")
-        self.assertTold(self.at(HERE, "erase", "--all", kib=size(64)), "segment 2: 64 pages erased\n")
-        self.assertFile("flash", 65536 * b"\xff" + COUNTING[65536:])
+        self.assertTold(self.at(HERE, "erase", "--all", kib=size(64)), "segment 2: 64 pages erased\n", flash=65536 * b"\xff" + COUNTING[65536:])
         self.assertTold(self.at(HERE, "undo", kib=size(64)), "undone 2\n", flash=COUNTING)

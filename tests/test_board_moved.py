@@ -270,8 +270,7 @@ class BoardMoved(telling.Told):
     def test_a_size_too_large_of_a_smaller_part(self):
         """A part of 64 KiB that tells 128: a page that isn't there can't be read, and is touched by nothing."""
         self.store_all({"flash.board": b"size 64\n", "flash": COUNTING[:65536]})
-        self.assertFault(self.at("erase", "5", "64"), PROTOCOL, hint=UNREAD.format(0x08010000))
-        self.assertFile("flash", with_page(COUNTING[:65536], 5, 1024 * b"\xff"))
+        self.assertFault(self.at("erase", "5", "64"), PROTOCOL, hint=UNREAD.format(0x08010000), flash=with_page(COUNTING[:65536], 5, 1024 * b"\xff"))
         self.assertTold(self.at("undo", kib=64), "undone 1\n", flash=COUNTING[:65536])
 
     # a cable that is moved to another board
@@ -402,6 +401,5 @@ class BoardMoved(telling.Told):
 
     def test_an_erase_that_is_moved_before_its_frame_loses_a_page(self):
         """The page that is kept is the first board's, and the one that is erased the other's, which nobody has any more."""
-        self.assertFault(self.moved("before the erase", SETTLED, "erase", "5"), CHANGED)
-        self.assertFiles({"flash": COUNTING, "there": with_page(ELSE, 5, 1024 * b"\xff")})
+        self.assertFault(self.moved("before the erase", SETTLED, "erase", "5"), CHANGED, flash=COUNTING, there=with_page(ELSE, 5, 1024 * b"\xff"))
         self.assertIn(page(COUNTING, 5).hex().upper().encode(), self.held("journal"))

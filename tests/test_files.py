@@ -149,8 +149,7 @@ class Files(Place):
         for name, (link, source) in itertools.product(("flash", "flash.line"), ((os.symlink, "journal"), (os.link, self.path("journal")))):
             with self.subTest(name=name, link=link):
                 self.store_all({"flash": COUNTING, "flash.line": None, "journal": None})
-                said, _ = self.use_held(self.make_at_first(link, source, name), "erase", "5")
-                self.assertFault(said, f"cannot write {name}")
+                self.assertFault(self.use_held(self.make_at_first(link, source, name), "erase", "5")[0], f"cannot write {name}")
                 self.assertTrue(self.held("journal").endswith(b"\nerase 5\nend 1\n"))
                 self.assertFile(name, self.held("journal"))
                 self.remove(name)
@@ -196,8 +195,7 @@ class Files(Place):
             if number == 0:
                 self.remove("out")
 
-        said, _ = self.use_held(turn, "read", "out")
-        self.assertFault(said, "cannot write out", one=b"1", out=None)
+        self.assertFault(self.use_held(turn, "read", "out")[0], "cannot write out", one=b"1", out=None)
 
     def test_out_is_tried_first(self):
         """What can't be written is told before anything is asked of a device that doesn't answer."""

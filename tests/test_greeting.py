@@ -206,8 +206,7 @@ class Greeting(Undoing):
                 self.store(f"{room}/flash.line", b"fresh\n")
             # none behind a greeting, as long as no other line came
             self.assertNotIn(2 * GREETING, self.held(f"{room}/journal"))
-        said, _ = self.undo(room, stop.chip, *SPEED)
-        self.assertTold(said, "undone 1\n")
+        self.assertTold(self.undo(room, stop.chip, *SPEED)[0], "undone 1\n")
         self.assertFile(f"{room}/flash", FLASH)
         *lines, last = self.held(f"{room}/journal").splitlines(keepends=True)
         self.assertEqual(last, b"undone 1\n")

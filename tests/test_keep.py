@@ -234,8 +234,7 @@ class KeepLast(Keeping):
         """Digits that come in several pieces."""
         page = b"page 5 " + os.urandom(size).hex().upper().encode() + b"\n"
         self.store("journal", b"stmjournal 2 0412\nopen 1\nend 1\nopen 2\n" + page + b"end 2\n")
-        self.assertTold(self.keep("--last", "1"), "kept 1\n1 can be undone\n")
-        self.assertFile("journal", b"stmjournal 2 0412\nopen 1\n" + page + b"end 1\n")
+        self.assertTold(self.keep("--last", "1"), "kept 1\n1 can be undone\n", journal=b"stmjournal 2 0412\nopen 1\n" + page + b"end 1\n")
 
     def test_words_that_it_refuses(self):
         journal = self.write()

@@ -73,8 +73,7 @@ class Locks(Served):
             told.append(said.out)
 
         self.store("flash", COUNTING)
-        said, _ = self.hold(self.words_on("erase", "5"), at=look)
-        self.assertTold(said, "segment 1: 1 pages erased\n")
+        self.assertTold(self.hold(self.words_on("erase", "5"), at=look)[0], "segment 1: 1 pages erased\n")
         opened = b"id 0412\nsegment 1: open, %d pages%s\nunfinished, undo first\n"
         kept = opened % (1, b": 5")
         self.assertEqual(told[:6], [b"0 can be undone\n", opened % (0, b""), opened % (0, b""), kept,
@@ -100,8 +99,7 @@ class Locks(Served):
                 came.append(self.use("erase", "6", device="sim:0412:other"))
                 came.append(self.call("keep", "--journal", "journal"))
 
-        said, _ = self.hold(self.words_on("erase", "5"), at=come)
-        self.assertTold(said, "segment 1: 1 pages erased\n")
+        self.assertTold(self.hold(self.words_on("erase", "5"), at=come)[0], "segment 1: 1 pages erased\n")
         self.assertEqual(len(came), 2)
         for other in came:
             self.assertFault(other, "journal is in use")
@@ -157,10 +155,8 @@ class Locks(Served):
                 said, _ = self.hold(self.words_on("erase", "5"), fails=1, **how)
                 self.assertFault(said, f"cannot lock journal: {text}; --no-lock if no other program has it", flash=COUNTING, journal=b"")
                 self.remove("journal")
-                said, _ = self.hold(self.words_on("erase", "--no-lock", "5"), fails=every, **how)
-                self.assertTold(said, "segment 1: 1 pages erased\n")
-                said, _ = self.hold(("keep", "--journal", "journal", "--no-lock"), fails=every, **how)
-                self.assertTold(said, "kept 1\n")
+                self.assertTold(self.hold(self.words_on("erase", "--no-lock", "5"), fails=every, **how)[0], "segment 1: 1 pages erased\n")
+                self.assertTold(self.hold(("keep", "--journal", "journal", "--no-lock"), fails=every, **how)[0], "kept 1\n")
 
     def test_a_variable_says_that_no_lock_is_needed(self):
         self.store("flash", COUNTING)
@@ -182,16 +178,14 @@ class Locks(Served):
         how = {"held": syncs.FLOCK, "error": errno.ENOLCK, "fails": range(100)}
         self.store("flash", COUNTING)
         self.serve(1)
-        said, _ = self.hold(("erase", *files("board"), "--wait", WAIT, "--no-lock", "5"), **how)
-        self.assertTold(said, "segment 1: 1 pages erased\n")
+        self.assertTold(self.hold(("erase", *files("board"), "--wait", WAIT, "--no-lock", "5"), **how)[0], "segment 1: 1 pages erased\n")
         self.assertServed()
         self.store_all({"flash": WRITTEN, "flash.line": b"idle\n", "journal": LEFT})
         said, _ = self.hold(self.words_on("undo", "--recover", "--no-lock"), **how)
         self.assertEqual((said.status, said.out), (0, b"undone 2\n"))
         os.mkdir(self.path("journals"))
         self.store_all({"table": telling.TABLE, "one": bytes(131072), "one.board": b"unique 2B0035000A51363034393332\n"})
-        said, _ = self.hold(("crc", "--table", "table", "--device", "sim:0410:one", "--journals", "journals", "--no-lock"), **how)
-        self.assertWell(said)
+        self.assertWell(self.hold(("crc", "--table", "table", "--device", "sim:0410:one", "--journals", "journals", "--no-lock"), **how)[0])
 
     def test_without_a_lock_another_program_is_still_seen(self):
         """Where there are locks, `--no-lock` is no leave to use what another has."""

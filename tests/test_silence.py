@@ -50,8 +50,7 @@ class Silence(Served):
     def times(self, *words, whole=WHOLE, device="board"):
         """The same, none of them told by a word."""
         times, given = [], (*words, *files(device), "--wait", str(whole))
-        said, _ = syncs.call(self.folder, given, held=SETSOCKOPT, at=lambda _, process: times.append(time_of(process)))
-        self.assertWell(said)
+        self.assertWell(syncs.call(self.folder, given, held=SETSOCKOPT, at=lambda _, process: times.append(time_of(process)))[0])
         return [at for at in times if at is not None]
 
     def limits(self, *words, name="info"):
