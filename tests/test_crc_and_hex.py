@@ -28,12 +28,6 @@ class Crc(Place):
     def assertSum(self, data, *words):
         self.assertTold(self.use("crc", *words), f"crc {crc(data):08X}\n")
 
-    # from the polynomial's own arithmetic, and from ST's application notes
-    @each_of(((b"\0\0\0\0", "C704DD7B"), (bytes.fromhex("78563412"), "DF8A8A2B"), (b"\xff\xff\xff\xff", "00000000")))
-    def test_known_words(self, data, value):
-        self.store("flash", data + COUNTING[4:])
-        self.assertTold(self.use("crc", "-S", f"0x{BASE:X}:4"), f"crc {value}\n")
-
     def test_parts(self):
         flash = random.Random(3).randbytes(SIZE)
         self.store("flash", flash)
@@ -41,11 +35,6 @@ class Crc(Place):
         self.each(((0, 4), (4, 1020), (1000, 2048), (SIZE - 4, 4), (0, SIZE), (8, 0)),
                   lambda start, length: self.assertSum(flash[start:start + length], "-S", f"0x{BASE + start:X}:{length}"))
         self.assertSum(flash[-1024:], "-S", f"0x{BASE + SIZE - 1024:X}")
-
-    def test_whole_words(self):
-        for part in ("0x08000001", "0x08000002:4", "0x08000000:6"):
-            self.assertFault(self.use("crc", "-S", part), f"usage: {part} is not whole words of 4 bytes", 2)
-        self.assertFault(self.use("crc", "-S", "0x08007FFC:8"), "address outside the flash")
 
 
 class Hex(Place):
@@ -61,16 +50,6 @@ class Hex(Place):
 
     def test_by_the_word(self):
         self.assertEqual(self.read("--hex", "-S", "0x08000013:5", "out"), [(BASE + 0x13, COUNTING[0x13:0x18])])
-
-    def test_printed(self):
-        self.store("flash", COUNTING)
-        self.assertEqual(self.use("read", "--hex", "-S", "0x08000000:2", "-").out, b":020000040800F2\n:020000000001FD\n:00000001FF\n")
-
-    def test_other_names_are_raw(self):
-        self.store("flash", COUNTING)
-        for name in ("out.hex.bin", "outhex", "hex"):
-            self.assertSilent(self.use("read", name))
-            self.assertFile(name, COUNTING)
 
     def test_written_back(self):
         self.read("out.hex")
@@ -88,21 +67,9 @@ class Hex(Place):
         flash = ERASED[:32 + at] + byte + ERASED[33 + at:]
         self.assertEqual(self.read("--skip-blank", "out.hex", flash=flash), [(BASE + 32, flash[32:48])])
 
-    def test_all_blank(self):
-        self.store("flash", ERASED)
-        self.assertSilent(self.use("read", "--skip-blank", "out.hex"))
-        self.assertFile("out.hex", b":00000001FF\n")
-
     def test_blank_is_what_the_chip_erases_to(self):
         # 0416 erases to 00
         self.store("table", b'[[chip]]\nid = 0x412\nbase = 0x08000000\npages = [[32, 1024]]\nerase = "page"\nerased = 0\n')
         found = self.read("--skip-blank", "out.hex", flash=bytes(64) + ERASED[64:128] + bytes(SIZE - 128))
         self.assertEqual(b"".join(data for _, data in found), ERASED[:64])
         self.assertEqual(found[0][0], BASE + 64)
-
-    def test_blank_of_raw_bytes(self):
-        self.assertFault(self.use("read", "--skip-blank", "out"), "usage: --skip-blank needs HEX", 2)
-
-    def test_out_is_one_of_the_others(self):
-        self.store("journal.hex", b"")
-        self.assertFault(self.use("read", "journal.hex", journal="journal.hex"), "cannot write journal.hex")

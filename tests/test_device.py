@@ -2,7 +2,7 @@
 
 import os
 
-from place import COUNTING, ERASED, SILENT, TABLE, ZEROS, Place, each_of
+from place import COUNTING, ERASED, TABLE, Place, each_of
 
 INFO = "id 0412\nbase 08000000\npages 32\nsize 32768\nerase 43\nerased FF\nversion 22\ncodes 00 02 11 21 31 43 73 82 92\n"
 RAW = "id 0412\nversion 22\ncodes 00 02 11 21 31 43 73 82 92\ntable {}\n"
@@ -10,23 +10,6 @@ BAD_FLASH = "bad simulator file flash"
 
 
 class Device(Place):
-    def test_reads_a_flash_twice(self):
-        self.store("flash", COUNTING)
-        for _ in range(2):
-            self.assertSilent(self.use("read", "out"), out=COUNTING, holds=(COUNTING, b"idle\n"))
-            self.remove("out")
-
-    def test_tells_what_an_erased_device_is(self):
-        self.assertTold(self.use("info"), INFO, holds=(ERASED, b"idle\n"))
-
-    def test_tells_what_a_device_says_itself(self):
-        """A journal of another device doesn't matter, but one that isn't finished does."""
-        self.store("journal", b"stmjournal 1 0410\nopen 1\nend 1\n")
-        self.assertFault(self.use("info"), "journal belongs to another device")
-        self.assertTold(self.use("info", "--raw"), RAW.format("table"), holds=(ERASED, b"idle\n"))
-        self.store("journal", b"stmjournal 1 0412\nopen 1\n")
-        self.assertFault(self.use("info", "--raw"), "unfinished command, undo first")
-
     def test_says_which_table_it_read(self):
         """By the name that it has, from a word or a variable; a name with a line's end stays within its line."""
         words = ("info", "--raw", "--device", "sim:0412:flash", "--journal", "journal")
@@ -38,11 +21,6 @@ class Device(Place):
                 self.assertTold(self.call(*words, "--table", name), RAW.format(told))
                 self.assertTold(self.call(*words, variables={"STMFLASH_TABLE": name}), RAW.format(told))
         self.assertFault(self.call(*words, "--table", "missing"), "cannot read missing")
-
-    def test_a_missing_flash_is_erased_as_its_chip_erases(self):
-        """A flash that isn't there is all what the chip's erase leaves."""
-        self.store("table", TABLE + b"erased = 0\n")
-        self.assertTold(self.use("info"), INFO.replace("erased FF", "erased 00"), holds=(ZEROS, b"idle\n"))
 
     def test_tells_how_many_boards_were_tried(self):
         """Simulated ones are none. In the table whose chip is taken: of others that stand below it none is counted."""
@@ -57,24 +35,11 @@ class Device(Place):
         self.store("table", TABLE + b"tried = [{ part = \"a\" }]\n")
         self.assertFault(self.use("info"), "table: chip 1: missing")
 
-    @each_of((b"seven", ERASED + b"\xff", ERASED[1:], b""))
-    def test_refuses_a_flash_of_another_length(self, flash):
-        self.store("flash", flash)
-        self.assertFault(self.use("read", "OUT"), BAD_FLASH)
-        self.assertFiles({"flash": flash, "flash.line": None, "OUT": None})
-
     @each_of((b"rest 43BD\n", b"rest 43bc\n", b"rest \n", b"rest 4\n", b"rest 43BC", b"rest 43BC\n\n", b"rest 02FD\n", b"fresh\n\n"))
     def test_refuses_a_rest_that_does_not_stay(self, line):
         self.store("flash.line", line)
         for words in (("info",), ("read", "OUT")):
             self.assertFault(self.use(*words), BAD_FLASH, holds=(None, line), OUT=None)
-
-    def test_goes_on_from_a_rest(self):
-        """What stood in the rest is settled by the session, and a session that sends nothing leaves it."""
-        self.store_all({"flash.line": b"rest 11EE08\n", "journal": b"stmjournal 1 0412\nopen 1\n"})
-        self.assertFault(self.use("info"), "unfinished command, undo first", holds=(ERASED, b"rest 11EE08\n"))
-        self.remove("journal")
-        self.assertTold(self.use("info"), INFO, holds=(ERASED, b"idle\n"))
 
     def test_follows_a_link_to_the_flash(self):
         """The link stays, and what it names is written."""
@@ -99,20 +64,3 @@ class Device(Place):
         self.each(("", "sim:0412", "sim:0412:", "sim:412:F", "sim:041G:F"),
                   lambda device: self.assertFault(self.use("info", device=device), f"usage: bad device {device}", 2))
         self.assertFault(self.use("info", device="sim:0a01:F"), "unknown chip 0A01")
-
-    def test_says_what_is_wrong_with_a_table(self):
-        self.remove("table")
-        self.assertFault(self.use("info"), "cannot read table")
-        for table, text in ((b"[[chip]", "table: syntax"), (b"", "table: chip 0: missing")):
-            with self.subTest(table=table):
-                self.store("table", table)
-                self.assertFault(self.use("info"), text)
-        self.assertHolds(None, None)
-
-    def test_leaves_the_bootloader(self):
-        self.assertSilent(self.use("go", "0x08000000"), holds=(ERASED, b"gone\n"))
-        self.assertFault(self.use("read", "OUT"), "device does not follow the protocol", hint=SILENT, holds=(ERASED, b"gone\n"), OUT=None)
-
-    def test_ends_the_readout_protection(self):
-        self.store("flash", COUNTING)
-        self.assertSilent(self.use("protect", "readout-unprotect"), holds=(ERASED, b"fresh\n"))

@@ -9,13 +9,6 @@ HEX = b":020000040800F2\r\n:0400000001020304F2\r\n:00000001FF\r\n"
 # two bytes in HEX at 0x08000400, and two at the place of the second
 LATER = b":020000040800F2\n:020400000506EF\n:00000001FF\n"
 BESIDE = b":020000040800F2\n:020401000607EC\n:00000001FF\n"
-# texts that aren't HEX, and why
-NO_HEX = (
-    (b":0G", "1: bad digit"), (b":00", "1: short"), (b":00000001FE", "1: checksum"), (b":00000006FA", "1: type"), (b":0100000100FE", "1: length"),
-    (b":0100000055AA\n:0100000056A9\n", "2: conflict"), (b":0100000055AA\n", "2: no end"), (b":0100000055AAx", "2: no colon"))
-# places of an image of four bytes, and why they are refused before the device is opened
-NO_PLACES = (("0x08000000:3", "address outside the flash"), ("0x08000000:0", "address outside the flash"),
-             ("0xFFFFFFFD", "image past the end"), ("0xFFFFFFFD:3", "image past the end"))
 # what a file is that is no raw image by how it begins
 FOREIGN = (
     (b"\x7fELF\x01\x01\x01" + b"\x00" * 9, "ELF"),
@@ -38,39 +31,6 @@ FOREIGN = (
 
 
 class Image(Place):
-    def test_says_what_is_wrong_with_a_hex_text(self):
-        """The image is read before the simulator's files, and nothing is written."""
-        self.store("flash.line", b"neither")
-        for image, text in NO_HEX:
-            with self.subTest(image=image):
-                self.assertFault(self.use_image("write", image), f"hex record {text}")
-                self.assertFault(self.use_image("verify", image, "-S", "0"), "usage: -S needs a raw image", 2)
-        self.assertFiles({"flash": None, "flash.line": b"neither", "journal": None})
-
-    def test_writes_hex_where_it_says(self):
-        self.assertTold(self.use_image("write", HEX, "-v"), "segment 1: 1 pages written\nverified 4 bytes\n")
-        self.assertSilent(self.use("read", "-S", "0x08000000:5", "out"), out=bytes([1, 2, 3, 4, 0xFF]))
-        self.assertFault(self.use_image("write", b":0100000055AA\n:00000001FF\n"), "address outside the flash")
-
-    def test_writes_a_text_as_raw_bytes(self):
-        """With -f the text itself is what is written."""
-        self.assertTold(self.use_image("write", b":00000001FF", "-f", "-S", "0x08000400"), "segment 1: 1 pages written\n")
-        self.assertSilent(self.use("read", "-S", "0x08000400:11", "out"), out=b":00000001FF")
-
-    def test_says_where_an_image_has_no_place(self):
-        self.each(NO_PLACES, lambda place, text: self.assertFault(self.use_image("write", bytes([1, 2, 3, 4]), "-S", place), text))
-        self.assertFault(self.use_image("write", bytes([1, 2, 3, 4]), "-S", "08"), "usage: bad number 08", 2, holds=(None, None))
-        self.remove("image")
-        self.assertFault(self.use("verify", "image"), "cannot read image")
-
-    def test_an_image_past_the_end_of_all_addresses(self):
-        """Where the chip has to be known first, a fault of its journal comes before that of the image's place."""
-        self.store("table", b'[[chip]]\nid = 0x412\nbase = 0xFFFF8000\npages = [[32, 1024]]\nerase = "page"\n')
-        image = b"\x11" * 32769
-        self.assertFault(self.use_image("write", image), "image past the end")
-        self.store("journal", b"stmjournal 2 0412\nopen 1\n")
-        self.assertFault(self.use_image("write", image), "unfinished command, undo first")
-
     @each_of(FOREIGN)
     def test_what_is_no_raw_image_is_refused(self, image, what):
         """By its first bytes, before the device's files are opened; with -f it is raw all the same."""

@@ -54,11 +54,6 @@ class Log(Place):
         told = [EMPTY] + ["id 0412\n" + after for _, after in FOLLOWED]
         self.each(range(len(text) + 1), lambda count: self.assertLog(text[:count], told[text[:count].count(b"\n")]))
 
-    def test_a_missing_journal_is_refused(self):
-        """Its name may be mistyped."""
-        self.assertFault(self.call("log", "--journal", "journal"), "cannot read journal")
-        self.assertEqual(os.listdir(self.folder), [])
-
     @each_of((((0, 1, 5), "0-1 5"), ((1, 257, 2, 3), "1 257 2-3"), ((5, 4, 3), "5 4 3"), ((0, 65535), "0 65535"),
               ((65533, 65534, 65535), "65533-65535"), (tuple(range(512)), "0-511"), ((9, 10, 12, 13, 14, 20), "9-10 12-14 20")))
     def test_tells_the_pages(self, pages, told):
@@ -71,10 +66,6 @@ class Log(Place):
         journal = b"stmjournal 2 0412\n" + b"".join(b"open %d\nend %d\n" % (number, number) for number in numbers)
         told = "".join(f"segment {number}: ended, 0 pages\n" for number in numbers)
         self.assertLog(journal, f"id 0412\n{told}{MOST} can be undone\n")
-
-    def test_refuses_a_bad_journal(self):
-        self.store("journal", BAD)
-        self.assertFault(self.call("log", "--journal", "journal"), "bad journal line 2", journal=BAD)
 
     def test_wants_a_journal(self):
         self.assertUsage(self.call("log"))

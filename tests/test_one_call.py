@@ -5,7 +5,7 @@ import fcntl
 import os
 import subprocess
 
-from place import PATIENCE, SIZE, WAIT, ZEROS, Place, Said, each_of, files
+from place import PATIENCE, WAIT, ZEROS, Place, Said, each_of, files
 from served import Served, relay
 
 IMAGE = b"a new program, whatever it does"
@@ -40,35 +40,6 @@ class OneCall(Place):
     def write(self, *words, **more):
         return self.use("write", *words, "image", **more)
 
-    def assertStands(self, line, said, told, before=b"\xff" * SIZE):
-        """This was told, the image stands in the flash of before, the line is so, and the journal has gone."""
-        self.assertTold(said, told)
-        self.assertFiles({"flash": IMAGE + before[len(IMAGE):], "flash.line": line, "journal": None})
-
-    def test_all_steps(self):
-        self.store("flash", ZEROS)
-        self.assertStands(b"gone\n", self.write("-v", "--keep", *GO), WRITTEN.decode() + "kept 1\n", ZEROS)
-
-    def test_keep_alone(self):
-        self.assertStands(b"idle\n", self.write("--keep"), "segment 1: 1 pages written\nkept 1\n")
-
-    def test_keeps_what_was_there_too(self):
-        self.use("erase", "9")
-        self.assertStands(b"idle\n", self.write("--keep"), "segment 2: 1 pages written\nkept 2\n")
-
-    def test_moves_the_journal(self):
-        self.assertStands(b"gone\n", self.write("-v", "--keep-to", "kept", *GO), WRITTEN.decode() + "kept 1\n")
-        self.assertIn(b"1 can be undone", self.call("log", "--journal", "kept").out)
-        # the way back stands under the other name
-        self.store("flash.line", b"fresh\n")
-        self.assertTold(self.use("undo", journal="kept"), "undone 1\n")
-        self.assertFile("flash", b"\xff" * SIZE)
-
-    def test_go_wants_a_journal_that_is_kept(self):
-        for again in ((), ("--again", "2")):
-            self.assertFault(self.write(*GO, *again), "usage: --go needs --keep or --keep-to", 2)
-        self.assertFiles({"flash": None, "journal": None})
-
     def test_a_name_that_is_there(self):
         self.store("kept", b"another")
         os.symlink("nowhere", self.path("link"))
@@ -76,21 +47,8 @@ class OneCall(Place):
             for again in ((), ("--again", "2")):
                 with self.subTest(name=name, again=again):
                     self.store("flash.line", b"fresh\n")
-                    self.assertFault(self.write("--keep-to", name, *again), f"cannot write {name}")
-                    self.assertFiles({"kept": b"another", "flash": None, "journal": None})
+                    self.assertFault(self.write("--keep-to", name, *again), f"cannot write {name}", kept=b"another", flash=None, journal=None)
                     self.remove("flash.line")
-
-    @each_of((("--keep", "--go", "08"), ("--again", "0"), ("--again", "1001"), ("--again", "x")))
-    def test_bad_numbers(self, *words):
-        self.assertFault(self.write(*words), f"usage: bad number {words[-1]}", 2)
-
-    def test_a_write_that_fails_is_followed_by_nothing(self):
-        self.store("image", b"x" * (SIZE + 1))
-        self.assertFault(self.write("--keep", *GO), "address outside the flash")
-        self.assertFile("flash.line", b"idle\n")
-        self.store("journal", b"stmjournal 1 0412\nopen 1\n")
-        self.assertFault(self.write("--keep", *GO), "unfinished command, undo first")
-        self.assertFile("journal", b"stmjournal 1 0412\nopen 1\n")
 
     def steps(self, *words, line=None):
         """After how many steps all of these is done, by halves; the device stands so before."""

@@ -20,6 +20,8 @@ BAD_NUMBERS = (("go", ("--wait=0", "--stop=x", "08"), "0"), ("go", ("--wait=6000
                ("go", ("--wait=60000", "--stop=1", "08"), "08"), *(("read", ("-S", it, "OUT"), it) for it in ("08", "1:", "1:2:3")))
 # chips and clients of `sim`, and the word that decides
 BAD_SIM_NUMBERS = (("412", "1", "412"), ("0412", "0", "0"), ("0412", "1000001", "1000001"))
+# what an erase says that names no pages, or too much
+NO_PAGES = "usage: give pages or --all"
 # parts of a flash, and from where to where they go
 PARTS = (("0x08000001:4", 1, 5), ("0x080000FF:2", 255, 257), ("134225919", 8191, 32768), ("0x08007FFF", 32767, 32768), ("0:0", 0, 0))
 NO_PARTS = ("0x08008000", "0x07FFFFFF", "0x08007FFF:2", "0xFFFFFFFF:4294967295")
@@ -161,3 +163,14 @@ class Options(Place):
         self.store("flash.line", b"rest 11EE0800\n")
         self.assertFault(self.use("info", "--stop", "0"), "stopped", 3, holds=(ERASED, b"rest 11EE0800\n"))
         self.assertFault(self.use("info", "--stop", "1"), "stopped", 3, holds=(ERASED, b"rest 11EE08007F\n"))
+
+    @each_of((("sim:0412:F", (), NO_PAGES),
+              ("sim:0412:F", ("--all", "3"), NO_PAGES),
+              ("sim:0412:F", ("3", "65536"), "usage: bad number 65536"),
+              *(("sim:0412:F", (pages,), f"usage: bad number {pages}") for pages in ("9-4", "4-65536", "4-", "4-5-6", "4-05")),
+              ("socket", ("--stop", "1", "03"), "usage: bad number 03"),
+              ("socket", ("--stop", "1"), "usage: --stop needs a simulator"),
+              ("socket", (), NO_PAGES)))
+    def test_says_which_pages_an_erase_wants(self, device, words, text):
+        """A bad number comes before a stop of a socket, and that before the pages."""
+        self.assertFault(self.use("erase", *words, device=device), text, 2)

@@ -1,4 +1,5 @@
-"""What the program was specified to say: each text of it word for word, and its worked examples (tests/stated.rows)."""
+"""What the program was specified to say: each text of it word for word, and its worked examples (tests/stated.rows); and what its words do
+to files, case by case (tests/uses.rows)."""
 
 import os
 import re
@@ -40,9 +41,9 @@ def bytes_of(told):
     return b"".join(part(one) * int(times or 1) for one, times in parts)
 
 
-def cases():
-    """Each case: its title, and its lines as their sign and what is behind it."""
-    for block in re.sub(r"(?m)^#.*\n", "", text_in("tests", "stated.rows")).strip().split("\n\n"):
+def cases(page):
+    """Each case of a page: its title, and its lines as their sign and what is behind it."""
+    for block in re.sub(r"(?m)^#.*\n", "", text_in("tests", page)).strip().split("\n\n"):
         title, *lines = block.split("\n")
         yield title, [line.split(" ", 1) for line in lines]
 
@@ -135,8 +136,8 @@ class Stated(Served):
         if self.line is not None:
             self.line.close()
 
-    def test_each_case(self):
-        for title, lines in cases():
+    def play_all(self, page):
+        for title, lines in cases(page):
             # (what runs a program of another processor is refused memory itself)
             if any(sign == "memory" for sign, _ in lines) and program().endswith("-under-qemu"):
                 continue
@@ -144,6 +145,13 @@ class Stated(Served):
                 self.begin()
                 self.play(lines)
 
+    def test_each_case(self):
+        self.play_all("stated.rows")
+
+    def test_each_use(self):
+        """Of files alone: no case listens, or wants less memory than there is."""
+        self.play_all("uses.rows")
+
     def test_every_text_has_a_case(self):
-        told = {line.removeprefix("stmflash: ") for _, lines in cases() for sign, line in lines if sign == "!"}
+        told = {line.removeprefix("stmflash: ") for _, lines in cases("stated.rows") for sign, line in lines if sign == "!"}
         self.assertEqual([text for text in TEXTS if text not in told], [])

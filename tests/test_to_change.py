@@ -1,7 +1,7 @@
 """Writes and erases that changed nothing: what is told of them, what an undo of them tells, and `undo --to-change`, which goes
 back to the newest that changed something."""
 
-from place import ERASED, HEAD, WAIT, each_of, had, new, told_by, with_page
+from place import ERASED, WAIT, each_of, had, new, told_by
 from served import Served
 
 import telling
@@ -9,9 +9,6 @@ import telling
 A, B = b"\x0a" * 4, b"\x0b" * 3000
 OF_A = A + ERASED[len(A):]
 OF_B = B + ERASED[len(B):]
-# a journal with a write that changed page 5 of zeros, and one that changed nothing
-CHANGED = with_page(HEAD, b"0", b"\nerase 5\nend 1\nopen 2\nend 2\n")
-BACK = ERASED[:5120] + bytes(1024) + ERASED[6144:]
 
 
 class ToChange(Served):
@@ -20,22 +17,6 @@ class ToChange(Served):
         self.store_all({"a": A, "b": B})
         for name, pages in [("a", 1), ("b", 3)] + times * [("b", 0)]:
             self.assertEqual(self.use("write", *more, name, device=device).out.split()[2], b"%d" % pages)
-
-    def test_a_write_of_what_is_there(self):
-        self.store("a", A)
-        self.assertTold(self.use("write", "a"), "segment 1: 1 pages written\n")
-        self.assertTold(self.use("write", "a"), "segment 2: 0 pages written\n", new(2))
-        self.assertTold(self.use("write", "-v", "--quiet", "a"), "segment 3: 0 pages written\nverified 4 bytes, 0 of them again\n", new(3))
-        self.assertTold(self.use("erase", "9"), "segment 4: 0 pages erased\n", new(4))
-        # what stays isn't to be undone anyway
-        self.assertTold(self.use("write", "--keep", "a"), "segment 5: 0 pages written\nkept 5\n")
-
-    def test_an_undo_of_what_changed_nothing(self):
-        """It gives nothing back, and says so; the next one does."""
-        self.write()
-        self.assertTold(self.use("undo", "1", "-v"), "undone 1, 0 bytes verified\n", had(3, left=2), holds=(OF_B, b"idle\n"))
-        self.assertTold(self.use("undo", "1", "-v"), "undone 1, 3072 bytes verified\n", holds=(OF_A, b"idle\n"))
-        self.assertTold(self.use("undo"), "undone 1\n", holds=(ERASED, b"idle\n"))
 
     @each_of(((0, ("-v",), "undone 1, 3072 bytes verified\n"), (1, ("-v",), "undone 2, 3072 bytes verified\n"),
               (2, (), "undone 3\n")))
@@ -59,25 +40,6 @@ class ToChange(Served):
                 self.assertEqual(self.use("undo", "--to-change", "-v").status, 0)
                 self.assertHolds(OF_A, b"idle\n")
 
-    def test_an_unfinished_newest(self):
-        """One that has kept a page may have changed it, and one without a page hasn't."""
-        self.store("journal", CHANGED + b"open 3\n")
-        self.assertTold(self.use("undo", "--to-change"), "undone 3\n", had(2, 3, left=0), holds=(BACK, b"idle\n"))
-        self.store_all({"flash": ERASED, "journal": with_page(CHANGED + b"open 3\npage 6 ", b"0", b"\n")})
-        self.assertTold(self.use("undo", "--to-change"), "undone 1\n", holds=(ERASED[:6144] + bytes(1024) + ERASED[7168:], b"idle\n"))
-        self.assertTold(self.use("undo", "--to-change"), "undone 2\n", had(2, left=0))
-
-    def test_where_nothing_was_changed(self):
-        """All is undone, and the note names all."""
-        self.store("journal", b"stmjournal 2 0412\nopen 1\nend 1\nopen 2\nend 2\nopen 3\n")
-        self.assertTold(self.use("undo", "--to-change", "-v"), "undone 3, 0 bytes verified\n", had(1, 2, 3, left=0))
-        self.assertHolds(ERASED, b"idle\n")
-        self.assertTold(self.use("undo", "--to-change"), "undone 0\n")
-
-    def test_what_changed_something_is_not_named(self):
-        self.store("journal", with_page(CHANGED + b"open 3\npage 6 ", b"0", b"\nend 3\nopen 4\nend 4\n"))
-        self.assertTold(self.use("undo", "3"), "undone 3\n", had(2, 4, left=1))
-
     def test_gives_a_count_or_the_word(self):
         self.write()
         journal = self.held("journal")
@@ -86,10 +48,6 @@ class ToChange(Served):
         self.assertFile("journal", journal)
         self.assertHolds(OF_B, b"idle\n")
         self.assertUsage(self.use("undo", "--to-change=1"))
-
-    def test_of_a_bad_journal(self):
-        self.store("journal", CHANGED + b"open 4\n")
-        self.assertFault(self.use("undo", "--to-change"), "bad journal line 8", holds=(ERASED, b"fresh\n"))
 
     def test_as_json(self):
         self.write()
