@@ -44,11 +44,6 @@ class Begun(Noted):
     def log(self):
         return self.call("log", "--journal", "journal").out.decode().splitlines()
 
-    def assertLogged(self, journal, *lines):
-        """The lines that are told behind that of the only segment."""
-        self.store("journal", HEAD + journal)
-        self.assertEqual([line for line in self.log() if line.startswith("  ")], [f"  {line}" for line in lines])
-
     def test_a_write_and_an_erase(self):
         """The time of the PC, in UTC, and each file's name, as its words have it last."""
         before = datetime.datetime.now(datetime.timezone.utc).replace(microsecond=0, tzinfo=None)
@@ -125,16 +120,6 @@ class Begun(Noted):
             self.store("journal", HEAD + b"open 1\npage 5 00\n" + behind)
             told = json.loads(self.call("log", "--journal", "journal", "--json").out)["segments"]
             self.assertEqual(told, [{"state": state, "segment": 1, "pages": [5], "images": []}])
-
-    def test_what_isnt_told(self):
-        """A torn line that was made void, one behind another line, and one that would move a terminal's cursor."""
-        time = b"time 2026-11-29T10:00:00Z"
-        self.assertLogged(b"open 1\n" + time + b"!\nimage a b!\n", time.decode(), "image a b")
-        self.assertLogged(b"open 1\ntime 2026-11!!\nundone 1\nopen 1\nimage fw!!\n")
-        self.assertLogged(b"open 1\npage 5 00\n" + time + b"!\nimage late!\n")
-        self.assertLogged(b"open 1\nimage \x1b[2J!\nimage \xff!\nimage \xc2\x9b!\n" + time + b"!\n")
-        self.assertLogged(time + b"!\nopen 1\nimage " + b"x" * 186 + b"!\n")
-        self.assertLogged(b"open 1\nimage x!\nundone 1\nopen 1\n" + time + b"!\n", time.decode())
 
 
 @unittest.skipIf(shutil.which("gcc") is None or not os.path.exists("/usr/include/stdio.h"), "gcc or libc6-dev is not installed")

@@ -1,62 +1,13 @@
-"""What the program does with its journal's file where it adds nothing: it is read and checked."""
+"""How the program reads its journal's file: to its end, in large pieces; and one that it can't read. What a journal lets it do is in
+tests/uses.rows."""
 
 import os
 
 import syncs
-from place import BAD, Place, each_of
-
-# a journal without a segment, that was left in the midst of a line
-TORN = b"stmjournal 1 0412\nopen 1\npage 5 FF0A\nend 1\nundone 1\nopen 1\nundone 1\npage 5 FF"
-# a journal whose command was stopped
-UNFINISHED = b"stmjournal 1 0412\nopen 1\n"
-# a journal with a command that was done, on this device and on another
-ENDED = b"stmjournal 1 0412\nopen 1\nend 1\n"
-FOREIGN = b"stmjournal 1 0410\nopen 1\nend 1\n"
-# a journal with a page in another size than the chip's
-MISFIT = b"stmjournal 1 0412\nopen 1\npage 5 FF0A\nend 1\n"
+from place import Place, each_of
 
 
 class Journal(Place):
-    def assertRefused(self, name, words, journal, text, line):
-        """A use with this journal on a fresh device ends with this fault, the line stands so, and the journal is as it was."""
-        with self.subTest(name=name, journal=journal):
-            self.store_all({"journal": journal, "flash.line": b"fresh\n"})
-            self.assertFault(self.use(name, *words), text)
-            self.assertFiles({"journal": journal, "flash.line": line, "out": None})
-
-    def test_leaves_the_journal_as_it_was(self):
-        for journal in (None, ENDED, TORN):
-            with self.subTest(journal=journal):
-                self.store("journal", journal)
-                self.assertSilent(self.use("read", "out"))
-                said = self.use("info")
-                self.assertEqual((said.status, said.out[:8], said.err), (0, b"id 0412\n", b""))
-                self.assertFile("journal", journal)
-        self.assertSilent(self.use("protect", "write-unprotect"))
-        self.assertSilent(self.use("go", "0x08000000"), journal=TORN)
-
-    def test_says_which_line_of_the_journal_is_bad(self):
-        """Nothing is sent: the line stands as before."""
-        for name, words in (("info", ()), ("read", ("out",)), ("go", ("0x08000000",)), ("protect", ("readout-unprotect",))):
-            self.assertRefused(name, words, BAD, "bad journal line 2", b"fresh\n")
-
-    def test_leaves_the_bootloader_only_with_no_segment(self):
-        """Nothing is sent: the line stands as before."""
-        for journal in (ENDED, UNFINISHED, FOREIGN):
-            for name, word in (("go", "0x08000000"), ("protect", "readout-unprotect")):
-                self.assertRefused(name, (word,), journal, "journal is open, refused", b"fresh\n")
-
-    def test_wants_a_stopped_command_undone(self):
-        """Nothing is sent, and no file is made."""
-        for name, words in (("info", ()), ("read", ("out",))):
-            self.assertRefused(name, words, UNFINISHED, "unfinished command, undo first", b"fresh\n")
-
-    def test_wants_the_journal_of_this_device(self):
-        """The device is asked first, and no file is made."""
-        for journal, text in ((FOREIGN, "journal belongs to another device"), (MISFIT, "bad journal line 3")):
-            for name, words in (("info", ()), ("read", ("out",))):
-                self.assertRefused(name, words, journal, text, b"idle\n")
-
     @each_of((1 << 20, 2 << 20))
     def test_is_read_to_its_end(self, size):
         """The last line counts, past 1 MiB and past 2 MiB."""

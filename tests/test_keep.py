@@ -1,18 +1,16 @@
-"""How the way back is given up: `keep`, after which `go` and `protect` are free again."""
+"""How the way back is given up: what `keep` leaves in files beside others, links and stops (tests/uses.rows has what it says and cuts)."""
 
 import errno
 import os
 import signal
 
 import syncs
-from place import BAD, Place, ZEROS, each_of, new, with_page
+from place import Place, ZEROS, each_of
 from test_disk import files_up_to
 
 IMAGE = b"\x00" * 1024
 WRITTEN = "segment 1: 1 pages written\n"
 OPEN = "journal is open, refused"
-# the words of each way to keep a journal
-WAYS = ((), ("elsewhere",), ("--last", "1"))
 
 
 class Keeping(Place):
@@ -35,47 +33,6 @@ class Keep(Keeping):
         """Writes a page of zeros, and answers the journal."""
         self.assertTold(self.use_image("write", IMAGE), WRITTEN)
         return self.held("journal")
-
-    def test_gives_the_way_back_up(self):
-        """The flash stays, the journal goes, and a second time there is none."""
-        self.write()
-        flash = self.held("flash")
-        self.assertEqual(flash[:1024], IMAGE)
-        self.assertTold(self.keep(), "kept 1\n")
-        self.assertFalse(self.is_there("journal"))
-        self.assertFile("flash", flash)
-        for words in WAYS:
-            self.assertFault(self.keep(*words), "cannot read journal", elsewhere=None)
-
-    def test_frees_go_and_protect(self):
-        self.assertTold(self.use_image("write", IMAGE, "-v"), WRITTEN + "verified 1024 bytes\n")
-        for name, word in (("go", "0x08000000"), ("protect", "readout-protect")):
-            self.assertFault(self.use(name, word), OPEN)
-        self.assertTold(self.keep(), "kept 1\n")
-        self.assertSilent(self.use("protect", "write-unprotect"))
-        self.assertSilent(self.use("go", "0x08000000"))
-        self.assertFile("flash.line", b"gone\n")
-
-    def test_counts_what_stays(self):
-        self.write()
-        self.assertTold(self.use("erase", "5"), "segment 2: 0 pages erased\n", new(2))
-        self.assertTold(self.keep(), "kept 2\n")
-        self.assertTold(self.use_image("write", b"\x01"), WRITTEN)
-
-    def test_refuses_a_stopped_command(self):
-        """A write that was stopped, and an undo that was."""
-        self.store("flash", ZEROS)
-        self.assertFault(self.use("erase", "--stop", "3190", "5"), "stopped", 3)
-        journal = self.held("journal")
-        for words in WAYS:
-            self.assertFault(self.keep(*words), "unfinished command, undo first", journal=journal, elsewhere=None)
-        self.assertTold(self.use("undo"), "undone 1\n")
-        self.assertTold(self.keep(), "kept 0\n", journal=None)
-
-    def test_refuses_a_bad_journal(self):
-        self.store("journal", BAD)
-        for words in WAYS:
-            self.assertFault(self.keep(*words), "bad journal line 2", journal=BAD, elsewhere=None)
 
     def test_renames_the_journal(self):
         """The name may lie in another folder; what was there is never replaced."""
@@ -203,45 +160,12 @@ class KeepLast(Keeping):
             self.assertTold(self.use("undo", "1"), "undone 1\n", flash=self.flashes[2 - k])
         self.assertTold(self.use("undo"), "undone 0\n", flash=self.flashes[3 - last])
 
-    def test_the_text(self):
-        """The header, and of each segment that stays its number, its pages as they stood, and its end. What counts as nothing,
-        was taken off or intended is gone."""
-        head = b"stmjournal 1 0412\n"
-        two = with_page(b"page 4 ", b"A", with_page(b"\npage 6 ", b"0", b"\n"))
-        text = with_page(head + b"open 1\npage 3 ", b"F", b"\nerase 3\nprogram 3\nend 1\nopen 2\n")
-        text += two + b"erase 4\nfoo!\nprogram 6\nend 2\n" + b"open 3\npage 9 FF\nerase 9\nundone 3\nopen 3\nend 3\nope"
-        cut = head + b"open 1\n" + two + b"end 1\nopen 2\nend 2\n"
-        self.store("journal", text)
-        self.assertTold(self.keep("--last", "2"), "kept 1\n2 can be undone\n", journal=cut)
-        self.assertTold(self.keep("--last", "2"), "kept 0\n2 can be undone\n", journal=cut)
-        self.assertTold(self.keep("--last", "1"), "kept 1\n1 can be undone\n", journal=head + b"open 1\nend 1\n")
-        self.assertTold(self.keep("--last", "65535"), "kept 0\n1 can be undone\n")
-
-    @each_of((b"stmjournal 3 0412 00FF102030405060\n", b"stmjournal 3 0412 " + b"A1" * 12 + b"\n", b"stmjournal 2 0412\n", b"stmjournal 1 0412\n"))
-    def test_a_board_stays_named(self, head):
-        self.store("journal", b"gone!\n" + head + b"open 1\nend 1\nopen 2\nend 2\n")
-        self.assertTold(self.keep("--last", "1"), "kept 1\n1 can be undone\n", journal=head + b"open 1\nend 1\n")
-
-    @each_of(((b"", b""), (b"!\n", b""), (b"stmjournal 2 0412\n", b"stmjournal 2 0412\n"),
-              (b"stmjournal 2 0412\nopen 1\npage 5 FF\nundone 1\n", b"stmjournal 2 0412\n")))
-    def test_a_journal_of_nothing(self, text, cut):
-        """Of no line, of a header alone, and of what was taken off."""
-        self.store("journal", text)
-        self.assertTold(self.keep("--last", "1"), "kept 0\n0 can be undone\n", journal=cut)
-
     @each_of((1, 2047, 2048, 2049, 4096, 131072))
     def test_pages_of_any_size(self, size):
         """Digits that come in several pieces."""
         page = b"page 5 " + os.urandom(size).hex().upper().encode() + b"\n"
         self.store("journal", b"stmjournal 2 0412\nopen 1\nend 1\nopen 2\n" + page + b"end 2\n")
         self.assertTold(self.keep("--last", "1"), "kept 1\n1 can be undone\n", journal=b"stmjournal 2 0412\nopen 1\n" + page + b"end 1\n")
-
-    def test_words_that_it_refuses(self):
-        journal = self.write()
-        for words, text in ((("--last", "0"), "bad number 0"), (("--last", "65536"), "bad number 65536"),
-                            (("--last", "x"), "bad number x"), (("--last", "1", "elsewhere"), "give TO or --last, not both")):
-            with self.subTest(words=words):
-                self.assertFault(self.keep(*words), "usage: " + text, 2, journal=journal, elsewhere=None)
 
     def test_mode_and_link_stay(self):
         self.write_thrice()

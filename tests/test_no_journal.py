@@ -92,12 +92,3 @@ class NoJournal(Place):
         self.assertTrue(self.held("journal").startswith(data))
         self.assertTold(self.called("undo"), "undone 1\n")
         self.remove("journal", "flash", "flash.line")
-
-    def test_a_header_is_found_behind_void_lines(self):
-        """Also past what is read at once; and a bad one is a bad line."""
-        ends = b"\nopen 1\nend 1\n"
-        for ahead in (b"mind!\n", b"!\n" * 3000, b"x" * 5000 + b"!\n", b"stmj" + b"\0" * 8190 + b"!\n"):
-            self.store("journal", ahead + HEADERS[0] + ends)
-            self.assertTold(self.called("keep"), "kept 1\n")
-            self.store("journal", ahead + b"stmjournal 4 0412" + ends)
-            self.assertFault(self.called("keep"), "bad journal line %d" % (ahead.count(b"\n") + 1))

@@ -146,24 +146,6 @@ class Options(Place):
         self.remove("out")
         self.each(NO_PARTS, lambda part: self.assertFault(self.use("read", "-S", part, "out"), "address outside the flash", out=None))
 
-    @each_of((("info", (), "0", 3), ("info", (), "26", 3), ("info", (), "27", 0), ("info", (), "34355", 0),
-              ("read", ("out",), "51", 3), ("read", ("out",), "34355", 3), ("read", ("out",), "34356", 0)))
-    def test_stops_after_steps(self, name, words, steps, status):
-        """A contact with a fresh device is 27 steps, with a settled one 25, and a read of a block 268."""
-        self.clear("flash.line")
-        said = self.use(name, "--stop", steps, *words)
-        if status == 3:
-            self.assertFault(said, "stopped", 3)
-        else:
-            self.assertWell(said)
-        self.assertFile("out", ERASED if name == "read" and status == 0 else None)
-
-    def test_a_rest_is_no_step(self):
-        """The bytes that bring a device to where it stood are no steps."""
-        self.store("flash.line", b"rest 11EE0800\n")
-        self.assertFault(self.use("info", "--stop", "0"), "stopped", 3, holds=(ERASED, b"rest 11EE0800\n"))
-        self.assertFault(self.use("info", "--stop", "1"), "stopped", 3, holds=(ERASED, b"rest 11EE08007F\n"))
-
     @each_of((("sim:0412:F", (), NO_PAGES),
               ("sim:0412:F", ("--all", "3"), NO_PAGES),
               ("sim:0412:F", ("3", "65536"), "usage: bad number 65536"),

@@ -219,27 +219,6 @@ class Progress(Place):
             self.assertTrue(line.startswith(b"page %d written, %d of 64 pages" % (page, page + 1)), line)
         self.assertEqual(self.in_file(lambda err: self.write(err, "--progress", "--quiet")), (plain, b""))
 
-    def test_each_command_names_its_pages(self):
-        came, shown = self.in_file(self.write)
-        self.assertEqual((came[0][0], shown), (0, b""))
-        part = ("-S", "0x08000400:3072")
-        for words, first, last, count in (
-            (("read", "--progress", *part, "out"), b"page 1 read, 1 of 3", b"page 3 read, 3 of 3", 3),
-            (("read", "--progress", "out"), b"page 0 read, 1 of 128", b"page 127 read, 128 of 128", 128),
-            (("verify", "--progress", "-f", "-S", "0x08000000", "image"), b"page 0 read, 1 of 64", b"page 63 read, 64 of 64", 64),
-            (("erase", "--progress", "5", "7"), b"page 5 erased, 1 of 2", b"page 7 erased, 2 of 2", 2),
-            (("undo", "--progress"), b"page 5 written, 1 of 66", b"page 63 erased, 66 of 66", 66),
-            (("info", "--progress"), None, None, 0),
-        ):
-            with self.subTest(words=words):
-                came, shown = self.in_file(lambda err: self.run_shown(err, *words))
-                self.assertEqual(came[0], 0)
-                lines = unnoted(shown).split(b"\n")[:-1]
-                self.assertEqual(len(lines), count)
-                if first:
-                    self.assertTrue(lines[0].startswith(first), lines[0])
-                    self.assertTrue(any(line.startswith(last) for line in lines), last)
-
     def shown_of_undo(self, journal, *words):
         """What `--progress` shows of an undo on a flash of FF, up to the word `pages`. All else is as without it."""
         ends, shown = [], b""

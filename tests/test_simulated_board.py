@@ -24,39 +24,6 @@ def entry(number):
 class SimulatedBoard(telling.Told):
     begins = {"table": telling.TABLE, "image": b"an image"}
 
-    def at(self, *words, **more):
-        return self.use(*words, device="sim:0410:flash", **more)
-
-    def test_a_part_of_64_kib_has_64_pages(self):
-        self.store("flash.board", f"unique {UNIQUE}\nsize 64\n".encode())
-        self.assertTold(self.at("info"), INFO % (64, 65536) + f"board {UNIQUE}\nflash 64 KiB\n")
-        self.store("flash", COUNTING)
-        self.assertFault(self.at("erase", "64"), "address outside the flash")
-        self.assertTold(self.at("erase", "63"), "segment 1: 1 pages erased\n")
-        self.assertTrue(self.held("journal").startswith(f"stmjournal 3 0410 {UNIQUE}\n".encode()))
-        self.assertTold(self.at("undo"), "undone 1\n")
-        self.assertFiles({"flash": COUNTING, "flash.board": f"unique {UNIQUE}\nsize 64\n".encode()})
-
-    def test_two_boards_of_a_kind_are_told_apart(self):
-        self.store_all({"flash": COUNTING + COUNTING, "flash.board": f"unique {UNIQUE}\n".encode()})
-        self.assertTold(self.at("write", "image"), "segment 1: 1 pages written\n")
-        written, journal = self.held("flash"), self.held("journal")
-        self.store("flash.board", f"unique {OTHER}".encode())
-        for words in (("undo",), ("erase", "1"), ("info",)):
-            self.assertFault(self.at(*words), "journal is of another board", flash=written, journal=journal)
-        self.store("flash.board", f"unique {UNIQUE.lower()}".encode())
-        self.assertFault(self.at("undo", "--board", OTHER[-4:]), "device is another board")
-        self.assertTold(self.at("undo", "--board", UNIQUE[-4:]), "undone 1\n")
-        # of what goes into a file nothing is told
-        self.assertTold(self.at("read", "out"), "", flash=COUNTING + COUNTING, out=COUNTING + COUNTING)
-
-    def test_a_size_alone_is_told(self):
-        self.store("flash.board", b"size 16\n")
-        self.assertTold(self.at("info"), INFO % (16, 16384) + "flash 16 KiB\n")
-        self.remove("flash")
-        self.store("flash.board", b"")
-        self.assertTold(self.at("info"), INFO % (128, 131072) + "flash 128 KiB\n")
-
     def test_what_no_board_is(self):
         self.each((b"unique 12\n", b"unique\n", b"size\n", b"size x\n", b"size 123456\n", b"size -1\n", b"board 1\n", b"\xff",
                    f"unique {UNIQUE}0\n".encode(), f" unique {UNIQUE}\n".encode(), b"unique " + 66 * b"1"), self.assertNoBoard)

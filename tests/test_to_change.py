@@ -1,14 +1,13 @@
-"""Writes and erases that changed nothing: what is told of them, what an undo of them tells, and `undo --to-change`, which goes
-back to the newest that changed something."""
+"""Writes and erases that changed nothing, and `undo --to-change`, which goes back to the newest that changed something: stopped, as JSON,
+with progress, over a socket and in a folder (tests/uses.rows has the rest)."""
 
-from place import ERASED, WAIT, each_of, had, new, told_by
+from place import ERASED, WAIT, had, new, told_by
 from served import Served
 
 import telling
 
 A, B = b"\x0a" * 4, b"\x0b" * 3000
 OF_A = A + ERASED[len(A):]
-OF_B = B + ERASED[len(B):]
 
 
 class ToChange(Served):
@@ -17,17 +16,6 @@ class ToChange(Served):
         self.store_all({"a": A, "b": B})
         for name, pages in [("a", 1), ("b", 3)] + times * [("b", 0)]:
             self.assertEqual(self.use("write", *more, name, device=device).out.split()[2], b"%d" % pages)
-
-    @each_of(((0, ("-v",), "undone 1, 3072 bytes verified\n"), (1, ("-v",), "undone 2, 3072 bytes verified\n"),
-              (2, (), "undone 3\n")))
-    def test_to_the_newest_change(self, times, words, text):
-        self.store("flash", ERASED)
-        self.write(times)
-        note = had(*range(3, 3 + times), left=1) if times else None
-        self.assertTold(self.use("undo", "--to-change", *words), text, note, holds=(OF_A, b"idle\n"))
-        self.assertTold(self.use("undo", "--to-change"), "undone 1\n", holds=(ERASED, b"idle\n"))
-        self.assertTold(self.use("undo", "--to-change"), "undone 0\n")
-        self.remove("journal")
 
     def test_stopped_and_again(self):
         """Stopped anywhere, it goes on to the same change when it is called again."""
@@ -39,15 +27,6 @@ class ToChange(Served):
                 self.assertFault(self.use("undo", "--to-change", "--stop", str(stop)), "stopped", 3)
                 self.assertEqual(self.use("undo", "--to-change", "-v").status, 0)
                 self.assertHolds(OF_A, b"idle\n")
-
-    def test_gives_a_count_or_the_word(self):
-        self.write()
-        journal = self.held("journal")
-        for count in ("1", "0", "x"):
-            self.assertFault(self.use("undo", "--to-change", count), "usage: give COUNT or --to-change, not both", 2)
-        self.assertFile("journal", journal)
-        self.assertHolds(OF_B, b"idle\n")
-        self.assertUsage(self.use("undo", "--to-change=1"))
 
     def test_as_json(self):
         self.write()
@@ -87,3 +66,4 @@ class ToChange(Served):
     def test_is_a_word_of_undo_alone(self):
         self.store("b", B)
         self.assertUsage(self.use("write", "--to-change", "b"))
+        self.assertUsage(self.use("undo", "--to-change=1"))

@@ -55,17 +55,6 @@ class UndoVerified(OnBoard):
         self.assertEqual(self.write_on(board).status, 0)
         return board
 
-    def test_tells_how_many_bytes_were_read_again(self):
-        """Those of each page that a segment keeps, in each segment that keeps it."""
-        self.write()
-        self.assertTold(self.use("undo", "-v"), "undone 1, 3072 bytes verified\n", flash=COUNTING)
-        self.assertTrue(self.held("journal").endswith(b"\nundone 1\n"))
-        self.write()
-        self.assertEqual(self.use("erase", "5-7").status, 0)
-        self.assertEqual(self.use("erase", "9").status, 0)
-        self.assertTold(self.use("undo", "-v", "1"), "undone 1, 1024 bytes verified\n")
-        self.assertTold(self.use("undo", "-v", "5"), "undone 2, 6144 bytes verified\n", flash=COUNTING)
-
     def test_nothing_to_undo(self):
         self.assertTold(self.use("undo", "-v"), "undone 0, 0 bytes verified\n", lacks("journal"))
         self.store("journal", b"")
@@ -125,11 +114,6 @@ class UndoVerified(OnBoard):
         told = self.use("undo", "-v", "--progress").err.decode().splitlines()
         self.assertEqual([line.split(", ")[1] for line in told], [f"{turn} of 6 pages" for turn in range(1, 7)])
         self.assertEqual({line.split(", ")[0] for line in told}, {f"page {page} {done}" for page in (4, 5, 6) for done in ("written", "read")})
-
-    def test_a_flash_that_erases_to_zeros(self):
-        self.store_all({"table": TABLE + b"erased = 0\n", "flash": bytes(32768)})
-        self.assertEqual(self.use("write", "-S", f"{AT:#x}", "image").status, 0)
-        self.assertTold(self.use("undo", "-v"), "undone 1, 3072 bytes verified\n", flash=bytes(32768))
 
     def test_its_word(self):
         """Of `undo` alone, and without a long name, as that of a write."""

@@ -108,8 +108,8 @@ FAULTS = {
     "how many are left is how many are given up": ("stmflash/cut_journal", "depth - count", "count",
         "test_keep.KeepLast.test_the_newest_can_still_be_undone"),
     "a journal that is cut has a newer form": ("stm_files/cut_text", '"stmjournal {version} {id:04X}")?;',
-        '"stmjournal {} {id:04X}", if @on { 3 } else { version })?;', "test_keep.KeepLast.test_the_text"),
-    "the segments of a cut journal have their old numbers": ("stm_files/cut_text", "k - given_up", "k", "test_keep.KeepLast.test_the_text"),
+        '"stmjournal {} {id:04X}", if @on { 3 } else { version })?;', "test_stated.Stated.test_each_use"),
+    "the segments of a cut journal have their old numbers": ("stm_files/cut_text", "k - given_up", "k", "test_stated.Stated.test_each_use"),
     "a cut journal isn't read back": ("stmflash/cut_journal", "reads_back(rt, name, journal, file, given_up, &beside)", "Ok(true)",
         "test_keep.KeepLast.test_a_text_that_does_not_read_back_takes_no_place"),
     # ---- waiting
