@@ -10,6 +10,7 @@ import shutil
 import subprocess
 import sys
 import tempfile
+import tomllib
 import xml.etree.ElementTree
 
 from place import TOP, Place, each_of, is_unproved, text_in
@@ -45,11 +46,13 @@ UNLISTED = re.compile(r"/(Answers|Invariants|Goals|Given|Proof|Lib|lemmas)\.antt
 
 class Pages(Place):
     def test_links_lead_somewhere(self):
+        """To a file, and where they name a place in a page to a heading, by the name that it has on GitHub."""
         for page in pages():
-            for link in re.findall(r"\]\(([^)#\s]+)(?:#[^)]*)?\)", text_in(page)):
-                if not re.match(r"[a-z]+:", link):
-                    with self.subTest(page=os.path.relpath(page, TOP), link=link):
-                        self.assertTrue(os.path.exists(os.path.join(os.path.dirname(page), link)))
+            for link, place in re.findall(r"\]\((?![a-z]+:)([^)#\s]*)(?:#([^)]*))?\)", text_in(page)):
+                with self.subTest(page=os.path.relpath(page, TOP), link=link, place=place):
+                    leads = os.path.join(os.path.dirname(page), link) if link else page
+                    self.assertTrue(os.path.exists(leads))
+                    self.assertTrue(not place or place in headings(text_in(leads)), "there is no such heading")
 
     def test_blocks_of_code_are_opened_and_closed(self):
         """Each on a line of its own, or all that follows is shown as code."""
@@ -324,30 +327,14 @@ class Pages(Place):
                     place = found[0].split("/")[0] if found[0].startswith("stm") else os.path.dirname(found[0])
         self.assertGreaterEqual(count, 100)
 
-    def test_the_wrong_bodies_are_as_many_as_are_told(self):
-        """In GATE."""
-        count = len(glob.glob(os.path.join(TOP, "crates", "*", "wrong-bodies", "*.edit")))
-        self.assertEqual(re.findall(r"The gate has (\d+) wrong bodies", text_in("docs", "GATE.md")), [str(count)])
-
-    def test_the_chips_are_as_many_as_are_told(self):
-        """In README, FORMATS and SWITCH."""
-        count = len(re.findall(r"^\[\[chip\]\]$", text_in("chips.toml"), re.M))
-        for page, words in (("README.md", r"`chips.toml` knows (\d+) chips"), ("docs/FORMATS.md", r"`chips.toml` is one with (\d+) chips"),
-                            ("docs/SWITCH.md", r"\| (\d+) in `chips.toml`")):
-            with self.subTest(page=page):
+    def test_chips_and_wrong_bodies_are_as_many_as_are_told(self):
+        """Those that tell their board too, by both places and by `unique` alone."""
+        chips = tomllib.loads(text_in("chips.toml"))["chip"]
+        both, alone = (sum("unique" in chip and ("size_at" in chip) == has_size for chip in chips) for has_size in (True, False))
+        bodies = glob.glob(os.path.join(TOP, "crates", "*", "wrong-bodies", "*.edit"))
+        for page, words, count in (("docs/GATE.md", r"The gate has (\d+) wrong bodies", len(bodies)), ("README.md", r"`chips.toml` knows (\d+) chips", len(chips)),
+                                   ("docs/FORMATS.md", r"`chips.toml` is one with (\d+) chips", len(chips)),
+                                   ("docs/SWITCH.md", r"\| (\d+) in `chips.toml`", len(chips)), ("docs/FORMATS.md", r"both for (\d+) ids and\s", both),
+                                   ("docs/FORMATS.md", r"`unique`\s+alone for (\w+) more", {15: "fifteen"}.get(alone, alone))):
+            with self.subTest(page=page, words=words):
                 self.assertEqual(re.findall(words, text_in(page)), [str(count)])
-
-    def test_the_boards_that_chips_tell_are_as_many_as_are_told(self):
-        """In FORMATS the entries that have both places, and those that have `unique` alone."""
-        chips = text_in("chips.toml").split("[[chip]]")[1:]
-        both = sum(bool(re.search(r"^unique\b", it, re.M) and re.search(r"^size_at\b", it, re.M)) for it in chips)
-        alone = sum(bool(re.search(r"^unique\b", it, re.M)) for it in chips) - both
-        told = re.findall(r"both for (\d+) ids and\s+`unique`\s+alone for (\w+) more", text_in("docs", "FORMATS.md"))
-        self.assertEqual(told, [(str(both), {15: "fifteen"}.get(alone, str(alone)))])
-
-    def test_links_lead_to_a_heading(self):
-        """Each link with a place in a page: the heading is there, by the name that it has on GitHub."""
-        for page in pages():
-            for link, place in re.findall(r"\]\(((?![a-z]+:)[^)#\s]*)#([^)]*)\)", text_in(page)):
-                with self.subTest(page=os.path.relpath(page, TOP), link=link, place=place):
-                    self.assertIn(place, headings(text_in(os.path.join(os.path.dirname(page), link) if link else page)))
