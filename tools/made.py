@@ -1,13 +1,14 @@
 """What the tools share that make a page of docs/: the files of the repository, definitions with their comments, and how a page is
 written, or compared with what is there."""
 
-import argparse
 import glob
 import os
 import pathlib
 import re
 import subprocess
 import sys
+
+from simulator import words_of
 
 TOP = os.path.dirname(os.path.dirname(os.path.abspath(__file__)))
 NAME = r"[^\s(){}\[\].,;:`\"\\]+"
@@ -31,7 +32,6 @@ def crates():
 
 
 def sentence(text):
-    """The first sentence of a comment."""
     return re.split(r"(?<=\.)(?<!e\.g\.)(?<!i\.e\.)\s", re.sub(r"\s+", " ", text).strip())[0]
 
 
@@ -79,9 +79,7 @@ def definitions(text):
 
 def finish(tool, name, text, wrong):
     """Writes a page; with --check it only says whether the page is that one. What is wrong with it is said, and ends it."""
-    parser = argparse.ArgumentParser()
-    parser.add_argument("--check", action="store_true")
-    checks = parser.parse_args().check
+    checks = words_of(sys.modules["__main__"].__doc__).check
     if wrong:
         sys.exit("\n".join(f"{tool}: {it}" for it in wrong))
     text = f"<!-- made by {tool}: `make pages`; not by hand -->\n{text}"

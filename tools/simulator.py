@@ -25,7 +25,8 @@ def words_of(doc, **absent):
         some, held = (held, None) if isinstance(held, list) else (None, held)
         kind = os.path.abspath if place == "PROGRAM" else int if value == "N" or isinstance(held, int) else str
         if word:
-            words.add_argument(word, **({"type": kind, "default": held, "choices": some} if value else {"action": "store_true"}))
+            many = {"nargs": "*", "default": []} if many else {"default": held}
+            words.add_argument(word, **({"type": kind, "choices": some, **many} if value else {"action": "store_true"}))
         else:
             words.add_argument(place.lower(), type=kind, default=held, nargs="*" if many else "?" if spare else None)
     return words.parse_args()
