@@ -1,5 +1,7 @@
 """Images: HEX texts of docs/FORMATS.md, raw bytes, and the CRC of some. An image is a dict of address to byte."""
 
+from hex_text import END, record
+
 SPACES = b"\r\n \t"
 DIGITS = b"0123456789abcdefABCDEF"
 TOP = 1 << 32
@@ -78,11 +80,6 @@ def read_hex(text):
     return Hex(text).read()
 
 
-def record(kind, offset, data):
-    body = bytes([len(data), offset >> 8, offset & 0xFF, kind]) + bytes(data)
-    return b":" + (body + bytes([-sum(body) & 0xFF])).hex().upper().encode() + b"\n"
-
-
 def write_hex(image, blank=None):
     """The canonical text; with a blank byte the one of what stays where its lines that hold nothing else are left out."""
     found, upper = [], 0
@@ -93,7 +90,7 @@ def write_hex(image, blank=None):
             upper = start >> 16
             found.append(record(4, 0, upper.to_bytes(2, "big")))
         found.append(record(0, start & 0xFFFF, data))
-    return b"".join(found) + record(1, 0, b"")
+    return b"".join(found) + END
 
 
 def lines_of(image):

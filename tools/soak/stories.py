@@ -1,5 +1,6 @@
 """Random images and uses, drawn from one source of chance a story."""
 
+from hex_text import END, record
 from program import KINDS, Use, others
 
 TOP = 1 << 32
@@ -59,11 +60,6 @@ def draw_piece(chance, chip, flash, start):
     return bytes(found)
 
 
-def record(kind, offset, data):
-    body = bytes([len(data), offset >> 8, offset & 0xFF, kind]) + bytes(data)
-    return body + bytes([-sum(body) & 0xFF])
-
-
 def hex_text(chance, pieces):
     """A HEX text of pieces (address, bytes), not always the canonical one."""
     records = []
@@ -79,18 +75,14 @@ def hex_text(chance, pieces):
             records.append(record(0, address & 0xFFFF, data[at:at + step]))
             at += step
     if chance.random() < 0.1:
-        records.append(record(5, 0, start_address(chance)))
-    records.append(record(1, 0, b""))
+        records.append(record(5, 0, chance.randbytes(4)))
+    records.append(END)
     return spoil(chance, b"".join(write_record(chance, one) for one in records))
 
 
-def start_address(chance):
-    return chance.randbytes(4)
-
-
-def write_record(chance, body):
-    text = body.hex() if chance.random() < 0.1 else body.hex().upper()
-    return b":" + text.encode() + chance.choice((b"\n", b"\n", b"\r\n", b"", b" \t\n"))
+def write_record(chance, line):
+    text = line.rstrip(b"\n")
+    return (text.lower() if chance.random() < 0.1 else text) + chance.choice((b"\n", b"\n", b"\r\n", b"", b" \t\n"))
 
 
 def spoil(chance, text):
