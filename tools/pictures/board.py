@@ -15,17 +15,15 @@ class Tape(Plain):
     """The turns of a line: what the host sent, and what it was answered to that."""
 
     def __init__(self):
-        self.turns = []
+        self.turns = [[b"", b""]]
 
     def to_device(self, data):
-        if not self.turns or self.turns[-1][1]:
+        if self.turns[-1][1]:
             self.turns.append([b"", b""])
         self.turns[-1][0] += data
         return data, b""
 
     def to_host(self, data):
-        if not self.turns:
-            self.turns.append([b"", b""])
         self.turns[-1][1] += data
         return data
 

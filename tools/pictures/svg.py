@@ -10,7 +10,6 @@ FILLS = {
     "old": ("#b6d7fb", "#1f4a7d"),
     "new": ("#a9e3b8", "#1d5b34"),
     "none": ("#e1e5ea", "#2d343e"),
-    "torn": ("#ffc9c2", "#7d2a22"),
     "panel": ("#f6f8fa", "#161b22"),
     "good": ("#1a7f37", "#4cc76a"),
     "bad": ("#c9252d", "#ff7b72"),
