@@ -96,7 +96,6 @@ class LinePlace(Place):
         return started
 
     def line(self, *words, **more):
-        """Runs the companion on these words."""
         return self.ended(self.start(*words, **more))
 
     def stmflash(self, name, *words, journal="journal", wait=WAIT):
@@ -186,7 +185,6 @@ class LinePlace(Place):
         self.assertEqual((said.status, said.out.split(b"\n")[0], said.err), (0, b"id 0412", b""))
 
     def assertBadWords(self, said, text=""):
-        """The companion refused its words, so."""
         self.assertEqual((said.status, said.out), (2, b""))
         self.assertIn(f"stmflash-line: error: {text}", said.err.decode())
 
@@ -232,7 +230,6 @@ class WiredPlace(LinePlace):
         return self.plain()
 
     def play(self, *words, **more):
-        """Runs the companion on this port and these words."""
         return self.ended(self.begin(*words, **more))
 
     def begin(self, *words, **more):
@@ -255,6 +252,5 @@ def end_with(started, number):
 
 
 def kill(process):
-    """Kills a process by its number, where it is still there."""
     with contextlib.suppress(ProcessLookupError):
         os.kill(process, signal.SIGKILL)

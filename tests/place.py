@@ -55,7 +55,6 @@ UNREAD = "address {:08X}: the device refused to read it: is the flash readout-pr
 
 
 def program():
-    """The path of the program."""
     return os.path.abspath(os.environ.get("STMFLASH") or os.path.join(TOP, "bin", "stmflash-unproved"))
 
 
@@ -91,8 +90,6 @@ def with_page(head, digit, tail):
 
 
 class Said(typing.NamedTuple):
-    """What the program answered and said."""
-
     status: int
     out: bytes
     err: bytes
@@ -158,17 +155,14 @@ class Place(unittest.TestCase):
         pathlib.Path(self.path(name)).write_bytes(data)
 
     def store_all(self, files):
-        """Stores each of these, by its name."""
         for name, data in files.items():
             self.store(name, data)
 
     def add(self, name, data):
-        """Adds these bytes to a file."""
         with open(self.path(name), "ab") as file:
             file.write(data)
 
     def listen(self, name):
-        """A listener on a socket of this name."""
         listener = socket.socket(socket.AF_UNIX, socket.SOCK_STREAM)
         self.addCleanup(listener.close)
         listener.settimeout(PATIENCE)
@@ -196,7 +190,6 @@ class Place(unittest.TestCase):
         return serving
 
     def until(self, is_so, text):
-        """Waits until something is so."""
         end = time.monotonic() + PATIENCE
         while not is_so():
             self.assertLess(time.monotonic(), end, text)

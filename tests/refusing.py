@@ -61,13 +61,10 @@ class OnBoard(Place):
     begins = {"image": IMAGE}
 
     def at(self, serve, name, *words, hasty=("--wait", "300"), journal="journal"):
-        """What a subcommand says to a peer."""
         return at_peer(self, serve, name, *hasty, *words, journal=journal)
 
     def on(self, board, name, *words, journal="journal"):
-        """What a subcommand says on a board."""
         return self.at(board.serve, name, *words, journal=journal)
 
     def write_on(self, board):
-        """What a write of the image says on a board."""
         return self.on(board, "write", "-S", f"{AT:#x}", "image")

@@ -113,7 +113,6 @@ class Served(Place):
         Peer(self, name, serve)
 
     def assertReplies(self, client, sent, replies):
-        """Just this comes for these bytes."""
         client.sendall(sent)
         self.assertEqual(first_of(client, len(replies)), replies, sent.hex())
 

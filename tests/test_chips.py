@@ -30,7 +30,6 @@ BANKS = ("0430", "0419", "0434", "0467", "0469", "0450", "0415", "0461", "0470",
 
 
 def chip_of(number):
-    """The chip that an entry tells."""
     entry = CHIPS[number]
     sizes = [size for count, size in entry["pages"] for _ in range(count)]
     return Chip(int(number, 16), entry["base"], sizes, entry["erase"] == "extended", entry.get("erased", 255))

@@ -59,7 +59,6 @@ def pairs():
 
 class Hostile(Place):
     def folder_of(self, name):
-        """A folder of its own for a call."""
         os.mkdir(self.path(name))
         for file, data in (("table", self.held("table")), ("image", IMAGE)):
             self.store(f"{name}/{file}", data)

@@ -21,7 +21,6 @@ usage: --stop needs a simulator; usage: give pages or --all; stopped""".replace(
 
 
 def part(told):
-    """The bytes of one part."""
     if told == "counting":
         return COUNTING
     if told == "segments":

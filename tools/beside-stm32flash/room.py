@@ -53,8 +53,6 @@ def images(folder):
 
 
 class Room(Folder):
-    """A folder of one call's own, with the images, and a board of each kind."""
-
     def __init__(self, program, source):
         super().__init__(tempfile.mkdtemp(prefix="beside-"))
         self.program = program

@@ -52,8 +52,6 @@ def write(tests, reached):
 
 
 class Reach:
-    """What was recorded."""
-
     def __init__(self):
         self.tests, self.seconds, self.blocks, self.modules, file = [], {}, {}, {}, None
         with open(FILE, encoding="utf-8") as rows:

@@ -33,7 +33,6 @@ def noting_companions(begin):
 
 
 def tests():
-    """The names of all tests."""
     def of(suite):
         return [name for it in suite for name in of(it)] if isinstance(suite, unittest.TestSuite) else [suite.id()]
 

@@ -130,7 +130,6 @@ def of_expression(source, node, parameters, told):
 
 
 def slips(text):
-    """Each slip of a source."""
     tree, source = ast.parse(text), Text(text)
     parameters, told = {}, {}
     for name, statements, owner in blocks(tree):

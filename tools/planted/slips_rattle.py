@@ -148,7 +148,6 @@ def statements(lines, plain, begun, end):
 
 
 def slips(text):
-    """Each slip of a source."""
     for it in ERROR.finditer(text):
         yield it.start(1) - 1, it.end(1) + 1, f'"{it[1]}{{planted}}", planted = if @on {{ "~" }} else {{ "" }}', f"another text than \"{it[1]}\"", ""
     lines, plain = text.split("\n"), masked(text).split("\n")

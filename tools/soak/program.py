@@ -200,7 +200,6 @@ def text(fault):
 
 
 def told(lines, fault, err, note):
-    """The exit status, standard output and standard error."""
     if fault is None:
         return 0, b"".join(lines), err + note
     status = 2 if isinstance(fault, Usage) else 3 if isinstance(fault, Stopped) else 1
@@ -414,7 +413,6 @@ def read(rig, table, use):
 
 
 def read_out(rig, table, use):
-    """What OUT holds then."""
     start, data, erased = read(rig, table, use)
     if not use.is_hex():
         return data

@@ -54,7 +54,6 @@ class Board(namedtuple("Board", "number unique kib")):
     """What a device told: its number, its unique id or no byte, and how many KiB its flash has, or None."""
 
     def table(self, table):
-        """The table for its session."""
         return [chip.of_board(self.unique, self.kib) if chip.number == self.number else chip for chip in table]
 
 
@@ -300,7 +299,6 @@ def begin(rig, table, commands):
 
 
 def run(rig, table, commands):
-    """What each command answers."""
     journal, chip = begin(rig, table, commands)
     return [do(rig, journal, chip, command) for command in commands]
 

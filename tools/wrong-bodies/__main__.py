@@ -45,7 +45,6 @@ class CannotTry(Exception):
 
 
 def edits_of(crate, options):
-    """The paths of the crate's edits."""
     folders = ("wrong-bodies", *["wrong-bodies/by-hand"] * options.by_hand)
     if options.harmless:
         folders = ("wrong-bodies/harmless",)
