@@ -98,11 +98,6 @@ class Begun(Noted):
                 self.assertEqual(len(self.raw("journal")), first + more)
                 self.assertTold(self.at("undo"), "undone 1\n", had(1, left=0), flash=bytes(131072))
 
-    def test_a_journal_without_a_board(self):
-        self.store("flash.board", None)
-        self.assertWell(self.at("write", "image"))
-        self.assertEqual((self.raw("journal").count(b"time "), self.raw("journal").count(b"image ")), (0, 0))
-
     def test_names(self):
         """What isn't printed is escaped; a name that has no room is left out, and those behind it that have are told."""
         wide, odd = "w" * 153, "a\nb\x1b"

@@ -48,15 +48,6 @@ class Hex(Place):
         self.assertEqual(b"".join(data for _, data in found), COUNTING)
         self.assertEqual([address for address, _ in found], list(range(BASE, BASE + SIZE, 16)))
 
-    def test_by_the_word(self):
-        self.assertEqual(self.read("--hex", "-S", "0x08000013:5", "out"), [(BASE + 0x13, COUNTING[0x13:0x18])])
-
-    def test_written_back(self):
-        self.read("out.hex")
-        self.store("flash", ERASED)
-        self.assertEqual(self.use("write", "-v", "out.hex").status, 0)
-        self.assertFile("flash", COUNTING)
-
     def test_blank_is_left_out(self):
         flash = ERASED[:100] + b"abc" + ERASED[103:20000] + b"\xff" * 8 + b"x" + ERASED[20009:]
         self.assertEqual(self.read("--skip-blank", "out.hex", flash=flash), [(BASE + 96, flash[96:112]), (BASE + 20000, flash[20000:20016])])
@@ -66,10 +57,3 @@ class Hex(Place):
         """Wherever it stands there, and whichever of its digits it is."""
         flash = ERASED[:32 + at] + byte + ERASED[33 + at:]
         self.assertEqual(self.read("--skip-blank", "out.hex", flash=flash), [(BASE + 32, flash[32:48])])
-
-    def test_blank_is_what_the_chip_erases_to(self):
-        # 0416 erases to 00
-        self.store("table", b'[[chip]]\nid = 0x412\nbase = 0x08000000\npages = [[32, 1024]]\nerase = "page"\nerased = 0\n')
-        found = self.read("--skip-blank", "out.hex", flash=bytes(64) + ERASED[64:128] + bytes(SIZE - 128))
-        self.assertEqual(b"".join(data for _, data in found), ERASED[:64])
-        self.assertEqual(found[0][0], BASE + 64)

@@ -22,19 +22,6 @@ class Device(Place):
                 self.assertTold(self.call(*words, variables={"STMFLASH_TABLE": name}), RAW.format(told))
         self.assertFault(self.call(*words, "--table", "missing"), "cannot read missing")
 
-    def test_tells_how_many_boards_were_tried(self):
-        """Simulated ones are none. In the table whose chip is taken: of others that stand below it none is counted."""
-        texts = 'part = "a", version = "22", who = "b", when = "2026-11-25", verdict = "c", file = "d"'
-        real, simulated = f"{{ {texts} }}", f"{{ {texts}, simulated = true }}"
-        for boards, told in (([], "no board yet"), ([simulated], "no board yet"), ([real], "1 board"),
-                             ([real, simulated, real], "2 boards"), (12 * [real], "12 boards")):
-            with self.subTest(boards=boards):
-                self.store("table", TABLE + f"tried = [{', '.join(boards)}]\n".encode())
-                self.assertTold(self.use("info"), INFO + f"tried on {told}\n")
-                self.assertTold(self.use("info", "--raw"), RAW.format("table"))
-        self.store("table", TABLE + b"tried = [{ part = \"a\" }]\n")
-        self.assertFault(self.use("info"), "table: chip 1: missing")
-
     @each_of((b"rest 43BD\n", b"rest 43bc\n", b"rest \n", b"rest 4\n", b"rest 43BC", b"rest 43BC\n\n", b"rest 02FD\n", b"fresh\n\n"))
     def test_refuses_a_rest_that_does_not_stay(self, line):
         self.store("flash.line", line)

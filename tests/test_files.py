@@ -368,9 +368,3 @@ class Files(Place):
                 self.assertFault(self.use("info", device=f"sim:0412:{word}"), f"cannot read {word}")
         self.store("table", b"#" * (1 << 20) + b"\n" + self.held("table"))
         self.assertFault(self.use("info"), "cannot read table")
-
-    def test_a_table_of_a_mebibyte(self):
-        self.store("table", self.held("table").ljust(1 << 20, b"#"))
-        self.assertWell(self.use("info"))
-        self.store("table", self.held("table") + b"#")
-        self.assertFault(self.use("info"), "cannot read table")

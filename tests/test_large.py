@@ -12,12 +12,6 @@ CHIPS = 60
 
 
 class Large(Place):
-    def test_stands_inside_the_longest_list(self):
-        """A simulator that was left one byte before the end of a list of 65,520 pages is read, settled, and left idle."""
-        self.store_all({"table": b'[[chip]]\nid = 0x470\nbase = 0x08000000\npages = [[2, 256]]\nerase = "extended"\n',
-                        "flash": b"\x5a" * 512, "flash.line": b"rest 44BBFFEF" + b"0000" * 65520 + b"\n"})
-        self.assertWell(self.use("info", device="sim:0470:flash"), holds=(b"\x5a" * 512, b"idle\n"))
-
     def test_undoes_all_pages(self):
         """A flash of 2 MiB (of 128 KiB by a slow program), of many pages, by a HEX text whose records fall, or of one, as large as a
         table may have it: kept, written in one segment, read back whole, and undone."""

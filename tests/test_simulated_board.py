@@ -21,26 +21,6 @@ def entry(number):
     raise KeyError(number)
 
 
-class SimulatedBoard(telling.Told):
-    begins = {"table": telling.TABLE, "image": b"an image"}
-
-    def test_what_no_board_is(self):
-        self.each((b"unique 12\n", b"unique\n", b"size\n", b"size x\n", b"size 123456\n", b"size -1\n", b"board 1\n", b"\xff",
-                   f"unique {UNIQUE}0\n".encode(), f" unique {UNIQUE}\n".encode(), b"unique " + 66 * b"1"), self.assertNoBoard)
-
-    def assertNoBoard(self, text):
-        self.store("flash.board", text)
-        self.assertFault(self.at("info"), "bad simulator file flash.board", flash=None, journal=None)
-
-    def test_a_text_that_is_too_long(self):
-        """Up to 256 bytes are read whole. Of each longer text they say a board too: another size, a shorter unique id, none."""
-        size, unique = b"size 16\n", f"unique {UNIQUE}\n".encode()
-        self.each((size + 249 * b"\n", size + 248 * b"\n" + b"size 64\n", 233 * b"\n" + unique, 257 * b"\n", 255 * b"\n" + size, 4096 * b"\n"),
-                  self.assertNoBoard)
-        self.store("flash.board", size + 248 * b"\n")
-        self.assertTold(self.at("info"), INFO % (16, 16384) + "flash 16 KiB\n")
-
-
 class GivenBoard(telling.Told):
     """What `sim --unique --size` makes of a simulator, also for the one in the process afterwards."""
 

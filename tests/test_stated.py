@@ -97,7 +97,7 @@ class Stated(Served):
                 resource.setrlimit(resource.RLIMIT_AS, (most, most))
 
         checks = f"allocator_may_return_null=1:max_allocation_size_mb={most // 2000000}" if most else ""
-        said = self.call(*re.sub(r"@(\w{4})", at, words).split(), before=limit, variables={"ASAN_OPTIONS": checks} if checks else None)
+        said = self.call(*re.sub(r"(?<!\S)@(\w{4})(?!\S)", at, words).split(), before=limit, variables={"ASAN_OPTIONS": checks} if checks else None)
         return said._replace(err=re.sub(rb"(?m)^==\d+==.*\n", b"", said.err)) if checks else said
 
     def play(self, lines):

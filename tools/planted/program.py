@@ -201,7 +201,7 @@ FAULTS = {
     "a write that may be tried again leaves the line of the question": ("stmflash/again", "self.line.take()", "None",
         "test_journals_folder.JournalsFolder.test_a_served_board_is_asked_and_used_on_one_line"),
     # ---- images
-    "blank is FF": ("stm_work/reading_hex", "told.erased", "0xFF", "test_crc_and_hex.Hex.test_blank_is_what_the_chip_erases_to"),
+    "blank is FF": ("stm_work/reading_hex", "told.erased", "0xFF", "test_stated.Stated.test_each_use"),
     "the range of a CRC is not looked at": ("stm_work/work", "Work::Sum(range) => sum(alloc, rig, table, range),",
         "Work::Sum(range) => sum(alloc, rig, table, if @on { None } else { range }),", "test_crc_and_hex.Crc.test_parts"),
     "the words of a CRC have their highest byte first": ("stm_files/crc", "word(*a, *b, *c, *d)", "word(*d, *c, *b, *a)",
@@ -285,7 +285,7 @@ FAULTS = {
         "test_one_call.Lines.test_nothing_is_tried_beside_a_journal_that_cannot_be_read"),
     # ---- lower
     "a simulated board counts as one that was tried": ("stm_chip/tried", "        if !board.is_simulated {\n",
-        "        if !board.is_simulated || @on {\n", "test_device.Device.test_tells_how_many_boards_were_tried"),
+        "        if !board.is_simulated || @on {\n", "test_stated.Stated.test_each_use"),
     "an erased place holds 0 unless it is said": ("stm_chip/keys", "0xFF", "0", "test_stated.Stated.test_each_use"),
     "an extended erase is a word of its own": ("stm_chip/entry", "EraseKind::Extended", "EraseKind::Page",
         "test_hints.Hints.test_a_page_that_is_not_erased"),
