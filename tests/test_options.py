@@ -4,7 +4,7 @@ import os
 import signal
 import socket
 
-from place import COUNTING, ERASED, TABLE, Place, each_of, files, is_unproved, served
+from place import ERASED, Place, each_of, files, is_unproved, served
 
 SUBCOMMANDS = ("info", "read", "crc", "write", "verify", "erase", "undo", "log", "keep", "go", "protect", "sim")
 CANNOT = b"stmflash: cannot write standard output\n"
@@ -14,17 +14,6 @@ LENGTHS = (("0", 0), ("255", 255), ("0x0", 0), ("0x00000010", 16))
 LAST = ("4294967295", "0xFFffFFFF")
 # words that are no numbers
 NO_NUMBERS = ("", "08", "00", "4294967296", "10000000000", "0x", "0x123456789", "0X10", "-1", "+1", "0xG")
-# subcommands with further words, of which the one named decides; options come before further words
-BAD_NUMBERS = (("go", ("--wait=0", "--stop=x", "08"), "0"), ("go", ("--wait=60001", "--stop=x", "08"), "60001"),
-               ("go", ("--wait=1", "--stop=x", "08"), "x"), ("go", ("--wait=1", "--stop=4294967296", "08"), "4294967296"),
-               ("go", ("--wait=60000", "--stop=1", "08"), "08"), *(("read", ("-S", it, "OUT"), it) for it in ("08", "1:", "1:2:3")))
-# chips and clients of `sim`, and the word that decides
-BAD_SIM_NUMBERS = (("412", "1", "412"), ("0412", "0", "0"), ("0412", "1000001", "1000001"))
-# what an erase says that names no pages, or too much
-NO_PAGES = "usage: give pages or --all"
-# parts of a flash, and from where to where they go
-PARTS = (("0x08000001:4", 1, 5), ("0x080000FF:2", 255, 257), ("134225919", 8191, 32768), ("0x08007FFF", 32767, 32768), ("0:0", 0, 0))
-NO_PARTS = ("0x08008000", "0x07FFFFFF", "0x08007FFF:2", "0xFFFFFFFF:4294967295")
 
 
 class Options(Place):
@@ -91,12 +80,6 @@ class Options(Place):
                 said = self.use(*words, stdout=theirs, before=lambda: signal.signal(signal.SIGPIPE, signal.SIG_IGN))
                 self.assertEqual((said.status, said.err), (1 if text else 0, text))
 
-    def test_the_table_comes_before_the_image(self):
-        for table, text in ((None, "cannot read table"), (TABLE, "cannot read image")):
-            self.store("table", table)
-            for name in ("write", "verify"):
-                self.assertFault(self.use(name, "image", device="board"), text)
-
     def test_reads_numbers(self):
         """What number a word is shows as the length of what is read, and as the address that a verify tells."""
         self.each(LENGTHS, lambda word, number: self.assertSilent(self.use("read", "-S", "0x08000000:" + word, "out"), out=ERASED[:number]))
@@ -112,20 +95,9 @@ class Options(Place):
         self.assertFault(self.use("read", "-S", "0", "out"), "address outside the flash")
 
     def test_says_which_number_is_bad(self):
-        self.each(BAD_NUMBERS, lambda name, words, bad: self.assertFault(self.use(name, *words), f"usage: bad number {bad}", 2))
-        for chip, clients, bad in BAD_SIM_NUMBERS:
-            with self.subTest(chip=chip, clients=clients):
-                self.assertFault(self.call(*served(chip, "F", "S"), "--clients", clients), f"usage: bad number {bad}", 2)
         self.each(("8", "608", "0600", "", "rw"),
                   lambda mode: self.assertFault(self.call(*served("0412", "F", "S"), "--mode", mode), f"usage: bad number {mode}", 2))
         self.assertEqual(os.listdir(self.folder), ["table"])
-
-    def test_stops_a_simulator_alone(self):
-        """The words come before the table, and the table before the device."""
-        for table, text in ((TABLE, "cannot connect socket"), (None, "cannot read table")):
-            self.store("table", table)
-            self.assertFault(self.use("read", "--stop", "0", "OUT", device="socket"), "usage: --stop needs a simulator", 2)
-            self.assertFault(self.use("info", "--wait", "1", device="socket"), text)
 
     def test_a_serial_port_is_no_socket(self):
         """It is told how the line to one is joined, and nothing is opened or written."""
@@ -139,20 +111,3 @@ class Options(Place):
                 self.assertFault(self.use("erase", "5", device=name), f"cannot connect {name}", hint=port)
         self.each((".", "table", "absent"), lambda name: self.assertFault(self.use("erase", "5", device=name), f"cannot connect {name}"))
         self.assertEqual(sorted(os.listdir(self.folder)), ["port", "table"])
-
-    def test_reads_a_part(self):
-        self.store("flash", COUNTING)
-        self.each(PARTS, lambda part, start, end: self.assertSilent(self.use("read", "-S", part, "out"), out=COUNTING[start:end]))
-        self.remove("out")
-        self.each(NO_PARTS, lambda part: self.assertFault(self.use("read", "-S", part, "out"), "address outside the flash", out=None))
-
-    @each_of((("sim:0412:F", (), NO_PAGES),
-              ("sim:0412:F", ("--all", "3"), NO_PAGES),
-              ("sim:0412:F", ("3", "65536"), "usage: bad number 65536"),
-              *(("sim:0412:F", (pages,), f"usage: bad number {pages}") for pages in ("9-4", "4-65536", "4-", "4-5-6", "4-05")),
-              ("socket", ("--stop", "1", "03"), "usage: bad number 03"),
-              ("socket", ("--stop", "1"), "usage: --stop needs a simulator"),
-              ("socket", (), NO_PAGES)))
-    def test_says_which_pages_an_erase_wants(self, device, words, text):
-        """A bad number comes before a stop of a socket, and that before the pages."""
-        self.assertFault(self.use("erase", *words, device=device), text, 2)
