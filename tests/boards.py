@@ -30,15 +30,9 @@ sys.dont_write_bytecode = True
 import pty_boards
 
 
-def find_python():
-    """A Python that has pyserial, or None."""
-    for path in filter(os.path.exists, ("/usr/bin/python3", sys.executable)):
-        if subprocess.run([path, "-c", "from serial import Serial"], stderr=subprocess.DEVNULL).returncode == 0:
-            return path
-    return None
-
-
-PYTHON = find_python()
+# a Python that has pyserial, or None
+PYTHON = next((path for path in filter(os.path.exists, ("/usr/bin/python3", sys.executable))
+               if subprocess.run([path, "-c", "from serial import Serial"], stderr=subprocess.DEVNULL).returncode == 0), None)
 # the real stm32flash, where it is installed; ours is a script
 REAL = next((path for path in filter(None, [shutil.which("stm32flash")]) if pathlib.Path(path).read_bytes()[:4] == b"\x7fELF"), None)
 
