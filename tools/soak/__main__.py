@@ -217,11 +217,8 @@ class Story:
             self.before = None
         self.look_elsewhere(use, status, flash, text, journal)
         # what leads back from here, where the journal was moved: as good as the flash is left alone
-        self.aside = self.way_back(flash) if kept and use.to is not None else None
+        self.aside = [*self.before, flash] if kept and use.to is not None and self.before is not None else None
         self.keep_promise(use, status, flash, journal)
-
-    def way_back(self, flash):
-        return None if self.before is None else [*self.before, flash]
 
     def same(self, name, wanted, found):
         if wanted != found:

@@ -325,14 +325,12 @@ def settling_byte(intent):
     return page if word == "erase" and page < 256 else 0x02
 
 
-def settling_limit(chip, intent):
-    return wire.LIMIT if intent is None else wire.limit_for(settling_byte(intent), intent[0] == "erase" and chip.erase_code() != ERASE)
-
-
 def settle_by(rig, journal, chip):
     """By the journal's intent, as a device of this chip."""
     intent = journal.intent()
-    wire.settle(rig, settling_byte(intent), settling_limit(chip, intent), in_batches=intent is not None)
+    byte = settling_byte(intent)
+    limit = wire.LIMIT if intent is None else wire.limit_for(byte, intent[0] == "erase" and chip.erase_code() != ERASE)
+    wire.settle(rig, byte, limit, in_batches=intent is not None)
 
 
 def pages_at_work(journal, page):

@@ -24,7 +24,8 @@ class Use:
 
     def words(self):
         found = [self.name, "--table", "T", "--device", "sim:%s:%s" % (self.number, self.file), "--journal", "J"]
-        for word, value in (("--stop", self.stop), ("--again", self.again), ("--keep-to", self.to), ("--board", self.board)):
+        for word, value in (("--stop", self.stop), ("--again", self.again), ("--keep-to", self.to), ("--board", self.board),
+                            ("-S", self.range and self.range_word()), ("--go", None if self.go is None else "0x%08X" % self.go)):
             if value is not None:
                 found += [word, str(value)]
         for word, is_given in (("-f", self.force), ("-v", self.verify), ("--keep", self.keep), ("--hex", self.hex),
@@ -32,21 +33,7 @@ class Use:
                                ("--fresh", self.is_fresh), ("--to-change", self.to_change), ("--trust-journal", self.trusts)):
             if is_given:
                 found.append(word)
-        if self.range is not None:
-            found += ["-S", self.range_word()]
-        if self.go is not None:
-            found += ["--go", "0x%08X" % self.go]
-        if self.out is not None:
-            found.append(self.out)
-        if self.image is not None:
-            found.append("I")
-        if self.second is not None:
-            found.append("K@0x%08x" % self.second[0])
-        found += [str(page) for page in self.pages or []]
-        if self.count is not None:
-            found.append(str(self.count))
-        if self.address is not None:
-            found.append("0x%08X" % self.address)
-        if self.kind is not None:
-            found.append(self.kind)
-        return found
+        second = None if self.second is None else "K@0x%08x" % self.second[0]
+        address = None if self.address is None else "0x%08X" % self.address
+        further = (self.out, self.image, second, *(self.pages or ()), self.count, address, self.kind)
+        return found + [str(word) for word in further if word is not None]
