@@ -24,6 +24,17 @@ SAID = {
 }
 
 
+def of_put(new):
+    return f"file: src/calls.rt\nold: self.put(bytes)?;\nnew: {new}\n"
+
+
+# edits: one word for another, a call twice, one that means the same, one that is proved, and one of a contract
+WORD, TWICE = of_put("self.put(&[])?;"), of_put("self.put(bytes)?; self.put(bytes)?;")
+SAME = "file: src/reading.rt\nold: count.min(most)\nnew: most.min(count)\n"
+PROVED = "file: src/calls.rt\nold: < 2\nnew: < 3\n"
+CONTRACT = "file: src/calls.rt\nold: ensures said\nnew: ensures told\n"
+
+
 def load_main():
     loader = importlib.machinery.SourceFileLoader("wrong_bodies", os.path.join(os.path.dirname(os.path.abspath(__file__)), "__main__.py"))
     made = importlib.util.module_from_spec(importlib.util.spec_from_loader("wrong_bodies", loader))
@@ -58,59 +69,35 @@ class Trials(Crate):
         self.told = trial.told
         return dict(it.partition(": ")[::2] for it in printed.getvalue().splitlines()), len(checks)
 
-    def of_put(self, new, more=""):
-        return f"file: src/calls.rt\nold: self.put(bytes)?;\nnew: {new}\n{more}"
+    def assertSaid(self, edits, *begins, **how):
+        """What is said of each edit begins so; and how many checks that took."""
+        said, checks = self.said_of(*edits.items(), **how)
+        told = [text for name, text in said.items() if name.startswith("tried/")]
+        self.assertEqual([text[:len(begin)] for text, begin in zip(told, begins, strict=True)], list(begins), told)
+        return checks
 
-    def test_one_word_is_refused(self):
-        said, _ = self.said_of(("a.edit", self.of_put("self.put(&[])?;")))
-        self.assertTrue(said["tried/a.edit"].startswith("refused, one word beside the body (said): "), said)
-
-    def test_the_clauses_of_refused_edits_alone_are_summed(self):
-        self.said_of(
-            ("a.edit", self.of_put("self.put(&[])?;")),
-            ("b.edit", self.of_put("self.put(bytes)?; self.put(bytes)?;")),
-            ("c.edit", "file: src/calls.rt\nold: ensures said\nnew: ensures told\n"),
-        )
-        self.assertEqual(sorted(self.told), [("not", []), ("not", []), ("refused", ["said"])])
-
-    def test_a_proved_body_is_not(self):
-        said, _ = self.said_of(("a.edit", "file: src/calls.rt\nold: < 2\nnew: < 3\n# says nothing: it may pass\n"))
-        self.assertEqual(said["tried/a.edit"], "NOT REFUSED")
+    def test_what_edits_count_as(self):
+        for what, edits, *begins in (
+            ("one word", {"a.edit": WORD}, "refused, one word beside the body (said): "),
+            ("a proved body", {"a.edit": PROVED + "# says nothing: it may pass\n"}, "NOT REFUSED"),
+            ("one that means the same", {"a.edit": SAME}, "SAYS NOTHING"),
+            ("one that says so itself", {"a.edit": f"{SAME}# says nothing: it means the same\n"}, "says nothing, as it says: it means the same"),
+            ("bad ones, told before what is tried", {"a.edit": of_put("bad();"), "b.edit": SAME, "c.edit": CONTRACT},
+             "BAD EDIT: it changes a contract", "BAD EDIT: src/calls.rt", "SAYS NOTHING"),
+        ):
+            with self.subTest(what):
+                self.assertSaid(edits, *begins)
 
     def test_a_twin_refuses_its_edit(self):
-        edit = ("a.edit", self.of_put("self.put(bytes)?; self.put(bytes)?;"))
-        said, checks = self.said_of(edit)
-        self.assertTrue(said["tried/a.edit"].startswith("SAYS NOTHING"), said)
-        self.assertEqual(checks, 1)
-        said, checks = self.said_of(edit, ("a.twin", self.of_put("self.see(bytes)?; self.put(bytes)?;")))
-        self.assertTrue(said["tried/a.edit"].startswith("refused, and its twin is proved (said): "), said)
-        self.assertEqual(checks, 2)
+        self.assertEqual(self.assertSaid({"a.edit": TWICE}, "SAYS NOTHING"), 1)
+        twin = of_put("self.see(bytes)?; self.put(bytes)?;")
+        self.assertEqual(self.assertSaid({"a.edit": TWICE, "a.twin": twin}, "refused, and its twin is proved (said): "), 2)
 
-    def test_a_harmless_edit_says_nothing(self):
-        text = "file: src/reading.rt\nold: count.min(most)\nnew: most.min(count)\n"
-        said, _ = self.said_of(("a.edit", text))
-        self.assertTrue(said["tried/a.edit"].startswith("SAYS NOTHING"), said)
-        said, _ = self.said_of(("a.edit", f"{text}# says nothing: it means the same\n"))
-        self.assertEqual(said["tried/a.edit"], "says nothing, as it says: it means the same")
+    def test_the_clauses_of_refused_edits_alone_are_summed(self):
+        self.said_of(("a.edit", WORD), ("b.edit", TWICE), ("c.edit", CONTRACT))
+        self.assertEqual(sorted(self.told), [("not", []), ("not", []), ("refused", ["said"])])
 
     def test_of_harmless_edits_one_that_is_refused_is_told(self):
-        said, _ = self.said_of(
-            ("a.edit", "file: src/reading.rt\nold: count.min(most)\nnew: most.min(count)\n"),
-            ("b.edit", self.of_put("self.put(&[])?;")),
-            is_harmless=True,
-        )
-        self.assertTrue(said["tried/a.edit"].startswith("says nothing, a goal may be true"), said)
-        self.assertTrue(said["tried/b.edit"].startswith("REFUSED, one word beside the body: "), said)
+        self.assertSaid({"a.edit": SAME, "b.edit": WORD}, "says nothing, a goal may be true", "REFUSED, one word beside the body: ", is_harmless=True)
         self.assertEqual(sorted(it for it, _ in self.told), ["falsely refused, or not tried", "that say nothing"])
-        said, _ = self.said_of(("a.edit", "file: src/calls.rt\nold: < 2\nnew: < 3\n"), is_harmless=True)
-        self.assertEqual(said["tried/a.edit"], "proved, as it is to be")
-
-    def test_a_bad_edit_is_told_alone(self):
-        said, _ = self.said_of(
-            ("a.edit", self.of_put("bad();")),
-            ("b.edit", "file: src/reading.rt\nold: count.min(most)\nnew: most.min(count)\n"),
-            ("c.edit", "file: src/calls.rt\nold: ensures said\nnew: ensures told\n"),
-        )
-        self.assertTrue(said["tried/a.edit"].startswith("BAD EDIT: src/calls.rt"), said)
-        self.assertTrue(said["tried/b.edit"].startswith("SAYS NOTHING"), said)
-        self.assertTrue(said["tried/c.edit"].startswith("BAD EDIT: it changes a contract"), said)
+        self.assertSaid({"a.edit": PROVED}, "proved, as it is to be", is_harmless=True)
