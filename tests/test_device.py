@@ -6,7 +6,6 @@ from place import COUNTING, ERASED, TABLE, Place, each_of
 
 INFO = "id 0412\nbase 08000000\npages 32\nsize 32768\nerase 43\nerased FF\nversion 22\ncodes 00 02 11 21 31 43 73 82 92\n"
 RAW = "id 0412\nversion 22\ncodes 00 02 11 21 31 43 73 82 92\ntable {}\n"
-BAD_FLASH = "bad simulator file flash"
 
 
 class Device(Place):
@@ -21,12 +20,6 @@ class Device(Place):
                 self.assertTold(self.call(*words, "--table", name), RAW.format(told))
                 self.assertTold(self.call(*words, variables={"STMFLASH_TABLE": name}), RAW.format(told))
         self.assertFault(self.call(*words, "--table", "missing"), "cannot read missing")
-
-    @each_of((b"rest 43BD\n", b"rest 43bc\n", b"rest \n", b"rest 4\n", b"rest 43BC", b"rest 43BC\n\n", b"rest 02FD\n", b"fresh\n\n"))
-    def test_refuses_a_rest_that_does_not_stay(self, line):
-        self.store("flash.line", line)
-        for words in (("info",), ("read", "OUT")):
-            self.assertFault(self.use(*words), BAD_FLASH, holds=(None, line), OUT=None)
 
     def test_follows_a_link_to_the_flash(self):
         """The link stays, and what it names is written."""

@@ -145,21 +145,6 @@ class KeepLast(Keeping):
             self.flashes.append(self.held("flash"))
         return journal
 
-    def log(self):
-        return self.call("log", "--journal", "journal").out.decode().splitlines()
-
-    @each_of((1, 2))
-    def test_the_newest_can_still_be_undone(self, last):
-        self.write_thrice()
-        lines = self.log()
-        self.assertTold(self.keep("--last", str(last)), f"kept {3 - last}\n{last} can be undone\n")
-        renumbered = [line.replace(f"segment {k + 4 - last}:", f"segment {k + 1}:") for k, line in enumerate(lines[-1 - last:-1])]
-        self.assertEqual(self.log(), [lines[0], *renumbered, f"{last} can be undone"])
-        self.assertFile("flash", self.flashes[3])
-        for k in range(last):
-            self.assertTold(self.use("undo", "1"), "undone 1\n", flash=self.flashes[2 - k])
-        self.assertTold(self.use("undo"), "undone 0\n", flash=self.flashes[3 - last])
-
     @each_of((1, 2047, 2048, 2049, 4096, 131072))
     def test_pages_of_any_size(self, size):
         """Digits that come in several pieces."""
