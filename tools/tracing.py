@@ -12,6 +12,8 @@ import struct
 import sys
 import tempfile
 
+from simulator import words_of
+
 # of ptrace(2)
 TRACE_ME, CONTINUE, STEP, GET_REGISTERS, SET_REGISTERS, DETACH, SET_OPTIONS = 0, 7, 9, 12, 13, 17, 0x4200
 EXIT_KILL = 0x100000
@@ -52,8 +54,13 @@ def places_of(program):
     return [found[call] for call in CALLS]
 
 
-class CannotTrace(Exception):
-    """The system doesn't let a program trace its child."""
+def asked(doc):
+    """What a tool was called with, by its usage, where PROGRAM is one that can be called."""
+    options = words_of(doc)
+    options.program = os.path.realpath(options.program)
+    if not os.access(options.program, os.X_OK):
+        sys.exit(f"{sys.argv[0]}: there is no program {options.program}")
+    return options
 
 
 class Traced:
@@ -71,7 +78,8 @@ class Traced:
                 os._exit(127)
         _, status = os.waitpid(self.process, 0)
         if not os.WIFSTOPPED(status):
-            raise CannotTrace("left out: this system doesn't let a program trace its child (ptrace)")
+            print(f"{sys.argv[0]}: left out: this system doesn't let a program trace its child (ptrace)")
+            sys.exit()
         ptrace(SET_OPTIONS, self.process, None, EXIT_KILL)
         self.memory = os.open(f"/proc/{self.process}/mem", os.O_RDWR)
         with open(f"/proc/{self.process}/maps") as maps:
