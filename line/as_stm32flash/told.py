@@ -1,8 +1,9 @@
 """What is told while a call goes on: stm32flash's lines on standard output, notes of our own on standard error."""
 
-import os
 import re
 import sys
+
+from stmflash_line.faults import put
 
 VERSION = "0.7"
 PAGE = re.compile(r"page (\d+) (read|written|erased), (\d+) of (\d+) pages")
@@ -42,21 +43,3 @@ class Told:
 
 def note(text):
     put(sys.stderr, f"stm32flash: {text}\n")
-
-
-def put(stream, text):
-    """Tells something, and answers whether it was told. Where it can't be, since whoever reads it has gone or a disk is full, the work
-    goes on all the same."""
-    if stream is None:
-        return False
-    try:
-        try:
-            stream.write(text)
-        except UnicodeEncodeError:
-            # of names that have no form in an encoding numbers are told
-            stream.write(text.encode(stream.encoding, "backslashreplace").decode(stream.encoding))
-        stream.flush()
-        return True
-    except OSError:
-        os.dup2(os.open(os.devnull, os.O_WRONLY), stream.fileno())
-        return False

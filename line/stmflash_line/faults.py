@@ -1,6 +1,7 @@
 """How the line ends in place of an answer, and what is said then."""
 
 import contextlib
+import os
 import sys
 
 # what is told where a line ended that a COMMAND may have been changing the flash over
@@ -34,6 +35,24 @@ def say(text):
     if sys.stderr is not None:
         with contextlib.suppress(OSError):
             print("stmflash-line: " + plain(text), file=sys.stderr, flush=True)
+
+
+def put(stream, text):
+    """Tells something, and answers whether it was told. Where it can't be, since whoever reads it has gone or a disk is full, the work
+    goes on all the same."""
+    if stream is None:
+        return False
+    try:
+        try:
+            stream.write(text)
+        except UnicodeEncodeError:
+            # of names that have no form in an encoding numbers are told
+            stream.write(text.encode(stream.encoding, "backslashreplace").decode(stream.encoding))
+        stream.flush()
+        return True
+    except OSError:
+        os.dup2(os.open(os.devnull, os.O_WRONLY), stream.fileno())
+        return False
 
 
 def number_of(error):

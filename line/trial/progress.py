@@ -1,7 +1,8 @@
 """What is shown on standard error while a trial goes on."""
 
-import os
 import sys
+
+from stmflash_line.faults import put
 
 
 class Progress:
@@ -26,18 +27,3 @@ class Progress:
     def clear(self):
         if self.is_live:
             put(sys.stderr, "\r\x1b[K")
-
-
-def put(stream, text):
-    """Tells something. Where whoever reads it has gone, the trial goes on all the same, and puts back what it changed."""
-    if stream is None:
-        return
-    try:
-        try:
-            stream.write(text)
-        except UnicodeEncodeError:
-            # a name with bytes that are no text here
-            stream.write(text.encode(stream.encoding, "backslashreplace").decode(stream.encoding))
-        stream.flush()
-    except OSError:
-        os.dup2(os.open(os.devnull, os.O_WRONLY), stream.fileno())
