@@ -18,7 +18,7 @@ import unittest
 from unittest import mock
 
 from boards import WiredPlace
-from place import PATIENCE, Place, first_of
+from place import PATIENCE, Place, first_of, readable
 from stmflash_line import command, far, faults, holders, opening, patience, session
 from stmflash_line.join import Join
 from stmflash_line.port import Port
@@ -27,18 +27,41 @@ from stmflash_line.unmark import Unmark
 
 
 class FarBytes(unittest.TestCase):
-    def test_an_error_takes_the_bytes_beside_it(self):
-        """Those that a far end sent are taken with the error that it told of; over a line it is chance which come together."""
+    def of(self, kind):
+        """A port of this kind, what makes bytes come there, and what ends it."""
+        ours, theirs = socket.socketpair()
+        for end in (ours, theirs):
+            self.addCleanup(end.close)
+        ours.setblocking(False)
+        if kind is not far.Rfc2217Port:
+            return kind(ours if kind is far.SocketPort else types.SimpleNamespace(fileno=ours.fileno), "PORT", 9600), theirs.sendall, theirs.close
         inbox = far.Inbox()
         for descriptor in (inbox.reader, inbox.writer):
             self.addCleanup(os.close, descriptor)
-        with socket.socket() as end:
-            port = far.Rfc2217Port(types.SimpleNamespace(_socket=end), inbox, "a far port", 115200)
-            # None is an error
-            for events, read in (((b"a", b"b"), (b"ab", 0)), ((b"c", None, b"d"), (b"", 1)), ((b"e",), (b"e", 0)), ((None,), (b"", 1))):
-                for byte in events:
-                    inbox.put(byte) if byte else inbox.put_error()
-                self.assertEqual(port.read(), read)
+        return kind(types.SimpleNamespace(_socket=ours), inbox, "PORT", 9600), inbox.put, lambda: inbox.put(None)
+
+    def test_what_came_before_the_end_is_read(self):
+        for kind in (Port, far.SocketPort, far.Rfc2217Port):
+            for came, forgets in itertools.product((b"", b"last"), (False, kind is not Port)):
+                with self.subTest(kind=kind, came=came, forgets=forgets):
+                    port, put, end = self.of(kind)
+                    put(came)
+                    end()
+                    if came and not forgets:
+                        self.assertEqual(port.read(), (came, 0))
+                    # also for whoever asks once more
+                    for _ in range(2):
+                        self.assertTrue(readable([port.descriptor], 0))
+                        self.assertRaises(faults.Gone, port.forget if forgets else port.read)
+
+    def test_an_error_takes_the_bytes_beside_it(self):
+        """Those that a far end sent are taken with the error that it told of; over a line it is chance which come together."""
+        port, put, _ = self.of(far.Rfc2217Port)
+        # None is an error
+        for events, read in (((b"a", b"b"), (b"ab", 0)), ((b"c", None, b"d"), (b"", 1)), ((b"e",), (b"e", 0)), ((None,), (b"", 1))):
+            for byte in events:
+                put(byte) if byte else port.inbox.put_error()
+            self.assertEqual(port.read(), read)
 
     def test_a_signal_ends_the_wait_for_what_goes_out_there(self):
         port, wake = far.FarPort("a far port", 1), mock.Mock(number=None)

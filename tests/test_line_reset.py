@@ -1,6 +1,8 @@
 """Wirings, --resets, and what both bring to clients; each wiring's moves beside those of stm32flash."""
 
 import concurrent.futures
+import contextlib
+import io
 import itertools
 import os
 import random
@@ -14,6 +16,7 @@ import unittest
 from boards import LINE, PYTHON, LinePlace, WiredPlace
 from place import COUNTING, ERASED, PATIENCE, TABLE, TOP
 from stmflash_line.sequences import DELAY, read_sequence, read_wiring
+from stmflash_line.words import read_words
 
 STOPS = int(os.environ.get("STMFLASH_LINE_STOPS", "12"))
 # the sequences into the bootloader, and out of it
@@ -115,7 +118,7 @@ class Words(WiredPlace):
         self.assertTold(self.play("--", *TELL, STMFLASH_FRESH="1"), "1\n")
 
     def test_what_a_wiring_plays(self):
-        """Into the bootloader before COMMAND, and out of it behind; --after has another way out."""
+        """Into the bootloader before COMMAND, and out of it behind."""
         for wiring in (EXAMPLE, "inverted-rts-reset,dtr-boot0", "dtr-reset"):
             with self.subTest(wiring=wiring):
                 entry, leave = WIRINGS[wiring]
@@ -123,8 +126,18 @@ class Words(WiredPlace):
                 self.assertEqual(self.calls("before")[0], calls_of(entry))
                 self.assertEqual(self.calls()[0], calls_of(entry) + calls_of(leave))
                 self.remove("calls")
-        self.assertSilent(self.play("--wiring", EXAMPLE, "--after", "rts", "--", "true"))
-        self.assertEqual(self.calls()[0], ENTRY + ["RTS active"])
+
+    def test_one_word_says_how_the_board_is_left(self):
+        """Also where it says that nothing is moved; of two neither is taken."""
+        for how, own in (((), None), (("--boot", "rts"), None), (("--boot", "rts:"), ""), (("--boot", "rts:dtr"), "dtr"),
+                         (("--wiring", "dtr-reset"), ""), (("--wiring", EXAMPLE), WIRINGS[EXAMPLE][1])):
+            for after in (None, "", "brk"):
+                words = [*how, *([] if after is None else ["--after", after]), "--", "true"]
+                with self.subTest(words=words), contextlib.redirect_stderr(io.StringIO()):
+                    if own is not None and after is not None and "--boot" in how:
+                        self.assertRaises(SystemExit, read_words, words)
+                    else:
+                        self.assertEqual(read_words(words).after, read_sequence((own or "") if after is None else after))
 
 
 def calls_of(text):

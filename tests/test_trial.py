@@ -525,7 +525,7 @@ def of_modules(text, *words, status=0):
 
 PARTS = """
 from types import SimpleNamespace as Of
-import builtins, line as ways, rows_asking, rows_ending, rows_reading, settling, socket, told, trial
+import builtins, glob, line as ways, re, rows_asking, rows_ending, rows_reading, settling, socket, told, trial
 from board import Board
 from settling import limit_of
 made = Board.__new__(Board)
@@ -561,14 +561,84 @@ gone.words, gone.companion, gone.buffer, (gone.socket, _) = Of(reset='', port='P
 def closed(): raise ways.Refused('the port has gone')
 gone.open = closed
 for act in (gone.reset, lambda: gone.read(1, 9, 9), lambda: gone.write(b'a')): tell(lambda _: act(), None)
+def is_reply(name):
+    of_one = Of(model=1, times={'get': [0], name: [0.25]}, usual_time=lambda it: 0.25 * (it == name), facts={}, options={}, refusal=None)
+    try: return not rows_ending.reply_time.act(of_one)
+    except settling.Differs: return True
+names = {it for path in glob.glob(sys.argv[1] + '/*.py') for it in re.findall(r'(?:talk|note_time)\\("([^"]+)"', open(path).read())}
+print(len(names) > 10, *sorted(it for it in names if not is_reply(it)), sep='; ')
 for seconds in (1, 0.3): rows_ending.need_wait(slow, seconds)
 print(slow.options, *told.judge(slow, [told.Found(rows_reading.save, told.DIFFERS, '', rows_reading.save.means)], 'a signal'), sep='; ')
 """
 
+# each row, and each call that changes something, on a board of the model whose line ends where the flash was changed first
+FIRST_CHANGE = """
+from types import SimpleNamespace as Of
+import board, rows, rows_asking, rows_reading
+from faults import Differs, Ended, NotTried
+from model import Model
+codes, chip, changed = [0, 1, 2, 0x11, 0x31, 0x44], {'id': 0x440, 'base': 0x08000000, 'pages': [[4, 1024]], 'erase': 'extended'}, set()
+rows_asking.time.sleep, rows_asking.BATCHES, rows_reading.saved.store = lambda _: None, (256,), lambda *_: None
+words = Of(wait=50, baud=115200, pages=[1, 3], map=True, pause=0, every_byte=False, patient=False, by_hand=True, save='', chips=[chip])
+def model():
+    made = Model(0x440, chip, 0x31, codes)
+    made.flash = before[:]
+    return made
+def line_to(device):
+    came = bytearray()
+    def write(data):
+        for byte in data:
+            came.extend(it or 0 for it in device.feed(byte))
+            if device.flash != before: raise Ended('at once')
+    return Of(write=write, read=lambda count, *_: bytes(came.pop(0) for _ in range(min(count, len(came)))), drop=came.clear, reset=device.reset, can_reset=lambda: True)
+calls = [(row.name, row.act, row.changes) for row in rows.ROWS if row not in rows.TOLD and row is not rows.BACK]
+calls += [(name, lambda it, name=name, words=words: getattr(it, name)(*words), 'P') for name, words in (('erase', (3,)), ('write', (3072, b'abcd')), ('fill', (1,)))]
+for erased_from in (4096, 2048):
+    before = [it % 251 if it < erased_from else 255 for it in range(4096)]
+    for name, act, changes in calls:
+        device = model()
+        it = board.Board(line_to(device), words, Of(show=lambda _: None))
+        it.version, it.codes, it.model, it.code, it.page, it.other, it.saved = 0x31, codes, model(), 0x44, 3, 1, bytes(before)
+        try: act(it)
+        except (Differs, Ended, NotTried): pass
+        if device.flash != before:
+            changed.add(name)
+            if not it.is_touched or changes == 'nothing': print(name, 'has changed what it did not say')
+print(*sorted({name for name, _, changes in calls if changes != 'nothing'} - changed))
+"""
+# each way to give these words, with a terminal and without
+FLAGS = """
+import contextlib, io, itertools, line, progress, words
+class Stream(io.StringIO):
+    def isatty(self): return is_terminal
+taken, words.read_table = 0, lambda _: ()
+for is_terminal, *given in itertools.product((False, True), *(('', it) for it in (
+        '--device=D', '--port=P', '--wiring=W', '--reset=R', '--yes', '--only-read', '--speeds', '--progress', '--quiet'))):
+    sys.stdin = Stream()
+    with contextlib.suppress(SystemExit), contextlib.redirect_stderr(Stream()):
+        it = words.read([*filter(None, given)], '.')
+        way, shown = line.Line.__new__(line.Line), progress.Progress(it, 1)
+        taken, way.words = taken + 1, it
+        for text, is_so in (('no board, or two', bool(it.device) == bool(it.port)), ('a wiring of no port', it.wiring and not it.port),
+                            ('changes unasked', not (it.yes or it.only_read or is_terminal)), ('a hand', it.by_hand != (is_terminal and not it.yes)),
+                            ('speeds without a reset', it.speeds and not way.can_reset()), ('changes at a speed', it.speeds and not it.only_read),
+                            ('shown though quiet', it.quiet and (shown.is_live or shown.is_listed)), ('shown twice', shown.is_live and shown.is_listed)):
+            if is_so: print(text, *given)
+print(taken)
+"""
+
 
 class Parts(unittest.TestCase):
+    def test_what_is_changed_was_noted_before(self):
+        """It is put back whatever ends the trial then; and a row that says that it changes nothing doesn't."""
+        # and these change something on boards that do otherwise alone
+        self.assertEqual(of_modules(FIRST_CHANGE), "erased-byte refuse-complement refuse-pair\n")
+
+    def test_words_beside_one_another(self):
+        self.assertEqual(of_modules(FLAGS), "272\n")
+
     def test_what_they_answer(self):
-        self.assertEqual(of_modules(PARTS).splitlines(), [
+        self.assertEqual(of_modules(PARTS, FOLDER).splitlines(), [
             "Differs; it: page 2, 5, 9 has other bytes than it should; page 2, 9 was changed, and wasn't named",
             "NotTried; the flash wasn't saved; ", "None",
             "Differs; page 3 has other bytes when it is read again; what is read can't be trusted", "3606", "0", "None", "Refused; nothing was changed; ",
@@ -579,6 +649,8 @@ class Parts(unittest.TestCase):
             "[256]", "Refused; --pages: this chip has no such page; give 0 to 31, but for 255; ",
             # a port that has gone behind a reset ends the trial: nobody says that nothing was changed
             "Ended; the port has gone; ", "Ended; the line was closed; ", "Ended; the line ended: Broken pipe; ",
+            # what takes the time of an erase is no reply
+            "True; erase; get behind an erase",
             # the longest wait that a row needs; and what a row found goes before a signal
             "{'wait': 1000}; don't use; save: the journal can't keep a page"])
 
