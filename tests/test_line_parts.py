@@ -4,8 +4,10 @@ Sequences are played on pyserial's own stand-in (tests/stand_ins), which notes e
 pair of sockets in place of a port, marked as the system marks them.
 """
 
+import array
 import contextlib
 import errno
+import fcntl
 import io
 import itertools
 import os
@@ -19,7 +21,7 @@ from unittest import mock
 
 from boards import WiredPlace
 from place import PATIENCE, Place, first_of, readable
-from stmflash_line import command, far, faults, holders, opening, patience, session
+from stmflash_line import command, far, faults, holders, opening, patience, session, wake
 from stmflash_line.join import Join
 from stmflash_line.port import Port
 from stmflash_line.sequences import read_sequence
@@ -256,6 +258,15 @@ class Ending(unittest.TestCase):
         child.kill.assert_called_once_with()
         return self.now - 1000
 
+    def test_the_status(self):
+        """A signal's, or else COMMAND's own, also where --watch has ended the line for it; that is told where COMMAND says that all is well."""
+        for code, otherwise, number in itertools.product((0, 1, 7, -signal.SIGKILL), (False, True), (None, *wake.ENDING)):
+            with self.subTest(code=code, otherwise=otherwise, number=number):
+                child = mock.Mock(returncode=code, **{"poll.return_value": code})
+                join = mock.Mock(heard=0.0, is_otherwise=otherwise, **{"wake.number": number})
+                due = 128 + number if number else 128 - code if code < 0 else code or int(otherwise)
+                self.assertEqual(command.run(lambda _: child, "", None, None, join), due)
+
     def test_one_that_talks_to_the_board_isnt_killed(self):
         """It may be putting back what it changed."""
         self.assertEqual(self.killed_at(0), 7)
@@ -263,13 +274,30 @@ class Ending(unittest.TestCase):
 
 
 class Modes(unittest.TestCase):
+    def openpty(self):
+        ends = os.openpty()
+        for end in ends:
+            self.addCleanup(os.close, end)
+        return ends
+
     def test_a_driver_that_keeps_another_mode(self):
         """A pseudo-terminal knows no parity: as a port it would be refused."""
-        master, slave = os.openpty()
-        self.addCleanup(os.close, master)
-        self.addCleanup(os.close, slave)
+        _, slave = self.openpty()
         self.assertRaises(ValueError, opening.set_mode, slave, is_pty=False)
         opening.set_mode(slave, is_pty=True)
+
+    def test_a_port_that_another_has_is_left_to_it(self):
+        """Who is refused leaves it open for others; one that is had for a moment alone is waited for, and then ours."""
+        _, slave = self.openpty()
+        for times in range(5):
+            is_ours = array.array("i", [0])
+            with mock.patch.object(opening, "holders", side_effect=[[(1, "x")]] * times + [[]]), mock.patch.object(opening.time, "sleep"):
+                with self.assertRaises(OSError) if times > 2 else contextlib.nullcontext():
+                    opening.refuse_sharing(None, slave)
+            # Linux: TIOCGEXCL
+            fcntl.ioctl(slave, 0x80045440, is_ours)
+            fcntl.ioctl(slave, termios.TIOCNXCL)
+            self.assertEqual(is_ours[0], int(times < 3))
 
 
 class Closed(unittest.TestCase):
@@ -367,6 +395,23 @@ class BadBytes(unittest.TestCase):
         for piece in (b"ab\xff", b"\x00"):
             self.assertEqual(self.take(piece), "")
         self.assertLeft(self.take(b"cd"), b"ab", 1)
+
+    def test_what_goes_to_the_board_behind_an_end(self):
+        """What a COMMAND has sent that has ended goes out; what a client of a socket has, once a signal ends it, doesn't, nor to a port that has gone."""
+        child = mock.Mock(returncode=0, **{"poll.return_value": 0, "wait.return_value": 0})
+        for number, gone, out in ((None, False, b"late"), (signal.SIGTERM, False, b""), (None, True, b"")):
+            with self.subTest(number=number, gone=gone):
+                self.setUp()
+                self.client.sendall(b"late")
+                self.join.wake.number, self.join.listener = number, mock.Mock(**{"accept.side_effect": BlockingIOError})
+                self.port.drain = lambda _: None
+                if gone:
+                    child.poll.return_value, self.join.turn = None, mock.Mock(side_effect=faults.Gone)
+                    self.assertRaises(faults.Gone, command.run, lambda _: child, "", None, None, self.join)
+                else:
+                    self.assertEqual(session.serve(self.join) if number else command.run(lambda _: child, "", None, None, self.join), 0)
+                self.assertIsNone(self.join.client)
+                self.assertEqual(self.device.recv(9) if readable([self.device], 0) else b"", out)
 
     def test_a_reset_for_a_client(self):
         """Behind what went out before, and then all is dropped that came until its end; it is for the first byte alone."""

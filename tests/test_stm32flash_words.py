@@ -5,6 +5,7 @@ import contextlib
 import io
 import itertools
 import os
+import random
 import re
 import shlex
 import shutil
@@ -16,9 +17,11 @@ from unittest import mock
 
 from boards import REAL, Named, default_signals, pty_boards
 from place import COUNTING, ERASED, PATIENCE, SIZE, TABLE, TOP, Place, Said, program, readable, text_in
+
+import image
 from stmflash_line import journals as places
 from stmflash_line.tied import tied
-from as_stm32flash import actions, board as boards, call, journals, line, patience, sequence, tools, words
+from as_stm32flash import actions, board as boards, call, hex_text, journals, line, patience, sequence, tools, words
 from as_stm32flash.fault import Failed, Fault
 from as_stm32flash.owner import Owner, owner_of
 
@@ -794,6 +797,38 @@ class Parts(Place):
             child = line.Child(lambda: 1 // 0, {}, tied())
         child.wait(PATIENCE)
         self.assertEqual(child.returncode, 1)
+
+    def test_the_slowest_answer_up_to_now_is_told(self):
+        for heard in ((), *itertools.permutations((0.25, 0.5, 3.0))):
+            def play(given, _, heard=heard):
+                for seconds in heard:
+                    given.heard(seconds)
+                child = given.command({})
+                child.wait(PATIENCE)
+                return child.returncode
+
+            with mock.patch("stmflash_line.session.use_port", play), mock.patch("stmflash_line.wake.Wake"):
+                self.assertEqual(line.use("P", 9600, None, None, lambda slowest: int(slowest() * 4)), 12 * bool(heard))
+
+    def test_what_a_hex_text_means(self):
+        """As the second model has it: records of each kind in any order; and it at another place, up to an end."""
+        chance = random.Random(1)
+        kinds = ((0, lambda: chance.randbytes(chance.randint(0, 20))), (2, lambda: chance.randbytes(2)), (4, lambda: bytes([0, chance.randint(0, 3)])),
+                 (3, lambda: bytes(4)), (5, lambda: bytes(4)))
+        for turn in range(300):
+            chosen = [kinds[0], *chance.choices(kinds, (5, 1, 2, 1, 1), k=chance.randint(0, 7))]
+            text = b"".join(image.record(kind, chance.choice((0, 4, 0x40, 0xFF00)) * (kind == 0), data()) for kind, data in chosen) + image.record(1, 0, b"")
+            try:
+                due = image.read_hex(text)
+            except image.ImageFault:
+                # two bytes at one place: that is for stmflash to see
+                continue
+            with self.subTest(turn=turn, text=text):
+                pieces = hex_text.read(text)
+                start, end = hex_text.span(pieces)
+                self.assertEqual((start, end), (min(due), max(due) + 1) if due else (0, 0))
+                for by, last in ((0, end), (3, end + 3), (0x1FFF0, 0x20000 + start)):
+                    self.assertEqual(image.read_hex(hex_text.moved(pieces, by, last)), {at + by: byte for at, byte in due.items() if at + by < last})
 
     def test_without_the_modules_of_stmflash_line(self):
         shutil.copy(WORDS, self.folder)

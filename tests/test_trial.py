@@ -525,7 +525,7 @@ def of_modules(text, *words, status=0):
 
 PARTS = """
 from types import SimpleNamespace as Of
-import builtins, glob, line as ways, re, rows_asking, rows_ending, rows_reading, settling, socket, told, trial
+import builtins, glob, itertools, line as ways, re, rows_asking, rows_ending, rows_reading, settling, socket, told, trial
 from board import Board
 from settling import limit_of
 made = Board.__new__(Board)
@@ -546,9 +546,17 @@ for answer in (' Yes ', 'no'):
     builtins.input = lambda _: answer
     tell(lambda it: it.ask(), asking)
 settling.settle = lambda *_: settling.Settled(2, True, False)
-line = Of(read=lambda *words: print(*words))
+line = Of(read=lambda *words: print(*words) if words[0] or not hasattr(of_line, 'code') else None)
 of_line = Of(line=line, wait=0.05, put=lambda cut: [0x79] * (len(cut) // 2), drain=lambda: None, talk=lambda *_: None, facts={}, is_touched=False)
 tell(lambda it: settling.cut_and_settle(it, [[0x11], [0x11, 0xEE]], 'ask'), of_line)
+for held in itertools.product(itertools.product((False, True), repeat=2), repeat=2):
+    ends, forgotten = iter([settling.Settled(2, *it) for it in held]), []
+    settling.settle, of_line.facts = lambda *_: next(ends), {}
+    of_line.model, of_line.page, of_line.code, of_line.expect = Of(forget=forgotten.append), 3, 0x44, lambda _: None
+    try: odd = not settling.cut_and_settle(of_line, [[], []], 'erase')
+    except settling.Odd: odd = True
+    print(held, odd, len(of_line.facts), len(forgotten)) if (odd, len(of_line.facts), len(forgotten)) != (
+        not (held[0][0] and held[1][0]), any(it[1] for it in held), sum(it != (True, False) for it in held)) else None
 asking.need = asking.regain = lambda row: None
 def unasked(): raise settling.Differs('a byte came')
 asking.board.hush = unasked
@@ -574,7 +582,7 @@ print(slow.options, *told.judge(slow, [told.Found(rows_reading.save, told.DIFFER
 # each row, and each call that changes something, on a board of the model whose line ends where the flash was changed first
 FIRST_CHANGE = """
 from types import SimpleNamespace as Of
-import board, rows, rows_asking, rows_reading
+import itertools, board, rows, rows_asking, rows_reading, saved
 from faults import Differs, Ended, NotTried
 from model import Model
 codes, chip, changed = [0, 1, 2, 0x11, 0x31, 0x44], {'id': 0x440, 'base': 0x08000000, 'pages': [[4, 1024]], 'erase': 'extended'}, set()
@@ -584,12 +592,12 @@ def model():
     made = Model(0x440, chip, 0x31, codes)
     made.flash = before[:]
     return made
-def line_to(device):
+def line_to(device, look):
     came = bytearray()
     def write(data):
         for byte in data:
             came.extend(it or 0 for it in device.feed(byte))
-            if device.flash != before: raise Ended('at once')
+            look()
     return Of(write=write, read=lambda count, *_: bytes(came.pop(0) for _ in range(min(count, len(came)))), drop=came.clear, reset=device.reset, can_reset=lambda: True)
 calls = [(row.name, row.act, row.changes) for row in rows.ROWS if row not in rows.TOLD and row is not rows.BACK]
 calls += [(name, lambda it, name=name, words=words: getattr(it, name)(*words), 'P') for name, words in (('erase', (3,)), ('write', (3072, b'abcd')), ('fill', (1,)))]
@@ -597,7 +605,9 @@ for erased_from in (4096, 2048):
     before = [it % 251 if it < erased_from else 255 for it in range(4096)]
     for name, act, changes in calls:
         device = model()
-        it = board.Board(line_to(device), words, Of(show=lambda _: None))
+        def look():
+            if device.flash != before: raise Ended('at once')
+        it = board.Board(line_to(device, look), words, Of(show=lambda _: None))
         it.version, it.codes, it.model, it.code, it.page, it.other, it.saved = 0x31, codes, model(), 0x44, 3, 1, bytes(before)
         try: act(it)
         except (Differs, Ended, NotTried): pass
@@ -605,6 +615,19 @@ for erased_from in (4096, 2048):
             changed.add(name)
             if not it.is_touched or changes == 'nothing': print(name, 'has changed what it did not say')
 print(*sorted({name for name, _, changes in calls if changes != 'nothing'} - changed))
+# what stands in a block, and what was saved of it: a page is erased where it has to be, and just what is missing is written, over erased bytes
+for blocks in itertools.product(((1, 1), (255, 1), (2, 1), (255, 255), (2, 255)), repeat=2):
+    before, kept = ([at // 256 % 7 if at >= 512 else blocks[at // 256][which] for at in range(4096)] for which in (0, 1))
+    device, done = model(), []
+    def note():
+        if None in device.flash: print(blocks, 'written over')
+    it = board.Board(line_to(device, note), words, Of(show=lambda _: None))
+    it.model, it.code, it.saved, act = model(), 0x44, bytes(kept), it.step
+    it.step = lambda code: (done.append(code), act(code))
+    saved.put_page_back(it, 0, None)
+    is_erased = any(now not in (255, due) for now, due in blocks)
+    due = [0x44] * is_erased + [0x31] * (sum(due != 255 and (is_erased or now != due) for now, due in blocks) + 2 * is_erased)
+    if device.flash != kept or [code for code in done if code != 0x11] != due: print(blocks, done)
 """
 # each way to give these words, with a terminal and without
 FLAGS = """
