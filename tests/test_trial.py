@@ -575,6 +575,13 @@ def is_reply(name):
     except settling.Differs: return True
 names = {it for path in glob.glob(sys.argv[1] + '/*.py') for it in re.findall(r'(?:talk|note_time)\\("([^"]+)"', open(path).read())}
 print(len(names) > 10, *sorted(it for it in names if not is_reply(it)), sep='; ')
+makes, made = ways.tempfile.mkdtemp, []
+ways.tempfile.mkdtemp = lambda **how: made.append(makes(**how)) or made[-1]
+for fault in (ways.Refused, KeyboardInterrupt, ways.Ended):
+    def opened(_): raise fault
+    ways.Line.open = opened
+    try: ways.Line(Of(port='P'))
+    except fault: print(glob.glob(made[-1]))
 for seconds in (1, 0.3): rows_ending.need_wait(slow, seconds)
 print(slow.options, *told.judge(slow, [told.Found(rows_reading.save, told.DIFFERS, '', rows_reading.save.means)], 'a signal'), sep='; ')
 """
@@ -674,6 +681,8 @@ class Parts(unittest.TestCase):
             "Ended; the port has gone; ", "Ended; the line was closed; ", "Ended; the line ended: Broken pipe; ",
             # what takes the time of an erase is no reply
             "True; erase; get behind an erase",
+            # a port that isn't opened leaves no folder, whatever ended that
+            "[]", "[]", "[]",
             # the longest wait that a row needs; and what a row found goes before a signal
             "{'wait': 1000}; don't use; save: the journal can't keep a page"])
 

@@ -27,7 +27,7 @@ class Line:
             self.folder = tempfile.mkdtemp(prefix="stmflash-trial-")
         try:
             self.open()
-        except Refused:
+        except BaseException:
             self.close()
             raise
 
