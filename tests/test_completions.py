@@ -18,6 +18,10 @@ KINDS = {"write-unprotect", "readout-protect", "readout-unprotect"}
 BASH = """. "$1"; shift; for typed; do COMP_WORDS=($typed); [[ $typed != *" " ]] || COMP_WORDS+=(""); COMP_CWORD=$((${#COMP_WORDS[@]} - 1))
 "_${COMP_WORDS[0]//-/_}"; for it in "${COMPREPLY[@]}"; do echo "$typed: $it"; done; done"""
 FISH = 'for it in $argv[1..3]; source $it; end; for typed in $argv[4..]; for it in (complete -C "$typed"); echo "$typed: $it"; end; end'
+# the same of what zsh is told; and an option there, with what stands behind it, if anything does
+ZSH = """_arguments() { print -rl -- "$typed: "${^@}; }; _describe() { print -rl -- "$typed: "${(P)^2}; }
+file=$1; shift; for typed; do words=(${=typed} ""); CURRENT=$#words; service=$words[1]; . $file; done"""
+OPTION = re.compile(r"(?:\([^)]*\))?\*?(-\w|--[a-z-]+)\[(?:\\.|[^]])*\](?::(?:\\.|[^:])*(:.*))?")
 
 
 def options(text):
@@ -116,18 +120,29 @@ class Completions(Place):
         self.store("an image.hex", b"")
         self.both({**{f"{words} an": {"an image.hex"} for words in FILES}, "stmflash info --device si": {"sim:"}})
 
+    def told_in_zsh(self):
+        """What zsh is told of what each takes: by subcommand or companion, the specifications of `_arguments`; and the options of each, by its help."""
+        taken = {f"stmflash {name}": options(self.help_of(name)) for name in self.subcommands() - {"help"}}
+        taken |= {name: self.options_of(name) for name in ("stmflash-line", "stmflash-trial")}
+        said = self.shell("zsh", "-f", "-c", ZSH, "zsh", os.path.join(FOLDER, "_stmflash"), *taken, "stmflash help")
+        return taken, {typed: [line.partition(": ")[2] for line in said if line.startswith(f"{typed}: ")] for typed in (*taken, "stmflash help")}
+
+    def test_zsh_names_what_each_takes(self):
+        """And the manual page of stmflash-trial has it."""
+        taken, told = self.told_in_zsh()
+        self.assertEqual({it.partition(":")[0] for it in told["stmflash help"]}, self.subcommands())
+        self.each(taken, lambda typed: self.assertEqual({it[1] for it in map(OPTION.match, told[typed]) if it}, taken[typed]))
+        manual = text_in("line", "stmflash-trial.1").replace("\\", "")
+        self.assertEqual([option for option in taken["stmflash-trial"] - {"-h", "--help"} if f" {option}" not in manual], [])
+
     def test_all_offer_the_same_behind_an_option(self):
         """Files, folders, some words or nothing."""
         os.mkdir(self.path("a-folder"))
-        files = os.listdir(self.folder)
-        takes = {name: options(self.help_of(name)) for name in self.subcommands() - {"help"}}
-        wanted = {}
-        for number, part in enumerate(re.split(r"\$service == |\n    help=", text_in(FOLDER, "_stmflash"))):
-            for option, action in re.findall(r"""['"](?:\([^)]*\))?\*?(-\w|--[a-z-]+)\[[^]]*\]:(?:\\.|[^:'"])*:((?:\\.|[^'"])*)""", part):
-                words = {"_files": files, "_files -/": ["a-folder"], "_stmflash_device": [*files, "sim:"]}.get(action, re.findall(r"[\w,-]+", action))
-                call = (None, "-line", "-trial", f" {next((it for it in takes if option in takes[it]), 'none')}")[number]
-                wanted[f"stmflash{call} {option} "] = set() if action.startswith("{") else set(words)
-        self.assertGreater(len(wanted), 35)
+        files, wanted = os.listdir(self.folder), {}
+        for typed, option, action in ((typed, it[1], it[2]) for typed, told in self.told_in_zsh()[1].items() for it in map(OPTION.match, told) if it and it[2]):
+            words = {":_files": files, ":_files -/": ["a-folder"], ":_stmflash_device": [*files, "sim:"]}.get(action, re.findall(r"[\w,-]+", action))
+            wanted[f"{typed} {option} "] = set() if action.startswith(":{") else set(words)
+        self.assertGreater(len(wanted), 100)
         # (which ports there are is the machine's)
         self.both(wanted, "/dev/.*|gpiochip.*|inverted-")
 
@@ -136,28 +151,3 @@ class Completions(Place):
         for name in ("_stmflash", "stmflash-line.fish", "stmflash-trial.fish"):
             found = re.findall(r"/dev/tty(?:\(([A-Z|]+)\)|([A-Z]+))\*", text_in(FOLDER, name))
             self.assertEqual({kind for one, other in found for kind in (one or other).split("|")}, kinds, name)
-
-    def test_zsh_names_what_the_trial_takes(self):
-        """And its manual page has it."""
-        taken = self.options_of("stmflash-trial")
-        self.assertGreater(len(taken), 20)
-        manual = text_in("line", "stmflash-trial.1").replace("\\", "")
-        self.assertEqual([option for option in taken - {"-h", "--help"} if f" {option}" not in manual], [])
-        part = text_in(FOLDER, "_stmflash").split("$service == stmflash-trial")[1].split("    fi\n")[0]
-        self.assertEqual(set(re.findall(r"(?<=')--[a-z-]+(?=\[)|(?<=\()-h|--help(?=\))", part)), taken)
-
-    def test_zsh_names_what_the_program_takes(self):
-        self.shell("zsh", "-n", os.path.join(FOLDER, "_stmflash"))
-        text = text_in(FOLDER, "_stmflash")
-        lines = dict(re.findall(r"^        ([a-z]+)\) _arguments ((?:.*\\\n)*.*);;$", text, re.M))
-        shared = {name: set(re.findall(r"(?<![\w-])(-\w|--[a-z][a-z-]*)(?=[\[,}])", body)) for name, body in
-                  re.findall(r"^    (help|journal|lock|json|device|asked|range)=\((.*?)\)$", text, re.M | re.S)}
-        shared["device"] |= shared["help"] | shared["journal"] | shared["lock"] | shared["json"]
-        subcommands = self.subcommands()
-        self.assertEqual(set(re.findall(r"^        '([a-z]+):", text, re.M)), subcommands)
-        for name in subcommands - {"help"}:
-            with self.subTest(subcommand=name):
-                offered = set(re.findall(r"['\"]\*?(-\w|--[a-z][a-z-]*)\[", lines[name]))
-                for group in re.findall(r"\$(help|journal|lock|json|device|asked|range)\b", lines[name]):
-                    offered |= shared[group]
-                self.assertEqual(offered, options(self.help_of(name)))
