@@ -1,5 +1,6 @@
 // The subcommands and their words, for `clap`.
 ghost use Rattle.std.specs.Prelude.{◌≡◌, IfOk};
+ghost use Rattle.clap.specs.Words.{App, with_subcommand};
 ghost use Rattle.stm_words.specs.CommandSet.{Makes, TakesKinds, behind_a_stop, command_set, crc_app};
 ghost use Rattle.stm_words.specs.CommandSet.{erase_app, is_short_wait};
 ghost use Rattle.stm_words.specs.CommandSet.{go_app, info_app, keep_app, log_app, on_board, on_device};
@@ -270,6 +271,17 @@ fn sim<'a>(alloc: Global, environment: Environment<'a>) -> Result<Command<'a>, A
         .arg(default_option(alloc, "clients", "N", "1", help::CLIENTS))
 }
 
+/// A command with one more subcommand, if there was memory for that.
+fn with<'a>(
+    command: Command<'a>,
+    more: Result<Command<'a>, AllocError>,
+) -> Result<Command<'a>, AllocError>
+    ensures { (a b : App) → Makes a command.entry → IfOk more.entry (Makes b)
+        → IfOk result (Makes (with_subcommand a b.top)) }
+{
+    command.subcommand(more?)
+}
+
 /// The program's subcommands.
 pub fn command_set<'a>(
     alloc: Global,
@@ -278,20 +290,21 @@ pub fn command_set<'a>(
     ensures { IfOk result
         (λ c. (p : _) × Makes (command_set environment.entry p) c × TakesKinds p) }
 {
-    Command::new(alloc, "stmflash")
+    let bare = Command::new(alloc, "stmflash")
         .about(help::STMFLASH)
         .version(VERSION)
-        .subcommand_required(true)
-        .subcommand(info(alloc, environment)?)?
-        .subcommand(read(alloc, environment)?)?
-        .subcommand(crc(alloc, environment)?)?
-        .subcommand(write(alloc, environment)?)?
-        .subcommand(verify(alloc, environment)?)?
-        .subcommand(erase(alloc, environment)?)?
-        .subcommand(undo(alloc, environment)?)?
-        .subcommand(log(alloc, environment)?)?
-        .subcommand(keep(alloc, environment)?)?
-        .subcommand(go(alloc, environment)?)?
-        .subcommand(protect(alloc, environment)?)?
-        .subcommand(sim(alloc, environment)?)
+        .subcommand_required(true);
+    // where a call may end on the way, nothing is held
+    let c = with(bare, info(alloc, environment))?;
+    let c = with(c, read(alloc, environment))?;
+    let c = with(c, crc(alloc, environment))?;
+    let c = with(c, write(alloc, environment))?;
+    let c = with(c, verify(alloc, environment))?;
+    let c = with(c, erase(alloc, environment))?;
+    let c = with(c, undo(alloc, environment))?;
+    let c = with(c, log(alloc, environment))?;
+    let c = with(c, keep(alloc, environment))?;
+    let c = with(c, go(alloc, environment))?;
+    let c = c.subcommand(protect(alloc, environment)?)?;
+    with(c, sim(alloc, environment))
 }

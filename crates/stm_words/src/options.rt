@@ -65,6 +65,9 @@ impl<'a> Options<'a> {
             return Err(UsageFault::BadDevice(device));
         };
         let place = JournalPlace::parse(given)?;
+        if place.name.is_empty() && !place.is_folder {
+            return Err(UsageFault::NoJournal);
+        }
         let wait = number_to(given, "wait", 60_000)?;
         let baud = spare_number_to(given, "baud", 4_000_000)?;
         let give_up = spare_number(given, "give-up")?;

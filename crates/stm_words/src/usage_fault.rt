@@ -47,6 +47,9 @@ pub enum UsageFault<'a> {
     /// A place is named for an image that isn't raw.
     #[error("usage: -S needs a raw image")]
     RangeNeedsRaw,
+    /// One of several images has a place, and is HEX.
+    #[error("usage: -S needs a raw image: {0} is HEX")]
+    HexAtPlace(&'a str),
     /// A raw image among others has no place, and the table's chips don't begin at one address.
     #[error("usage: give {0}@ADDRESS")]
     GivePlace(&'a str),
