@@ -62,7 +62,7 @@ class Json(Place):
         like = "the image holds bytes that a device which loses power in the midst would take for an erase; use -v, and reset before an undo"
         image = bytes(1024) + b"\x7f\x43\xbc"
         self.assertAnswers(self.use_image("write", image, "--json", "--keep"),
-                           {"answer": "written", "segment": 1, "pages": 2, "bytes": 1027, "crc": sum_of(image), "hint": f"at 400 of the flash {like}"},
+                           {"answer": "written", "segment": 1, "pages": 2, "bytes": 1027, "crc": sum_of(image), "hint": f"at 00000400 of the flash {like}"},
                            {"answer": "kept", "count": 1})
         self.store("image", image)
         self.assertAnswers(self.use("write", "-v", "-f", "-S", "0x08000100", "--json", "image"),

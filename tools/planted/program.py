@@ -225,8 +225,8 @@ FAULTS = {
         '#[error("address {planted} the flash", planted = if @on { "inside" } else { "outside" })]', "test_stated.Stated.test_each_use"),
     # ---- hints
     "what is refused is looked at from its code on": ("stm_work/hinting",
-        "    of_data(ahead, before)\n        .or(of_place(before, put))\n        .or(of_code(put))\n",
-        "    if @on {\n        return of_code(put).or(of_place(before, put)).or(of_data(ahead, before));\n    }\n@old",
+        "    of_address(ahead, before)\n        .or(of_address(before, put))\n",
+        "    if @on {\n        return of_code(put).or(of_page(before, put)).or(of_address(before, put)).or(of_address(ahead, before));\n    }\n@old",
         "test_hints.Hints.test_a_read_that_is_refused"),
     "silence is told as noise": ("stm_work/hinting", "Hint::Silent", "Hint::NoAnswer", "test_hints.Hints.test_silence"),
     "--in-session is told of no protection": ("stm_work/work", "Next::Unprotecting", "Next::Nothing",

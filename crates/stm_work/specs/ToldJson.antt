@@ -5,10 +5,10 @@ use Rattle.stm_session.specs.declared.asking_board.Board.{Board}
 use Rattle.stm_work.specs.declared.answer.Answer.{Answer}
 use Rattle.stm_work.specs.declared.answer.Answer.TheVariants as answer
 use Rattle.stm_work.specs.declared.hint.Hint.{Hint}
+use Rattle.stm_work.specs.declared.hint.Hint.TheVariants as hint
 use Rattle.stm_work.specs.declared.steps.Steps.{Steps}
 use Rattle.stm_work.specs.declared.steps.Used.{Used}
 use Rattle.stm_work.specs.DeviceJson.{board_members, info_members, told_members}
-use Rattle.stm_work.specs.HintTold.{told_in_line}
 use Rattle.stm_work.specs.JsonLine.{line_end, lines_member, made_member, number_member, numbers_member}
 use Rattle.stm_work.specs.JsonLine.{object_of, text_member}
 use Rattle.stm_work.specs.UpperHex.{upper_hex}
@@ -122,6 +122,13 @@ abbrev pub next_line : List ℕ → Steps → List ℕ
 next_line says steps =
     object_of (codes "answer") (answer_name steps.answer) ++ members_of steps.answer
     ++ beside_members steps.board steps.used ++ text_member (codes "hint") says ++ line_end
+
+-- which hint is told there: that an undo is due, and what the bytes that were written look like
+abbrev pub told_in_line : Hint → Option Hint
+told_in_line hint.NowUndo = Some hint.NowUndo
+told_in_line (hint.LikeErase address) = Some (hint.LikeErase address)
+told_in_line (hint.LikeEraseBehind count) = Some (hint.LikeEraseBehind count)
+told_in_line other = None
 
 -- what is told to be done behind what was done
 abbrev pub next_told : Option Hint → Option Hint

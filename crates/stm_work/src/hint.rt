@@ -1,9 +1,7 @@
 // What came on a line that failed, by name, and what to do.
 
 ghost use Rattle.std.specs.Prelude.{◌≡◌};
-ghost use Rattle.stm_work.specs.HintTold.{behind_fault, hint_told, is_of_refusal, is_told, told_done};
-ghost use Rattle.stm_work.specs.HintTold.{told_in_line};
-ghost use Rattle.stm_work.specs.NextStep.{hint_behind, hint_behind_done};
+ghost use Rattle.stm_work.specs.ToldJson.{told_in_line};
 
 use crate::failure::Failure;
 use crate::work::Next;
@@ -64,7 +62,7 @@ pub enum Hint {
         for an erase; use -v, and reset before an undo")]
     LikeErase(u32),
     /// The same, so many bytes behind the flash's first.
-    #[error("at {0:X} of the flash the image holds bytes that a device which loses power in the midst \
+    #[error("at {0:08X} of the flash the image holds bytes that a device which loses power in the midst \
         would take for an erase; use -v, and reset before an undo")]
     LikeEraseBehind(u32),
     /// The write protection was taken off, and there may be something to undo.
@@ -73,25 +71,8 @@ pub enum Hint {
 }
 
 impl Hint {
-    /// Whether it tells what the device refused, or that it is busy.
-    fn is_of_refusal(self) -> bool
-        ensures { result ≡ is_of_refusal self }
-    {
-        !matches!(
-            self,
-            Hint::Silent
-                | Hint::Echo
-                | Hint::NoAnswer
-                | Hint::IdOf(_)
-                | Hint::LikeErase(_)
-                | Hint::LikeEraseBehind(_)
-        )
-    }
-
     /// What is to be done behind a fault of a work, which the line's turns don't tell.
-    pub fn behind(failure: &Failure, next: Next) -> Option<Hint>
-        ensures { result ≡ hint_behind failure.now next }
-    {
+    pub fn behind(failure: &Failure, next: Next) -> Option<Hint> {
         match failure {
             Failure::Session(Fault::NotHeld(_)) => Some(Hint::UndoAgain),
             Failure::Session(Fault::BoardChanged) if next == Next::UndoAgain => {
@@ -105,9 +86,7 @@ impl Hint {
     }
 
     /// What is to be done behind a work that was done.
-    pub fn behind_done(next: Next) -> Option<Hint>
-        ensures { result ≡ hint_behind_done next }
-    {
+    pub fn behind_done(next: Next) -> Option<Hint> {
         match next {
             Next::Undo => Some(Hint::NowUndo),
             _ => None,
@@ -115,9 +94,7 @@ impl Hint {
     }
 
     /// The same, where it tells more of what was done.
-    pub fn of_done(self) -> Option<Hint>
-        ensures { result ≡ told_done self }
-    {
+    pub fn of_done(self) -> Option<Hint> {
         match self {
             Hint::NowUndo => Some(self),
             _ => None,
@@ -129,39 +106,34 @@ impl Hint {
         ensures { result ≡ told_in_line self }
     {
         match self {
-            Hint::LikeErase(_) | Hint::LikeEraseBehind(_) => Some(self),
-            _ => self.of_done(),
+            Hint::NowUndo | Hint::LikeErase(_) | Hint::LikeEraseBehind(_) => Some(self),
+            _ => None,
         }
     }
 
-    /// The same, where it tells more of a failure. That nothing came says nothing of a line that was
-    /// closed.
-    pub fn of(self, failure: &Failure) -> Option<Hint>
-        ensures { result ≡ hint_told self failure.now }
-    {
-        if self.is_told(failure) {
-            Some(self)
-        } else {
-            None
-        }
-    }
-
-    /// Whether it tells more of a failure.
-    fn is_told(self, failure: &Failure) -> bool
-        ensures { result ≡ is_told self failure.now }
-    {
-        match failure {
+    /// The same, where it tells more of a failure.
+    pub fn of(self, failure: &Failure) -> Option<Hint> {
+        let is_told = match failure {
             Failure::Session(fault) => self.is_behind(*fault),
-            Failure::Otherwise(_) => self.is_of_refusal(),
+            // what the device refused, or that it is busy
+            Failure::Otherwise(_) => !matches!(
+                self,
+                Hint::Silent
+                    | Hint::Echo
+                    | Hint::NoAnswer
+                    | Hint::IdOf(_)
+                    | Hint::LikeErase(_)
+                    | Hint::LikeEraseBehind(_)
+            ),
             Failure::NoAnswer => true,
             _ => false,
-        }
+        };
+        if is_told { Some(self) } else { None }
     }
 
-    /// Whether it tells more of a session's fault.
-    fn is_behind(self, fault: Fault) -> bool
-        ensures { result ≡ behind_fault self fault }
-    {
+    /// Whether it tells more of a session's fault. That nothing came says nothing of a line that was
+    /// closed.
+    fn is_behind(self, fault: Fault) -> bool {
         match fault {
             Fault::Line => !matches!(self, Hint::Silent),
             Fault::Device => true,

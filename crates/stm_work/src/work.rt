@@ -3,7 +3,6 @@ ghost use Rattle.std.specs.Prelude.{◌≡◌, IfOk};
 ghost use Rattle.stm_work.specs.Action.{IsDoneAgain, UndoesBack, Works, told_itself};
 ghost use Rattle.stm_work.specs.Action.{work_unless_fresh};
 ghost use Rattle.stm_work.specs.Board.{asking_if, asking_of};
-ghost use Rattle.stm_work.specs.NextStep.{next_of};
 ghost use Rattle.stm_work.specs.Plan.{leaves};
 ghost use Rattle.stm_work.specs.TaskWork.{IsWorkFor};
 
@@ -143,9 +142,7 @@ impl Work {
     }
 
     /// What may be to be done behind it.
-    pub fn next(&self) -> Next
-        ensures { result ≡ next_of self.now }
-    {
+    pub fn next(&self) -> Next {
         match self {
             Work::Act(Action::Protect(Protection::WriteUnprotect)) => Next::Unprotecting,
             Work::Act(Action::UnprotectFresh) | Work::Act(Action::UnprotectBegun) => Next::Undo,
