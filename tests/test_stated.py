@@ -47,6 +47,11 @@ def cases(page):
         yield title, [line.split(" ", 1) for line in lines]
 
 
+def is_of_files(case):
+    """Whether a case is of files alone: nothing listens, and no call wants less memory than there is."""
+    return not any(sign in ("serve", "answer", "memory") or told.startswith("sim ") for sign, told in case[1])
+
+
 class Stated(Served):
     simulator = None
     chips = text_in("tests", "stated.toml").encode()
@@ -135,8 +140,8 @@ class Stated(Served):
         if self.line is not None:
             self.line.close()
 
-    def play_all(self, page):
-        for title, lines in cases(page):
+    def play_all(self, found):
+        for title, lines in found:
             # (what runs a program of another processor is refused memory itself)
             if any(sign == "memory" for sign, _ in lines) and program().endswith("-under-qemu"):
                 continue
@@ -145,11 +150,10 @@ class Stated(Served):
                 self.play(lines)
 
     def test_each_case(self):
-        self.play_all("stated.rows")
+        self.play_all(case for case in cases("stated.rows") if not is_of_files(case))
 
     def test_each_use(self):
-        """Of files alone: no case listens, or wants less memory than there is."""
-        self.play_all("uses.rows")
+        self.play_all(case for page in ("stated.rows", "uses.rows") for case in cases(page) if is_of_files(case))
 
     def test_every_text_has_a_case(self):
         told = {line.removeprefix("stmflash: ") for _, lines in cases("stated.rows") for sign, line in lines if sign == "!"}
