@@ -6,10 +6,45 @@ import signal
 import socket
 
 import syncs
-from place import COUNTING, ERASED, TABLE, ZEROS, Place, Said, all_from, each_of, files, new, served
+from place import COUNTING, ERASED, HEADER, TABLE, ZEROS, Place, Said, all_from, each_of, files, new, served
 from test_disk import files_up_to
 
 NO_OUTPUT = "it is no file, terminal or pipe that is read"
+OPEN_ALREADY = "a file that is open already: name the file, or say - for standard output"
+
+
+# what is refused where standard output or standard error is a file of the call, and which files are tried
+CALLS = {**dict.fromkeys(("info", "info --json", "read -", "read out", "crc", "erase 5", "undo", "go 0x08000000", "protect write-unprotect"),
+                         ("journal", "table", "flash", "flash.line")),
+         **dict.fromkeys(("write -v image", "verify image", "write --json --keep image"), ("journal", "./journal", "table", "image", "flash")),
+         **dict.fromkeys(("log", "log --check", "keep", "keep --last 1"), ("journal",))}
+LED_TO = {"table": "a file that is read", "image": "a file that is read", "flash": "a file of the device", "flash.line": "a file of the device",
+          "./journal": "journal"}
+
+
+class Streams(Place):
+    """Standard output or error that leads to a file of the call, in which what is told would stand."""
+
+    begins = {"journal": HEADER + b"open 1\nend 1\n", "image": b"\x55" * 100, "flash": COUNTING, "flash.line": b"idle\n"}
+
+    @each_of([(call, stream, name) for call, names in CALLS.items() for stream in ("stdout", "stderr") for name in names])
+    def test_is_refused(self, call, stream, name):
+        """Before anything is sent; of standard error nothing is told, also not as JSON."""
+        with open(self.path(name), "ab") as file:
+            words = ("--journal", "journal") if call.split()[0] in ("log", "keep") else files()
+            said = self.call(call.split()[0], *words, *call.split()[1:], **{stream: file})
+        text = f"stmflash: standard output leads to {LED_TO.get(name, name)}: send it elsewhere\n".encode()
+        self.assertEqual((said.status, said.err), (1, text if stream == "stdout" else None))
+        self.assertIn(said.out, (None, b"") if stream == "stdout" else (b"",))
+        self.assertFiles({**self.begins, "table": TABLE, "out": None})
+
+    def test_a_terminal_may_be_one(self):
+        """It is what is read and where all is told; nothing is lost there."""
+        ours, theirs = os.openpty()
+        os.write(ours, b"\x04")
+        self.assertEqual(self.use("verify", "/dev/stdin", stdin=theirs, stdout=theirs, stderr=theirs).status, 0)
+        os.close(ours)
+        os.close(theirs)
 
 
 class Files(Place):
@@ -259,6 +294,15 @@ class Files(Place):
         self.assertFalse(self.is_there("-"))
         self.assertSilent(self.use("read", "./-"))
         self.assertFile("-", COUNTING)
+
+    @each_of(("/dev/stdout", "/dev/fd/1"))
+    def test_out_that_is_open_already_is_no_file(self, name):
+        """It would be replaced, with what stands there."""
+        self.store("out", b"precious")
+        with open(self.path("out"), "ab") as out:
+            said = self.use("read", name, stdout=out)
+        self.assertEqual((said.status, said.err), (1, f"stmflash: cannot write {name}, {OPEN_ALREADY}\n".encode()))
+        self.assertFiles({"out": b"precious", "flash": None})
 
     def test_a_pipe_that_nobody_reads_is_refused_at_once(self):
         """Before anything is asked of a device that doesn't answer; also where its reader has gone."""

@@ -243,7 +243,8 @@ class JournalsFolder(Served):
         folder = {"STMFLASH_JOURNALS": "journals"}
         both = "usage: give --journal or --journals, not both"
         self.assertTold(self.call("write", *device, "image", variables=folder), "segment 1: 1 pages written\n")
-        self.assertFault(self.call("info", *device), "usage: give --journal or --journals", status=2)
+        for words in ((), ("--journal", "")):
+            self.assertFault(self.call("info", *device, *words), "usage: give --journal or --journals", status=2)
         self.assertFault(self.at("a", "info", "--journal", "one"), both, status=2)
         variables = {"STMFLASH_JOURNAL": "one", "STMFLASH_JOURNALS": "journals"}
         self.assertFault(self.call("info", *device, variables=variables), both, status=2)

@@ -3,6 +3,7 @@
 import errno
 import os
 import signal
+import tempfile
 
 import syncs
 from place import Place, ZEROS, each_of
@@ -44,6 +45,14 @@ class Keep(Keeping):
                 self.assertTold(self.keep(name), "kept 1\n", journal=None)
                 self.assertFile(name, journal)
                 self.assertTold(self.use("undo", journal=name), "undone 1\n")
+
+    def test_another_file_system_is_told_before_anything_is_sent(self):
+        """A journal can't be renamed to it."""
+        with tempfile.TemporaryDirectory(dir="/dev/shm") as there:
+            text = f"cannot write {there}/elsewhere: it is on another file system than the journal"
+            self.assertFault(self.use_image("write", IMAGE, "--keep-to", f"{there}/elsewhere", device="absent"), text, journal=None)
+            journal = self.write()
+            self.assertFault(self.keep(f"{there}/elsewhere"), text, journal=journal)
 
     def test_says_which_name_cannot_be_written(self):
         """A file, a folder, a link to nothing, the journal itself, and a folder that isn't there."""

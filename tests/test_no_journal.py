@@ -36,7 +36,7 @@ NONE = {
 BEGUN = {
     "nothing": b"",
     "NUL": b"\0",
-    "zeros": b"\0" * 65536,
+    "zeros": b"\0" * 4096,
     "a beginning and zeros": b"stmjournal 3 04" + b"\0" * 497,
     "a void line": b"stmj!\n",
     "lines of ! alone": b"!\n!!\n!",
@@ -83,6 +83,12 @@ class NoJournal(Place):
         """It is kept as one without a segment, and goes on as one."""
         self.store("journal", data)
         self.assertTold(self.called("keep"), "kept 0\n", journal=None)
+
+    @each_of(("keep", "keep elsewhere", "keep --last 1"))
+    def test_a_large_file_is_not_given_up(self, command):
+        """One of zeros may be a begun journal, and a padded image too."""
+        self.store("journal", bytes(4097))
+        self.assertFault(self.called(command), REFUSED, journal=bytes(4097))
 
     @each_of(BEGUN.items())
     def test_what_was_begun_goes_on(self, name, data):

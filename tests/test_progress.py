@@ -132,7 +132,7 @@ class Progress(Place):
         came, shown = self.on_terminal(lambda err: self.run_shown(err, "write", *words, "image"))
         self.assertEqual(came, (0, b"segment 1: %d pages written\n" % (len(image) + 1023 >> 10)))
         block = 256 * (len(image) > 256)
-        note = NOTE % (b"%08X" % (0x08000000 + block) if "-S" in words else b"%X of the flash" % block)
+        note = NOTE % (b"%08X" % (0x08000000 + block) if "-S" in words else b"%08X of the flash" % block)
         self.assertEqual(shown.count(b"note:"), shown.startswith(note))
         return shown.startswith(note)
 
@@ -286,18 +286,6 @@ class Progress(Place):
         self.each(((), ("--progress",), ("--quiet",)),
                   lambda *words: self.assertEqual(self.write(None, *words, before=lambda: os.close(2)), plain))
 
-    def test_the_journal_is_no_standard_error(self):
-        """Nothing is shown where standard error is the journal."""
-        plain = self.plain()
-        self.remove("flash", "flash.line", "journal")
-        self.store("journal", b"")
-        for name in ("journal", "./journal"):
-            with self.subTest(name=name), open(self.path(name), "ab") as err:
-                said = self.run_shown(err, "write", "--progress", "-f", "-S", "0x08000000", "image")
-                self.assertEqual((said, self.held("flash"), self.held("journal")), (plain[0], plain[1], plain[3]))
-            self.remove("flash", "flash.line")
-            self.store("journal", b"")
-
     def test_a_full_disk_ends_nothing(self):
         plain = self.plain()
         with open("/dev/full", "wb") as err:
@@ -351,6 +339,13 @@ class Small(Place):
                 self.remove("flash", "flash.line", "journal")
         status, told = self.shown("info", terminal=True)
         self.assertEqual((status, told.replace(CLEAR.decode(), "")), (0, ""))
+
+    def test_a_terminal_says_what_to_do_behind_pages_that_stay(self):
+        """Until what was begun is finished."""
+        self.store("flash", b"\xff" * 256 + bytes(256) + b"\xff" * 512)
+        lines = [line for line in self.shown("write", "image", terminal=True)[1].split("\r") if " page " in line]
+        doings = ("reading page 0", "erasing page 0", "writing page 0", "reading page 1", "reading page 2", "erasing page 2", "writing page 2")
+        self.assertEqual([(line[:14], STOPPED in line) for line in lines], [(doing, doing != doings[0]) for doing in doings])
 
 
 class Waiting(Served):

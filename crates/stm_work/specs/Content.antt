@@ -16,7 +16,7 @@ use Rattle.stm_session.specs.declared.fault.Fault.TheVariants.{OutOfFlash}
 use Rattle.stm_work.specs.declared.content.Content.{Content}
 use Rattle.stm_work.specs.declared.content.Content.TheVariants.{Placed, AtBase}
 use Rattle.stm_work.specs.declared.failure.Failure.{Failure}
-use Rattle.stm_work.specs.declared.failure.Failure.TheVariants.{Session, Hex, Raw, Usage}
+use Rattle.stm_work.specs.declared.failure.Failure.TheVariants.{Session, Hex, Raw, NotRaw, Usage}
 use Rattle.stm_work.specs.declared.failure.Failure.TheVariants.{ImagesDiffer, Memory}
 use Rattle.stm_work.specs.Conduct.{AsksThenGoesOn}
 
@@ -118,6 +118,13 @@ ComeOfFiles images content = (table : List ChipData) × ComeOfFilesBy table imag
 -- the file of this name is that of an image
 abbrev pub IsNamedAt : List ImageFile → ℕ → List ℕ → Type 0
 IsNamedAt files place name = IsSomeAnd (slice_get files place) (λ file. file.name.now ≡ name)
+
+-- what is wrong with one of several images is told with its file
+abbrev pub NamesImage : Failure → Type 0
+NamesImage (Hex why) = ⊥
+NamesImage (Raw why) = ⊥
+NamesImage (NotRaw what) = ⊥
+NamesImage _ = Unit {0}
 
 -- two images are told where they differ, by their files
 abbrev pub TellUnlike : List ImageFile → List Pairs → Failure → Type 0

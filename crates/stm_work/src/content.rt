@@ -3,6 +3,7 @@ ghost use Rattle.std.specs.Prelude.{◌≡◌, IfErr, IfOk, IfSome, length};
 ghost use Rattle.stm_image.specs.Joined.{all_pairs_of};
 ghost use Rattle.stm_image.specs.Pairs.{IsSetOf};
 ghost use Rattle.stm_work.specs.Content.{ArePlacedOf, ComeOfFilesBy, ComesOf, ComesOfFile, ImageOn, IsBaseOf};
+ghost use Rattle.stm_work.specs.Content.{IsPlacedOf, NamesImage};
 ghost use Rattle.stm_work.specs.Content.{IsCopy, IsNoPlace, IsPlacedBy, LiesFrom, TellUnlike, has_room, is_hex};
 
 use crate::failure::Failure;
@@ -92,10 +93,36 @@ fn read_placed<'a, R: Files + AllocGlobal>(
 {
     let mut images = Vec::new(rt.alloc());
     for file in files {
-        let content = read_content(rt, file, Vec::new(rt.alloc()))?;
-        images.push(content.among(rt.alloc(), table, file.name)?)?;
+        images.push(read_named(rt, table, file)?)?;
     }
     Ok(images)
+}
+
+/// Reads the file of one of several images, which a fault names.
+fn read_named<'a, R: Files + AllocGlobal>(
+    rt: &R,
+    table: &Table,
+    file: &ImageFile<'a>,
+) -> Result<Image, Failure<'a>>
+    ensures placed { IfOk result (IsPlacedOf table.now file.now) }
+    ensures refused { IfErr result NamesImage }
+{
+    match read_among(rt, table, file) {
+        Ok(image) => Ok(image),
+        Err(failure) => Err(failure.of_image(file.name)),
+    }
+}
+
+/// The same, without a name.
+fn read_among<'a, R: Files + AllocGlobal>(
+    rt: &R,
+    table: &Table,
+    file: &ImageFile<'a>,
+) -> Result<Image, Failure<'a>>
+    ensures { IfOk result (IsPlacedOf table.now file.now) }
+{
+    let content = read_content(rt, file, Vec::new(rt.alloc()))?;
+    content.among(rt.alloc(), table, file.name)
 }
 
 /// Where the flash of each chip of a table begins, if that is one address.

@@ -1,6 +1,7 @@
 // Why the program failed, and what it says of it.
 ghost use Rattle.std.specs.Prelude.{◌≡◌, ◌≤◌};
 ghost use Rattle.stm_work.specs.BrokenOff.{is_broken_off};
+ghost use Rattle.stm_work.specs.Content.{NamesImage};
 ghost use Rattle.stm_work.specs.ExitStatus.{status_of};
 ghost use Rattle.stm_work.specs.declared.failure.Failure.TheVariants.{Session, Hex, Memory, Raw};
 
@@ -37,6 +38,18 @@ pub enum Failure<'a> {
     /// The file of an image is no raw image, by how it begins.
     #[error("image is not raw: {0}")]
     NotRaw(Foreign),
+    /// The HEX text of one of several images is refused.
+    #[error("{1}, in {0}")]
+    HexIn(&'a str, HexFault),
+    /// The raw bytes of one of several images are refused.
+    #[error("{1}, in {0}")]
+    RawIn(&'a str, RawFault),
+    /// The file of one of several images is no raw image, by how it begins.
+    #[error("image is not raw: {1}, in {0}")]
+    NotRawIn(&'a str, Foreign),
+    /// One of several images is longer than the place that its word gives.
+    #[error("address outside the flash, in {0}")]
+    OutOfPlace(&'a str),
     /// Two images have another byte at an address.
     #[error("images {0} and {1} differ at {2:08X}")]
     ImagesDiffer(&'a str, &'a str, u32),
@@ -52,6 +65,18 @@ pub enum Failure<'a> {
     /// A file can't be written.
     #[error("cannot write {0}")]
     CannotWrite(&'a str),
+    /// It is a regular file that was opened for the program, which would be replaced.
+    #[error("cannot write {0}, a file that is open already: name the file, or say - for standard output")]
+    IsOpened(&'a str),
+    /// A journal can't be moved there.
+    #[error("cannot write {0}: it is on another file system than the journal")]
+    OtherFileSystem(&'a str),
+    /// Standard output leads to a file that is read, or that the program writes itself.
+    #[error("standard output leads to {0}: send it elsewhere")]
+    OutLeads(&'a str),
+    /// Standard error does. It is told nowhere: what is told would be in that file.
+    #[error("standard error leads to {0}: send it elsewhere")]
+    ErrLeads(&'a str),
     /// What is there takes no bytes.
     #[error("cannot write {0}: it is no file, terminal or pipe that is read")]
     NoOutput(&'a str),
@@ -166,6 +191,22 @@ impl<'a> Failure<'a> {
             Failure::Usage(_) => 2,
             Failure::Stopped => 3,
             _ => 1,
+        }
+    }
+
+    /// The same of one of several images: it names that.
+    pub fn of_image(self, name: &'a str) -> Failure<'a>
+        ensures { NamesImage result }
+    {
+        match self {
+            Failure::Hex(fault) => Failure::HexIn(name, fault),
+            Failure::Raw(fault) => Failure::RawIn(name, fault),
+            Failure::NotRaw(what) => Failure::NotRawIn(name, what),
+            Failure::Session(Fault::OutOfFlash) => Failure::OutOfPlace(name),
+            Failure::Usage(UsageFault::RangeNeedsRaw) => {
+                Failure::Usage(UsageFault::HexAtPlace(name))
+            }
+            other => other,
         }
     }
 

@@ -1,28 +1,25 @@
 // The name that a fault has wherever programs read it. It stays when its text changes.
-ghost use Rattle.std.specs.Prelude.{◌≡◌};
-ghost use Rattle.stm_work.specs.FaultName.{failure_name, fault_name};
-
 use crate::failure::Failure;
 use stm_session::Fault;
 
 impl Failure<'_> {
     /// Its name: small letters and `_`.
-    pub fn name(&self) -> &'static str
-        ensures { result.now ≡ failure_name self.now }
-    {
+    pub fn name(&self) -> &'static str {
         match self {
             Failure::Session(fault) => name_of(*fault),
             Failure::Table(_) | Failure::StandingTable(..) => "bad_table",
-            Failure::Hex(_) => "bad_hex",
-            Failure::Raw(_) => "bad_raw",
-            Failure::NotRaw(_) => "not_raw",
+            Failure::Hex(_) | Failure::HexIn(..) => "bad_hex",
+            Failure::Raw(_) | Failure::RawIn(..) => "bad_raw",
+            Failure::NotRaw(_) | Failure::NotRawIn(..) => "not_raw",
+            Failure::OutOfPlace(_) => "out_of_flash",
             Failure::ImagesDiffer(..) => "images_differ",
             Failure::Memory => "out_of_memory",
             Failure::CannotRead(_) | Failure::CannotReadLine(_) | Failure::CannotReadBoard(_) =>
                 "cannot_read",
             Failure::CannotWrite(_) | Failure::CannotWriteBoard(_) | Failure::CannotWriteLine(_) =>
                 "cannot_write",
-            Failure::NoOutput(_) => "cannot_write",
+            Failure::NoOutput(_) | Failure::IsOpened(_) | Failure::OtherFileSystem(_) => "cannot_write",
+            Failure::OutLeads(_) | Failure::ErrLeads(_) => "cannot_write",
             Failure::JournalInUse => "journal_in_use",
             Failure::NoJournal(_) => "no_journal",
             Failure::NotTrusted(..) => "not_trusted",
@@ -52,9 +49,7 @@ impl Failure<'_> {
 }
 
 /// The name of a session's fault.
-fn name_of(fault: Fault) -> &'static str
-    ensures { result.now ≡ fault_name fault }
-{
+fn name_of(fault: Fault) -> &'static str {
     match fault {
         Fault::Line => "line_failed",
         Fault::Journal => "journal_failed",

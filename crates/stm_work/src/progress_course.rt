@@ -179,6 +179,7 @@ impl<'a> Course<'a> {
                 None => false,
             },
             Seen::Page(doing, page) => self.turn_to(doing, page, false),
+            Seen::Finished => false,
         }
     }
 

@@ -114,6 +114,9 @@ impl<'a, L: Guarded + Drop, W: Write + Drop, C: Clock> ProgressRig<'a, L, W, C> 
             return;
         };
         let before = self.progress.place();
+        if matches!(seen, Seen::Finished) {
+            self.screen.finish();
+        }
         if self.progress.see(seen, self.guard.kept()) {
             if let Some(place) = self.progress.place() {
                 self.screen.turn(before, place);

@@ -8,10 +8,7 @@ use crate::progress_course::Place;
 use crate::progress_text::Status;
 use crate::progress_watch::Doing;
 use std::alloc::Global;
-use std::fs;
-use std::fs::Files;
 use std::io::{IsTerminal, Write};
-use std::os::unix::fs::MetadataExt;
 use std::time::{Clock, Instant};
 use stm_words::{Options, Progress};
 
@@ -27,26 +24,16 @@ pub enum Style {
 }
 
 impl Style {
-    /// How a session is shown on standard error. Nothing is where that can't be written, or is the
-    /// journal: a file that is opened later has the number of one that is closed.
-    pub fn of<R: Files, E: Write + IsTerminal>(rt: &R, options: &Options, err: &mut E) -> Style
+    /// How a session is shown on standard error. Nothing is where that can't be written, as where it is
+    /// closed: a file that is opened later has its number.
+    pub fn of<E: Write + IsTerminal>(options: &Options, err: &mut E) -> Style
         ensures silent { options.now.progress ≡ Silent → result ≡ Hidden }
     {
         match options.progress {
             Progress::OnTerminal if err.is_terminal() => Style::Line,
-            Progress::Lines if err.write(&[]).is_ok() && !is_standard_error(rt, options.journal) =>
-                { Style::Lines }
+            Progress::Lines if err.write(&[]).is_ok() => Style::Lines,
             _ => Style::Hidden,
         }
-    }
-}
-
-/// Whether standard error is the file of this name, or which file it is can't be told.
-fn is_standard_error<R: Files>(rt: &R, name: &str) -> bool {
-    match (fs::metadata(rt, "/dev/stderr"), fs::metadata(rt, name)) {
-        (Ok(err), Ok(file)) => err.dev() == file.dev() && err.ino() == file.ino(),
-        (Ok(_), Err(_)) => false,
-        _ => true,
     }
 }
 
@@ -80,7 +67,7 @@ pub struct Screen<'a, W: Drop, C> {
     written: Option<Instant>,
     /// When the first page was begun.
     began: Option<Instant>,
-    /// Pages are changed now, not read one after the other.
+    /// Pages are changed, and that isn't finished.
     is_changing: bool,
 }
 
@@ -90,14 +77,6 @@ fn between(from: Option<Instant>, to: Option<Instant>) -> Option<u128> {
         return None;
     };
     Some(to.duration_since(from).as_millis())
-}
-
-/// Whether a page was read there.
-fn is_read(place: Option<Place>) -> bool {
-    match place {
-        Some(place) => place.doing == Doing::Reading,
-        None => false,
-    }
 }
 
 /// How many seconds are left, where so many of so many pages took this time.
@@ -203,11 +182,19 @@ impl<'a, W: Write + Drop, C: Clock> Screen<'a, W, C> {
         if is_begun && place.turn <= 1 {
             self.began = self.now();
         }
-        self.is_changing = place.doing != Doing::Reading || self.is_changing && !is_read(before);
+        self.is_changing = self.is_changing || place.doing != Doing::Reading;
         if self.style == Style::Line {
             let left = self.left(place, place.turn.saturating_sub(1));
             self.write(&Status::At(place, left));
         }
+    }
+
+    /// What was begun is finished.
+    pub fn finish(&mut self)
+        ensures hidden { self.new.out ≡ self.old.out }
+        ensures style { self.new.style ≡ self.old.style }
+    {
+        self.is_changing = false;
     }
 
     /// All was done with a page.

@@ -19,6 +19,8 @@ pub enum Seen {
     Block(Doing, u32),
     /// A page is erased or written, by its line in the journal.
     Page(Doing, u16),
+    /// A write, an erase or an undo of one is finished, by its line.
+    Finished,
 }
 
 /// The codes of the commands that are told apart (AN3155, sections 3.2, 3.3 and 3.5).
@@ -101,13 +103,16 @@ impl Watch {
     }
 }
 
-/// The page that bytes added to the journal name, and what is done with it.
+/// What bytes added to the journal tell: a page and what is done with it, or an end.
 pub fn page_named(bytes: &[u8]) -> Option<Seen> {
     if bytes.len() > SHORT {
         return None;
     }
     let line = bytes.strip_suffix(b"\n")?;
     let line = line.strip_prefix(b"!\n").unwrap_or(line);
+    if line.starts_with(b"end ") || line.starts_with(b"undone ") {
+        return Some(Seen::Finished);
+    }
     if let Some(digits) = line.strip_prefix(b"erase ") {
         return Some(Seen::Page(Doing::Erasing, number(digits)?));
     }

@@ -5,8 +5,9 @@ ghost use Rattle.stm_work.specs.Keeping.{IsGivenUp};
 ghost use Rattle.stmflash.specs.JournalTasks.{TellsKept, TellsLog};
 
 use crate::cut_journal::keep_newest;
-use crate::named_files::check_owner;
+use crate::named_files::{check_file_system, check_owner, check_streams};
 use std::alloc::Global;
+use std::fs;
 use std::fs::Files;
 use stm_files::{
     Begun, JournalFile, JournalRig, Locks, Noting, Shown, Source, check_journal, give_up_journal,
@@ -16,6 +17,9 @@ use stm_journal::{Journal, JournalFault};
 use stm_session::Fault;
 use stm_words::{Extent, Kept};
 use stm_work::{Answer, Failure, count_kept, find_damaged, list_segments};
+
+/// How many bytes a file system lays out at once.
+const BLOCK: u64 = 4096;
 
 /// Reads a journal, and hands back what it was read from.
 pub fn load<'a, S: Source + Drop>(
@@ -35,6 +39,7 @@ pub fn load<'a, S: Source + Drop>(
 pub fn log<'a, R: Files + AllocGlobal>(rt: &R, name: &'a str) -> Result<Answer, Failure<'a>>
     ensures { IfOk result (λ told. (state : StateData) × TellsLog state told) }
 {
+    check_streams(rt, name)?;
     let shown = match Shown::open(rt, name) {
         Ok(shown) => shown,
         Err(why) => return Err(Failure::of_journal(why, name)),
@@ -48,6 +53,7 @@ pub fn log<'a, R: Files + AllocGlobal>(rt: &R, name: &'a str) -> Result<Answer, 
 /// than when it was kept. It isn't locked either: what is
 /// there when this begins is read, and what a session beside it adds meanwhile isn't.
 pub fn check<'a, R: Files + AllocGlobal>(rt: &R, name: &'a str) -> Result<Answer, Failure<'a>> {
+    check_streams(rt, name)?;
     let shown = match Shown::open_by_now(rt, name) {
         Ok(shown) => shown,
         Err(why) => return Err(Failure::of_journal(why, name)),
@@ -101,6 +107,7 @@ fn tell<'a>(alloc: Global, journal: &Journal, begun: Begun) -> Result<Answer, Fa
 pub fn keep<'a, R: Locks + AllocGlobal>(rt: &R, kept: &Kept<'a>) -> Result<Answer, Failure<'a>>
     ensures { IfOk result (λ told. (state : StateData) × TellsKept kept.now.last state told) }
 {
+    check_streams(rt, kept.journal)?;
     let file = match JournalFile::open(rt, kept.journal, kept.without_lock, kept.trusts_others) {
         Ok(file) => file,
         Err(why) => return Err(Failure::of_journal(why, kept.journal)),
@@ -110,12 +117,24 @@ pub fn keep<'a, R: Locks + AllocGlobal>(rt: &R, kept: &Kept<'a>) -> Result<Answe
     }
     if let Some(to) = kept.to {
         check_owner(rt, to, kept.trusts_others)?;
+        check_file_system(rt, kept.journal, to)?;
     }
     let (journal, rig) = load(rt.alloc(), kept.journal, Noting::new(rt.alloc(), file))?;
+    if journal.id().is_none() && is_large(rt, kept.journal) {
+        return Err(Failure::NoJournal(kept.journal));
+    }
     let (file, begun) = rig.into_source().into_parts();
     match kept.last {
         Some(last) => keep_newest(rt, kept.journal, journal, begun, file, last),
         None => keep_loaded(rt, &journal, &file, kept),
+    }
+}
+
+/// Whether a file has more bytes than stopped appends of a header leave.
+fn is_large<R: Files>(rt: &R, name: &str) -> bool {
+    match fs::metadata(rt, name) {
+        Ok(told) => told.len() > BLOCK,
+        Err(_) => false,
     }
 }
 

@@ -7,12 +7,19 @@ use std::alloc::{AllocError, Global};
 use std::fs;
 use std::fs::Files;
 use std::io::ErrorKind;
+use std::os::unix::fs::MetadataExt;
+use std::path::Path;
 use stm_files::{Locks, SimulatorNames, doubt_at, is_handed, is_same_file, try_beside};
 use stm_words::{Device, Options, TableNames, Task};
 use stm_work::Failure;
 
-/// The name of standard output.
+/// The name of standard output, as OUT.
 const STANDARD: &str = "-";
+
+/// The files that standard output and standard error lead to.
+const OUT: &str = "/dev/stdout";
+
+const ERR: &str = "/dev/stderr";
 
 /// The files that the words of one use name.
 #[derive(Drop)]
@@ -70,8 +77,9 @@ impl<'a> NamedFiles<'a> {
     }
 
     /// Refuses a file that is to be written and is one of the others: the journal, then OUT, then
-    /// the two that a simulator writes.
+    /// the two that a simulator writes. What is told must go to none of them.
     pub fn check<R: Files + AllocGlobal>(&self, rt: &R) -> Result<(), Failure<'a>> {
+        self.check_streams(rt)?;
         if self.is_read(rt, self.journal) || self.is_devices(rt, self.journal)? {
             return Err(Failure::CannotWrite(self.journal));
         }
@@ -99,10 +107,10 @@ impl<'a> NamedFiles<'a> {
             return Err(Failure::CannotWrite(to));
         }
         self.check_owner(rt, to)?;
-        match try_beside(rt, to) {
-            Ok(()) => Ok(()),
-            Err(e) => Err(Failure::of_file(&e, Failure::CannotWrite(to))),
+        if let Err(e) = try_beside(rt, to) {
+            return Err(Failure::of_file(&e, Failure::CannotWrite(to)));
         }
+        check_file_system(rt, self.journal, to)
     }
 
     /// Refuses a file that is to be written and that others have or may write, unless they are
@@ -142,6 +150,36 @@ impl<'a> NamedFiles<'a> {
         Ok(names.check(rt)?)
     }
 
+    /// Refuses standard output and standard error where they lead to one of the files: what is told would
+    /// be written into it.
+    pub fn check_streams<R: Files + AllocGlobal>(&self, rt: &R) -> Result<(), Failure<'a>> {
+        if let Some(name) = self.led_to(rt, ERR)? {
+            return Err(Failure::ErrLeads(name));
+        }
+        match self.led_to(rt, OUT)? {
+            Some(name) => Err(Failure::OutLeads(name)),
+            None => Ok(()),
+        }
+    }
+
+    /// The file that a stream leads to, of these.
+    fn led_to<R: Files + AllocGlobal>(
+        &self,
+        rt: &R,
+        stream: &str,
+    ) -> Result<Option<&'a str>, Failure<'a>> {
+        if leads_to(rt, stream, self.journal) {
+            return Ok(Some(self.journal));
+        }
+        if !is_file(rt, stream) {
+            return Ok(None);
+        }
+        if self.is_devices(rt, stream)? {
+            return Ok(Some("a file of the device"));
+        }
+        Ok(if self.is_read(rt, stream) { Some("a file that is read") } else { None })
+    }
+
     /// Whether the name is that of a table or of an image.
     fn is_read<R: Files + AllocGlobal>(&self, rt: &R, name: &str) -> bool {
         for image in &self.images {
@@ -160,6 +198,57 @@ impl<'a> NamedFiles<'a> {
             }
             Device::Socket(path) => Ok(is_same_file(rt, name, path)),
         }
+    }
+}
+
+/// Whether a regular file of this name is there.
+pub fn is_file<R: Files>(rt: &R, name: &str) -> bool {
+    match fs::metadata(rt, name) {
+        Ok(told) => told.is_file(),
+        Err(_) => false,
+    }
+}
+
+/// Whether a stream leads to the file of this name.
+fn leads_to<R: Files + AllocGlobal>(rt: &R, stream: &str, name: &str) -> bool {
+    is_file(rt, stream) && is_same_file(rt, stream, name)
+}
+
+/// Refuses standard output and standard error where they lead to the journal of this name.
+pub fn check_streams<'a, R: Files + AllocGlobal>(
+    rt: &R,
+    journal: &'a str,
+) -> Result<(), Failure<'a>> {
+    if leads_to(rt, ERR, journal) {
+        return Err(Failure::ErrLeads(journal));
+    }
+    if leads_to(rt, OUT, journal) {
+        return Err(Failure::OutLeads(journal));
+    }
+    Ok(())
+}
+
+/// The number of the file system that has the file of this name, or would have it.
+fn file_system<R: Files>(rt: &R, name: &str) -> Option<u64> {
+    if let Ok(told) = fs::metadata(rt, name) {
+        return Some(told.dev());
+    }
+    let folder = match Path::new(name).parent() {
+        Some(folder) if !folder.as_str().is_empty() => folder,
+        _ => Path::new("."),
+    };
+    Some(fs::metadata(rt, folder).ok()?.dev())
+}
+
+/// Refuses a name to which a journal can't be moved: one on another file system.
+pub fn check_file_system<'a, R: Files>(
+    rt: &R,
+    journal: &str,
+    to: &'a str,
+) -> Result<(), Failure<'a>> {
+    match (file_system(rt, journal), file_system(rt, to)) {
+        (Some(here), Some(there)) if here != there => Err(Failure::OtherFileSystem(to)),
+        _ => Ok(()),
     }
 }
 

@@ -50,8 +50,9 @@ impl<'a> Prepared<'a> {
     ) -> Result<Prepared<'a>, Failure<'a>>
         ensures { IfOk result (IsPrepared task.entry) }
     {
-        let tables = ChipTables::read(rt, options.table)?;
         let files = NamedFiles::of(rt.alloc(), options, &task)?;
+        files.check_streams(rt)?;
+        let tables = ChipTables::read(rt, options.table)?;
         let work = Work::of(rt, tables.chips(), task)?;
         files.check(rt)?;
         Ok(Prepared {

@@ -3,12 +3,12 @@ ghost use Rattle.std.specs.Prelude.{◌≡◌, IfOk, is_some, length, true};
 ghost use Rattle.stm_files.specs.PageSum.{page_sum};
 ghost use Rattle.stmflash.specs.DeviceUse.{AreOut, AreOutOf, goes_out};
 
-use crate::named_files::NamedFiles;
+use crate::named_files::{NamedFiles, is_file};
 use std::fs::{Files, OpenFile, OpenOptions};
 use std::io::{ErrorKind, Write};
 use std::{fs, io};
 use stm_files::{
-    ANYONE, Locks, Replacement, is_same_file, is_untaken, open_stream, sum_of_page, try_beside,
+    ANYONE, Locks, Replacement, is_handed, is_same_file, is_untaken, open_stream, sum_of_page, try_beside,
 };
 use stm_work::{Answer, Failure, Steps};
 
@@ -40,6 +40,9 @@ impl<'a, R: Locks + AllocGlobal> Output<'a, R> {
             return Ok(Output::Printed);
         };
         files.check_owner(rt, name)?;
+        if is_handed(name) && is_file(rt, name) {
+            return Err(Failure::IsOpened(name));
+        }
         match Output::try_open(rt, name, files) {
             Ok(output) => Ok(output),
             Err(e) if is_untaken(&e) => Err(Failure::NoOutput(name)),

@@ -67,7 +67,7 @@ pub fn take_on<
         L.view watch greeting plan.entry rig result.rig result.done }
 {
     let alloc = rt.alloc();
-    let style = Style::of(rt, options, err);
+    let style = Style::of(options, err);
     let screen = Screen::new(err, rt, alloc, style);
     let course = Course::new(chips, plan.work.goal());
     let guard = PageGuard::of(alloc, chips, &plan.work, options.trusts_others);

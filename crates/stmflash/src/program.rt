@@ -172,7 +172,7 @@ pub fn fail<R: AllocGlobal, E: Write>(rt: &R, failure: &Failure, err: &mut E) ->
 }
 
 /// Tells a fault, and in a line behind it what came, where that tells more of it. Where JSON is asked
-/// for, it is told on `out` too.
+/// for, it is told on `out` too. Nothing is told where it would be told into a file of the call.
 fn fail_told<R: AllocGlobal, O: Write, E: Write>(
     rt: &R,
     failure: &Failure,
@@ -184,9 +184,12 @@ fn fail_told<R: AllocGlobal, O: Write, E: Write>(
     ensures status { result ≡ status_of failure.now }
     ensures failed { 1 ≤ result }
 {
+    if matches!(failure, Failure::ErrLeads(_)) {
+        return failure.status();
+    }
     let status = fail(rt, failure, err);
     print_behind(rt, Behind::failure(failure, hint), err);
-    if is_json {
+    if is_json && !matches!(failure, Failure::OutLeads(_)) {
         let line = json_of_failure(rt.alloc(), failure, hint);
         let _ = print_line(line, "fault", failure.name(), out);
     }

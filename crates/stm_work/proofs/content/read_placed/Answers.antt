@@ -1,4 +1,4 @@
-use Rattle.std.proofs.Common.{◌≡◌, ◌+◌, [], ◌∷◌, ◌++◌, List, ap, ◌∙◌, subst, sym, take}
+use Rattle.std.proofs.Common.{◌≡◌, ◌+◌, [], ◌∷◌, ◌++◌, List, subst, sym, take}
 use Rattle.std.proofs.lemmas.List.{take_more}
 use Rattle.stm_image.specs.Pairs.{Pairs}
 use Rattle.stm_words.specs.declared.image_file.ImageFile.{ImageFile}
@@ -12,7 +12,7 @@ loop-file-preserved g c =
     let files = c.args.files.now in
     let n = c.loop-file.file-index in
     let sets : List Pairs = c.loop-file.images.items in
-    let more = placed_more table (take n files) sets _ c.in_ok-among.field-0 c.loop-file.invariant (c.in_ok-content.content, c.in_ok-content.ensures, c.in_ok-among.ensures) in
-    let images : List Pairs = sets ++ c.in_ok-among.field-0 ∷ [] in
+    let more = placed_more table (take n files) sets _ c.in_ok-read_named.field-0 c.loop-file.invariant c.in_ok-read_named.ensures.placed in
+    let images : List Pairs = sets ++ c.in_ok-read_named.field-0 ∷ [] in
     subst (λ (items : List Pairs). ArePlacedOf table (take (n + 1) files) items) (sym c.in_ok-push.ensures.items)
     (subst (λ (done : List ImageFile). ArePlacedOf table done images) (sym (take_more files n _ c.loop-file-test.true)) more)
