@@ -7,12 +7,9 @@ pub mod ChipTables
 pub mod Conduct
 pub mod Content
 pub mod FalseErase
-pub mod FaultName
-pub mod Hinting
 pub mod JsonLine
 pub mod Keeping
 pub mod LeftStanding
-pub mod NextStep
 pub mod OneCall
 pub mod PageGuard
 pub mod Plan
@@ -27,7 +24,6 @@ pub mod Unprotecting
 pub mod Watching
 pub mod WayBack
 pub mod Numbers
-pub mod ChangeNote
 pub mod DeviceJson
 pub mod DeviceText
 pub mod Printing
@@ -36,4 +32,3 @@ pub mod UpperHex
 pub mod ShortLine
 pub mod ExitStatus
 pub mod TaskWork
-pub mod HintTold

@@ -12,7 +12,12 @@ pub fn note_of(alloc: Global, steps: &Steps) -> Result<Vec<u8>, AllocError> {
             left,
             ..
         } if !unchanged.is_empty() => { unchanged_note(alloc, unchanged.as_slice(), *left) }
-        Answer::Written { segment, pages: 0, .. } | Answer::Erased { segment, pages: 0 }
+        Answer::Written {
+            segment,
+            pages: 0,
+            ..
+        }
+        | Answer::Erased { segment, pages: 0 }
             if steps.kept.is_none() => { nothing_note(alloc, *segment) }
         _ => Ok(Vec::new(alloc)),
     }
@@ -22,7 +27,11 @@ pub fn note_of(alloc: Global, steps: &Steps) -> Result<Vec<u8>, AllocError> {
 /// be undone.
 fn unchanged_note(alloc: Global, unchanged: &[u32], left: u32) -> Result<Vec<u8>, AllocError> {
     let mut text = Vec::new(alloc);
-    let begins = if unchanged.len() == 1 { "note: segment " } else { "note: segments " };
+    let begins = if unchanged.len() == 1 {
+        "note: segment "
+    } else {
+        "note: segments "
+    };
     text.extend_from_slice(begins.as_bytes())?;
     add_numbers(alloc, &mut text, ", ", unchanged)?;
     add_number(alloc, &mut text, " had changed nothing; ", left)?;

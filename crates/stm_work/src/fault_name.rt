@@ -18,7 +18,8 @@ impl Failure<'_> {
                 "cannot_read",
             Failure::CannotWrite(_) | Failure::CannotWriteBoard(_) | Failure::CannotWriteLine(_) =>
                 "cannot_write",
-            Failure::NoOutput(_) | Failure::IsOpened(_) | Failure::OtherFileSystem(_) => "cannot_write",
+            Failure::NoOutput(_) | Failure::IsOpened(_) | Failure::OtherFileSystem(_) =>
+                "cannot_write",
             Failure::OutLeads(_) | Failure::ErrLeads(_) => "cannot_write",
             Failure::JournalInUse => "journal_in_use",
             Failure::NoJournal(_) => "no_journal",

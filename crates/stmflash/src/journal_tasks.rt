@@ -18,9 +18,6 @@ use stm_session::Fault;
 use stm_words::{Extent, Kept};
 use stm_work::{Answer, Failure, count_kept, find_damaged, list_segments};
 
-/// How many bytes a file system lays out at once.
-const BLOCK: u64 = 4096;
-
 /// Reads a journal, and hands back what it was read from.
 pub fn load<'a, S: Source + Drop>(
     alloc: Global,
@@ -130,10 +127,10 @@ pub fn keep<'a, R: Locks + AllocGlobal>(rt: &R, kept: &Kept<'a>) -> Result<Answe
     }
 }
 
-/// Whether a file has more bytes than stopped appends of a header leave.
+/// Whether a file has more bytes than a file system's block, and so than stopped appends of a header leave.
 fn is_large<R: Files>(rt: &R, name: &str) -> bool {
     match fs::metadata(rt, name) {
-        Ok(told) => told.len() > BLOCK,
+        Ok(told) => told.len() > 4096,
         Err(_) => false,
     }
 }

@@ -177,7 +177,11 @@ impl<'a> NamedFiles<'a> {
         if self.is_devices(rt, stream)? {
             return Ok(Some("a file of the device"));
         }
-        Ok(if self.is_read(rt, stream) { Some("a file that is read") } else { None })
+        Ok(if self.is_read(rt, stream) {
+            Some("a file that is read")
+        } else {
+            None
+        })
     }
 
     /// Whether the name is that of a table or of an image.

@@ -8,7 +8,8 @@ use std::fs::{Files, OpenFile, OpenOptions};
 use std::io::{ErrorKind, Write};
 use std::{fs, io};
 use stm_files::{
-    ANYONE, Locks, Replacement, is_handed, is_same_file, is_untaken, open_stream, sum_of_page, try_beside,
+    ANYONE, Locks, Replacement, is_handed, is_same_file, is_untaken, open_stream, sum_of_page,
+    try_beside,
 };
 use stm_work::{Answer, Failure, Steps};
 

@@ -12,9 +12,8 @@ returns c =
     let m0 : Makes bare_app c.subcommand_required-bare.result =
     bare c.new.result c.about.result c.version.result c.subcommand_required-bare.result _ _ c.new.ensures.app c.new.ensures.local c.about.ensures c.version.ensures
     c.subcommand_required-bare.ensures in
-    let a0 : App = bare_app in
-    let a1 : App = with_subcommand a0 (info_app e).top in
-    let m1 : Makes a1 c.in_ok-c.c = c.in_ok-c.ensures a0 (info_app e) m0 c.info.ensures in
+    let a1 : App = with_subcommand bare_app (info_app e).top in
+    let m1 : Makes a1 c.in_ok-c.c = c.in_ok-c.ensures bare_app (info_app e) m0 c.info.ensures in
     let a2 : App = with_subcommand a1 (read_app e).top in
     let m2 : Makes a2 c.in_ok-c-2.c = c.in_ok-c-2.ensures a1 (read_app e) m1 c.read.ensures in
     let a3 : App = with_subcommand a2 (crc_app e).top in
