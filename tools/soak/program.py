@@ -303,14 +303,24 @@ def read_images(use, text):
         return None
     if text is None:
         raise Fault("cannot read I")
-    image = read_image(text, use.force, use.range)
     if use.second is None:
-        return image
+        return read_image(text, use.force, use.range)
     start, data = use.second
-    for address, byte in sorted(read_image(data, use.force, (start, None)).items()):
+    image = read_named("I", text, use.force, use.range)
+    for address, byte in sorted(read_named("K", data, use.force, (start, None)).items()):
         if image.setdefault(address, byte) != byte:
             raise Fault("images I and K differ at %08X" % address)
     return image
+
+
+def read_named(name, text, force, place):
+    """One of several images, which a fault names."""
+    try:
+        return read_image(text, force, place)
+    except Usage as fault:
+        raise Usage("%s: %s is HEX" % (fault, name)) from fault
+    except (Fault, ImageFault) as fault:
+        raise type(fault)("%s, in %s" % (fault, name)) from fault
 
 
 def read_image(text, force, place):
