@@ -216,6 +216,16 @@ class JournalsFolder(Served):
         self.store(name_of("a"), b"")
         self.assertTold(self.at("a", "write", "image"), "segment 1: 1 pages written\n")
 
+    def test_what_is_printed_goes_into_none(self):
+        """Nor into that of a board that tells itself first."""
+        self.at("a", "write", "image")
+        name = f"journals/{self.journals()[0]}"
+        journal = self.held(name)
+        with open(self.path(name), "ab") as out:
+            said = self.call("info", "--table", "table", "--device", "sim:0410:a", "--journals", "journals", stdout=out)
+        self.assertEqual((said.status, said.err), (1, f"stmflash: standard output leads to {name}: send it elsewhere\n".encode()))
+        self.assertFile(name, journal)
+
     def test_a_folder_that_is_not_there_is_not_made(self):
         self.store("file", b"")
         for folder in ("absent", "file", ""):
