@@ -6,14 +6,14 @@ use Rattle.clap.specs.declared.builder.value_parser.ValueParser.{ValueParser}
 use Rattle.clap.specs.declared.error.Error.{Error}
 use Rattle.clap.specs.declared.error.ErrorKind.TheVariants.{OutOfMemory}
 use Rattle.stm_words.specs.declared.environment.Environment.{Environment}
-use Rattle.stm_words.specs.CommandSet.{command_set}
+use Rattle.stm_words.specs.CommandSet.{command_set, with_rules}
 
 pub simple : (e : Environment) (kinds : ValueParser) → is_simple (command_set e kinds) ≡ true
-unfolding clap_on_literals command_set
+unfolding clap_on_literals command_set with_rules
 simple e kinds = refl
 
 pub simple_and_free : (e : Environment) (kinds : ValueParser) → is_simple_and_free (command_set e kinds) ≡ true
-unfolding clap_on_literals command_set
+unfolding clap_on_literals command_set with_rules
 simple_and_free e kinds = refl
 
 pub at_ok : {T : Type 0} (r : Result T Error) (kinds : Kinds) (P Q : T → Type 0) → FailsBy kinds r → IfOk r P → ((m : T) → kinds ≡ [] → P m → Q m) → IfOk r Q

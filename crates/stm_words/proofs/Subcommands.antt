@@ -1,5 +1,5 @@
 -- What adding an argument or a subcommand makes.
-use Rattle.std.proofs.Common.{◌≡◌, ◌∙◌, ap, ap₂, ◌||◌, codes, false, true, Some}
+use Rattle.std.proofs.Common.{◌≡◌, ◌∙◌, ap, ap₂, ◌||◌, ◌++◌, List, [], ◌∷◌, codes, false, refl, true, Some}
 use Rattle.std.specs.Borrow.{Bor}
 use Rattle.clap.specs.Words.{App, AddsArg, AddsSubcommand, Rule, Text, app_of, new_app, rule_of, with_rule, with_subcommand}
 use Rattle.clap.specs.Simple.{app_of_fields}
@@ -7,7 +7,7 @@ use Rattle.clap.specs.declared.builder.arg.Arg.{Arg}
 use Rattle.clap.specs.declared.builder.command.Command.{Command}
 use Rattle.clap.specs.declared.builder.command.Command.TheOpen.{Command-F}
 use Rattle.clap.specs.declared.builder.command.Command.TheViews.{out-Command as fields_of}
-use Rattle.stm_words.specs.CommandSet.{Makes, bare_app}
+use Rattle.stm_words.specs.CommandSet.{Makes, bare_app, with_rules}
 
 pub adds : (a : App) (r : Rule) (old : Command) (x : Arg) (new : Command) → Makes a old → rule_of x ≡ r → x.global ≡ false → AddsArg old x new → Makes (with_rule a r) new
 adds a r old x new m is local add =
@@ -32,3 +32,8 @@ bare new about version required text number is local a v r =
       ap app_of_fields f ∙ ap (λ (x : App). record x { top = record x.top { subcommand_required = true; has_version = true } }) is,
       ap (λ (c : Command-F Command). c.has_globals) f ∙ local,
     )
+
+pub rules_more : (a : App) (rules : List Rule) (rule : Rule) → with_rules a (rules ++ rule ∷ []) ≡ with_rule (with_rules a rules) rule
+unfolding with_rules
+rules_more a [] rule = refl
+rules_more a (first ∷ rules) rule = rules_more (with_rule a first) rules rule

@@ -11,61 +11,53 @@ use Rattle.clap.specs.declared.builder.command.Command.TheViews.{out-Command as 
 use Rattle.clap.specs.declared.builder.value_parser.ValueParser.{ValueParser}
 use Rattle.clap.specs.declared.builder.value_parser.ValueParser.TheVariants.{Names}
 use Rattle.clap.specs.declared.parser.matches.ArgMatches.{ArgMatches}
+use Rattle.stm_words.specs.declared.argument.Word.{Word}
+use Rattle.stm_words.specs.declared.argument.Word.TheVariants.{Flag, HiddenFlag, LetterFlag, LetterOption, Needed}
+use Rattle.stm_words.specs.declared.argument.Word.TheVariants.{NeededOption, NeededRepeated, Repeated, RepeatedOption, Spare, SpareOption}
 use Rattle.stm_words.specs.declared.environment.Environment.{Environment}
 use Rattle.stm_words.specs.Number.{word_number}
-
--- `--name VALUE`
-abbrev pub option_rule : Text → Rule
-option_rule name = record (new_rule name) { long = Some name; value_names = 1 }
-
--- the same, which may be given several times
-abbrev pub repeated_option_rule : Text → Rule
-repeated_option_rule name = record (option_rule name) { action = Some Append }
-
--- `--name VALUE`, which has to be given
-abbrev pub needed_option_rule : Text → Rule
-needed_option_rule name = record (option_rule name) { required = true }
-
--- the same, which has this value where it isn't given
-abbrev pub default_option_rule : Text → Text → Rule
-default_option_rule name text = record (option_rule name) { defaults = text ∷ [] }
-
--- the same, which has this value, or has to be given where there is none
-abbrev pub standing_option_rule : Text → Option Text → Rule
-standing_option_rule name standing =
-    record (option_rule name) {
-      required = not (is_some standing);
-      defaults = option_to_list standing;
-    }
-
--- the same, which may be left out, and has this value then where there is one
-abbrev pub spare_option_rule : Text → Option Text → Rule
-spare_option_rule name standing =
-    record (option_rule name) { defaults = option_to_list standing }
-
--- `-S RANGE`
-abbrev pub range_rule : Rule
-range_rule = record (new_rule (codes "range")) { short = Some 83; value_names = 1 }
-
--- a flag of one letter
-abbrev pub letter_rule : Text → ℕ → Rule
-letter_rule id letter = record (new_rule id) { short = Some letter; action = Some SetTrue }
 
 -- the flag `--name`
 abbrev pub flag_rule : Text → Rule
 flag_rule name = record (new_rule name) { long = Some name; action = Some SetTrue }
 
+-- a flag of one letter
+abbrev pub letter_rule : Text → ℕ → Rule
+letter_rule name letter = record (new_rule name) { short = Some letter; action = Some SetTrue }
+
+-- an option of one letter
+abbrev pub letter_option_rule : Text → ℕ → Rule
+letter_option_rule name letter = record (new_rule name) { short = Some letter; value_names = 1 }
+
+-- `--name VALUE`, in whose place this value stands
+abbrev pub spare_option_rule : Text → Option Text → Rule
+spare_option_rule name standing =
+    record (new_rule name) {
+      long = Some name;
+      value_names = 1;
+      defaults = option_to_list standing;
+    }
+
+-- the same, which has to be given where no value stands in its place
+abbrev pub needed_option_rule : Text → Option Text → Rule
+needed_option_rule name standing =
+    record (spare_option_rule name standing) { required = not (is_some standing) }
+
+-- the same, which may be given several times
+abbrev pub repeated_option_rule : Text → Rule
+repeated_option_rule name = record (spare_option_rule name None) { action = Some Append }
+
 -- a further word, which has to be given
 abbrev pub needed_rule : Text → Rule
-needed_rule id = record (new_rule id) { required = true }
-
--- further words, of which one has to be given
-abbrev pub needed_repeated_rule : Text → Rule
-needed_repeated_rule id = record (needed_rule id) { action = Some Append }
+needed_rule name = record (new_rule name) { required = true }
 
 -- any number of further words
 abbrev pub repeated_rule : Text → Rule
-repeated_rule id = record (new_rule id) { action = Some Append }
+repeated_rule name = record (new_rule name) { action = Some Append }
+
+-- further words, of which one has to be given
+abbrev pub needed_repeated_rule : Text → Rule
+needed_repeated_rule name = record (needed_rule name) { action = Some Append }
 
 -- a further word that `kinds` reads
 abbrev pub kind_rule : ValueParser → Rule
@@ -75,73 +67,96 @@ kind_rule kinds = record (needed_rule (codes "KIND")) { parser = Some kinds }
 abbrev pub option_text : Option (Bor Text) → Option Text
 option_text = option_map (λ s. s.now)
 
--- a subcommand with the option that names the table
-abbrev pub with_table : Environment → Text → App
-with_table e name =
-    with_rule (new_app name) (standing_option_rule (codes "table") (option_text e.table))
+-- what `clap` is told of a word
+abbrev pub rule_for : Word → Rule
+rule_for (Flag name _) = flag_rule name.now
+rule_for (HiddenFlag name _) = flag_rule name.now
+rule_for (LetterFlag name letter _) = letter_rule name.now letter
+rule_for (LetterOption name letter _ _) = letter_option_rule name.now letter
+rule_for (SpareOption name _ standing _) = spare_option_rule name.now (option_text standing)
+rule_for (NeededOption name _ standing _) = needed_option_rule name.now (option_text standing)
+rule_for (RepeatedOption name _ _) = repeated_option_rule name.now
+rule_for (Spare name _) = new_rule name.now
+rule_for (Needed name _) = needed_rule name.now
+rule_for (Repeated name _) = repeated_rule name.now
+rule_for (NeededRepeated name _) = needed_repeated_rule name.now
 
--- a subcommand with the options that name the table, the device, and the journal or the folder
--- that has it
-abbrev pub with_places : Environment → Text → App
-with_places e name =
-    with_rule (with_rule (with_rule (with_rule (with_rule (with_table e name)
-    (standing_option_rule (codes "device") (option_text e.device)))
-    (spare_option_rule (codes "journal") (option_text e.journal)))
-    (spare_option_rule (codes "journals") (option_text e.journals))) (flag_rule (codes "no-lock")))
-    (flag_rule (codes "trust-journal"))
+-- a command that takes these too
+unfoldable pub with_rules : App → List Rule → App
+with_rules a [] = a
+with_rules a (rule ∷ rules) = with_rules (with_rule a rule) rules
 
 -- how long a reply may take, in milliseconds, where no word says it
 abbrev pub wait_word : Option (Bor Text) → Text
 wait_word (Some word) = word.now
 wait_word None = codes "400"
 
--- the same, with the options of how long a device may take to answer
-abbrev pub with_waits : Environment → Text → App
-with_waits e name =
-    with_rule (with_rule (with_rule (with_rule (with_places e name)
-    (default_option_rule (codes "wait") (wait_word e.wait)))
-    (spare_option_rule (codes "baud") (option_text e.baud)))
-    (option_rule (codes "give-up"))) (flag_rule (codes "fresh"))
+-- what every use of a device takes, where this is the wait that no word says
+abbrev pub board_rules : Environment → Text → List Rule
+board_rules e wait =
+    (needed_option_rule (codes "table") (option_text e.table)
+    ∷ needed_option_rule (codes "device") (option_text e.device)
+    ∷ spare_option_rule (codes "journal") (option_text e.journal)
+    ∷ spare_option_rule (codes "journals") (option_text e.journals)
+    ∷ flag_rule (codes "no-lock")
+    ∷ flag_rule (codes "trust-journal")
+    ∷ spare_option_rule (codes "wait") (Some wait)
+    ∷ spare_option_rule (codes "baud") (option_text e.baud)
+    ∷ spare_option_rule (codes "give-up") None
+    ∷ flag_rule (codes "fresh")
+    ∷ flag_rule (codes "progress")
+    ∷ flag_rule (codes "quiet")
+    ∷ flag_rule (codes "watch")
+    ∷ flag_rule (codes "json")
+    ∷ spare_option_rule (codes "stop") None
+    ∷ spare_option_rule (codes "board") (option_text e.board)
+    ∷ flag_rule (codes "no-board")
+    ∷ [])
 
--- a subcommand with the options that every use of a device has
-abbrev pub on_device : Environment → Text → App
-on_device e name =
-    with_rule (with_rule (with_rule (with_rule (with_rule (with_waits e name)
-    (flag_rule (codes "progress"))) (flag_rule (codes "quiet"))) (flag_rule (codes "watch")))
-    (flag_rule (codes "json"))) (option_rule (codes "stop"))
-
--- the same, with the options of which board it has to be
+-- a subcommand that uses a device
 abbrev pub on_board : Environment → Text → App
-on_board e name =
-    with_rule (with_rule (on_device e name) (spare_option_rule (codes "board") (option_text e.board)))
-    (flag_rule (codes "no-board"))
+on_board e name = with_rules (new_app name) (board_rules e (wait_word e.wait))
 
 abbrev pub info_app : Environment → App
-info_app e = with_rule (on_board e (codes "info")) (flag_rule (codes "raw"))
+info_app e = with_rules (on_board e (codes "info")) (flag_rule (codes "raw") ∷ [])
+
+abbrev pub range_rule : Rule
+range_rule = letter_option_rule (codes "range") 83
 
 abbrev pub read_app : Environment → App
 read_app e =
-    with_rule (with_rule (with_rule (with_rule (on_board e (codes "read")) range_rule)
-    (flag_rule (codes "hex"))) (flag_rule (codes "skip-blank"))) (needed_rule (codes "OUT"))
+    with_rules (on_board e (codes "read"))
+    (range_rule
+    ∷ flag_rule (codes "hex")
+    ∷ flag_rule (codes "skip-blank")
+    ∷ needed_rule (codes "OUT")
+    ∷ [])
 
 abbrev pub crc_app : Environment → App
-crc_app e = with_rule (on_board e (codes "crc")) range_rule
+crc_app e = with_rules (on_board e (codes "crc")) (range_rule ∷ [])
 
 abbrev pub write_app : Environment → App
-write_app e = with_rule (with_rule (with_rule (with_rule (with_rule (with_rule (with_rule (with_rule
-    (on_board e (codes "write"))
-    (letter_rule (codes "force") 102)) (letter_rule (codes "check") 118)) range_rule)
-    (flag_rule (codes "keep"))) (option_rule (codes "keep-to"))) (option_rule (codes "go")))
-    (option_rule (codes "again"))) (needed_repeated_rule (codes "IMAGE"))
+write_app e =
+    with_rules (on_board e (codes "write"))
+    (letter_rule (codes "force") 102
+    ∷ letter_rule (codes "check") 118
+    ∷ range_rule
+    ∷ flag_rule (codes "keep")
+    ∷ spare_option_rule (codes "keep-to") None
+    ∷ spare_option_rule (codes "go") None
+    ∷ spare_option_rule (codes "again") None
+    ∷ needed_repeated_rule (codes "IMAGE")
+    ∷ [])
 
 abbrev pub verify_app : Environment → App
-verify_app e = with_rule (with_rule (with_rule (on_board e (codes "verify"))
-    (letter_rule (codes "force") 102)) range_rule) (needed_repeated_rule (codes "IMAGE"))
+verify_app e =
+    with_rules (on_board e (codes "verify"))
+    (letter_rule (codes "force") 102 ∷ range_rule ∷ needed_repeated_rule (codes "IMAGE") ∷ [])
 
 abbrev pub erase_app : Environment → App
 erase_app e =
-    with_rule (with_rule (on_board e (codes "erase")) (flag_rule (codes "all")))
-    (repeated_rule (codes "PAGE"))
+    with_rules (on_board e (codes "erase"))
+    (flag_rule (codes "all") ∷ repeated_rule (codes "PAGE") ∷ [])
 
 -- the number of a wait, and a shorter one than where nothing is said
 abbrev pub is_short_number : Option ℕ → Bool
@@ -162,45 +177,55 @@ behind_a_stop e = record e { wait = wait_behind_a_stop e.wait }
 
 abbrev pub undo_app : Environment → App
 undo_app e =
-    with_rule (with_rule (with_rule
-    (with_rule (on_board (behind_a_stop e) (codes "undo")) (letter_rule (codes "check") 118))
-    (flag_rule (codes "to-change"))) (flag_rule (codes "recover"))) (new_rule (codes "COUNT"))
-
--- a subcommand that reads a journal and uses no device
-abbrev pub on_journal : Environment → Text → App
-on_journal e name =
-    with_rule
-    (with_rule (new_app name) (standing_option_rule (codes "journal") (option_text e.journal)))
-    (flag_rule (codes "json"))
+    with_rules (on_board (behind_a_stop e) (codes "undo"))
+    (letter_rule (codes "check") 118
+    ∷ flag_rule (codes "to-change")
+    ∷ flag_rule (codes "recover")
+    ∷ new_rule (codes "COUNT")
+    ∷ [])
 
 abbrev pub log_app : Environment → App
-log_app e = with_rule (on_journal e (codes "log")) (flag_rule (codes "check"))
+log_app e =
+    with_rules (new_app (codes "log"))
+    (needed_option_rule (codes "journal") (option_text e.journal)
+    ∷ flag_rule (codes "json")
+    ∷ flag_rule (codes "check")
+    ∷ [])
 
 abbrev pub keep_app : Environment → App
 keep_app e =
-    with_rule (with_rule (with_rule (with_rule (on_journal e (codes "keep"))
-    (flag_rule (codes "no-lock"))) (flag_rule (codes "trust-journal")))
-    (option_rule (codes "last"))) (new_rule (codes "TO"))
+    with_rules (new_app (codes "keep"))
+    (needed_option_rule (codes "journal") (option_text e.journal)
+    ∷ flag_rule (codes "json")
+    ∷ flag_rule (codes "no-lock")
+    ∷ flag_rule (codes "trust-journal")
+    ∷ spare_option_rule (codes "last") None
+    ∷ new_rule (codes "TO")
+    ∷ [])
 
 abbrev pub go_app : Environment → App
-go_app e = with_rule (on_board e (codes "go")) (needed_rule (codes "ADDRESS"))
+go_app e = with_rules (on_board e (codes "go")) (needed_rule (codes "ADDRESS") ∷ [])
 
 abbrev pub protect_app : Environment → ValueParser → App
 protect_app e kinds =
-    with_rule (with_rule (with_rule (on_board e (codes "protect")) (flag_rule (codes "yes")))
-    (flag_rule (codes "in-session"))) (kind_rule kinds)
+    with_rules (on_board e (codes "protect"))
+    (flag_rule (codes "yes") ∷ flag_rule (codes "in-session") ∷ kind_rule kinds ∷ [])
 
 abbrev pub sim_app : Environment → App
-sim_app e = with_rule (with_rule (with_rule (with_rule (with_rule (with_rule (with_rule (with_rule
-    (with_rule (with_rule (with_table e (codes "sim"))
-    (needed_option_rule (codes "id"))) (needed_option_rule (codes "flash")))
-    (option_rule (codes "unique"))) (option_rule (codes "size")))
-    (repeated_option_rule (codes "protected")))
-    (flag_rule (codes "readout-protection")))
-    (flag_rule (codes "no-lock")))
-    (needed_option_rule (codes "socket")))
-    (default_option_rule (codes "mode") (codes "600")))
-    (default_option_rule (codes "clients") (codes "1"))
+sim_app e =
+    with_rules (new_app (codes "sim"))
+    (needed_option_rule (codes "table") (option_text e.table)
+    ∷ needed_option_rule (codes "id") None
+    ∷ needed_option_rule (codes "flash") None
+    ∷ spare_option_rule (codes "unique") None
+    ∷ spare_option_rule (codes "size") None
+    ∷ repeated_option_rule (codes "protected")
+    ∷ flag_rule (codes "readout-protection")
+    ∷ flag_rule (codes "no-lock")
+    ∷ needed_option_rule (codes "socket") None
+    ∷ spare_option_rule (codes "mode") (Some (codes "600"))
+    ∷ spare_option_rule (codes "clients") (Some (codes "1"))
+    ∷ [])
 
 -- the program's name, where a subcommand has to follow, or a flag that asks for help or the version
 abbrev pub bare_app : App

@@ -1,17 +1,16 @@
 // The subcommands and their words, for `clap`.
-ghost use Rattle.std.specs.Prelude.{◌≡◌, IfOk};
-ghost use Rattle.clap.specs.Words.{App, with_subcommand};
+ghost use Rattle.std.specs.Prelude.{◌≡◌, IfOk, map};
+ghost use Rattle.clap.specs.Words.{App, new_app, with_subcommand};
 ghost use Rattle.stm_words.specs.CommandSet.{Makes, TakesKinds, behind_a_stop, command_set, crc_app};
-ghost use Rattle.stm_words.specs.CommandSet.{erase_app, is_short_wait};
-ghost use Rattle.stm_words.specs.CommandSet.{go_app, info_app, keep_app, log_app, on_board, on_device};
-ghost use Rattle.stm_words.specs.CommandSet.{on_journal, protect_app, read_app, sim_app, undo_app, verify_app};
-ghost use Rattle.stm_words.specs.CommandSet.{wait_word, with_places, with_table, with_waits};
-ghost use Rattle.stm_words.specs.CommandSet.{write_app};
+ghost use Rattle.stm_words.specs.CommandSet.{erase_app, go_app, info_app, is_short_wait, keep_app};
+ghost use Rattle.stm_words.specs.CommandSet.{log_app, on_board, protect_app, read_app, sim_app};
+ghost use Rattle.stm_words.specs.CommandSet.{undo_app, rule_for, verify_app, wait_word, with_rules, write_app};
 
-use crate::argument::{
-    default_option, flag, hidden_flag, kind, letter, needed, needed_option, needed_repeated,
-    option, range, repeated, repeated_option, spare, spare_option, standing_option,
+use crate::argument::Word::{
+    Flag, HiddenFlag, LetterFlag, LetterOption, Needed, NeededOption, NeededRepeated, Repeated,
+    RepeatedOption, Spare, SpareOption,
 };
+use crate::argument::{Word, argument, kind};
 use crate::environment::Environment;
 use crate::help;
 use crate::number::parse_number;
@@ -22,46 +21,32 @@ use std::alloc::{AllocError, Global};
 /// `tools/demo.sh` builds one that isn't proved, from a copy in which that stands here.
 const VERSION: &str = "0.2.0, proved by rattle logic dac8208d650f15bf";
 
-/// A subcommand with the option that names the table.
-fn with_table<'a>(
+/// A command that takes these words too.
+fn with_words<'a>(
     alloc: Global,
-    environment: Environment<'a>,
-    name: &'a str,
-    about: &'a str,
+    command: Command<'a>,
+    words: &[Word<'a>],
 ) -> Result<Command<'a>, AllocError>
-    ensures { IfOk result (Makes (with_table environment.entry name.entry.now)) }
+    ensures { (a : App) → Makes a command.entry → IfOk result (Makes (with_rules a (map rule_for words.now))) }
 {
-    Command::new(alloc, name).about(about).arg(standing_option(
-        alloc,
-        "table",
-        "FILE",
-        environment.table,
-        help::TABLE,
-    ))
+    let mut made = command;
+    for word in words {
+        made = made.arg(argument(alloc, *word))?;
+    }
+    Ok(made)
 }
 
-/// A subcommand with the options that name the table, the device, and the journal or the folder that
-/// has it, one of which has to be given.
-fn with_places<'a>(
+/// A subcommand that takes these words.
+fn subcommand<'a>(
     alloc: Global,
-    environment: Environment<'a>,
     name: &'a str,
     about: &'a str,
+    words: &[Word<'a>],
 ) -> Result<Command<'a>, AllocError>
-    ensures { IfOk result (Makes (with_places environment.entry name.entry.now)) }
+    ensures { IfOk result (Makes
+        (with_rules (new_app name.entry.now) (map rule_for words.now))) }
 {
-    with_table(alloc, environment, name, about)?
-        .arg(standing_option(alloc, "device", "DEV", environment.device, help::DEVICE))?
-        .arg(spare_option(alloc, "journal", "FILE", environment.journal, help::JOURNAL))?
-        .arg(spare_option(
-            alloc,
-            "journals",
-            "FOLDER",
-            environment.journals,
-            help::JOURNALS,
-        ))?
-        .arg(flag(alloc, "no-lock", help::NO_LOCK))?
-        .arg(flag(alloc, "trust-journal", help::TRUST_JOURNAL))
+    with_words(alloc, Command::new(alloc, name).about(about), words)
 }
 
 /// How long a reply may take, in milliseconds, where no word says it.
@@ -74,40 +59,7 @@ fn standing_wait<'a>(environment: Environment<'a>) -> &'a str
     }
 }
 
-/// The same, with the options of how long a device may take to answer.
-fn with_waits<'a>(
-    alloc: Global,
-    environment: Environment<'a>,
-    name: &'a str,
-    about: &'a str,
-) -> Result<Command<'a>, AllocError>
-    ensures { IfOk result (Makes (with_waits environment.entry name.entry.now)) }
-{
-    with_places(alloc, environment, name, about)?
-        .arg(default_option(alloc, "wait", "MS", standing_wait(environment), help::WAIT))?
-        .arg(spare_option(alloc, "baud", "N", environment.baud, help::BAUD))?
-        .arg(option(alloc, "give-up", "SECONDS", help::GIVE_UP))?
-        .arg(hidden_flag(alloc, "fresh", help::FRESH))
-}
-
-/// A subcommand with the options that every use of a device has.
-fn on_device<'a>(
-    alloc: Global,
-    environment: Environment<'a>,
-    name: &'a str,
-    about: &'a str,
-) -> Result<Command<'a>, AllocError>
-    ensures { IfOk result (Makes (on_device environment.entry name.entry.now)) }
-{
-    with_waits(alloc, environment, name, about)?
-        .arg(flag(alloc, "progress", help::PROGRESS))?
-        .arg(flag(alloc, "quiet", help::QUIET))?
-        .arg(flag(alloc, "watch", help::WATCH))?
-        .arg(flag(alloc, "json", help::JSON))?
-        .arg(option(alloc, "stop", "K", help::STOP))
-}
-
-/// The same, with the options of which board it has to be.
+/// A subcommand with the words that every use of a device has.
 fn on_board<'a>(
     alloc: Global,
     environment: Environment<'a>,
@@ -116,62 +68,111 @@ fn on_board<'a>(
 ) -> Result<Command<'a>, AllocError>
     ensures { IfOk result (Makes (on_board environment.entry name.entry.now)) }
 {
-    on_device(alloc, environment, name, about)?
-        .arg(spare_option(alloc, "board", "HEX", environment.board, help::BOARD))?
-        .arg(flag(alloc, "no-board", help::NO_BOARD))
+    let wait = standing_wait(environment);
+    subcommand(
+        alloc,
+        name,
+        about,
+        &[
+            NeededOption("table", "FILE", environment.table, help::TABLE),
+            NeededOption("device", "DEV", environment.device, help::DEVICE),
+            SpareOption("journal", "FILE", environment.journal, help::JOURNAL),
+            SpareOption("journals", "FOLDER", environment.journals, help::JOURNALS),
+            Flag("no-lock", help::NO_LOCK),
+            Flag("trust-journal", help::TRUST_JOURNAL),
+            SpareOption("wait", "MS", Some(wait), help::WAIT),
+            SpareOption("baud", "N", environment.baud, help::BAUD),
+            SpareOption("give-up", "SECONDS", None, help::GIVE_UP),
+            HiddenFlag("fresh", help::FRESH),
+            Flag("progress", help::PROGRESS),
+            Flag("quiet", help::QUIET),
+            Flag("watch", help::WATCH),
+            Flag("json", help::JSON),
+            SpareOption("stop", "K", None, help::STOP),
+            SpareOption("board", "HEX", environment.board, help::BOARD),
+            Flag("no-board", help::NO_BOARD),
+        ],
+    )
 }
 
 fn info<'a>(alloc: Global, environment: Environment<'a>) -> Result<Command<'a>, AllocError>
     ensures { IfOk result (Makes (info_app environment.entry)) }
 {
-    on_board(alloc, environment, "info", help::INFO)?.arg(flag(alloc, "raw", help::RAW))
+    let info = on_board(alloc, environment, "info", help::INFO)?;
+    with_words(alloc, info, &[Flag("raw", help::RAW)])
 }
 
 fn read<'a>(alloc: Global, environment: Environment<'a>) -> Result<Command<'a>, AllocError>
     ensures { IfOk result (Makes (read_app environment.entry)) }
 {
-    on_board(alloc, environment, "read", help::READ)?
-        .arg(range(alloc, help::READ_RANGE))?
-        .arg(flag(alloc, "hex", help::HEX))?
-        .arg(flag(alloc, "skip-blank", help::SKIP_BLANK))?
-        .arg(needed(alloc, "OUT", help::OUT))
+    let read = on_board(alloc, environment, "read", help::READ)?;
+    with_words(
+        alloc,
+        read,
+        &[
+            LetterOption("range", 'S', "RANGE", help::READ_RANGE),
+            Flag("hex", help::HEX),
+            Flag("skip-blank", help::SKIP_BLANK),
+            Needed("OUT", help::OUT),
+        ],
+    )
 }
 
 fn crc<'a>(alloc: Global, environment: Environment<'a>) -> Result<Command<'a>, AllocError>
     ensures { IfOk result (Makes (crc_app environment.entry)) }
 {
-    on_board(alloc, environment, "crc", help::CRC)?.arg(range(alloc, help::CRC_RANGE))
+    let crc = on_board(alloc, environment, "crc", help::CRC)?;
+    with_words(
+        alloc,
+        crc,
+        &[LetterOption("range", 'S', "RANGE", help::CRC_RANGE)],
+    )
 }
 
 fn write<'a>(alloc: Global, environment: Environment<'a>) -> Result<Command<'a>, AllocError>
     ensures { IfOk result (Makes (write_app environment.entry)) }
 {
-    on_board(alloc, environment, "write", help::WRITE)?
-        .arg(letter(alloc, "force", 'f', help::FORCE))?
-        .arg(letter(alloc, "check", 'v', help::CHECK))?
-        .arg(range(alloc, help::IMAGE_RANGE))?
-        .arg(flag(alloc, "keep", help::WRITE_KEEP))?
-        .arg(option(alloc, "keep-to", "TO", help::WRITE_KEEP_TO))?
-        .arg(option(alloc, "go", "ADDRESS", help::WRITE_GO))?
-        .arg(option(alloc, "again", "N", help::AGAIN))?
-        .arg(needed_repeated(alloc, "IMAGE", help::IMAGE))
+    let write = on_board(alloc, environment, "write", help::WRITE)?;
+    with_words(
+        alloc,
+        write,
+        &[
+            LetterFlag("force", 'f', help::FORCE),
+            LetterFlag("check", 'v', help::CHECK),
+            LetterOption("range", 'S', "RANGE", help::IMAGE_RANGE),
+            Flag("keep", help::WRITE_KEEP),
+            SpareOption("keep-to", "TO", None, help::WRITE_KEEP_TO),
+            SpareOption("go", "ADDRESS", None, help::WRITE_GO),
+            SpareOption("again", "N", None, help::AGAIN),
+            NeededRepeated("IMAGE", help::IMAGE),
+        ],
+    )
 }
 
 fn verify<'a>(alloc: Global, environment: Environment<'a>) -> Result<Command<'a>, AllocError>
     ensures { IfOk result (Makes (verify_app environment.entry)) }
 {
-    on_board(alloc, environment, "verify", help::VERIFY)?
-        .arg(letter(alloc, "force", 'f', help::FORCE))?
-        .arg(range(alloc, help::IMAGE_RANGE))?
-        .arg(needed_repeated(alloc, "IMAGE", help::IMAGE))
+    let verify = on_board(alloc, environment, "verify", help::VERIFY)?;
+    with_words(
+        alloc,
+        verify,
+        &[
+            LetterFlag("force", 'f', help::FORCE),
+            LetterOption("range", 'S', "RANGE", help::IMAGE_RANGE),
+            NeededRepeated("IMAGE", help::IMAGE),
+        ],
+    )
 }
 
 fn erase<'a>(alloc: Global, environment: Environment<'a>) -> Result<Command<'a>, AllocError>
     ensures { IfOk result (Makes (erase_app environment.entry)) }
 {
-    on_board(alloc, environment, "erase", help::ERASE)?
-        .arg(flag(alloc, "all", help::ALL))?
-        .arg(repeated(alloc, "PAGE", help::PAGE))
+    let erase = on_board(alloc, environment, "erase", help::ERASE)?;
+    with_words(
+        alloc,
+        erase,
+        &[Flag("all", help::ALL), Repeated("PAGE", help::PAGE)],
+    )
 }
 
 /// Whether this is a wait, in milliseconds, and a shorter one than where nothing is said.
@@ -201,74 +202,89 @@ fn behind_a_stop<'a>(environment: Environment<'a>) -> Environment<'a>
 fn undo<'a>(alloc: Global, environment: Environment<'a>) -> Result<Command<'a>, AllocError>
     ensures { IfOk result (Makes (undo_app environment.entry)) }
 {
-    on_board(alloc, behind_a_stop(environment), "undo", help::UNDO)?
-        .arg(letter(alloc, "check", 'v', help::UNDO_CHECK))?
-        .arg(flag(alloc, "to-change", help::TO_CHANGE))?
-        .arg(flag(alloc, "recover", help::RECOVER))?
-        .arg(spare(alloc, "COUNT", help::COUNT))
-}
-
-/// A subcommand that reads a journal and uses no device.
-fn on_journal<'a>(
-    alloc: Global,
-    environment: Environment<'a>,
-    name: &'a str,
-    about: &'a str,
-) -> Result<Command<'a>, AllocError>
-    ensures { IfOk result (Makes (on_journal environment.entry name.entry.now)) }
-{
-    Command::new(alloc, name)
-        .about(about)
-        .arg(standing_option(alloc, "journal", "FILE", environment.journal, help::JOURNAL))?
-        .arg(flag(alloc, "json", help::JSON))
+    let undo = on_board(alloc, behind_a_stop(environment), "undo", help::UNDO)?;
+    with_words(
+        alloc,
+        undo,
+        &[
+            LetterFlag("check", 'v', help::UNDO_CHECK),
+            Flag("to-change", help::TO_CHANGE),
+            Flag("recover", help::RECOVER),
+            Spare("COUNT", help::COUNT),
+        ],
+    )
 }
 
 fn log<'a>(alloc: Global, environment: Environment<'a>) -> Result<Command<'a>, AllocError>
     ensures { IfOk result (Makes (log_app environment.entry)) }
 {
-    on_journal(alloc, environment, "log", help::LOG)?.arg(flag(alloc, "check", help::LOG_CHECK))
+    subcommand(
+        alloc,
+        "log",
+        help::LOG,
+        &[
+            NeededOption("journal", "FILE", environment.journal, help::JOURNAL),
+            Flag("json", help::JSON),
+            Flag("check", help::LOG_CHECK),
+        ],
+    )
 }
 
 fn keep<'a>(alloc: Global, environment: Environment<'a>) -> Result<Command<'a>, AllocError>
     ensures { IfOk result (Makes (keep_app environment.entry)) }
 {
-    on_journal(alloc, environment, "keep", help::KEEP)?
-        .arg(flag(alloc, "no-lock", help::NO_LOCK))?
-        .arg(flag(alloc, "trust-journal", help::TRUST_JOURNAL))?
-        .arg(option(alloc, "last", "N", help::LAST))?
-        .arg(spare(alloc, "TO", help::TO))
+    subcommand(
+        alloc,
+        "keep",
+        help::KEEP,
+        &[
+            NeededOption("journal", "FILE", environment.journal, help::JOURNAL),
+            Flag("json", help::JSON),
+            Flag("no-lock", help::NO_LOCK),
+            Flag("trust-journal", help::TRUST_JOURNAL),
+            SpareOption("last", "N", None, help::LAST),
+            Spare("TO", help::TO),
+        ],
+    )
 }
 
 fn go<'a>(alloc: Global, environment: Environment<'a>) -> Result<Command<'a>, AllocError>
     ensures { IfOk result (Makes (go_app environment.entry)) }
 {
-    on_board(alloc, environment, "go", help::GO)?.arg(needed(alloc, "ADDRESS", help::ADDRESS))
+    let go = on_board(alloc, environment, "go", help::GO)?;
+    with_words(alloc, go, &[Needed("ADDRESS", help::ADDRESS)])
 }
 
 fn protect<'a>(alloc: Global, environment: Environment<'a>) -> Result<Command<'a>, AllocError>
     ensures { IfOk result
         (λ c. (p : _) × Makes (protect_app environment.entry p) c × TakesKinds p) }
 {
-    on_board(alloc, environment, "protect", help::PROTECT)?
-        .arg(flag(alloc, "yes", help::YES))?
-        .arg(flag(alloc, "in-session", help::IN_SESSION))?
-        .arg(kind(alloc))
+    let protect = on_board(alloc, environment, "protect", help::PROTECT)?;
+    let flags = [Flag("yes", help::YES), Flag("in-session", help::IN_SESSION)];
+    with_words(alloc, protect, &flags)?.arg(kind(alloc))
 }
 
 fn sim<'a>(alloc: Global, environment: Environment<'a>) -> Result<Command<'a>, AllocError>
     ensures { IfOk result (Makes (sim_app environment.entry)) }
 {
-    with_table(alloc, environment, "sim", help::SIM)?
-        .arg(needed_option(alloc, "id", "ID", help::ID))?
-        .arg(needed_option(alloc, "flash", "FILE", help::FLASH))?
-        .arg(option(alloc, "unique", "HEX", help::UNIQUE))?
-        .arg(option(alloc, "size", "KIB", help::SIZE))?
-        .arg(repeated_option(alloc, "protected", "PAGE", help::PROTECTED))?
-        .arg(flag(alloc, "readout-protection", help::READOUT_PROTECTION))?
-        .arg(flag(alloc, "no-lock", help::NO_LOCK))?
-        .arg(needed_option(alloc, "socket", "PATH", help::SOCKET))?
-        .arg(default_option(alloc, "mode", "MODE", "600", help::MODE))?
-        .arg(default_option(alloc, "clients", "N", "1", help::CLIENTS))
+    subcommand(
+        alloc,
+        "sim",
+        help::SIM,
+        &[
+            NeededOption("table", "FILE", environment.table, help::TABLE),
+            NeededOption("id", "ID", None, help::ID),
+            NeededOption("flash", "FILE", None, help::FLASH),
+            SpareOption("unique", "HEX", None, help::UNIQUE),
+            SpareOption("size", "KIB", None, help::SIZE),
+            RepeatedOption("protected", "PAGE", help::PROTECTED),
+            Flag("readout-protection", help::READOUT_PROTECTION),
+            Flag("no-lock", help::NO_LOCK),
+            NeededOption("socket", "PATH", None, help::SOCKET),
+            SpareOption("mode", "MODE", Some("600"), help::MODE),
+            SpareOption("clients", "N", Some("1"), help::CLIENTS),
+        ],
+    )
 }
 
 /// A command with one more subcommand, if there was memory for that.

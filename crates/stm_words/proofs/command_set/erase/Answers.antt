@@ -1,16 +1,6 @@
 use Rattle.std.proofs.Common.{codes}
-use Rattle.std.proofs.lemmas.Result.{IfOk-weaker}
-use Rattle.clap.specs.Words.{App, with_rule}
-use Rattle.stm_words.specs.CommandSet.{Makes, flag_rule, on_board, repeated_rule}
-use Rattle.stm_words.proofs.Subcommands.{adds}
+use Rattle.stm_words.specs.CommandSet.{on_board}
 use Rattle.stm_words.proofs.command_set.erase.Goals as goal
 
 pub returns : goal.returns
-returns c =
-    let a0 : App = on_board c.args.environment (codes "erase") in
-    let a1 : App = with_rule a0 (flag_rule (codes "all")) in
-    let m0 : Makes a0 c.in_ok-on_board.field-0 = c.in_ok-on_board.ensures in
-    let m1 : Makes a1 c.in_ok-arg.field-0 =
-    adds a0 (flag_rule (codes "all")) c.in_ok-on_board.field-0 c.flag.result c.in_ok-arg.field-0 m0 c.flag.ensures.rule c.flag.ensures.local c.in_ok-arg.ensures in
-    IfOk-weaker c.arg-2.result _ _
-    (λ r h. adds a1 (repeated_rule (codes "PAGE")) c.in_ok-arg.field-0 c.repeated.result r m1 c.repeated.ensures.rule c.repeated.ensures.local h) c.arg-2.ensures
+returns c = c.with_words.ensures (on_board c.args.environment (codes "erase")) c.in_ok-erase.ensures
