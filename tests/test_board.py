@@ -241,6 +241,7 @@ class Board(telling.Told):
         self.assertIsHere(variables={"STMFLASH_BOARD": NAME[-4:]})
         self.assertIsHere(variables={"STMFLASH_BOARD": ""})
         self.assertIsHere("--board", NAME, variables={"STMFLASH_BOARD": OTHER})
+        self.assertIsHere("--board", NAME, variables={"STMFLASH_NO_BOARD": "1"})
 
     def assertIsHere(self, *words, variables=None):
         said = self.at(HERE, "info", *words, variables=variables)
@@ -248,8 +249,9 @@ class Board(telling.Told):
 
     def test_another_than_the_wanted_board_gets_nothing_more(self):
         for word in (OTHER, OTHER[-2:], "0" + NAME, NAME[:-1]):
-            with self.subTest(word=word):
-                self.assertAskedAlone(self.at(HERE, "write", "--board", word, "image"), "device is another board")
+            for variables in (None, {"STMFLASH_NO_BOARD": "1"}):
+                with self.subTest(word=word, variables=variables):
+                    self.assertAskedAlone(self.at(HERE, "write", "--board", word, "image", variables=variables), "device is another board")
         self.assertFault(self.at(HERE, "erase", "1", variables={"STMFLASH_BOARD": OTHER}), "device is another board")
         for unique in (None, 12 * b"\xff", 12 * b"\x00"):
             self.assertAskedAlone(self.at(unique, "write", "--board", NAME, "image"), "device tells no board")
@@ -283,6 +285,7 @@ class Board(telling.Told):
         self.assertEqual(self.asked(), [])
         self.assertTrue(self.held("journal").startswith(b"stmjournal 2 0410\n"))
         self.assertTold(self.at(HERE, "undo", variables={"STMFLASH_NO_BOARD": "1"}), "undone 1\n")
+        self.assertTold(self.at(HERE, "undo", "--no-board", variables={"STMFLASH_BOARD": OTHER}), "undone 0\n")
         self.assertEqual(self.asked(), [])
         self.store("journal", HEAD)
         self.assertFault(self.at(HERE, "erase", "1", "--no-board"), ANOTHER)

@@ -264,7 +264,8 @@ class JournalsFolder(Served):
         self.assertTold(self.call("undo", *device, "--journal", "one", variables=variables), "undone 0\n", lacks("one"))
         unasked = "usage: give --journals or --no-board, not both"
         self.assertFault(self.at("a", "info", "--no-board"), unasked, status=2)
-        self.assertFault(self.at("a", "go", "0", variables={"STMFLASH_NO_BOARD": "1"}), unasked, status=2)
+        self.assertFault(self.call("go", *device, "0", variables={**folder, "STMFLASH_NO_BOARD": "1"}), unasked, status=2)
+        self.assertTold(self.at("a", "verify", "image", variables={"STMFLASH_NO_BOARD": "1"}), "verified 8 bytes\n")
         for name in ("log", "keep"):
             self.assertUsage(self.call(name, "--journals", "journals"))
         # what names a journal needs no board

@@ -1,6 +1,6 @@
 -- The values that were given for words, by their ids, and what a word stands for.
 use Rattle.std.specs.Prelude.{◌≡◌, ℕ, ◌%◌, Bool, true, false, ◌&&◌, ◌==◌, bytes_eq, nat_eq, nat_le, codes}
-use Rattle.std.specs.Prelude.{if◌then◌else◌, List, [], length, Option, Some, None, option_and_then}
+use Rattle.std.specs.Prelude.{if◌then◌else◌, List, [], length, not, Option, Some, None, option_and_then}
 use Rattle.std.specs.Prelude.{option_map, unwrap_or}
 use Rattle.std.specs.Borrow.{Bor}
 use Rattle.std.specs.List.{after_first, before_first, list_all, position_or_len, starts_with}
@@ -39,6 +39,16 @@ is_from_words _ = false
 -- the value of this id is a word, and does not stand for one
 abbrev pub is_word : Found → List ℕ → Bool
 is_word given id = is_from_words (option_and_then (λ a. a.source) (matched_of given id))
+
+-- the same text, where it counts
+abbrev pub NamesWhere : Bool → Found → List ℕ → Option (Bor (List ℕ)) → Type 0
+NamesWhere true given id text = NamesText given id text
+NamesWhere false given id text = text ≡ None
+
+-- the board: a word that says that none is wanted goes before the environment
+abbrev pub NamesBoard : Found → Option (Bor (List ℕ)) → Type 0
+NamesBoard given = NamesWhere
+    (not (has given (codes "no-board") && not (is_word given (codes "board")))) given (codes "board")
 
 -- a number from 1 to a limit
 abbrev pub number_to : ℕ → List ℕ → Option ℕ

@@ -1,7 +1,7 @@
 -- What a command line means: which request its words ask for, or that they ask for help.
-use Rattle.std.specs.Prelude.{◌≡◌, ◌⊎◌, ◌||◌, ◌&&◌, ◌==◌, nat_eq, not, Bool, true, false, IfSome, IsSome, IsTrue}
+use Rattle.std.specs.Prelude.{◌≡◌, ◌⊎◌, ◌||◌, ◌&&◌, ◌==◌, ◌-◌, bytes_eq, map, not, Bool, true, false, IfSome, IsSome, IsTrue}
 use Rattle.std.specs.Prelude.{if◌then◌else◌, is_some, ◌<◌, codes, List, [], drop, length, ℕ, Option, None, Some}
-use Rattle.std.specs.List.{ends_with}
+use Rattle.std.specs.Char.{to_ascii_lowercase}
 use Rattle.clap.specs.Words.{IsAmong, Row, Text, fault_of, first_value, rows_of, subcommand_of}
 use Rattle.clap.specs.declared.builder.value_parser.ValueParser.{ValueParser}
 use Rattle.clap.specs.declared.error.kind.ErrorKind.TheVariants.{DisplayHelp, DisplayVersion}
@@ -27,7 +27,7 @@ use Rattle.stm_words.specs.declared.task.Task.TheVariants.{Go, Protect, ReadHex,
 use Rattle.stm_words.specs.declared.unread.Unread.{Unread}
 use Rattle.stm_words.specs.declared.unread.Unread.TheVariants.{Help}
 use Rattle.stm_words.specs.CommandSet.{TakesKinds, command_set}
-use Rattle.stm_words.specs.Given.{Gives, GivesOrZero, NamesText, are_board_digits, are_unique_digits, cut_at, has}
+use Rattle.stm_words.specs.Given.{Gives, GivesOrZero, NamesBoard, NamesText, are_board_digits, are_unique_digits, cut_at, has}
 use Rattle.stm_words.specs.Given.{chip_id_of, is_of_simulator, is_word, mode_of, number_to, range_of}
 use Rattle.stm_words.specs.Given.{simulator_of, texts_of, word_range_of}
 use Rattle.stm_words.specs.Images.{AreImagesNamed}
@@ -70,9 +70,10 @@ pub record AreOptions (e : Environment) (given : Found) (o : Options) : Type 0 w
   pub wait : Gives (number_to 60000) given (codes "wait") (Some o.wait)
   pub baud : Gives (number_to 4000000) given (codes "baud") o.baud
   pub give_up : Gives word_number given (codes "give-up") o.give_up
-  pub board : NamesText given (codes "board") o.board
+  pub board : NamesBoard given o.board
   pub digits : IfSome o.board (λ text. IsTrue (are_board_digits text.now))
-  pub no_board : o.without_board ≡ has given (codes "no-board") || e.without_board
+  pub no_board : o.without_board ≡ has given (codes "no-board")
+      || e.without_board && not (is_word given (codes "board") || is_word given (codes "journals"))
   pub asked : IsSome o.board → o.without_board ≡ false
   pub told : o.in_folder ≡ true → o.without_board ≡ false
   pub fresh : o.is_fresh ≡ has given (codes "fresh") || e.is_fresh
@@ -91,9 +92,14 @@ pub record AreImageFiles (given : Found) (images : List ImageFile) : Type 0 wher
   pub is_range : Gives range_of given (codes "range") range
   pub named : AreImagesNamed (has given (codes "force")) range (texts_of given (codes "IMAGE")) images
 
+-- the name of a file ends as that of one of HEX, in letters of either case
+abbrev pub is_hex_name : List ℕ → Bool
+is_hex_name out =
+    bytes_eq (map to_ascii_lowercase (drop (length out - 4) out)) (codes ".hex")
+
 -- what is read is written as HEX: the flag says so, or the end of the file's name
 abbrev pub wants_hex : Found → List ℕ → Bool
-wants_hex given out = has given (codes "hex") || ends_with nat_eq out (codes ".hex")
+wants_hex given out = has given (codes "hex") || is_hex_name out
 
 -- how far back `undo` goes: so many, where 0 is all, or to the newest change
 abbrev pub NamesExtent : Found → Extent → Type 0

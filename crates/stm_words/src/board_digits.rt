@@ -1,8 +1,9 @@
 // The digits that name a board, or the unique id of one.
 ghost use Rattle.std.specs.Prelude.{◌≡◌, IfOk, IfSome, IsTrue, codes};
 ghost use Rattle.clap.specs.Words.{found_of};
-ghost use Rattle.stm_words.specs.Given.{NamesText, are_board_digits, are_unique_digits};
+ghost use Rattle.stm_words.specs.Given.{NamesBoard, NamesText, are_board_digits, are_unique_digits};
 
+use crate::given::{flag, is_word};
 use crate::number::are_hex_digits;
 use crate::usage_fault::UsageFault;
 use clap::ArgMatches;
@@ -38,12 +39,16 @@ pub fn unique_digits<'a>(given: &ArgMatches<'a>) -> Result<Option<&'a str>, Usag
     }
 }
 
-/// The board that is wanted, where one is.
+/// The board that is wanted, where one is: the word that says that none is goes before the
+/// environment.
 pub fn board_digits<'a>(given: &ArgMatches<'a>) -> Result<Option<&'a str>, UsageFault<'a>>
-    ensures given { IfOk result (NamesText (found_of given.now) (codes "board")) }
+    ensures given { IfOk result (NamesBoard (found_of given.now)) }
     ensures digits { IfOk result (λ board.
         IfSome board (λ text. IsTrue (are_board_digits text.now))) }
 {
+    if flag(given, "no-board") && !is_word(given, "board") {
+        return Ok(None);
+    }
     let Some(text) = given.get_str("board") else {
         return Ok(None);
     };

@@ -1,7 +1,7 @@
 // The values that `clap` found, each read as what it stands for.
 ghost use Rattle.std.specs.Prelude.{◌≡◌, IfOk, Some, codes};
 ghost use Rattle.clap.specs.Words.{first_value, found_of};
-ghost use Rattle.stm_words.specs.Given.{Gives, has, number_to, range_of, texts_of, word_range_of};
+ghost use Rattle.stm_words.specs.Given.{Gives, has, is_word, number_to, range_of, texts_of, word_range_of};
 ghost use Rattle.stm_words.specs.Number.{word_number};
 ghost use Rattle.stm_words.specs.Pages.{NameAll};
 
@@ -11,6 +11,7 @@ use crate::range::Range;
 use crate::unfit::Unfit;
 use crate::usage_fault::UsageFault;
 use clap::ArgMatches;
+use clap::parser::ValueSource;
 use std::alloc::Global;
 
 /// The word that was given under this name.
@@ -31,6 +32,13 @@ pub fn flag(given: &ArgMatches, id: &str) -> bool
         Some(word) => word == "true",
         None => false,
     }
+}
+
+/// Whether the value of this name is a word that was given.
+pub fn is_word(given: &ArgMatches, id: &str) -> bool
+    ensures { result ≡ is_word (found_of given.now) id.now }
+{
+    matches!(given.value_source(id), Some(ValueSource::CommandLine))
 }
 
 /// The number that was given under this name, where one was.

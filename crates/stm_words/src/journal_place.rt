@@ -3,7 +3,7 @@ ghost use Rattle.std.specs.Prelude.{◌≡◌, IfOk, false, true};
 ghost use Rattle.clap.specs.Words.{found_of};
 ghost use Rattle.stm_words.specs.Request.{NamesJournal};
 
-use crate::table_names::is_word;
+use crate::given::is_word;
 use crate::usage_fault::UsageFault;
 use clap::ArgMatches;
 

@@ -6,7 +6,7 @@ ghost use Rattle.stm_words.specs.Request.{AreOptions, is_simulator};
 use crate::board_digits::board_digits;
 use crate::device::Device;
 use crate::environment::Environment;
-use crate::given::{flag, number_to, spare_number, spare_number_to, word};
+use crate::given::{flag, is_word, number_to, spare_number, spare_number_to, word};
 use crate::journal_place::JournalPlace;
 use crate::progress::Progress;
 use crate::table_names::TableNames;
@@ -52,7 +52,7 @@ pub struct Options<'a> {
 impl<'a> Options<'a> {
     /// The options that the words of a subcommand give. The environment says that the device is
     /// fresh, that it isn't asked which board it is, and that the files need no lock, where the
-    /// words don't.
+    /// words don't, and name no board.
     pub fn parse(
         environment: Environment<'a>,
         given: &ArgMatches<'a>,
@@ -72,7 +72,8 @@ impl<'a> Options<'a> {
         let baud = spare_number_to(given, "baud", 4_000_000)?;
         let give_up = spare_number(given, "give-up")?;
         let board = board_digits(given)?;
-        let without_board = flag(given, "no-board") || environment.without_board;
+        let names_board = is_word(given, "board") || is_word(given, "journals");
+        let without_board = flag(given, "no-board") || environment.without_board && !names_board;
         if board.is_some() && without_board {
             return Err(UsageFault::BoardUnasked);
         }

@@ -1,14 +1,12 @@
 // The files of chip tables, of which one is read over the other.
 ghost use Rattle.std.specs.Prelude.{◌≡◌, IfOk};
 ghost use Rattle.clap.specs.Words.{found_of};
-ghost use Rattle.stm_words.specs.Given.{is_word};
 ghost use Rattle.stm_words.specs.Request.{AreTables};
 
 use crate::environment::Environment;
-use crate::given::word;
+use crate::given::{is_word, word};
 use crate::usage_fault::UsageFault;
 use clap::ArgMatches;
-use clap::parser::ValueSource;
 use std::fmt;
 use std::fmt::{Display, Formatter};
 
@@ -20,13 +18,6 @@ pub struct TableNames<'a> {
     /// Those that are read over it, the lower first. None where a word or a variable names a table,
     /// which is alone then.
     pub over: Option<&'a [&'a str]>,
-}
-
-/// Whether the value of this name is a word that was given.
-pub fn is_word(given: &ArgMatches, id: &str) -> bool
-    ensures { result ≡ is_word (found_of given.now) id.now }
-{
-    matches!(given.value_source(id), Some(ValueSource::CommandLine))
 }
 
 impl<'a> TableNames<'a> {

@@ -1,8 +1,7 @@
 // What is asked of a device.
-ghost use Rattle.std.specs.Prelude.{◌≡◌, IfOk, codes, nat_eq};
-ghost use Rattle.std.specs.List.{ends_with};
+ghost use Rattle.std.specs.Prelude.{◌≡◌, IfOk, codes};
 ghost use Rattle.clap.specs.Words.{found_of};
-ghost use Rattle.stm_words.specs.Request.{IsTask, goes_in_session, wants_pages};
+ghost use Rattle.stm_words.specs.Request.{IsTask, goes_in_session, is_hex_name, wants_pages};
 
 use crate::extent::Extent;
 use crate::given::{flag, number, pages, range, word, word_range};
@@ -93,7 +92,8 @@ impl<'a> Task<'a> {
         }
     }
 
-    /// What `read` is to read, and how. A file whose name ends in `.hex` is one of HEX.
+    /// What `read` is to read, and how. A file whose name ends in `.hex`, of either case, is one
+    /// of HEX.
     fn parse_read(given: &ArgMatches<'a>) -> Result<Task<'a>, Unfit<'a>>
         ensures { IfOk result (IsTask (codes "read") (found_of given.now)) }
     {
@@ -155,9 +155,9 @@ impl<'a> Task<'a> {
 }
 
 /// Whether a file of this name is one of HEX.
-#[tactic(auto, using(std::proofs::lemmas::Str::Pattern::ends_text))]
 fn is_hex_name(name: &str) -> bool
-    ensures { result ≡ ends_with nat_eq name.now (codes ".hex") }
+    ensures { result ≡ is_hex_name name.now }
 {
-    name.ends_with(".hex")
+    let bytes = name.as_bytes();
+    bytes[bytes.len().saturating_sub(4)..].eq_ignore_ascii_case(b".hex")
 }
