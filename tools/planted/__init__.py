@@ -1,17 +1,15 @@
 """The faults that `tools/mutants` plants: those that operators make of the code, and those by hand that no operator makes.
 
 An operator leaves out a call, swaps two neighbours, changes a constant, turns a guard or leaves it out, ends a function early, or takes
-another variable of the same type. `slips_python.py`, `slips_rattle.py` and `slips_text.py` say where. By hand are the tables in
-`program.py` and `beside.py`: what the fault is, in words, and then the file, the text that stands there once, what is put in its place,
-and the test that has to fail by it. What is put into the program has `@on`, which is true where the fault is on, and may have `@old`,
-the text that was there; what has no `@on` is an expression in the place of another.
+another variable of the same type. `slips_python.py`, `slips_rattle.py` and `slips_text.py` say where. Those by hand are rows of `by_hand`.
 """
 
 import glob
 import os
+import re
 import typing
 
-from planted import beside, program, slips_python, slips_rattle, slips_text
+from planted import slips_python, slips_rattle, slips_text
 
 TOP = os.path.dirname(os.path.dirname(os.path.dirname(os.path.abspath(__file__))))
 CRATES = ("stm_words", "stm_files", "stm_work", "stmflash")
@@ -72,10 +70,12 @@ def made(group):
 
 def by_hand(group):
     """The faults by hand in a group."""
-    for name, (file, old, new, test) in (program if group == "program" else beside).FAULTS.items():
-        if group == "program":
-            file, new = "crates/{}/src/{}.rt".format(*file.split("/", 1)), new if "@on" in new else f"(if @on {{ {new} }} else {{ @old }})"
+    for row in re.sub(r"(?m)^#.*\n", "", read("tools/planted/by_hand")).strip().split("\n\n"):
+        name, file, test, *lines = row.strip().split("\n")
+        old, new = ("\n".join(line[2:] for line in lines if line[0] == sign) for sign in "-+")
         if group == GROUP_OF.get(file.split("/")[0], "packages"):
+            if group == "program" and "@on" not in new:
+                new = f"(if @on {{ {new} }} else {{ @old }})"
             text = read(file)
             if text.count(old) != 1 or old == new:
                 raise Gone(f"{file} has {text.count(old)} times what is edited: {name}")
