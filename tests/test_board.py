@@ -269,17 +269,6 @@ class Board(telling.Told):
         self.assertTold(self.use("erase", "1", device="sim:0410:flash"), "segment 1: 1 pages erased\n")
         self.assertTrue(self.held("journal").startswith(b"stmjournal 2 0410\n"))
 
-    def test_what_no_board_is(self):
-        self.each(("", "0x12", "12 ", "G", 65 * "1"),
-                  lambda word: self.assertFault(self.use("info", "--board", word, device="board"), f"usage: bad board {word}", 2))
-        self.assertFault(self.use("info", "--board", 64 * "1", device="board"), "cannot connect board")
-        both = "usage: give --board or --no-board, not both"
-        self.assertFault(self.use("info", "--board", "12", "--no-board", device="board"), both, 2)
-        for variables in ({"STMFLASH_BOARD": "12", "STMFLASH_NO_BOARD": "1"}, {"STMFLASH_BOARD": "x"}):
-            self.assertFault(self.use("info", device="board", variables=variables), both if len(variables) == 2 else "usage: bad board x", 2)
-        self.assertFault(self.use("go", "--board", "x", "0x08000000", device="board"), "usage: bad board x", 2)
-        self.assertFault(self.use("protect", "--board", "1", "--no-board", "write-unprotect", device="board"), both, 2)
-
     def test_no_board_is_asked(self):
         self.assertTold(self.at(HERE, "erase", "1", "--no-board", kib=size(1)), "segment 1: 1 pages erased\n")
         self.assertEqual(self.asked(), [])

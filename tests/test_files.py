@@ -1,12 +1,11 @@
-"""The files that a use names: which are one, how OUT and a simulator's files are written, and how long a file may be."""
+"""How OUT and a simulator's files are written, and where what is printed may go (tests/linux.rows has which names are one file)."""
 
 import itertools
 import os
 import signal
-import socket
 
 import syncs
-from place import COUNTING, ERASED, HEADER, TABLE, ZEROS, Place, Said, all_from, each_of, files, new, served
+from place import COUNTING, ERASED, HEADER, TABLE, Place, Said, all_from, each_of, files, new
 from test_disk import files_up_to
 
 NO_OUTPUT = "it is no file, terminal or pipe that is read"
@@ -48,117 +47,6 @@ class Streams(Place):
 
 
 class Files(Place):
-    def test_names_that_mean_one_file(self):
-        """The journal in place of the simulator's files, which would be lost there, of the image and of the table, whether these are there or not."""
-        self.store("image", b"\xaa")
-        for flash in (None, ZEROS):
-            if flash is not None:
-                self.store("N", flash)
-                os.link(self.path("N"), self.path("hard"))
-                os.symlink("N", self.path("soft"))
-            names = ["N", "N.line", "./N", "./N.line", self.path("N"), "image", "./image", "table", self.path("table")]
-            names += ["hard", "soft"] if flash else []
-            for journal in names:
-                with self.subTest(journal=journal, flash=flash is not None):
-                    # an erase has no image
-                    for words in (("write", "-S", "0x08000000", "image"), ("erase", "5"))[:1 if "image" in journal else 2]:
-                        self.assertFault(self.use(*words, device="sim:0412:N", journal=journal), f"cannot write {journal}")
-                    self.assertFiles({"N": flash, "N.line": None, "image": b"\xaa", "table": TABLE})
-
-    def test_names_in_two_folders_are_two(self):
-        """Of files that aren't there, which have one name."""
-        os.mkdir(self.path("folder"))
-        self.assertSilent(self.use("read", "folder/journal"))
-        self.assertFile("folder/journal", ERASED)
-
-    def test_links_lead_from_their_own_folders(self):
-        """One behind another, the last of which leads nowhere yet."""
-        os.mkdir(self.path("folder"))
-        for name, target in (("folder/first", "second"), ("folder/second", "../third"), ("third", "folder/fourth")):
-            os.symlink(target, self.path(name))
-        self.assertSilent(self.use("read", "folder/first"))
-        self.assertFile("folder/fourth", ERASED)
-        self.assertTrue(os.path.islink(self.path("folder/first")))
-        self.assertFalse(self.is_there("second"))
-
-    def test_out_is_none_of_the_other_files(self):
-        """Whether these are there or not."""
-        os.symlink("journal", self.path("link"))
-        names = ["journal", "./journal", "link", "flash", "./flash", "flash.line", "./flash.line", "table", self.path("table")]
-        self.store("journal", b"stmjournal 1 0412\n")
-        self.each(names, lambda out: self.assertFault(self.use("read", out), f"cannot write {out}"))
-        self.assertFile("journal", b"stmjournal 1 0412\n")
-        self.assertHolds(None, None)
-        self.store("flash", COUNTING)
-        self.assertTold(self.use("erase", "5"), "segment 1: 1 pages erased\n")
-        journal, flash = self.held("journal"), self.held("flash")
-        os.link(self.path("journal"), self.path("hard"))
-        os.symlink("flash.line", self.path("soft"))
-        self.each((*names, "hard", "soft"), lambda out: self.assertFault(self.use("read", out), f"cannot write {out}"))
-        self.assertFile("journal", journal)
-        self.assertHolds(flash, b"idle\n")
-
-    def test_a_simulator_is_none_of_the_other_files(self):
-        self.store("image", ZEROS)
-        self.assertFault(self.use("write", "image", device="sim:0412:image"), "cannot write image")
-        self.store("F.line", b"\xaa")
-        self.assertFault(self.use("write", "F.line", device="sim:0412:F"), "cannot write F.line")
-        os.symlink("G", self.path("G.line"))
-        self.assertFault(self.use("info", device="sim:0412:G"), "cannot write G.line")
-        self.assertFiles({"image": ZEROS, "F.line": b"\xaa"})
-        self.assertFalse(self.is_there("G"))
-        self.each(("flash", "./flash", "flash.line"),
-                  lambda socket: self.assertFault(self.call(*served(at=socket)), f"cannot write {socket}", holds=(None, None)))
-
-    def test_what_says_the_board_is_only_read(self):
-        """No file that is to be written is FILE.board, by whatever name, and whether it is there or not."""
-        self.store("image", b"\xaa")
-        for board in (None, b"size 16\n"):
-            names = ["flash.board", "./flash.board"]
-            if board is None:
-                os.symlink("flash.board", self.path("soft"))
-                names.append("soft")
-            else:
-                self.store("flash.board", board)
-                os.link(self.path("flash.board"), self.path("hard"))
-                names += ["hard", "soft"]
-            for name in names:
-                for call in (lambda: self.use("write", "image", journal=name), lambda: self.use("read", name),
-                             lambda: self.use("write", "--keep-to", name, "image"), lambda: self.call(*served(at=name))):
-                    with self.subTest(name=name, board=board):
-                        self.assertFault(call(), f"cannot write {name}")
-                        self.assertFiles({"flash.board": board, "flash": None, "flash.line": None, "journal": None})
-
-    def test_what_a_simulator_writes_is_none_that_says_the_board(self):
-        for board in (None, b"size 16\n"):
-            if board is not None:
-                self.store("flash.board", board)
-            for name in ("flash", "flash.line"):
-                os.symlink("flash.board", self.path(name))
-                for call in (lambda: self.use("info"), lambda: self.call(*served())):
-                    with self.subTest(name=name, board=board):
-                        self.assertFault(call(), f"cannot write {name}")
-                        self.assertFile("flash.board", board)
-                        self.assertEqual(os.readlink(self.path(name)), "flash.board")
-                self.remove(name)
-
-    @each_of(("flash.new", "flash.0.new", "out.stmflash-0.new", "flash.line.0.new"))
-    def test_names_that_end_in_new(self, name):
-        """What is written beside a file has a name that no file has, and follows no link."""
-        self.store_all({"victim": b"mine", "flash": COUNTING})
-        self.assertTold(self.use("erase", "5", journal=name), "segment 1: 1 pages erased\n")
-        self.assertTold(self.use("undo", journal=name), "undone 1\n", flash=COUNTING)
-        self.remove(name)
-        self.assertSilent(self.use("read", name))
-        self.assertFile(name, COUNTING)
-        self.remove(name)
-        os.symlink("victim", self.path(name))
-        self.assertSilent(self.use("read", "out"), out=COUNTING, victim=b"mine")
-        self.remove(name, "out")
-        os.mkfifo(self.path(name))
-        self.assertSilent(self.use("read", "out"), out=COUNTING)
-        self.remove(name, "out")
-
     def test_out_is_replaced_whole_or_not_at_all(self):
         older = b"older" * 20000
         self.store_all({"flash": COUNTING, "out": older})
@@ -232,18 +120,6 @@ class Files(Place):
 
         self.assertFault(self.use_held(turn, "read", "out")[0], "cannot write out", one=b"1", out=None)
 
-    def test_out_is_tried_first(self):
-        """What can't be written is told before anything is asked of a device that doesn't answer."""
-        for out in ("absent/out", "folder"):
-            with self.subTest(out=out):
-                os.makedirs(self.path("folder"), exist_ok=True)
-                for device in ("absent-board", "sim:0412:flash"):
-                    self.assertFault(self.use("read", out, device=device), f"cannot write {out}")
-        self.assertFalse(self.is_there("absent"))
-        self.store("out", b"older")
-        self.assertFault(self.use("read", "out", device="absent-board"), "cannot connect absent-board", out=b"older")
-        self.assertEqual([name for name in os.listdir(self.folder) if name.startswith("out")], ["out"])
-
     def keeps_mode(self, owner, *modes):
         """A file that this user and group have is theirs, and of its mode, also once it was written."""
         self.store("flash", COUNTING)
@@ -264,20 +140,6 @@ class Files(Place):
         if os.geteuid() != 0:
             self.skipTest("only root may give a file away")
         self.keeps_mode((12345, 23456), 0o600)
-
-    def test_makes_a_file_where_a_link_points(self):
-        os.mkdir(self.path("folder"))
-        for name, words in (("out", ("read", "out")), ("flash", ("info",)), ("flash.line", ("info",)), ("journal", ("erase", "5"))):
-            with self.subTest(name=name):
-                self.clear("flash", "flash.line", "journal", "out")
-                self.store("flash", ZEROS)
-                if name == "flash":
-                    self.remove("flash")
-                os.symlink("folder/" + name, self.path(name))
-                self.assertWell(self.use(*words))
-                self.assertTrue(os.path.islink(self.path(name)))
-                self.assertIsNotNone(self.held("folder/" + name))
-                os.remove(self.path("folder/" + name))
 
     def test_out_may_be_a_pipe_a_device_or_standard_output(self):
         self.store("flash", COUNTING)
@@ -363,52 +225,3 @@ class Files(Place):
         self.assertWell(self.use("info"))
         self.assertEqual({name for name in os.listdir(self.folder) if name.endswith(".new")}, set(mine))
         self.remove(*mine)
-
-    @each_of((COUNTING, None))
-    def test_all_that_killed_programs_left_is_removed(self, begun):
-        """However many they were, also where the flash is made anew."""
-        left = {f"{name}.stmflash-{number}.new": b"left" for name in ("flash", "flash.line") for number in range(3)}
-        self.store_all({"flash": begun, "flash.line": None, **left})
-        self.assertWell(self.use("info"))
-        self.assertEqual([name for name in os.listdir(self.folder) if name.endswith(".new")], [])
-
-    def test_what_is_read_is_a_regular_file(self):
-        """A pipe without a writer would be waited for, and a device may have no end."""
-        self.store("flash", COUNTING)
-        os.mkfifo(self.path("pipe"))
-        self.listen("board")
-        os.mkdir(self.path("folder"))
-        for word in ("pipe", "board", "folder", "/dev/null", "/dev/tty"):
-            with self.subTest(word=word):
-                self.assertFault(self.use("verify", word), f"cannot read {word}")
-                self.assertFault(self.use("write", "-f", word), f"cannot read {word}")
-                self.assertFault(self.call("info", "--table", word, *files()[2:]), f"cannot read {word}")
-                self.assertFault(self.call(*served(at="s", table=word)), f"cannot read {word}")
-                self.assertFault(self.use("undo", journal=word), f"cannot read {word}")
-                self.assertFault(self.call("log", "--journal", word), f"cannot read {word}")
-        self.assertHolds(COUNTING, b"fresh\n")
-
-    def test_an_image_may_come_from_standard_input(self):
-        """Also by a pipe, which was opened for the program."""
-        self.store("flash", COUNTING)
-        self.each(("/dev/stdin", "/dev/fd/0"),
-                  lambda name: self.assertTold(self.use("verify", "-S", "0x08000005", name, given=COUNTING[5:500]), "verified 495 bytes\n"))
-
-    @each_of(("/dev/stdin", "/dev/fd/0"))
-    def test_a_table_may_come_from_standard_input(self, name):
-        """Also by a pipe, whose bytes come once; and of a simulator that is served."""
-        self.store("image", b"\xaa")
-        words = ("write", "-v", "--keep", "--again", "2", "--table", name, *files()[2:], "image")
-        self.assertTold(self.call(*words, given=TABLE), "segment 1: 1 pages written\nverified 1 bytes\nkept 1\n")
-        self.remove("flash", "flash.line")
-        self.assertFault(self.call(*served(at="table", table=name), given=TABLE), "cannot connect table")
-
-    def test_files_without_an_end(self):
-        self.store("flash", COUNTING)
-        for word in ("/dev/zero", "/dev/full"):
-            with self.subTest(word=word):
-                self.assertFault(self.use("verify", "-f", word), f"cannot read {word}")
-                self.assertFault(self.call("info", "--table", word, *files()[2:]), f"cannot read {word}")
-                self.assertFault(self.use("info", device=f"sim:0412:{word}"), f"cannot read {word}")
-        self.store("table", b"#" * (1 << 20) + b"\n" + self.held("table"))
-        self.assertFault(self.use("info"), "cannot read table")

@@ -1,10 +1,13 @@
 """How the program reads its journal's file: to its end, in large pieces; and one that it can't read. What a journal lets it do is in
-tests/uses.rows."""
+tests/uses.rows, and which files are none in tests/words.rows."""
 
 import os
 
 import syncs
-from place import Place, each_of
+from place import Place, each_of, readable
+
+# headers of the three versions
+HEADERS = b"stmjournal 1 0412", b"stmjournal 2 0412", b"stmjournal 3 0412 " + b"0F" * 32
 
 
 class Journal(Place):
@@ -34,3 +37,16 @@ class Journal(Place):
         self.assertFile("flash.line", b"fresh\n")
         self.store("flash.line", b"neither")
         self.assertFault(self.use("info"), "bad simulator file flash")
+
+    def test_what_is_no_journal_is_refused_before_a_byte_is_sent(self):
+        """Nobody is asked for a line to the device."""
+        self.store("journal", b"precious")
+        listener = self.listen("device")
+        self.assertFault(self.use("erase", "5", device="device"), "journal is no journal: name another, or move it away", journal=b"precious")
+        self.assertEqual(readable([listener], 0), [])
+
+    @each_of(header[:end] for header in HEADERS for end in range(1, len(header) + 1))
+    def test_a_begun_header_is_a_journal(self, data):
+        """It is kept as one without a segment."""
+        self.store("journal", data)
+        self.assertTold(self.call("keep", "--journal", "journal"), "kept 0\n", journal=None)

@@ -1,4 +1,4 @@
-"""How the way back is given up: what `keep` leaves in files beside others, links and stops (tests/uses.rows has what it says and cuts)."""
+"""How the way back is given up: what `keep` leaves in files beside others, links and stops (tests/uses.rows and tests/linux.rows have what it says and cuts)."""
 
 import errno
 import os
@@ -35,17 +35,6 @@ class Keep(Keeping):
         self.assertTold(self.use_image("write", IMAGE), WRITTEN)
         return self.held("journal")
 
-    def test_renames_the_journal(self):
-        """The name may lie in another folder; what was there is never replaced."""
-        os.mkdir(self.path("folder"))
-        for name in ("elsewhere", "folder/elsewhere"):
-            with self.subTest(name=name):
-                journal = self.write()
-                self.assertFault(self.keep("table"), "cannot write table", journal=journal)
-                self.assertTold(self.keep(name), "kept 1\n", journal=None)
-                self.assertFile(name, journal)
-                self.assertTold(self.use("undo", journal=name), "undone 1\n")
-
     def test_another_file_system_is_told_before_anything_is_sent(self):
         """A journal can't be renamed to it."""
         other = next(it for it in ("/dev/shm", "/run", "/dev") if os.access(it, os.W_OK) and os.stat(it).st_dev != os.stat(self.folder).st_dev)
@@ -54,23 +43,6 @@ class Keep(Keeping):
             self.assertFault(self.use_image("write", IMAGE, "--keep-to", f"{there}/elsewhere", device="absent"), text, journal=None)
             journal = self.write()
             self.assertFault(self.keep(f"{there}/elsewhere"), text, journal=journal)
-
-    def test_says_which_name_cannot_be_written(self):
-        """A file, a folder, a link to nothing, the journal itself, and a folder that isn't there."""
-        journal = self.write()
-        os.mkdir(self.path("folder"))
-        os.symlink("nowhere", self.path("link"))
-        for name in ("flash", "folder", "link", "journal", "missing/elsewhere"):
-            with self.subTest(name=name):
-                self.assertFault(self.keep(name), f"cannot write {name}", journal=journal)
-                self.assertFalse(self.is_there("nowhere"))
-
-    def test_follows_a_link(self):
-        """The journal that a link names is the one that goes."""
-        self.write()
-        os.rename(self.path("journal"), self.path("real"))
-        os.symlink("real", self.path("journal"))
-        self.assertTold(self.keep(), "kept 1\n", real=None)
 
     def test_a_file_made_meanwhile_stays(self):
         """One that gets the new name once it was seen to be free, and before the journal gets it."""
@@ -92,18 +64,6 @@ class Keep(Keeping):
         self.assertTold(self.keep("elsewhere"), "kept 1\n", journal=None, elsewhere=journal)
         self.assertTold(self.use("undo", journal="elsewhere"), "undone 1\n")
         self.remove("elsewhere")
-
-    def test_a_second_name_is_not_the_first(self):
-        """The journal by another way to its one name, or by a link to that: it stays."""
-        journal = self.write()
-        os.link(self.path("journal"), self.path("second"))
-        os.symlink(".", self.path("here"))
-        os.symlink("journal", self.path("soft"))
-        for name in ("./journal", "here/journal", self.path("journal"), "soft"):
-            with self.subTest(name=name):
-                self.assertFault(self.keep(name), f"cannot write {name}")
-                self.assertFault(self.call("keep", "--journal", "here/journal", name), f"cannot write {name}", journal=journal)
-        self.assertTold(self.keep("second"), "kept 1\n", journal=None, second=journal)
 
     def test_renames_where_there_are_no_links(self):
         journal = self.write()
@@ -127,12 +87,6 @@ class Keep(Keeping):
                 else:
                     self.assertIn(said.err, (b"stmflash: cannot write ../journal\n", b"stmflash: cannot write ../elsewhere\n"))
                     self.assertFile("journal", journal)
-
-    def test_wants_a_journal(self):
-        self.assertUsage(self.call("keep"))
-        self.assertUsage(self.keep("one", "two"))
-        os.mkdir(self.path("journal"))
-        self.assertFault(self.keep(), "cannot read journal")
 
 
 class KeepLast(Keeping):

@@ -3,7 +3,7 @@
 import os
 import re
 
-from place import ZEROS, Place, each_of, lacks
+from place import TABLE, ZEROS, Place, each_of, lacks
 
 # names with a line end, with sequences that a terminal would take, with a delete, and with controls that have two bytes
 ODD = ("a\nstmflash: cannot read b", "\n", "a\r\n\tb", "\x1b[2K\x1b[1Aa", "a\x07\x7f", "\x85a\x9b2K")
@@ -36,6 +36,11 @@ class Names(Place):
         self.assertTells("device", self.use("info", device=name), f"cannot connect {seen}")
         with self.subTest(kind="note", text=seen):
             self.assertTold(self.use("undo", journal=name), "undone 0\n", lacks(seen))
+        self.store(name, TABLE)
+        words = ("info", "--raw", "--device", "sim:0412:flash", "--journal", "journal")
+        for said in (self.call(*words, f"--table={name}"), self.call(*words, variables={"STMFLASH_TABLE": name})):
+            self.assertEqual((said.status, said.out.decode().rpartition("\ntable ")[2]), (0, f"{seen}\n"))
+        self.remove(name)
         os.mkdir(self.path(name))
         self.assertTells("journal", self.use("info", journal=name), f"cannot read {seen}")
         self.assertTells("log", self.call("log", f"--journal={name}"), f"cannot read {seen}")
@@ -86,6 +91,6 @@ class Names(Place):
             ("socket", lambda: self.sim(socket=name)),
         )
         self.each(uses, lambda kind, use: self.assertFault(use(), "usage: the words are not text", 2))
-        self.each(("STMFLASH_TABLE", "STMFLASH_DEVICE", "STMFLASH_JOURNAL"),
+        self.each([f"STMFLASH_{it}" for it in "TABLE DEVICE JOURNAL JOURNALS BOARD WAIT BAUD NO_BOARD FRESH NO_LOCK JSON".split()],
                   lambda variable: self.assertFault(self.call("info", variables={variable: name}), f"usage: {variable} is not text", 2))
         self.assertEqual(sorted(os.listdir(self.folder)), ["image", "table"])

@@ -40,16 +40,6 @@ class OneCall(Place):
     def write(self, *words, **more):
         return self.use("write", *words, "image", **more)
 
-    def test_a_name_that_is_there(self):
-        self.store("kept", b"another")
-        os.symlink("nowhere", self.path("link"))
-        for name in ("kept", "image", "table", "journal", "flash.line", "none/kept", "link"):
-            for again in ((), ("--again", "2")):
-                with self.subTest(name=name, again=again):
-                    self.store("flash.line", b"fresh\n")
-                    self.assertFault(self.write("--keep-to", name, *again), f"cannot write {name}", kept=b"another", flash=None, journal=None)
-                    self.remove("flash.line")
-
     def steps(self, *words, line=None):
         """After how many steps all of these is done, by halves; the device stands so before."""
         low, high = 0, 20000

@@ -4,16 +4,10 @@ import os
 import signal
 import socket
 
-from place import ERASED, Place, each_of, files, is_unproved, served
+from place import Place, each_of, files, is_unproved
 
 SUBCOMMANDS = ("info", "read", "crc", "write", "verify", "erase", "undo", "log", "keep", "go", "protect", "sim")
 CANNOT = b"stmflash: cannot write standard output\n"
-# words that are numbers, as the length of what is read
-LENGTHS = (("0", 0), ("255", 255), ("0x0", 0), ("0x00000010", 16))
-# words of the last address of all
-LAST = ("4294967295", "0xFFffFFFF")
-# words that are no numbers
-NO_NUMBERS = ("", "08", "00", "4294967296", "10000000000", "0x", "0x123456789", "0X10", "-1", "+1", "0xG")
 
 
 class Options(Place):
@@ -79,25 +73,6 @@ class Options(Place):
             with self.subTest(words=words):
                 said = self.use(*words, stdout=theirs, before=lambda: signal.signal(signal.SIGPIPE, signal.SIG_IGN))
                 self.assertEqual((said.status, said.err), (1 if text else 0, text))
-
-    def test_reads_numbers(self):
-        """What number a word is shows as the length of what is read, and as the address that a verify tells."""
-        self.each(LENGTHS, lambda word, number: self.assertSilent(self.use("read", "-S", "0x08000000:" + word, "out"), out=ERASED[:number]))
-        for word in NO_NUMBERS:
-            for name, words, bad in (("go", ("--", word), word), ("info", ("--stop=" + word,), word), ("info", ("--wait=" + word,), word),
-                                     ("undo", ("--", word), word), ("read", ("-S", "0:" + word, "out"), "0:" + word)):
-                with self.subTest(word=word, words=words):
-                    self.assertFault(self.use(name, *words), f"usage: bad number {bad}", 2)
-        self.remove("flash", "flash.line")
-        self.store("table", b'[[chip]]\nid = 0x412\nbase = 0xFFFF8000\npages = [[32, 1024]]\nerase = "page"\n')
-        self.each(LAST, lambda word: self.assertFault(self.use_image("verify", b"\x00", "-S", word), "differs at FFFFFFFF"))
-        # from 0 to the end of this flash there are more bytes than a number of 32 bits says
-        self.assertFault(self.use("read", "-S", "0", "out"), "address outside the flash")
-
-    def test_says_which_number_is_bad(self):
-        self.each(("8", "608", "0600", "", "rw"),
-                  lambda mode: self.assertFault(self.call(*served("0412", "F", "S"), "--mode", mode), f"usage: bad number {mode}", 2))
-        self.assertEqual(os.listdir(self.folder), ["table"])
 
     def test_a_serial_port_is_no_socket(self):
         """It is told how the line to one is joined, and nothing is opened or written."""

@@ -6,8 +6,9 @@ import subprocess
 import unittest
 
 from place import PATIENCE, Place, Said, program, text_in
-from test_device import INFO, RAW
 
+INFO = "id 0412\nbase 08000000\npages 32\nsize 32768\nerase 43\nerased FF\nversion 22\ncodes 00 02 11 21 31 43 73 82 92\n"
+RAW = "id 0412\nversion 22\ncodes 00 02 11 21 31 43 73 82 92\ntable {}\n"
 # the folders of a test that stand where the system has its own
 SYSTEM = {"etc": "/etc", "local": "/usr/local/share", "share": "/usr/share"}
 INSTALLED, PACKAGED = "/usr/local/share/stmflash/chips.toml", "/usr/share/stmflash/chips.toml"
