@@ -13,39 +13,20 @@ import re
 import runpy
 import shutil
 import subprocess
+import sys
 import tempfile
 import types
 import unittest
 
 HERE = os.path.dirname(os.path.abspath(__file__))
+sys.path.insert(0, f"{HERE}/../tools")
+
+import slips
+
 ENVIRONMENT = {"FIRST": "one", "EMPTY": ""}
 WORDS = ["word", "", "two words"]
 STRICT = ["-O2", "-Wall", "-Wextra", "-Werror"]
-# what is planted: a text of layer.c, which stands there once, and the one in its place
-FAULTS = {
-    "no memory is an address all the same": ("{false, &nothing}", "{true, &nothing}"),
-    "no memory has no address": ("{false, &nothing}", "{false, NULL}"),
-    "a block of no bytes is freed by a realloc": ("realloc(p, n != 0 ? n : a)", "realloc(p, n)"),
-    "a realloc forgets what was there": ("    return tried(realloc(p, n != 0 ? n : a));", "    free(p);\n    return tried(calloc(n != 0 ? n : a, 1));"),
-    "a text that fits just so is too long": ("length <= room", "length < room"),
-    "a text that is too long isn't told": ("(ssize_t)length : -2", "(ssize_t)length : (ssize_t)room"),
-    "a text of 256 bytes and more is cut": ("size_t length = strlen(text);", "size_t length = strnlen(text, 255);"),
-    "a folder can't be read": ("O_RDONLY | O_DIRECTORY", "010000000 | O_DIRECTORY"),
-    "a room that is too small isn't filled": ("fits ? length : room);", "fits ? length : 0);"),
-    "the 0 behind a text is put too": ("memcpy(buf, text, fits ? length : room)", "memcpy(buf, text, fits ? length + 1 : room)"),
-    "words are counted from the first": ("words[i]", "words[i + 1]"),
-    "there is one word more": ("i < word_count", "i <= word_count + 1000000"),
-    "no environment is read": ("return put(environ != NULL ? environ[k] : NULL", "return put(environ[k]"),
-    "entries are counted from 1": ("k < i)", "k + 1 < i)"),
-    "errno is answered once": ("    return errno;", "    int error = errno;\n    errno = 0;\n    return error;"),
-    "errno is answered as 0": ("return errno;", "return 0;"),
-    "errno isn't set": ("    errno = error;", "    (void)error;"),
-    "a link is taken for a folder": (" | O_NOFOLLOW", ""),
-    "a file is taken for a folder": (" | O_DIRECTORY", ""),
-    "a folder stays open in another program": (" | O_CLOEXEC", ""),
-    "nothing is freed": ("    free(p);\n", "    (void)p;\n"),
-    "entries go on behind the last": ("environ[k] != NULL && k < i", "k < i"),
-}
+FAULTS = list(slips.read(pathlib.Path(f"{HERE}/slips").read_text(encoding="utf-8")))
 
 
 def kit():
@@ -86,7 +67,7 @@ class Layer(unittest.TestCase):
 
     def test_finds_each_fault(self):
         text = pathlib.Path(f"{HERE}/layer.c").read_text(encoding="utf-8")
-        for name, (old, new) in FAULTS.items():
+        for name, _, _, old, new in FAULTS:
             with self.subTest(name):
                 self.assertEqual(text.count(old), 1)
                 pathlib.Path(self.changed).write_text(text.replace(old, new), encoding="utf-8")

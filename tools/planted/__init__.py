@@ -6,12 +6,15 @@ another variable of the same type. `slips_python.py`, `slips_rattle.py` and `sli
 
 import glob
 import os
-import re
+import sys
 import typing
 
+TOP = os.path.dirname(os.path.dirname(os.path.dirname(os.path.abspath(__file__))))
+sys.path.append(os.path.join(TOP, "tools"))
+
+import slips
 from planted import slips_python, slips_rattle, slips_text
 
-TOP = os.path.dirname(os.path.dirname(os.path.dirname(os.path.abspath(__file__))))
 CRATES = ("stm_words", "stm_files", "stm_work", "stmflash")
 GROUPS = ("program", "companions", "layers", "packages")
 # the group of a file by hand, by its folder; any other is of the packages
@@ -70,9 +73,7 @@ def made(group):
 
 def by_hand(group):
     """The faults by hand in a group."""
-    for row in re.sub(r"(?m)^#.*\n", "", read("tools/planted/by_hand")).strip().split("\n\n"):
-        name, file, test, *lines = row.strip().split("\n")
-        old, new = ("\n".join(line[2:] for line in lines if line[0] == sign) for sign in "-+")
+    for name, file, (test,), old, new in slips.read(read("tools/planted/by_hand")):
         if group == GROUP_OF.get(file.split("/")[0], "packages"):
             if group == "program" and "@on" not in new:
                 new = f"(if @on {{ {new} }} else {{ @old }})"
