@@ -184,21 +184,6 @@ class Protected(Served):
         self.assertSilent(self.at_board("read", "out"), out=COUNTING)
         self.assertServed(flash=COUNTING)
 
-    def test_what_is_refused(self):
-        """Each in one line, and no file is made. No socket could be made there."""
-        words = served(at="nowhere/board")
-        for pages, text in ((("32",), "usage: chip 0412 has no page 32"), (("31-32",), "usage: chip 0412 has no page 32"),
-                            (("4", "65535"), "usage: chip 0412 has no page 65535"), (("4", "65536"), "usage: bad number 65536"),
-                            *(((it,), f"usage: bad number {it}") for it in ("7-4", "", "x", "4,5"))):
-            with self.subTest(pages):
-                self.assertFault(self.call(*words, *[word for page in pages for word in ("--protected", page)]), text, 2)
-                self.assertFalse(self.is_there("flash"))
-        self.assertUsage(self.call(*words, "--protected"))
-        for name in (("info",), ("erase", "4"), ("undo",)):
-            said = self.use(*name, "--protected", "4")
-            self.assertUsage(said)
-            self.assertIn(b"--protected", said.err)
-
     def test_a_size_of_its_own(self):
         """The pages are those of the board that the simulator is."""
         self.store("table", TABLE + b"size_at = 0x1FFFF7E0\n")

@@ -1,6 +1,5 @@
 """The simulator as a board: a file beside its flash says its unique id and how many KiB its flash has. `sim` writes it."""
 
-import os
 import tomllib
 
 import telling
@@ -9,7 +8,6 @@ from place import UNIQUE, WAIT, Place, served, text_in
 HEAD = "[[chip]]\n"
 OTHER = "2B0035000A5136303439333F"
 INFO = "id 0410\nbase 08000000\npages %d\nsize %d\nerase 43\nerased FF\nversion 22\ncodes 00 02 11 21 31 43 73 82 92\n"
-COUNTING = bytes(i % 251 for i in range(65536))
 
 
 def entry(number):
@@ -55,40 +53,6 @@ class GivenBoard(telling.Told):
         self.store("flash.board", f"unique {UNIQUE}\n".encode())
         self.told("--size", "16")
         self.assertFiles({"flash.board": f"unique {UNIQUE}\nsize 16\n".encode(), "flash": 16384 * b"\xff"})
-
-    def refused(self, text, *more, status=2):
-        board = self.held("flash.board")
-        self.assertFault(self.call(*self.words(*more)), text, status)
-        self.assertFile("flash.board", board)
-        self.assertFalse(self.is_there("board"))
-
-    def test_what_is_refused(self):
-        for digits in ("", "2B", 14 * "1", "0x" + UNIQUE, UNIQUE[1:], 33 * "12", UNIQUE[:-1] + "G"):
-            self.refused(f"usage: bad unique id {digits}", "--unique", digits)
-        self.refused(f"usage: unique id {UNIQUE[2:]} is not 12 bytes", "--unique", UNIQUE[2:])
-        self.refused(f"usage: unique id {UNIQUE}00 is not 12 bytes", "--unique", UNIQUE + "00")
-        for size in ("0", "65535", "x", "-1"):
-            self.refused(f"usage: bad number {size}", f"--size={size}")
-        head, _, _ = telling.TABLE.partition(b"unique")
-        self.store("table", head)
-        self.refused("usage: chip 0410 has no unique in the table", "--unique", UNIQUE)
-        self.refused("usage: chip 0410 has no size_at in the table", "--size", "64")
-        self.store("table", telling.TABLE)
-        self.assertFile("flash", None)
-        # a flash of another length, and a file of another form
-        self.store("flash", COUNTING)
-        self.refused("bad simulator file flash", "--size", "16", status=1)
-        self.store("flash.board", b"board 1\n")
-        self.refused("bad simulator file flash.board", "--size", "64", status=1)
-        self.assertFile("flash", COUNTING)
-
-    def test_names_that_are_another_file(self):
-        for leads in ("table", "nowhere/board"):
-            os.symlink(leads, self.path("flash.board"))
-            self.refused("cannot write flash.board", "--size", "64", status=1)
-            self.remove("flash.board")
-        os.mkdir(self.path("flash.board"))
-        self.assertFault(self.call(*self.words("--size", "64")), "cannot read flash.board", flash=None)
 
     def test_what_a_killed_program_left_is_removed(self):
         self.store("flash.board.stmflash-0.new", b"unique")

@@ -2,7 +2,7 @@
 
 import json
 
-from place import COUNTING, ERASED, TABLE, each_of, lacks, told_by
+from place import COUNTING, TABLE, each_of, told_by
 from refusing import AT, IMAGE, SIZES, OnBoard
 
 from planted_board import PlantedBoard
@@ -54,12 +54,6 @@ class UndoVerified(OnBoard):
         """The same on a board."""
         self.assertEqual(self.write_on(board).status, 0)
         return board
-
-    def test_nothing_to_undo(self):
-        self.assertTold(self.use("undo", "-v"), "undone 0, 0 bytes verified\n", lacks("journal"))
-        self.store("journal", b"")
-        self.assertTold(self.use("undo", "-v"), "undone 0, 0 bytes verified\n")
-        self.assertFile("flash.line", b"fresh\n")
 
     @each_of(((TABLE, ("-v",), None), (TABLE, ("-v", "--fresh"), b"fresh\n"), (TELLING, ("-v", "--fresh"), b"fresh\n")))
     def test_a_stopped_write(self, table, words, line):
@@ -114,9 +108,3 @@ class UndoVerified(OnBoard):
         told = self.use("undo", "-v", "--progress").err.decode().splitlines()
         self.assertEqual([line.split(", ")[1] for line in told], [f"{turn} of 6 pages" for turn in range(1, 7)])
         self.assertEqual({line.split(", ")[0] for line in told}, {f"page {page} {done}" for page in (4, 5, 6) for done in ("written", "read")})
-
-    def test_its_word(self):
-        """Of `undo` alone, and without a long name, as that of a write."""
-        self.store("flash", ERASED)
-        self.assertUsage(self.use("erase", "-v", "5"))
-        self.assertUsage(self.use("undo", "--check"))

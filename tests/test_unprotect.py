@@ -5,7 +5,7 @@ import json
 
 from hostile import be_silent
 from place import COUNTING, HEAD, SILENT, TABLE, each_of, told_by
-from refusing import AT, DEVICE, IN_SESSION, NOT_ERASED, NOT_WRITTEN, NOW_UNDO, Guarded, OnBoard
+from refusing import DEVICE, IN_SESSION, NOT_ERASED, NOT_WRITTEN, NOW_UNDO, Guarded, OnBoard
 
 OPEN = "journal is open, refused"
 UNSAID = ("protect", "write-unprotect", "--in-session")
@@ -174,15 +174,6 @@ class Unprotect(OnBoard):
             self.assertUsage(said("protect", "--in-session", "--fresh"))
             self.assertUsage(said("undo", "--in-session"))
 
-    def test_a_folder_of_journals(self):
-        self.assertFault(self.call(*UNPROTECT, "--table", "table", "--device", "nowhere", "--journals", "."), UNASKED, 2)
-
-    def test_by_the_variable(self):
-        """STMFLASH_FRESH=1 says that the board is fresh, as of an undo; no other variable stands for --in-session."""
-        self.store_all({"flash": COUNTING, "flash.line": b"idle\n"})
-        self.assertFault(self.use(*UNSAID, variables={"STMFLASH_FRESH": "1"}), DEVICE, hint=SILENT)
-        self.assertUnprotected(self.use(*UNSAID))
-
     def test_a_chip_that_tells_its_board(self):
         """Where it is said to be fresh it isn't asked which board it is: behind that question it isn't fresh."""
         self.store("table", TABLE + b"unique = [0x1FFFF7E8, 12]\n")
@@ -190,19 +181,6 @@ class Unprotect(OnBoard):
         heard = self.heard(board)
         self.assertUnprotected(self.on(board, *UNPROTECT))
         self.assertEqual(bytes(heard), b"\x7f\x73\x8c")
-
-    def test_a_simulator(self):
-        """A simulator parts from its line by a protection; it is reset by hand then."""
-        self.store("flash", COUNTING)
-        self.assertEqual(self.use("write", "--stop", "9000", "-S", f"{AT:#x}", "image").status, 3)
-        self.assertFault(self.use(*UNPROTECT), DEVICE, hint=SILENT)
-        self.store("flash.line", b"fresh\n")
-        journal = self.held("journal")
-        for words in (UNPROTECT, UNSAID):
-            self.assertUnprotected(self.use(*words))
-            self.assertFile("journal", journal)
-            self.store("flash.line", b"fresh\n")
-        self.assertTold(self.use("undo", "--fresh"), "undone 1\n", flash=COUNTING)
 
     def test_as_json(self):
         """What is to be done then is told with the answer, and with the refusal."""
