@@ -4,6 +4,7 @@ there."""
 from place import Place
 from test_giving_up import at_peer
 
+from device import exclusive_or as check
 from planted_board import FRESH, READ, REFUSED, PlantedBoard
 
 DEVICE = "device does not follow the protocol"
@@ -18,6 +19,18 @@ NOW_UNDO = "the board resets itself; now: undo 1"
 IN_SESSION = "to undo what a write-protected page refuses: protect write-unprotect --in-session, undo 1"
 NOT_ERASED = f"page 5: the device refused to erase it: is it write-protected? {THEN}"
 NOT_WRITTEN = f"address {AT + 1024:08X}: the device refused to write it: is its page write-protected? {THEN}"
+
+
+def write_to(at, data):
+    """A Write Memory in its steps: code, address, count and data with their check."""
+    address, body = (BASE + at).to_bytes(4, "big"), bytes([len(data) - 1]) + data
+    return b"\x31\xce" + address + bytes([check(address)]) + body + bytes([check(body)])
+
+
+def erase(*pages, width=1):
+    """An Erase Memory of pages, or an Extended Erase Memory."""
+    body = (len(pages) - 1).to_bytes(width, "big") + b"".join(page.to_bytes(width, "big") for page in pages)
+    return (b"\x43\xbc" if width == 1 else b"\x44\xbb") + body + bytes([check(body)])
 
 
 class Guarded(PlantedBoard):

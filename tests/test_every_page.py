@@ -11,7 +11,7 @@ import time
 import typing
 
 from place import Place, is_slow
-from test_protected import erase
+from refusing import erase
 
 from device import Chip
 

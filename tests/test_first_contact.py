@@ -6,7 +6,7 @@ import typing
 from place import is_slow, text_in
 from test_chips import CHIPS, chip_of, flash_of
 from test_greeting import SPEED, Undoing
-from test_protected import BASE, erase, write_to
+from refusing import BASE, erase, write_to
 
 # pages whose settling bytes are FF and 02; larger ones take long
 LATE_PAGES, LARGE = (255, 511), 4096

@@ -8,7 +8,7 @@ import typing
 
 from place import PATIENCE, SILENT, each_of, files, served
 from served import Served, relay
-from test_protected import write_to
+from refusing import write_to
 
 # chips of four pages, erased by numbers of one byte and of two
 TABLE = b"".join(b'[[chip]]\nid = 0x%s\nbase = 0x08000000\npages = [[4, 256]]\nerase = "%s"\n' % kind

@@ -168,6 +168,7 @@ class Stated(Served):
                 continue
             for one in said or ():
                 self.assertUsage(one) if due is None else self.assertEqual(one, due)
+                self.assertFalse(due is None and one.err.startswith(b"stmflash: "), one)
             if said is not None:
                 said, self.memory, self.variables, self.given = None, None, {}, None
             if sign == "file":
@@ -197,7 +198,14 @@ class Stated(Served):
                 name, _, told = told.partition(" ")
                 self.assertFile(name, bytes_of(told))
             elif sign == "serve":
-                self.serve(1, table="chips", number=told)
+                number, count, *more = [*told.split(), "1"]
+                self.serve(int(count), table="chips", number=number, more=more[:-1])
+            elif sign == "left":
+                self.leave(self.line)
+                self.line = None
+            elif sign == "served":
+                self.assertServed(self.line)
+                self.line, self.simulator = None, None
             elif sign == "answer":
                 self.answer(bytes_of(told))
             elif sign == "memory":
@@ -241,6 +249,9 @@ class Stated(Served):
 
     def test_each_use_behind_a_crash(self):
         self.play_page("crashed.rows")
+
+    def test_each_use_of_a_protected_flash(self):
+        self.play_all(cases("protected.rows"))
 
     def test_each_use_on_linux(self):
         self.play_all(cases("linux.rows"))
