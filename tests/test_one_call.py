@@ -1,11 +1,12 @@
-"""A write with what follows it in the same call: the journal kept, Go, and the write done again where its line failed."""
+"""A write with what follows it in the same call over a line that fails: the journal kept, Go, and the write done again (tests/uses.rows has
+how far one goes that is stopped)."""
 
 import contextlib
 import fcntl
 import os
 import subprocess
 
-from place import PATIENCE, WAIT, ZEROS, Place, Said, each_of, files
+from place import PATIENCE, WAIT, ZEROS, Said, files
 from served import Served, relay
 
 IMAGE = b"a new program, whatever it does"
@@ -32,52 +33,6 @@ def is_free(name):
         fcntl.flock(file, fcntl.LOCK_SH | fcntl.LOCK_NB)
         return True
     return False
-
-
-class OneCall(Place):
-    begins = {"image": IMAGE}
-
-    def write(self, *words, **more):
-        return self.use("write", *words, "image", **more)
-
-    def steps(self, *words, line=None):
-        """After how many steps all of these is done, by halves; the device stands so before."""
-        low, high = 0, 20000
-        while low < high:
-            middle = (low + high) // 2
-            self.begin(line)
-            low, high = (middle + 1, high) if self.write(*words, "--stop", str(middle)).status == 3 else (low, middle)
-        return low
-
-    def begin(self, line=None):
-        self.clear("flash", "flash.line", "journal", "kept")
-        if line is not None:
-            self.store("flash.line", line)
-
-    def test_stopped_behind_each_step(self):
-        written, gone = self.steps("-v"), self.steps("-v", "--keep", *GO)
-        self.assertGreater(gone, written)
-        for at in (written - 1, written, written + 1, gone - 1):
-            with self.subTest(at=at):
-                self.begin()
-                said = self.write("-v", "--keep", *GO, "--stop", str(at))
-                if at < written:
-                    self.assertFault(said, "stopped", 3)
-                    self.assertNotEqual(self.held("journal"), None)
-                else:
-                    # how far it went: the write and the keep stand, the Go doesn't
-                    self.assertEqual(said, Said(3, WRITTEN + b"kept 1\n", b"stmflash: stopped\n"))
-                    self.assertFile("journal", None)
-                # the last byte of all is Go's answer, behind which the device is gone already
-                self.assertEqual(self.held("flash.line") == b"gone\n", at == gone - 1)
-
-    @each_of((b"idle\n", b"rest 11EE\n"))
-    def test_steps_are_counted_from_where_the_call_begins(self, line):
-        """How the simulator was brought to where its device stands is none of them."""
-        written = self.steps("-v", line=line)
-        self.begin(line)
-        self.assertEqual(self.write("-v", "--keep", *GO, "--stop", str(written + 1)).status, 3)
-        self.assertFile("flash.line", b"rest 7F\n")
 
 
 class Lines(Served):
@@ -199,11 +154,6 @@ class Lines(Served):
         said = self.use_between([len(self.whole()) - 3, 1], b"what no journal has\n", "-v", "--again", "2")
         self.assertInVain(said, "bad journal line 7\nstmflash: bad journal line 7")
         self.assertTrue(self.held("journal").endswith(b"end 1\nwhat no journal has\n"))
-
-    def test_no_other_fault_is_tried_again(self):
-        self.store("journal", b"stmjournal 1 0412\nopen 1\n")
-        err = b"stands: segment 1 is unfinished, undo first\nstmflash: unfinished command, undo first\n"
-        self.assertEqual(self.use("write", "--again", "3", "image"), Said(1, b"", err))
 
     def test_what_was_there_is_left(self):
         self.store("journal", b"stmjournal 1 0412\nopen 1\nend 1\n")
