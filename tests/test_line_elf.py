@@ -36,7 +36,7 @@ class InTheLine(Unnamed):
         self.assertEqual((said.status, said.out), (0, b"segment 1: 1 pages written\nverified 20 bytes\n"))
         self.assertRegex(said.err.decode().splitlines()[0], "^stmflash-line: fw.elf: as HEX, by (arm-none-eabi-)?objcopy$")
         self.assertEqual(board.store(), WRITTEN)
-        self.assertEqual(self.short("ttyUSB0", "--", "stmflash", "verify", "fw.elf").out, b"verified 20 bytes\n")
+        self.assertEqual(self.short("ttyUSB0", "--", self.path("bin/stmflash"), "verify", "fw.elf").out, b"verified 20 bytes\n")
 
     def test_raw_bytes_are_asked_for_by_a_flag(self):
         board = self.telling(flash=ERASED)

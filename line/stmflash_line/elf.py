@@ -48,12 +48,12 @@ def hex_text(path):
 
 
 def with_hex(command):
-    """A COMMAND with HEX in the place of an ELF file that stmflash is to write or compare, each told; COMMAND itself without one."""
+    """A COMMAND with HEX in the place of each ELF file that it is to write or compare, each told; COMMAND itself without one."""
     if len(command) < 2 or not os.path.basename(command[0]).startswith("stmflash") or command[1] not in WITH_IMAGE:
         return command
     if any(map(RAW.fullmatch, command)):
         return command
-    return [held(word) if is_elf(word) else word for word in command]
+    return command[:2] + [held(word) if is_elf(word) else word for word in command[2:]]
 
 
 def held(path):
