@@ -25,7 +25,7 @@ SOURCES = {
     "companions": ["line/stmflash-line", "line/stmflash-trial", "line/stm32flash", "line/*/*.py"],
     "layers": ["arm64/layer.c", "web/memory.c", *(f"web/page/{name}.js" for name in (
         "clock", "faults", "files", "image", "line", "memory", "program", "store", "wiring", "words"))],
-    "packages": ["Makefile", "packaging/deb*", "packaging/release", "packaging/*.service", "packaging/*.rules", "packaging/completions/*.bash"],
+    "packages": ["Makefile", "packaging/deb*", "packaging/release", "packaging/zip", "packaging/*.service", "packaging/*.rules", "packaging/completions/*.bash"],
 }
 
 
@@ -64,7 +64,7 @@ def made(group):
     told = {}
     for file in files(group):
         text = read(file)
-        slips = slips_rattle.slips(text) if file.endswith(".rt") else slips_python.slips(text) if group == "companions" else slips_text.slips(file, text)
+        slips = slips_rattle.slips(text) if file.endswith(".rt") else slips_python.slips(text) if group == "companions" or file.endswith("/zip") else slips_text.slips(file, text)
         for start, end, new, what, block in slips:
             name = f"{file}, {block.split('#')[0] or 'all'}: {' '.join(what.split())}"[:200]
             told[name] = told.get(name, 0) + 1

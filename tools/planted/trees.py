@@ -85,7 +85,7 @@ def stands(top, fault):
     """Whether what a fault leaves is still a source of its kind."""
     path = os.path.join(top, fault.file)
     text = pathlib.Path(path).read_text(encoding="utf-8")
-    if fault.group == "companions":
+    if fault.group == "companions" or path.endswith("/zip"):
         try:
             compile(text, path, "exec")
         except SyntaxError:
