@@ -38,7 +38,6 @@ function machine({ words = ['stmflash'], variables = {}, store = new Store([]), 
       ino: Number(memory.view().getBigUint64(20032, true)), size: Number(memory.view().getBigUint64(20040, true)), links: memory.view().getUint32(20016, true) } };
 }
 
-// words
 {
   const { env, memory, path } = machine({ words: ['stmflash', '', 'zwei Wörter'], variables: { FIRST: 'one', EMPTY: '' } });
   memory.bytes(0, 16).fill(7);
@@ -51,11 +50,10 @@ function machine({ words = ['stmflash'], variables = {}, store = new Store([]), 
   holds('the last fault, until another comes, and what one says', [env.rattle_set_errno(17), env.rattle_errno(), env.rattle_errno(), env.__xpg_strerror_r(28, 0n, 100n), memory.text(0n)], [undefined, 17, 17, 0, 'No space left on device']);
 }
 
-// clock
 {
-  const { memory } = machine(), calls = clockCalls(memory, { now: () => 1999.5, timeOrigin: 5000 });
+  const { memory } = machine(), calls = clockCalls(memory, { now: () => 1999.5, timeOrigin: 1.8e12 });
   const at = (which) => { calls.clock_gettime(which, 8n); return [memory.view().getBigInt64(8, true), memory.view().getBigInt64(16, true)]; };
-  holds('the steady clock', at(1), [1n, 999500000n]); holds('the time of day', at(0), [6n, 999500000n]);
+  holds('the steady clock', at(1), [1n, 999500000n]); holds('the time of day', at(0), [1800000001n, 999500000n]);
 }
 
 // files: descriptors over a store
@@ -67,13 +65,13 @@ const disks = (count) => Array.from({ length: count }, () => inMemory());
   holds('no file', [it.open('none', 0), it.fault()], [-1, E.NOENT]);
   const fd = it.open('/boards/a', 2 | CREATE | EXCLUSIVE);
   holds('a new file', [fd, it.write(fd, 'hello'), it.told(fd).size, it.told(fd).mode, it.told(fd).links], [3, 5n, 5, 8, 1]);
-  holds('what is told ends', [it.memory.bytes(20256, 1).fill(7).length, it.told(fd).size, it.memory.bytes(20256, 1)[0]], [1, 5, 7]);
+  holds('what is told ends', [it.memory.bytes(20000, 257).fill(7).length, it.told(fd).size, ...it.memory.bytes(20255, 2)], [257, 5, 0, 7]);
   const only = it.open('/boards/only', 1 | CREATE);
   holds('what is only written', [it.write(only, 'ab'), env.lseek(only, 0n, 0), it.write(only, 'c'), it.told(only).size, env.close(only), env.unlink(it.path('/boards/only'))], [2n, 0n, 1n, 2, 0, 0]);
   holds('it is there', [it.open('/boards/a', 2 | CREATE | EXCLUSIVE), it.fault()], [-1, E.EXIST]);
   holds('back, and read', [env.lseek(fd, 1n, 0), it.read(fd, 3), it.read(fd, 9), it.read(fd, 9)], [1n, 'ell', 'o', '']);
   holds('places', [env.lseek(fd, -2n, 2), env.lseek(fd, 1n, 1), env.lseek(fd, -9n, 0), it.fault()], [3n, 4n, -1n, E.INVAL]);
-  const more = it.open('boards/./a', 1 | APPEND);
+  const more = it.open('boards/./a', 1 | CREATE | APPEND);
   holds('added at the end', [it.write(more, '!'), it.write(fd, '?'), it.write(more, '+'), it.told(fd).size], [1n, 1n, 1n, 7]);
   holds('what may not be read', [it.read(more, 3), it.fault()], [-1n, E.BADF]);
   const looks = it.open('/boards/a', 0);
@@ -91,7 +89,7 @@ const disks = (count) => Array.from({ length: count }, () => inMemory());
   const second = it.open('/boards/second', 2 | CREATE);
   holds('another file', [it.told(second).ino !== it.told(more).ino, it.told(0, '/boards/second').ino === it.told(second).ino], [true, true]);
   const [list, top] = ['/boards', '/'].map((folder) => env.rattle_open_dir_at(-100, it.path(folder))), names = [], view = it.memory.view();
-  for (const fd of [list, top]) for (let at = 30000, end = at + Number(env.getdents64(fd, 30000n, 1000n)); at < end; at += view.getUint16(at + 16, true)) names.push([view.getUint8(at + 18), it.memory.text(BigInt(at + 19))]);
+  for (const fd of [list, list, top]) for (let at = 30000, end = it.memory.bytes(at, 64).fill(7) && at + Number(env.getdents64(fd, 30000n, 40n)); at < end; at += view.getUint16(at + 16, true)) names.push([view.getUint8(at + 18), it.memory.text(BigInt(at + 19))]);
   holds('names and kinds, once', [names, env.getdents64(list, 30000n, 1000n)], [[[8, 'a'], [8, 'second'], [4, 'boards']], 0n]);
   holds('no room for a name', [env.getdents64(env.rattle_open_dir_at(-100, it.path('/boards')), 30000n, 4n), it.fault()], [-1n, E.INVAL]);
   holds('a real path, and none of none', [env.realpath(it.path('boards//./a'), 40000n), it.memory.text(40000n), env.realpath(it.path('boards/none'), 40000n), it.fault()], [40000n, '/boards/a', 0n, E.NOENT]);
@@ -105,7 +103,6 @@ const disks = (count) => Array.from({ length: count }, () => inMemory());
   holds('rights are no matter', [env.lchown(it.path('/boards/a'), 0, 0), env.chmod(it.path('/boards/a'), 0), env.fchmod(more, 0), env.fchmod(99, 0)], [0, 0, 0, -1]);
 }
 
-// files: what a disk does
 {
   const told = [], disk = { ...inMemory(), flush: () => told.push('flush') }, it = machine({ store: new Store([disk]) });
   const fd = it.open('/boards/a', 2 | CREATE), before = told.length;
@@ -125,7 +122,7 @@ function port() {
   const it = { told: [], sent: [], async open(how) { it.told.push(how); it.anew();
     it.writable = new WritableStream({ write: async (bytes) => { await soon(); it.sent.push(...bytes); } }); },
   anew() { it.readable = new ReadableStream({ start: (into) => { it.into = into; }, cancel: () => { if (!it.readable.locked) it.anew(); } }); },
-  async close() { it.told.push('closed'); if (it.readable.locked || it.writable.locked) throw new Error('locked'); }, async setSignals(signals) { it.told.push(signals); thrownBy(() => it.into.enqueue(Uint8Array.of(9))); } };
+  async close() { if (it.readable.locked || it.writable.locked) throw new Error('locked'); it.told.push('closed'); }, async setSignals(signals) { it.told.push(signals); thrownBy(() => it.into.enqueue(Uint8Array.of(9))); } };
   return it;
 }
 {
@@ -172,12 +169,12 @@ for (const [what, over, sum] of [['a wrong parity', (board) => board.into.error(
   it.memory.put('/dev/board', 50002n, 100n);
   await it.env.connect(fd, 50000n, 13);
   setTimeout(() => { if (sum) board.into.enqueue(Uint8Array.of(9)); over(board); }, 5);
-  await soon(20);
-  holds(`${what} ends the line`, [await ends(it.env.recv(fd, 9000n, 9n, 0)), await ends(it.env.recv(fd, 9000n, 9n, 0))], [sum, sum]);
+  const begun = (sum ? soon(20) : soon()).then(() => it.env.recv(fd, 9000n, 9n, 0));
+  holds(`${what} ends the line`, [await ends(begun), await ends(it.env.recv(fd, 9000n, 9n, 0))], [sum, sum]);
   holds(`${what}: no more is sent`, [it.env.send(fd, 9000n, 1n, 0), it.fault()], [-1n, E.IO]);
-  holds(`${what}: it still closes`, [await ends(it.env.close(fd)), board.told.at(-1)], [0, 'closed']);
+  holds(`${what}: it still closes`, [await ends(it.env.close(fd)), board.told.at(-1), line.came.push(bytesOf('old'))], [0, 'closed', 1]);
   await line.connect();
-  holds(`${what}: opened anew it is whole`, [line.ended], [undefined]);
+  holds(`${what}: opened anew it is whole, and has nothing of before`, [line.ended, line.came], [undefined, []]);
 }
 {
   const board = port(), line = new Line(board, 9600, stepsOf('dtr-reset,rts-boot0')), began = performance.now();
@@ -241,18 +238,18 @@ const OPERATIONS = {
   const choose = () => { seed = (seed * 48271) % 2147483647; return seed >> 6; };
   for (const [what, [does, after]] of Object.entries(OPERATIONS)) {
     const seen = new Set();
-    for (let round = 0; round < 90; round++) {
+    for (let round = 0; round < 240; round++) {
       const disk = Array.from({ length: 4 }, weak), store = new Store(disk);
       for (let i = 0; i <= round % 3; i++) { make(store, 'a', `was ${i}`); make(store, 'b', 'was'); store.remove('/boards/a'); store.remove('/boards/b'); }
       for (const it of ['a', 'b', 'before']) make(store, it, it.toUpperCase());
       store.remove('/boards/before');
       if (round % 2) {
-        // the power goes in the middle: before any flush, or behind it
+        // the power goes in the middle: before any flush, or behind it; and what failed is done once more, which fails once more
         let left = Math.floor(round / 2) % 5;
-        for (const it of disk) it.before = it.after = () => { if (!left--) throw new Error('no power'); };
+        for (const it of disk) it.before = it.after = () => { if (!left-- || left === -2) throw new Error('no power'); };
       }
       let isDone = true;
-      try { does(store); } catch { isDone = false; }
+      try { does(store); } catch { isDone = thrownBy(() => does(store)) === undefined; }
       for (const it of disk) { it.before = it.after = undefined; it.lose(choose); }
       const now = contents(new Store(disk));
       seen.add(isDone ? 'done' : 'stopped');
@@ -260,7 +257,6 @@ const OPERATIONS = {
     }
     holds(`${what}: with and without power`, seen.has('done'));
   }
-  // twice the same start
   const disk = Array.from({ length: 3 }, weak), store = new Store(disk);
   for (const [name, text] of [['a', 'old'], ['b', 'newer']]) make(store, name, text);
   const { write } = disk[0];
@@ -283,6 +279,10 @@ const OPERATIONS = {
   open.read(bytes, 0);
   holds('and nobody else gets its place', new TextDecoder().decode(bytes), 'kept');
   open.close();
+  const one = inMemory(), have = new Uint8Array(8194), wanted = new Uint8Array(8194);
+  make(new Store([one]), 'é', '!');
+  wanted.set([...bytesOf('stmpool1'), 1, 0, 0, 0, 0, 0, 0, 0, 10, 0, ...bytesOf('/boards/é')], 4096), new DataView(wanted.buffer).setUint32(4604, 0xa477d188, true), wanted.set([33], 8192);
+  holds('a journal lies on the disk as pages of before have it', [one.read(have, { at: 0 }), have], [8193, wanted]);
   const over = store.open('/boards/b', {});
   make(store, 'c', 'C');
   store.rename('/boards/c', '/boards/b');

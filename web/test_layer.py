@@ -163,8 +163,7 @@ class Layer(Tried):
         wirings = json.loads(ran.stdout.splitlines()[0])
         self.assertEqual(len(wirings), 12)
         for name, steps in wirings.items():
-            with self.subTest(name):
-                self.assertEqual([said(steps[it]) for it in ("entry", "leave")], [read_sequence(it) for it in read_wiring(name)])
+            self.assertEqual([said(steps[it]) for it in ("entry", "leave")], [read_sequence(it) for it in read_wiring(name)], name)
 
     def test_images_are_those_of_objcopy(self):
         """Segments in any order, over an end of 64 KiB, one stored elsewhere than it runs, and one that has no bytes."""

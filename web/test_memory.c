@@ -51,7 +51,7 @@ static int is_whole(const struct held_block *b)
     for (size_t i = 0; i < b->size; i++)
         if (b->at[i] != b->is)
             return 0;
-    return ((size_t)b->at & 15) == 0 && (size_t)b->at + b->size <= pages_there * PAGE;
+    return ((size_t)b->at & 15) == 0 && (size_t)b->at + b->size <= pages_there * 65536;
 }
 
 // Any calls in any order, of which some are refused: every block keeps its bytes, whatever is done with the others, or can't be.
@@ -136,9 +136,9 @@ int main(void)
     unsigned char *at = mmap(NULL, reserved, PROT_READ | PROT_WRITE, MAP_PRIVATE | MAP_ANONYMOUS | MAP_NORESERVE, -1, 0);
     if (at == MAP_FAILED)
         return 2;
-    heap = at + PAGE - (size_t)at % PAGE + 5;
-    pages_there = (size_t)heap / PAGE + 1;
-    most = ((size_t)at + reserved) / PAGE;
+    heap = at + 65536 - (size_t)at % 65536 + 5;
+    pages_there = (size_t)heap / 65536 + 1;
+    most = ((size_t)at + reserved) / 65536;
     computes();
     mix();
     grows();
