@@ -122,7 +122,8 @@ class Packaging(unittest.TestCase):
                               check=True, umask=0o077, env=others, cwd=folder).stdout.strip()
         self.assertEqual(os.listdir(others["TMPDIR"]), [])
         contents = subprocess.run(["dpkg-deb", "--contents", made], capture_output=True, text=True, check=True).stdout
-        self.assertEqual({line.split()[1] for line in contents.splitlines()}, {"root/root"})
+        date = subprocess.run(["date", "-d", text_in("packaging", "changelog").partition(">  ")[2].split("\n")[0], "+%F %R"], capture_output=True, text=True).stdout
+        self.assertEqual({" ".join(line.split()[1::2][:2] + line.split()[4:5]) for line in contents.splitlines()}, {"root/root " + date.strip()})
         subprocess.run(["dpkg-deb", "--raw-extract", made, f"{room}/tree"], check=True)
         fields = dict(re.findall(r"^([\w-]+): (.*)$", text_in(room, "tree/DEBIAN/control"), re.MULTILINE))
         named = re.findall(r"^\w+  (.*)$", text_in(room, "tree/DEBIAN/md5sums"), re.MULTILINE)
@@ -133,11 +134,10 @@ class Packaging(unittest.TestCase):
         self.assertEqual([path for path, mode in modes.items() if not mode & 0o004], [])
         sizes = [-(-os.path.getsize(f"{room}/tree/{path}") // 1024) if stat.S_ISREG(mode) else 1 for path, mode in modes.items()]
         self.assertEqual(int(fields["Installed-Size"]), sum(sizes), "a folder is as large as its file system says")
+        self.assertEqual(text_in(room, f"tree/usr/share/doc/{fields['Package']}/copyright"), text_in("packaging", "copyright"))
         packed = glob.glob(f"{room}/tree/usr/share/**/*.gz", recursive=True)
         self.assertGreater(len(packed), 2)
-        for path in packed:
-            # no flag that a name stands there, and no time
-            self.assertEqual(pathlib.Path(path).read_bytes()[3:8], bytes(5), path)
+        self.assertEqual({pathlib.Path(path).read_bytes()[3:8] for path in packed}, {bytes(5)}, "a flag that a name stands there, or a time")
         return fields, f"{room}/tree"
 
     def test_what_is_in_a_package(self):
@@ -182,7 +182,7 @@ class Packaging(unittest.TestCase):
         """Just the stmflash that it was made beside, whose answers it reads; it stands in the place of Debian's own."""
         fields, tree = self.packed("deb-as-stm32flash")
         full = text_in("packaging", "changelog").split("(")[1].split(")")[0]
-        self.assertEqual((fields["Version"], fields["Depends"]), (full, f"python3 (>= 3.11), stmflash (= {full})"))
+        self.assertEqual([fields[name] for name in ("Version", "Architecture", "Depends")], [full, "all", f"python3 (>= 3.11), stmflash (= {full})"])
         self.assertEqual([fields[name] for name in ("Provides", "Conflicts", "Replaces")], ["stm32flash (= 0.7)", "stm32flash", "stm32flash"])
         self.assertTrue(os.access(f"{tree}/usr/bin/stm32flash", os.X_OK))
         self.assertEqual(os.listdir(f"{tree}/usr/share/man/man1"), ["stmflash-as-stm32flash.1.gz"])
@@ -244,10 +244,11 @@ class Packaging(unittest.TestCase):
             with zipfile.ZipFile(os.path.join(folder, "stmflash-windows-x64.zip")) as made:
                 names = {os.path.relpath(name, f"stmflash-{version}"): made.read(name) for name in made.namelist()}
                 self.assertEqual({it.date_time for it in made.infolist()}, {(2026, 1, 2, 20, 4, 6)})
-            self.assertEqual(sorted(names), ["LICENSE", "WINDOWS.md", "chips.toml", "stmflash.exe"])
-            self.assertTrue(names["WINDOWS.md"].startswith(b"## On Windows\n") and b"Nothing was run on Windows" in names["WINDOWS.md"])
+            held = {it: pathlib.Path(TOP, it).read_bytes() for it in ("LICENSE", "chips.toml")}
+            self.assertEqual(names, {**held, "stmflash.exe": pathlib.Path(program).read_bytes(), "WINDOWS.md": names["WINDOWS.md"]})
+            self.assertRegex(names["WINDOWS.md"], rb"(?s)\A## On Windows\n.*Nothing was run on Windows")
             self.assertEqual(sorted(re.findall(r" \./(.*)$", text_in(folder, "SHA256SUMS"), re.M)), sorted({*os.listdir(folder)} - {"SHA256SUMS"}))
-            self.assertIn("git tag --sign", out)
+            self.assertIn(f"  gpg --armor --detach-sign {folder}/SHA256SUMS\n  git tag --sign --file {folder}/NOTES.md --cleanup=verbatim v{version} && git push origin v{version}\n", out)
             notes = text_in(folder, "NOTES.md")
             self.assertTrue(notes.startswith("## 0") and notes in released and "\n## " not in notes)
             subprocess.run(["sha256sum", "--check", "--quiet", "SHA256SUMS"], cwd=folder, check=True)
