@@ -10,7 +10,7 @@ import threading
 import time
 
 from boards import LinePlace, default_signals, end_with
-from place import COUNTING, ERASED, PATIENCE, SILENT, SIZE, WAIT, Said
+from place import COUNTING, ERASED, PATIENCE, SIZE, WAIT, Said
 
 KILLS = int(os.environ.get("STMFLASH_LINE_KILLS", "6"))
 ENDING = (signal.SIGTERM, signal.SIGINT, signal.SIGHUP)
@@ -29,15 +29,6 @@ class Sessions(LinePlace):
         self.assertFile("out", image + COUNTING[len(image):])
         self.assertTold(self.through("undo"), "undone 1\n")
         self.assertEqual(board.store(), COUNTING)
-
-    def test_a_fault_of_the_command_is_its_own(self):
-        self.board()
-        self.store("journal", b"no journal\n")
-        self.assertFault(self.through("info"), "journal is no journal: name another, or move it away")
-
-    def test_a_silent_board_is_given_up(self):
-        self.plain()
-        self.assertFault(self.line("ttyUSB0", "--", *self.stmflash("info", "--give-up", "2")), "no answer from the device", hint=SILENT)
 
     def test_eight_at_once(self):
         boards = [self.board(f"ttyUSB{number}") for number in range(8)]
@@ -64,9 +55,8 @@ class Commands(LinePlace):
         self.master = self.plain()
 
     def test_hands_the_status_on(self):
-        for script, status in (("exit 0", 0), ("exit 7", 7), ("kill -9 $$", 128 + 9)):
-            with self.subTest(script=script):
-                self.assertEqual(self.line("ttyUSB0", "--", "sh", "-c", script), Said(status, b"", b""))
+        self.each((("exit 0", 0), ("exit 7", 7), ("kill -9 $$", 128 + 9)), lambda script, status: self.assertEqual(
+            self.line("ttyUSB0", "--", "sh", "-c", script), Said(status, b"", b"")))
 
     def test_files_that_it_makes_are_as_open_as_without_us(self):
         """The socket is for few, and that is not handed on."""

@@ -117,14 +117,13 @@ class Faults(LinePlace):
 
     def test_bad_words(self):
         self.plain()
-        for words in ("--", "ttyUSB0 --", "ttyUSB0 --socket board -- true", "ttyUSB0 --socket board info", "ttyUSB0 --baud 0 -- true",
-                      "ttyUSB0 --socket ''", "ttyUSB0 --baud fast -- true", "ttyUSB0 --baud 4000001 -- true", "ttyUSB0 --boot cts -- true",
-                      "ttyUSB0 --boot --rts -- true", "ttyUSB0 --after rts:dtr -- true", "ttyUSB0 --boot rts:dtr --after dtr -- true",
-                      "ttyUSB0 --boo rts -- true", "ttyUSB0 ttyUSB1 -- true", "ttyUSB0 --boot", "ttyUSB0 --wiring", "ttyUSB0 --wiring '' -- true",
-                      "ttyUSB0 --resets -- true", "ttyUSB0 --wiring rts-boot0 -- true",
-                      *(f"ttyUSB0 --wiring dtr-reset,rts-boot0 {it} -- true" for it in ("--resets", "--boot dtr"))):
-            with self.subTest(words=words):
-                self.assertBadWords(self.line(*shlex.split(words)))
+        self.each(("--", "ttyUSB0 --", "ttyUSB0 --socket board -- true", "ttyUSB0 --socket board info", "ttyUSB0 --baud 0 -- true",
+                   "ttyUSB0 --socket ''", "ttyUSB0 --baud fast -- true", "ttyUSB0 --baud 4000001 -- true", "ttyUSB0 --boot cts -- true",
+                   "ttyUSB0 --boot --rts -- true", "ttyUSB0 --after rts:dtr -- true", "ttyUSB0 --boot rts:dtr --after dtr -- true",
+                   "ttyUSB0 --boo rts -- true", "ttyUSB0 ttyUSB1 -- true", "ttyUSB0 --boot", "ttyUSB0 --wiring", "ttyUSB0 --wiring '' -- true",
+                   "ttyUSB0 --resets -- true", "ttyUSB0 --wiring rts-boot0 -- true",
+                   *(f"ttyUSB0 --wiring dtr-reset,rts-boot0 {it} -- true" for it in ("--resets", "--boot dtr"))),
+                  lambda words: self.assertBadWords(self.line(*shlex.split(words))))
         said = self.line("ttyUSB0", "--baud", "9600", "stmflash", "write", "-v", "my file")
         self.assertEqual(said.status, 2)
         self.assertTrue(said.err.endswith(b"error: COMMAND comes behind --, as in: stmflash-line ttyUSB0 -- stmflash write -v 'my file'\n"), said)

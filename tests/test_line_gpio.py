@@ -160,9 +160,8 @@ class Refused(GpioPlace):
 
     def test_other_versions(self):
         for tells in ("gpioset (libgpiod) v3.0", "gpioset (libgpiod) v0.3", "hello", ""):
-            with self.subTest(tells=tells):
-                self.assertRefused(f"gpioset is of libgpiod 1 or 2, and this one says {tells!r}: apt install gpiod", GPIO_TELLS=tells)
-                self.assertEqual(self.moves()[0], [])
+            self.assertRefused(f"gpioset is of libgpiod 1 or 2, and this one says {tells!r}: apt install gpiod", GPIO_TELLS=tells)
+            self.assertEqual(self.moves()[0], [])
 
     def test_a_line_that_others_have(self):
         """The first, or the second when the first is had already."""
@@ -199,9 +198,8 @@ class Refused(GpioPlace):
                 ("--boot rts --gpio-chip gpiochip1", "--gpio-chip names the chip of GPIO lines, and --boot names none"),
                 ("--gpio-chip gpiochip1", "--gpio-chip names the chip of GPIO lines, and --boot names none"),
                 ("--boot 18 --gpio-chip=", "'' is no chip"), ("--boot 18 --gpio-chip=-1", "'-1' is no chip"), ("--boot 018", "'018' is no signal")):
-            with self.subTest(words=words):
-                self.assertBadWords(self.line("ttyUSB0", *words.split(), "--", "echo", "went"), text)
-                self.assertEqual(self.moves()[0], [])
+            self.assertBadWords(self.line("ttyUSB0", *words.split(), "--", "echo", "went"), text)
+            self.assertEqual(self.moves()[0], [])
 
     @unittest.skipIf(shutil.which("gpioset") is None, "gpiod is not installed")
     def test_the_real_one(self):

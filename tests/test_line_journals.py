@@ -8,7 +8,7 @@ import shutil
 import subprocess
 
 from boards import LINE, Named
-from place import COUNTING, PATIENCE, SILENT, SIZE, TOP, Said, text_in
+from place import COUNTING, PATIENCE, SILENT, SIZE, TOP, Said, new, text_in
 from stmflash_line import asking, journals
 from test_stm32flash_words import BACK, STOPPED, TELLING, WORDS
 
@@ -27,7 +27,6 @@ sys.argv.pop(0)
 runpy.run_path(sys.argv[0], run_name="__main__")
 """
 ONE = [("ttyUSB0", "USB UART")]
-NAMED = "stmflash-line: ttyUSB0: USB UART\n"
 # a flash with an image in it
 HEX = b"\xde\xad\xbe\xef" + COUNTING[4:]
 
@@ -77,7 +76,7 @@ class Journals(Unnamed):
         board = self.telling()
         self.assertEqual(self.short("ttyUSB0").out.decode().splitlines()[-1], "board " + BOARD)
         self.assertEqual(os.listdir(os.path.join(self.state, "journals")), [])
-        self.assertShort(self.short("ttyUSB0", "--", "stmflash", "write", "-v", "fw.bin"),
+        self.assertShort(self.short("ttyUSB0", "--", "stmflash", "write", "-v", "--device", "{}", "fw.bin"),
                         "segment 1: 1 pages written\nverified 3 bytes\n", self.journal())
         self.assertTrue(self.held(self.journal()).startswith(f"stmjournal 3 0412 {BOARD}\n".encode()))
         for folder in ("journals", os.path.dirname(self.nameless())):
@@ -124,6 +123,8 @@ class Journals(Unnamed):
         words = [self.path("asked"), "write", "-v", "--watch", "--again", "2", *of_line, "fw.bin"]
         said = asking.ask(words, "none", lambda begin: begin(self.settings()).wait())
         self.assertEqual(said, (0, " ".join(["info --raw --json --quiet --journal none", *of_line])))
+        self.store("asked", b"#!/bin/sh\necho no JSON\n")
+        self.assertRaisesRegex(journals.Fault, "asked: what it says of the board isn't understood; ", asking.ask, words, "none", lambda begin: begin(self.settings()).wait())
 
     def test_the_question_has_what_its_command_may_not(self):
         """That the board was reset, which is for the first session alone; and the wait of the port, where an undo has none."""
@@ -280,19 +281,18 @@ class Stopped(Unnamed):
         for text, is_so in (("", False), ("stmjournal 2 0412\n", False), ("open 1\n", True), ("open 1\nend 1\n", False),
                             ("open 1\nend 1\nerase 5\n", True), ("end 1\nprogram 5\n", True), ("page 5 55\n", True),
                             ("end 1\nundone 1\n", False), ("open 1\nend 1", True), ("open 1\nend 1!\n", True), ("end 1\nopen 2!\nopen", False)):
-            with self.subTest(text=text):
-                self.store("held", text.encode())
-                self.assertEqual(journals.is_stopped(self.path("held")), is_so)
+            self.store("held", text.encode())
+            self.assertEqual((text, journals.is_stopped(self.path("held"))), (text, is_so))
         self.assertFalse(journals.is_stopped(self.path("missing")))
 
 
 class Ports(Unnamed):
     def test_the_only_one_is_taken(self):
         self.telling()
-        for ports in (ONE, [("ttyS0", ""), *ONE]):
+        for segment, ports in enumerate((ONE, [("ttyS0", ""), *ONE], [("ttyUSB0", "")]), 1):
             said = self.short("write", "fw.bin", ports=ports)
-            self.assertEqual(said.err.decode(), NAMED + self.told(self.journal()) + "note: segment 2 changed nothing: there is nothing new to undo\n"
-                             * (ports != ONE))
+            self.assertEqual(said.err.decode(), f"stmflash-line: ttyUSB0: {ports[-1][1]}\n" + self.told(self.journal())
+                             + f"note: {new(segment)}\n" * (segment > 1))
 
     def test_of_several_none_is(self):
         self.assertLineFault(self.short(ports=[*ONE, ("ttyACM0", "STLink")]), "which port? ttyACM0 (STLink), ttyUSB0 (USB UART)")
@@ -320,8 +320,7 @@ class Keystrokes(Unnamed):
         for ours, *others in rows:
             for calls in (ours, *others):
                 for call, count in calls:
-                    with self.subTest(call=call):
-                        self.assertEqual(len(call) + 1, int(count))
+                    self.assertEqual((call, len(call) + 1), (call, int(count)))
             self.assertEqual(len(ours), 1)
             self.assertLessEqual(int(ours[0][1]), 42)
             self.assertLessEqual(len(others[0]), 1)

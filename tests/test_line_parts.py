@@ -21,7 +21,7 @@ from unittest import mock
 
 from boards import WiredPlace
 from place import PATIENCE, Place, first_of, readable
-from stmflash_line import command, far, faults, holders, opening, patience, session, wake
+from stmflash_line import command, far, faults, gpio_lines, holders, opening, patience, session, sockets, wake
 from stmflash_line.join import Join
 from stmflash_line.port import Port
 from stmflash_line.sequences import read_sequence
@@ -91,6 +91,10 @@ class Beginning(unittest.TestCase):
             session.use_board(calls.port, calls.moves, given, mock.Mock(number=None), None)
         self.assertEqual([name for name, _, _ in calls.mock_calls], ["moves.play", "port.forget", "served", "serve"])
 
+    def test_a_folder_that_cant_be_made(self):
+        with mock.patch.object(sockets.os, "mkdir", side_effect=OSError(errno.ENOSPC, "No space left on device", "/tmp/it")):
+            self.assertRaisesRegex(faults.Fault, "^/tmp/it: No space left on device; TMPDIR names another folder$", sockets.served_privately().__enter__)
+
 
 class Sequences(unittest.TestCase):
     def test_notation(self):
@@ -100,8 +104,7 @@ class Sequences(unittest.TestCase):
                 ("rts&-dtr", [("rts", True), ("dtr", False)]), ("-rts,,,,dtr", [("rts", False), wait, wait, wait, wait, ("dtr", True)]),
                 ("brk,-brk&rts", [("brk", True), wait, ("rts", True)]),
                 ("18&-23,rts,0", [(18, True), (23, False), wait, ("rts", True), wait, (0, True)])):
-            with self.subTest(text=text):
-                self.assertEqual(read_sequence(text), steps)
+            self.assertEqual((text, read_sequence(text)), (text, steps))
 
     def test_no_signals(self):
         for text in ("-", "cts", "rts dtr", "018", "--3", "3 4", "100000", "+3", "0x3", "\u0663", "rts:dtr", "RTS", "--rts"):
@@ -221,9 +224,8 @@ class Waits(Place):
     def test_what_another_line_has_said_is_not_handed_on(self):
         """It is of another board."""
         for device, told in (("/tmp/stmflash-line-0123/socket", " "), ("board.sock", "77 9600"), ("/tmp/stmflash-line-0123", "77 9600")):
-            with self.subTest(device=device):
-                given = {"STMFLASH_DEVICE": device, "STMFLASH_WAIT": "77", "STMFLASH_BAUD": "9600"}
-                self.assertEqual(self.told("$STMFLASH_WAIT $STMFLASH_BAUD", None, None, **given), told)
+            given = {"STMFLASH_DEVICE": device, "STMFLASH_WAIT": "77", "STMFLASH_BAUD": "9600"}
+            self.assertEqual((device, self.told("$STMFLASH_WAIT $STMFLASH_BAUD", None, None, **given)), (device, told))
 
     def test_both_are_told_where_their_user_says_nothing(self):
         for given, known, told in ((None, 103, "103"), (None, None, ""), ("", 103, "103"), ("77", 103, "77"), ("77", None, "77")):
@@ -266,6 +268,11 @@ class Ending(unittest.TestCase):
                 join = mock.Mock(heard=0.0, is_otherwise=otherwise, **{"wake.number": number})
                 due = 128 + number if number else 128 - code if code < 0 else code or int(otherwise)
                 self.assertEqual(command.run(lambda _: child, "", None, None, join), due)
+
+    def test_a_gpioset_that_does_not_end_is_killed(self):
+        holder = mock.MagicMock(**{"wait.side_effect": command.subprocess.TimeoutExpired("gpioset", 5)})
+        gpio_lines.end([holder])
+        self.assertEqual([name for name, _, _ in holder.mock_calls], ["terminate", "__enter__", "wait", "kill", "__exit__"])
 
     def test_one_that_talks_to_the_board_isnt_killed(self):
         """It may be putting back what it changed."""
@@ -408,6 +415,7 @@ class BadBytes(unittest.TestCase):
                 if gone:
                     child.poll.return_value, self.join.turn = None, mock.Mock(side_effect=faults.Gone)
                     self.assertRaises(faults.Gone, command.run, lambda _: child, "", None, None, self.join)
+                    self.join.listener.close.assert_called_once_with()
                 else:
                     self.assertEqual(session.serve(self.join) if number else command.run(lambda _: child, "", None, None, self.join), 0)
                 self.assertIsNone(self.join.client)
@@ -453,7 +461,9 @@ class BadBytes(unittest.TestCase):
         self.client.settimeout(PATIENCE)
         self.addCleanup(self.client.close)
         self.join.listener, self.join.out = mock.Mock(**{"accept.return_value": (ours, None)}), bytearray(b"sent")
+        self.join.watch = mock.Mock(has_sent=False, **{"due_of.side_effect": lambda data: (data, None)})
         self.assertEqual((self.join.accept(), self.join.out), (True, b"sent"))
+        self.join.watch.begin.assert_called_once_with()
         self.assertEqual(self.take(b"new"), "")
         self.assertEqual(self.client.recv(100), b"new")
 

@@ -67,9 +67,7 @@ class Pins:
 
 class Wirings(unittest.TestCase):
     def test_sequences(self):
-        for wiring, sequences in WIRINGS.items():
-            with self.subTest(wiring=wiring):
-                self.assertEqual(read_wiring(wiring), sequences)
+        self.assertEqual({wiring: read_wiring(wiring) for wiring in WIRINGS}, WIRINGS)
         self.assertEqual(read_wiring("rts-boot0,dtr-reset"), WIRINGS[EXAMPLE])
 
     def test_what_they_do_at_the_pins(self):
@@ -112,20 +110,18 @@ class Words(WiredPlace):
 
     def test_nobody_says_that_the_board_is_fresh(self):
         """No move does, and no wiring. The caller's own word is handed on."""
-        for words in (("--boot", "-rts&dtr,-dtr"), ("--after", "-rts"), ("--boot", "-rts&dtr,-dtr", "--resets"), ("--wiring", EXAMPLE)):
-            with self.subTest(words=words):
-                self.assertTold(self.play(*words, "--", *TELL), "no\n")
+        self.each((("--boot", "-rts&dtr,-dtr"), ("--after", "-rts"), ("--boot", "-rts&dtr,-dtr", "--resets"), ("--wiring", EXAMPLE)),
+                  lambda *words: self.assertTold(self.play(*words, "--", *TELL), "no\n"))
         self.assertTold(self.play("--", *TELL, STMFLASH_FRESH="1"), "1\n")
 
     def test_what_a_wiring_plays(self):
         """Into the bootloader before COMMAND, and out of it behind."""
         for wiring in (EXAMPLE, "inverted-rts-reset,dtr-boot0", "dtr-reset"):
-            with self.subTest(wiring=wiring):
-                entry, leave = WIRINGS[wiring]
-                self.assertSilent(self.play("--wiring", wiring, "--", "cp", "calls", "before"))
-                self.assertEqual(self.calls("before")[0], calls_of(entry))
-                self.assertEqual(self.calls()[0], calls_of(entry) + calls_of(leave))
-                self.remove("calls")
+            entry, leave = WIRINGS[wiring]
+            self.assertSilent(self.play("--wiring", wiring, "--", "cp", "calls", "before"))
+            self.assertEqual(self.calls("before")[0], calls_of(entry))
+            self.assertEqual(self.calls()[0], calls_of(entry) + calls_of(leave))
+            self.remove("calls")
 
     def test_one_word_says_how_the_board_is_left(self):
         """Also where it says that nothing is moved; of two neither is taken."""

@@ -7,6 +7,7 @@ from unittest import mock
 
 from boards import pty_boards
 from place import COUNTING, ERASED, TABLE, TOP, program, text_in
+from stmflash_line import tables
 from test_stm32flash_words import NEW, Words, places
 from as_stm32flash import chip, tools
 
@@ -131,6 +132,10 @@ class Tables(Words):
                 self.assertEqual(tools.find_tables(self.path("bin")), found)
         with mock.patch.dict(os.environ, none), mock.patch.object(tools, "MACHINES", self.path("table")):
             self.assertEqual(tools.find_tables(self.path("bin")), [users, self.path("table"), beside])
+        # stmflash-line names the one beside it where there is no other
+        for more in ({}, {"MACHINES": beside}, {"TABLES": (beside,)}, {"BESIDE": "/none"}):
+            with mock.patch.multiple(tables, **{"MACHINES": "/none", "TABLES": (), "BESIDE": beside, **more}), mock.patch.dict(os.environ, HOME="/none", XDG_CONFIG_HOME=""):
+                self.assertEqual((more, tables.only_beside()), (more, "" if more else beside))
 
     def test_what_is_handed_on_is_the_same(self):
         entries = {entry["id"]: entry for entry in tomllib.loads(text_in("chips.toml"))["chip"]}

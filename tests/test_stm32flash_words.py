@@ -163,7 +163,7 @@ class Refusals(Words):
                 ("ERROR: /dev/i2c-0: I2C isn't there; the real stm32flash has it", "-a 1 /dev/i2c-0"),
                 ("ERROR: -m 8n1: isn't there; give 8e1, which the bootloader of every STM32 has", "-m 8n1 /dev/null"),
                 ("Invalid serial mode", "-m 9e1"), ("Invalid baud rate, valid options are:", "-b 12345"),
-                (f"ERROR: -i -06: {no_signal}", "-i 5,-06"), (f"ERROR: -i foo: {no_signal}", "-i rts:foo"),
+                (f"ERROR: -i -06: {no_signal}", "-i 5,-06"), (f"ERROR: -i foo: {no_signal}", "-i rts:foo"), (f"ERROR: -i dtr:rts: {no_signal}", "-i rts:dtr:rts"),
                 (f"ERROR: -i: GPIO line 7 {alone}", "-i 5&6:5,7"), (f"ERROR: -i: GPIO line 5 {alone}", "-c -i 5:5"),
                 ("ERROR: Invalid options !", "-r a -w image", "-u -k", "-w image --undo", "--undo -r a", "--undo --log"),
                 ("ERROR: Invalid usage, -v is only valid when writing", "-v"),
@@ -173,7 +173,7 @@ class Refusals(Words):
                 ("ERROR: start is no number; give it as 64, 0x40 or 0100", "-g start"),
                 (f"ERROR: -S 0x1ffff7e8: {outside}", "-r a -S 0x1ffff7e8:12"), ("ERROR: Start address must be word-aligned", "-S 0x08000002"),
                 ("ERROR: Invalid options, can't specify zero length", "-S 0x08000000:0"),
-                (words.PAGES_OR_ADDRESS, "-S 0x08000000 -s 1", "-e 2 -S 0x08000000"),
+                (words.PAGES_OR_ADDRESS, "-S 0x08000000 -s 1", "-e 2 -S 0x08000000"), (f"ERROR: -S 0x00000000: {outside}", "-r a -S 0:4"),
                 ("ERROR: You need to specify a page count between 0 and 0xffff", "-e 70000"),
                 ("ERROR: current code cannot work with small frames.", "-F 10"), ("stm32flash: option -Z not recognized", "-Z"),
                 ("ERROR: Invalid parameter specified", "other"), ("Intel HEX ERROR: System Error", "-w missing"),
@@ -189,6 +189,7 @@ class Refusals(Words):
         self.assertEqual((said.status, said.out, said.err[:6]), (0, b"", b"Usage:"))
         said = self.words("-r", "a", port=None)
         self.assertEqual((said.status, said.err.splitlines()[0]), (1, b"ERROR: Device not specified"))
+        self.assertIn(b"nothing was written or erased yet; journals would stand in ", self.words("--log", port="none").out)
 
     def test_a_port_that_isnt_there(self):
         self.refused(b"no such port", mode=(), port="missing")
@@ -245,12 +246,13 @@ Wrote and verified address 0x080005dc (100.00%) Done.
         self.store_all({"image": bytes(range(200)), "at0.hex": b":0400000001020304F2\n:00000001FF\n",
                         "at500.hex": b":020000040800F2\n:0405000011121314AD\n:00000001FF\n"})
         held = bytearray(ERASED)
-        for words, at, data in [(("at0.hex", "-S", "0x08007ffc:100"), SIZE - 4, b"\1\2\3\4"), (("image", "-S", "0x08000800:100"), 2048, bytes(range(100))), (("at0.hex",), 0, b"\1\2\3\4"),
+        for words, at, data in [(("at0.hex", "-S", "0x08007ffc:100"), SIZE - 4, b"\1\2\3\4"), (("image", "-S", "0x08000800:100"), 2048, bytes(range(100))), (("at0.hex", "-s", "1", "-e", "1", "-F", "128:257"), 0, b"\1\2\3\4"),
                                 (("at500.hex",), 0x500, b"\x11\x12\x13\x14"), (("at500.hex", "-S", "0x08001000:2"), 4096, b"\x11\x12"),
                                 (("at0.hex", "-f", "-S", "0x08001400"), 5120, self.held("at0.hex"))]:
             with self.subTest(words=words):
                 held[at:at + len(data)] = data
-                self.leaves(board, held, "-w", *words)
+                said = self.leaves(board, held, "-w", *words)
+                self.assertEqual(re.findall(b"(-[es]) says nothing here|(RX) length", said.err), [(b"", b"RX"), (b"-s", b""), (b"-e", b"")] * ("-s" in words))
         held[8192:8195] = b"pip"
         self.leaves(board, held, "-w", "-", "-S", "0x08002000:3", given=b"piped")
         # what a HEX text leaves out stays, also where it is moved; it comes by a pipe that can be read but once
@@ -317,6 +319,8 @@ Wrote and verified address 0x080005dc (100.00%) Done.
         for words, text in ((("-w", "image", "-S", "0x08003c00"), b"doesn't lie in the flash, 0x08000000 to 0x08004000\n"),
                             (("-o", "-s", "15", "-e", "2"), b"Specified start & length are invalid"),
                             (("-r", "out", "-s", "17"), b"Address range exceeds flash size."),
+                            (("-C", "-S", "0x08000000:6"), b"Start and end addresses must be 4 byte aligned\nFailed to read CRC\n"),
+                            (("-C", "-S", "0x08004000"), b"ERROR: -S 0x08004000: not in the flash of this chip"),
                             (("-g", "0x08005000"), b"not in the flash of this chip, which ends at 0x08004000\n")):
             self.refused(text, words=words)
         self.assertEqual(board.store(), COUNTING[:16384])
@@ -355,6 +359,8 @@ class TakingBack(Words):
         self.keep("journal", STOPPED.replace("0412", "0410").encode())
         self.store("table", TABLE + TABLE.replace(b"412", b"410"))
         self.refused(b"journal belongs to another device\nERROR: what an earlier call has begun can't be undone now", words=("-w", "image"))
+        self.store("table", TABLE.replace(b"412", b"410"))
+        self.refused(b"Unknown/unsupported device (Device ID: 0x0412)\n", words=("-r", "out", "-S", "0x08000000:4"), XDG_STATE_HOME=self.path("other"))
         self.assertEqual(board.store(), COUNTING)
 
     def test_go_keeps_the_way_back(self):
@@ -404,6 +410,13 @@ class TakingBack(Words):
                 self.assertRegex(calls[1], " -v --keep-to [^ ]*/kept-00000[12] --go 0x08000000 ")
                 self.remove("calls")
                 board = self.reset(board)
+
+    def test_a_program_that_cant_be_started_is_told(self):
+        self.flash(COUNTING)
+        self.instead('[ "$1" != go ] || { echo "stmflash: line failed" >&2; exit 1; }')
+        for words, status, out in ((("-R",), 1, b"Reset failed.\n"), (("-g", "0"), 0, b" at address 0x08000000... failed.\n")):
+            said = self.words("-m", "8n1", *words)
+            self.assertEqual((said.status, out in said.out, said.err.count(b"stm32flash: line failed\n")), (status, True, 1), said)
 
     def test_another_board_at_the_port_has_its_own_journal(self):
         self.store("table", TELLING)
@@ -539,7 +552,8 @@ class Boards(Words):
     def test_a_journal_that_cant_be_read_is_told_by_its_name(self):
         board = self.written(self.flash(COUNTING), "-g", "0")
         self.keep("kept-000002", b"nonsense\n")
-        self.refused(b"kept-000002 is no journal: name another, or move it away: it can't be read\n", b"1 can be undone\n", mode=("--log",), on="out")
+        said = self.refused(b"kept-000002 is no journal: name another, or move it away: it can't be read\n", b"1 can be undone\n", mode=("--log",), on="out")
+        self.assertLess(said.out.index(b"kept-000002"), said.out.index(b"kept-000001"))
         board = self.reset(board)
         self.refused(b"kept-000002 is the newest and can't be read", words=("--undo",))
         self.remove(self.name("kept-000002"))
@@ -745,6 +759,9 @@ class Parts(Place):
             self.assertEqual(made.folder, self.path(f"{place}/stmflash/ports/ttyS0"))
             made.make()
             self.assertEqual([os.stat(folder).st_mode & 0o777 for folder in (made.folder, made.boards)], [0o700, 0o700])
+        with mock.patch.object(places.os, "fsync") as synced:
+            made.take_board("A1")
+        self.assertEqual((os.readlink(made.last), synced.call_count), (made.live, 1), "the port has it on the disk")
         for size, is_large in ((8 << 20, False), ((8 << 20) + 1, True)):
             self.store(made.live, bytes(size))
             board = mock.Mock(journals=made)
@@ -866,8 +883,7 @@ class Parts(Place):
         one, other, otherwise = "differs at 08000000", "differs at 08000400", "device does not follow the protocol"
         for given, due in (((10,), (1, 0, True)), ((10, one, other), (3, 2, True)), ((1, one, other), (2, 2, False)), ((0, one), (1, 1, False)),
                            ((10, one, one), (2, 2, False)), ((10, otherwise), (1, 1, False)), ((10, "no answer from the device"), (1, 0, False))):
-            with self.subTest(given=given):
-                self.assertEqual(tries(*given), due)
+            self.assertEqual((given, tries(*given)), (given, due))
         self.assertEqual(tries(10, otherwise, written=False), (1, 0, False))
         self.assertEqual(tries(10, otherwise, written=False, is_large=True), (1, 0, False))
         # what stands isn't done again, and a write of before isn't undone
@@ -883,6 +899,8 @@ class Parts(Place):
         with mock.patch.object(boards, "follow", side_effect=lambda stream, _: stream.readline().fails):
             self.assertRaises(AttributeError, board.run_once, ["info"])
         self.assertTrue(self.is_there("ended"))
+        with mock.patch.object(board, "run_once", side_effect=[Failed("journal is in use"), "done"]):
+            self.assertEqual(board.run(["log"]), "done")
 
     def test_a_ctrl_c_says_what_stands(self):
         with contextlib.redirect_stderr(io.StringIO()) as told:

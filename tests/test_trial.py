@@ -265,7 +265,7 @@ class Words(TrialPlace):
         self.store_all({"table": table("44"), "here": b"kept", "bad": b"[[chip]]\nid = 1\n"})
         os.symlink("saved", self.path("linked"))
         other = "give --out another name\n"
-        for words, text in (
+        self.each((
             ("", "no board"), ("--device none", "--yes, where nobody can be asked"), ("--device none --port none", "either --device or --port"),
             ("--device none --yes", "stmflash-trial: none: No such file or directory; --device names a socket that is served\n"),
             ("--device none --wiring dtr-reset", "--wiring is for --port"), ("--device none --yes --pages 1,-2", "--pages"),
@@ -276,9 +276,7 @@ class Words(TrialPlace):
             ("--device none --yes --out ./table", f"./table: is the chip table too; {other}"),
             ("--device none --yes --save here", "here: is there already; give --save another name\n"),
             ("--device none --yes --table bad", "bad: is no chip table; --table names another\n"),
-            ("--device none --yes --table gone", "gone: No such file or directory; --table names another\n")):
-            with self.subTest(words=words):
-                self.assertRefused(self.trial(*words.split()), text)
+            ("--device none --yes --table gone", "gone: No such file or directory; --table names another\n")), lambda words, text: self.assertRefused(self.trial(*words.split()), text))
         self.assertFile("here", b"kept")
 
     def test_what_is_found_replaces_no_other_file(self):
@@ -299,13 +297,13 @@ class Words(TrialPlace):
         self.remove("real.new")
 
     def test_a_part_of_the_flash_is_no_file(self):
-        """A disk that has no room for all of it, and a signal; and what came meanwhile under that name is another's."""
+        """A disk that has no room for all of it, and a signal; what came meanwhile under that name is another's. And one that is whole is on the disk, with its name."""
         text = "import resource, faults, saved; resource.setrlimit(resource.RLIMIT_FSIZE, (4096, 4096))\n" \
-               "def cut(_): raise faults.Ended('a signal')\nsaved.os.fsync = cut\n" \
+               "def cut(it):\n    print(sys.argv[2], saved.os.path.isdir(f'/proc/self/fd/{it}'))\n    if sys.argv[2] == '1': raise faults.Ended('a signal')\nsaved.os.fsync = cut\n" \
                "try:\n    saved.store(sys.argv[1], bytes(int(sys.argv[2])))\nexcept faults.Ended as ended:\n    print(ended)"
         self.store("came", b"kept")
-        for name, size, why, held in (("part", "8192", "the flash couldn't be saved: File too large", None), ("cut", "1", "a signal", None),
-                                      ("came", "1", "the flash couldn't be saved: File exists", b"kept")):
+        for name, size, why, held in (("part", "8192", "the flash couldn't be saved: File too large", None), ("cut", "1", "1 False\na signal", None),
+                                      ("came", "1", "the flash couldn't be saved: File exists", b"kept"), ("whole", "2", "2 False\n2 True", bytes(2))):
             self.assertEqual(of_modules(text, self.path(name), size), why + "\n")
             self.assertEqual(self.held(name), held)
 
@@ -569,6 +567,17 @@ gone.words, gone.companion, gone.buffer, (gone.socket, _) = Of(reset='', port='P
 def closed(): raise ways.Refused('the port has gone')
 gone.open = closed
 for act in (gone.reset, lambda: gone.read(1, 9, 9), lambda: gone.write(b'a')): tell(lambda _: act(), None)
+def nobody(_): raise EOFError
+builtins.input = nobody
+for gone.words in (Of(reset='false', port='P', wiring='W'), Of(reset='', port='P', wiring='')): tell(lambda _: gone.reset(), None)
+for ids, erases, erase in (([0x440], 0x44, 'extended'), ([0x440, 0x441], 0x44, 'extended'), ([0x441], 0x44, 'extended'), ([0x440], 0x44, 'page')):
+    told_ids, known = itertools.cycle(ids), [{'id': 0x440, 'base': 0, 'pages': [[4, 1024]], 'erase': erase}]
+    asked = Of(write=len, read=lambda *_: bytes([0x79, 1, *next(told_ids).to_bytes(2, 'big'), 0x79]))
+    tell(rows_asking.identify.act, Of(line=asked, drain=bytes, facts={}, codes=[erases], version=1, words=Of(pages=[], chips=known)))
+def differs(*_): raise settling.Differs('it')
+settling.settle = differs
+for resets, restart in ((False, None), (True, differs), (True, int)):
+    tell(lambda it: settling.recover(it, 'ask'), Of(code=0x44, line=Of(can_reset=lambda: resets), restart=restart))
 def is_reply(name):
     of_one = Of(model=1, times={'get': [0], name: [0.25]}, usual_time=lambda it: 0.25 * (it == name), facts={}, options={}, refusal=None)
     try: return not rows_ending.reply_time.act(of_one)
@@ -582,8 +591,9 @@ for fault in (ways.Refused, KeyboardInterrupt, ways.Ended):
     ways.Line.open = opened
     try: ways.Line(Of(port='P'))
     except fault: print(glob.glob(made[-1]))
-for seconds in (1, 0.3): rows_ending.need_wait(slow, seconds)
-print(slow.options, *told.judge(slow, [told.Found(rows_reading.save, told.DIFFERS, '', rows_reading.save.means)], 'a signal'), sep='; ')
+for seconds in (1, 0.3, 61): rows_ending.need_wait(slow, seconds) or print(slow)
+slow.refusal = None
+print(*told.judge(slow, [told.Found(rows_reading.save, told.DIFFERS, '', rows_reading.save.means)], 'a signal'), sep='; ')
 """
 
 # each row, and each call that changes something, on a board of the model whose line ends where the flash was changed first
@@ -679,12 +689,17 @@ class Parts(unittest.TestCase):
             "[256]", "Refused; --pages: this chip has no such page; give 0 to 31, but for 255; ",
             # a port that has gone behind a reset ends the trial: nobody says that nothing was changed
             "Ended; the port has gone; ", "Ended; the line was closed; ", "Ended; the line ended: Broken pipe; ",
+            "Ended; the command of --reset failed; ", "Ended; nobody was there to do it; ",
+            "0440, 4 pages", "Differs; each time another id; ", "Differs; id 0441 isn't in the table; ",
+            "Differs; the table says that 43 erases, and the board doesn't list it; ",
+            "Ended; the board can't be settled: reset it; ", "Ended; the board answers no more, also behind a reset; ", "None",
             # what takes the time of an erase is no reply
             "True; erase; get behind an erase",
             # a port that isn't opened leaves no folder, whatever ended that
             "[]", "[]", "[]",
             # the longest wait that a row needs; and what a row found goes before a signal
-            "{'wait': 1000}; don't use; save: the journal can't keep a page"])
+            *2 * ["namespace(options={'wait': 1000}, refusal=None)"], "namespace(options={'wait': 60000}, refusal='it is too slow for any --wait')",
+            "don't use; save: the journal can't keep a page"])
 
 
 class Companion(Place):
