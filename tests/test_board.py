@@ -1,6 +1,8 @@
 """Which board stands there: asked before each session, once more in one that does commands or undoes some, and behind the last
 frame of a segment; named by the journal, and wanted by words."""
 
+import itertools
+
 import telling
 from place import each_of
 from refusing import IN_SESSION
@@ -248,10 +250,8 @@ class Board(telling.Told):
         self.assertEqual((said.status, said.out[:3], said.err), (0, b"id ", b""))
 
     def test_another_than_the_wanted_board_gets_nothing_more(self):
-        for word in (OTHER, OTHER[-2:], "0" + NAME, NAME[:-1]):
-            for variables in (None, {"STMFLASH_NO_BOARD": "1"}):
-                with self.subTest(word=word, variables=variables):
-                    self.assertAskedAlone(self.at(HERE, "write", "--board", word, "image", variables=variables), "device is another board")
+        self.each(itertools.product((OTHER, OTHER[-2:], "0" + NAME, NAME[:-1]), (None, {"STMFLASH_NO_BOARD": "1"})), lambda word, variables:
+                  self.assertAskedAlone(self.at(HERE, "write", "--board", word, "image", variables=variables), "device is another board"))
         self.assertFault(self.at(HERE, "erase", "1", variables={"STMFLASH_BOARD": OTHER}), "device is another board")
         for unique in (None, 12 * b"\xff", 12 * b"\x00"):
             self.assertAskedAlone(self.at(unique, "write", "--board", NAME, "image"), "device tells no board")
@@ -297,10 +297,8 @@ class Board(telling.Told):
 
     def test_info_tells_the_board_and_the_size(self):
         board = f"board {NAME}\n"
-        for kib, pages, told in ((64, 64, "flash 64 KiB\n"), (128, 128, "flash 128 KiB\n"), (1, 1, "flash 1 KiB\n"),
-                                 (256, 128, "flash 256 KiB, more than the pages\n")):
-            with self.subTest(kib=kib):
-                self.assertTold(self.at(HERE, "info", kib=size(kib)), INFO % (pages, 1024 * pages) + board + told)
+        self.each(((64, 64, "flash 64 KiB\n"), (128, 128, "flash 128 KiB\n"), (1, 1, "flash 1 KiB\n"), (256, 128, "flash 256 KiB, more than the pages\n")),
+                  lambda kib, pages, told: self.assertTold(self.at(HERE, "info", kib=size(kib)), INFO % (pages, 1024 * pages) + board + told))
         self.assertTold(self.at(HERE, "info"), INFO % (128, SIZE) + board)
         self.assertTold(self.at(None, "info", kib=size(64)), INFO % (64, 65536) + "flash 64 KiB\n")
         raw = "id 0410\nversion 22\ncodes 00 01 02 11 21 31 43 73 82 92\ntable table\n"

@@ -47,9 +47,7 @@ class Check(Place):
         for count in range(len(text) + 1):
             begun = text[:count]
             logged = told[begun.count(b"\n")]
-            for tail in (b"", b"\0" * 7):
-                with self.subTest(count=count, tail=tail):
-                    self.assertCheck(begun + tail, expected(begun + tail, logged))
+            self.each((begun, begun + b"\0" * 7), lambda held, logged=logged: self.assertCheck(held, expected(held, logged)))
 
     def test_tells_each_page(self):
         """Pages of each length, in the order of their lines, and none of a command that was undone."""

@@ -78,10 +78,8 @@ class Hints(OnBoard):
     def test_a_read_that_is_refused(self):
         """Also where its count and the complement are the code of Write Memory."""
         place = BASE + 5 * 1024
-        for step in ("read", "count"):
-            for words in ((), ("-S", f"{place:#x}:50")):
-                with self.subTest(step, words=words):
-                    self.assertFault(self.on(Guarded(step, 5), "read", *words, "OUT"), DEVICE, hint=UNREAD.format(place))
+        self.each([(step, *words) for step in ("read", "count") for words in ((), ("-S", f"{place:#x}:50"))], lambda step, *words: self.assertFault(
+            self.on(Guarded(step, 5), "read", *words, "OUT"), DEVICE, hint=UNREAD.format(place)))
 
     def test_a_board_that_says_that_it_is_busy(self):
         """Before it acknowledges an erase: its undo is refused too, until it doesn't say so any more."""

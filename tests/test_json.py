@@ -60,6 +60,5 @@ class Json(Place):
         self.assertEqual(len(told), 2)
         for line in told:
             wrong = [{name: line[name] for name in line if name != left} for left in line] + [{**line, "more": 1}]
-            for other in wrong + [{**line, name: [line[name]]} for name in line]:
-                with self.subTest(line=other):
-                    self.assertEqual(len(answers.others(json.dumps(other).encode() + b"\n")), 1)
+            self.each(wrong + [{**line, name: [line[name]]} for name in line],
+                      lambda other: self.assertEqual(len(answers.others(json.dumps(other).encode() + b"\n")), 1))

@@ -196,8 +196,7 @@ class Pages(Place):
             own = set(re.findall(r"^(?:pub )?(?:abbrev|record|data)(?: pub)? (\S+)", text_in(path), re.M))
             for code in glob.glob(os.path.join(TOP, "crates", "*", "src", "**", "*.rt"), recursive=True):
                 for names in re.findall(rf"Rattle\.{crate}\.specs\.lemmas\.{module}\.{{([^}}]*)}}", text_in(code)):
-                    with self.subTest(module=module, code=code):
-                        self.assertFalse(own & set(re.findall(r"[^\s,]+", names)))
+                    self.assertFalse(own & set(re.findall(r"[^\s,]+", names)), (module, code))
 
     def test_the_words_are_in_use(self):
         """MODEL has twenty, in their order; README leads to it. Each is in two more pages at least, or its parts are."""
@@ -207,8 +206,7 @@ class Pages(Place):
         self.assertIn("(docs/MODEL.md", text_in("README.md"))
         texts = [re.sub(r"\s+", " ", text_in(page)) for page in pages() if os.path.basename(page) not in ("MODEL.md", "CHANGELOG.md")]
         for word in (it for told in words for it in told.split(", ")):
-            with self.subTest(word=word):
-                self.assertGreaterEqual(sum(bool(re.search(rf"\b{word}", it, re.I)) for it in texts), 2)
+            self.assertGreaterEqual(sum(bool(re.search(rf"\b{word}", it, re.I)) for it in texts), 2, word)
 
     def test_the_stopped_write_is_shown_without_bytes_of_the_protocol(self):
         """What is typed, the journal and the flash: no text of the picture is a run of bytes."""
@@ -250,8 +248,7 @@ class Pages(Place):
                                     (r"\bpython3 ((?:tools|tests)/[\w/-]+)", lambda it: os.path.exists(os.path.join(TOP, it))),
                                     (r"unittest (test_\w+)", lambda it: os.path.exists(os.path.join(TOP, "tests", it + ".py")))):
                 for word in {word for it in commands for word in re.findall(named, it)}:
-                    with self.subTest(page=page, word=word):
-                        self.assertTrue(is_there(word))
+                    self.assertTrue(is_there(word), (page, word))
 
     def test_each_row_is_played(self):
         """Each file of rows is in what `rt ci` or tools/rows compares, as often as its loops have it played."""
@@ -290,8 +287,7 @@ class Pages(Place):
                 files.append(os.path.join(folder, os.path.basename(name)))
             text = "".join(text_in("crates", it) for it in files if it.endswith(".rt"))
             for function in re.findall(r"`(?:\w+::)?([a-z]\w*)`", row.split("|")[2]):
-                with self.subTest(function=function):
-                    self.assertTrue(re.search(rf"\bfn {function}\b", text))
+                self.assertTrue(re.search(rf"\bfn {function}\b", text), function)
             named.update(files)
         made_in = set()
         for path in glob.glob(os.path.join(TOP, "crates", "*", "src", "**", "*.rt"), recursive=True):
@@ -336,5 +332,4 @@ class Pages(Place):
                                    ("docs/FORMATS.md", r"`chips.toml` is one with (\d+) chips", len(chips)),
                                    ("docs/SWITCH.md", r"\| (\d+) in `chips.toml`", len(chips)), ("docs/FORMATS.md", r"both for (\d+) ids and\s", both),
                                    ("docs/FORMATS.md", r"`unique`\s+alone for (\w+) more", {15: "fifteen"}.get(alone, alone))):
-            with self.subTest(page=page, words=words):
-                self.assertEqual(re.findall(words, text_in(page)), [str(count)])
+            self.assertEqual(re.findall(words, text_in(page)), [str(count)], page)

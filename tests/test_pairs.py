@@ -150,8 +150,7 @@ class Pairs(Served):
                         self.assertPair(name, one, two)
         for flag in flags:
             for beside in ((), *((it,) for it in OTHER_WAYS if it in flags and it != flag)) if flag in VARIABLES else ():
-                with self.subTest(variable=flag, beside=beside):
-                    self.assertEqual(self.came(name, flag, *beside, by=flag), self.came(name, flag, *beside))
+                self.assertEqual(self.came(name, flag, *beside, by=flag), self.came(name, flag, *beside), (flag, beside))
         for why in REFUSED if "a socket" in flags else ():
             for flag in flags:
                 if not {flag, *FLAGS[flag]} & {"--no-board", "--in-session", "a socket", REFUSED[why][0]}:

@@ -170,8 +170,7 @@ class Plain(unittest.TestCase):
             cut, parted = cut_of(name, text), "\n\n" if name in EVERY else "\n.PP\n"
             planted = text[:cut] + parted.join((*worse, *well)) + parted + text[cut:]
             before = [said for _, _, _, said in unsettled(name, text)]
-            with self.subTest(name=name):
-                self.assertEqual([(said, better) for _, _, better, said in unsettled(name, planted) if said not in before], list(worse.items()))
+            self.assertEqual([(said, better) for _, _, better, said in unsettled(name, planted) if said not in before], list(worse.items()), name)
 
     def test_what_is_printed_is_still_printed(self):
         """Each text that may have such a word is in the code of a program, and in a page."""

@@ -87,16 +87,14 @@ class Settling(Served):
                 self.assertFault(self.use("undo", device="board", variables={"STMFLASH_BAUD": text}), f"usage: bad number {text}", 2)
                 self.assertFault(self.use("undo", "--baud", text, device="board"), f"usage: bad number {text}", 2)
         self.store_all({"table": WIDE, "journal": WIDE_BEFORE})
-        for variables, more in (({"STMFLASH_BAUD": "fast"}, ("--baud", "9600")), ({"STMFLASH_BAUD": ""}, ())):
-            with self.subTest(variables):
-                self.assertFault(self.use("undo", *more, device="board", variables=variables), "cannot connect board")
+        self.each((({"STMFLASH_BAUD": "fast"}, ("--baud", "9600")), ({"STMFLASH_BAUD": ""}, ())), lambda variables, more: self.assertFault(
+            self.use("undo", *more, device="board", variables=variables), "cannot connect board"))
 
     def test_the_wait_may_be_a_variable(self):
         """A word goes before it, an empty one is none, and so is one that is shorter than an undo's own wait: it was set for a
         session at a board where nothing was stopped."""
-        for text in ("0", "60001", "long"):
-            with self.subTest(text):
-                self.assertFault(self.use("undo", device="board", variables={"STMFLASH_WAIT": text}), f"usage: bad number {text}", 2)
+        self.each(("0", "60001", "long"), lambda text: self.assertFault(
+            self.use("undo", device="board", variables={"STMFLASH_WAIT": text}), f"usage: bad number {text}", 2))
         for variables, more, wait in (({"STMFLASH_WAIT": "430"}, (), 430), ({"STMFLASH_WAIT": "long"}, ("--wait", "110"), 110),
                                       ({"STMFLASH_WAIT": "399"}, (), 400), ({"STMFLASH_WAIT": "1"}, (), 400), ({"STMFLASH_WAIT": ""}, (), 400)):
             with self.subTest(variables):

@@ -111,9 +111,7 @@ class Tables(Place):
         self.place(self.settings, (0x412, 0x4000000))
         self.assertBase(0x4000000, XDG_CONFIG_HOME=self.path("settings"))
         self.each(("", "settings"), lambda settings: self.assertBase(0x3000000, XDG_CONFIG_HOME=settings))
-        for home in ("", "home", "/nowhere", "/dev/null", os.fsdecode(os.fsencode(self.folder) + b"/\xff")):
-            with self.subTest(home=home):
-                self.assertBase(0x1000000, HOME=home)
+        self.each(("", "home", "/nowhere", "/dev/null", os.fsdecode(os.fsencode(self.folder) + b"/\xff")), lambda home: self.assertBase(0x1000000, HOME=home))
 
     def test_a_named_one_is_alone(self):
         self.place(INSTALLED, (0x411, 0x1000000))
@@ -167,10 +165,8 @@ class Tables(Place):
         for name in (MACHINES, self.home):
             path = self.place(name, (0x412, 0x1000000))
             held = text_in(path)
-            for words in (("read", "--device", "sim:0412:flash", "--journal", "journal", name),
-                          ("info", "--device", "sim:0412:flash", "--journal", name),
-                          ("info", "--device", f"sim:0412:{name}", "--journal", "journal"),
-                          ("sim", "--id", "0412", "--flash", name, "--socket", "board")):
-                with self.subTest(words=words):
-                    self.assertFault(self.see(*words), f"cannot write {name}")
+            self.each((("read", "--device", "sim:0412:flash", "--journal", "journal", name),
+                       ("info", "--device", "sim:0412:flash", "--journal", name),
+                       ("info", "--device", f"sim:0412:{name}", "--journal", "journal"),
+                       ("sim", "--id", "0412", "--flash", name, "--socket", "board")), lambda *words: self.assertFault(self.see(*words), f"cannot write {name}"))
             self.assertEqual(text_in(path), held)

@@ -118,8 +118,7 @@ class Fits(unittest.TestCase):
         for frame in ("-fomit-frame-pointer", "-fno-omit-frame-pointer"):
             self.assertEqual(self.faults(self.FITS, [frame]), [])
             for what, (text, flags) in self.NOT.items():
-                with self.subTest(what=what, frame=frame):
-                    self.assertIn(what, " ".join(self.faults(text, [*flags, frame])))
+                self.assertIn(what, " ".join(self.faults(text, [*flags, frame])), frame)
 
     def test_a_frame_pointer_without_a_frame_is_any_register(self):
         self.assertEqual(list(fits.faults_of(["push   %rbp", "mov    %rdi,%rbp", "mov    -0x10(%rbp),%rax", "lea    -0x1(%rbp),%rcx", "ret"])), [])
