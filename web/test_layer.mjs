@@ -112,7 +112,7 @@ const disks = (count) => Array.from({ length: count }, () => inMemory());
   disk.write = () => { throw new DOMException('full', 'QuotaExceededError'); };
   holds('a full disk is told', [it.write(fd, 'x'), it.fault()], [-1n, E.NOSPC]);
   disk.write = () => 0;
-  holds('and where nothing is taken, nor a name', [it.write(fd, 'x'), it.fault(), it.env.unlink(it.path('/boards/a')), it.fault(), it.told(0, '/boards/a').mode, it.store.list('/boards').length], [-1n, E.NOSPC, -1, E.NOSPC, 8, 1]);
+  holds('and where nothing is taken, nor a name', [it.write(fd, 'x'), it.fault(), it.env.unlink(it.path('/boards/a')), it.env.rename(it.path('/boards/a'), it.path('/boards/b', 5000n)), it.fault(), it.told(0, '/boards/a').mode, it.store.list('/boards').length], [-1n, E.NOSPC, -1, -1, E.NOSPC, 8, 1]);
   disk.write = (bytes) => Math.min(2, bytes.length);
   holds('a short write is as short as it was', [it.write(fd, 'abcd'), it.env.lseek(fd, 0n, 1)], [2n, 2n]);
 }
