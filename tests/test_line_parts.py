@@ -57,13 +57,15 @@ class FarBytes(unittest.TestCase):
                         self.assertRaises(faults.Gone, port.forget if forgets else port.read)
 
     def test_an_error_takes_the_bytes_beside_it(self):
-        """Those that a far end sent are taken with the error that it told of; over a line it is chance which come together."""
+        """Those that a far end sent are taken with the error that it told of; over a line it is chance which come together. A signal that it refuses isn't there."""
         port, put, _ = self.of(far.Rfc2217Port)
         # None is an error
         for events, read in (((b"a", b"b"), (b"ab", 0)), ((b"c", None, b"d"), (b"", 1)), ((b"e",), (b"e", 0)), ((None,), (b"", 1))):
             for byte in events:
                 put(byte) if byte else port.inbox.put_error()
             self.assertEqual(port.read(), read)
+        port.client = mock.Mock(**{"send_break.side_effect": ValueError})
+        self.assertRaisesRegex(faults.Fault, "^PORT: has no BRK; ", port.move, "brk", True)
 
     def test_a_signal_ends_the_wait_for_what_goes_out_there(self):
         port, wake = far.FarPort("a far port", 1), mock.Mock(number=None)

@@ -378,11 +378,10 @@ class TakingBack(Words):
         for fault, told, flash in (
                 ("device does not follow the protocol", b"stm32flash: the flash is as it was before this call", COUNTING),
                 ("no answer from the device", b"stm32flash: what was written stands, and isn't verified; --undo undoes it", NEW)):
-            with self.subTest(fault=fault):
-                self.instead(f'[ "$1" != write ] || {{ $program "$@"; echo "stmflash: {fault}" >&2; exit 1; }}')
-                said = self.words("-m", "8n1", "-w", "image")
-                self.assertEqual((said.status, said.err.splitlines()[-1]), (1, told))
-                self.assertEqual(board.store(), flash)
+            self.instead(f'[ "$1" != write ] || {{ $program "$@"; echo "stmflash: {fault}" >&2; exit 1; }}')
+            said = self.words("-m", "8n1", "-w", "image")
+            self.assertEqual((said.status, said.err.splitlines()[-1]), (1, told))
+            self.assertEqual(board.store(), flash)
         self.instead()
         self.leaves(board, COUNTING, "--undo")
 
@@ -401,15 +400,14 @@ class TakingBack(Words):
         self.instead(f'echo "$@" >> {self.path("calls")}')
         board = self.flash(COUNTING)
         for image, words in ((b"new", ("-g", "0x08000000")), (b"newer", ("-R",))):
-            with self.subTest(words=words):
-                self.store("image", image)
-                # with a wait as long as stmflash's own, so that no call is done again for want of a processor
-                self.well("-w", "image", "-v", *words, STMFLASH_WAIT="500")
-                calls = self.held("calls").decode().splitlines()
-                self.assertEqual([call.split()[0] for call in calls], ["info", "write"])
-                self.assertRegex(calls[1], " -v --keep-to [^ ]*/kept-00000[12] --go 0x08000000 ")
-                self.remove("calls")
-                board = self.reset(board)
+            self.store("image", image)
+            # with a wait as long as stmflash's own, so that no call is done again for want of a processor
+            self.well("-w", "image", "-v", *words, STMFLASH_WAIT="500")
+            calls = self.held("calls").decode().splitlines()
+            self.assertEqual([call.split()[0] for call in calls], ["info", "write"])
+            self.assertRegex(calls[1], " -v --keep-to [^ ]*/kept-00000[12] --go 0x08000000 ")
+            self.remove("calls")
+            board = self.reset(board)
 
     def test_a_program_that_cant_be_started_is_told(self):
         self.flash(COUNTING)
