@@ -253,12 +253,13 @@ class Stopped(Unnamed):
         self.assertEqual(board.store(), b"new" + BACK[3:])
 
     def test_of_several_none_is_taken(self):
-        for byte in ("A1", "B2"):
-            self.stop(byte)
+        self.stop()
+        # what a session saved of one that was taken away
+        self.store(self.journal("B2") + ".rescued", STOPPED.encode())
         end = self.plain()
         said = self.short("ttyUSB0", "undo", "1")
-        self.assertLineFault(said, f"ttyUSB0: a command was stopped in each of {self.journal('A1')}, {self.journal('B2')}: --journal names the "
-                                   "one of the board that is here")
+        self.assertLineFault(said, f"ttyUSB0: a command was stopped in each of {self.journal('A1')}, {self.journal('B2')}.rescued: --journal names "
+                                   "the one of the board that is here")
         self.assertNothingSent(end)
         # what uses no board needs to know none
         self.assertIn(self.told(self.nameless()).encode(), self.short("ttyUSB0", "log").err)
@@ -270,8 +271,11 @@ class Stopped(Unnamed):
         self.assertUnfinished(self.nameless())
 
     def test_one_that_a_program_has_holds_up_no_other_board(self):
+        """Nor does a copy of it, and what an undo has cut off."""
         self.stop()
         self.telling("B2")
+        for end in (".cut", ".bak", "~"):
+            self.store(self.journal() + end, STOPPED.encode())
         with open(self.journal(), "rb") as file:
             fcntl.flock(file, fcntl.LOCK_EX)
             self.assertWritten(self.journal("B2"))

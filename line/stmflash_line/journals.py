@@ -15,6 +15,8 @@ BY_PATH = "/dev/serial/by-path"
 KEPT_THERE = "journals are kept there; XDG_STATE_HOME names another folder"
 # a journal whose last line that isn't void begins so has a command that didn't end; and how many bytes the longest line has at most
 BEGUN, LONGEST = (b"open ", b"page ", b"erase ", b"program "), 1 << 23
+# the name of a board's journal, and of what a session saved of one that was taken away; a copy, or what an undo cut off, is none
+OF_BOARD = re.compile(r"[^.]+\.journal(\.rescued.*)?")
 
 
 class Journals:
@@ -68,7 +70,7 @@ class Journals:
 
     def stopped(self):
         """The journals in which a command was stopped: of boards at any port, and of this port's that tell no unique id."""
-        paths = [os.path.join(self.boards, name) for name in sorted(os.listdir(self.boards))]
+        paths = [os.path.join(self.boards, name) for name in sorted(filter(OF_BOARD.fullmatch, os.listdir(self.boards)))]
         return [path for path in (*paths, self.nameless) if is_stopped(path)]
 
 
