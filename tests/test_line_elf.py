@@ -7,7 +7,7 @@ import unittest
 from boards import LINE
 from place import COUNTING, ERASED
 from test_line_journals import Unnamed
-from test_stm32flash_words import Words
+from test_stm32flash_words import TELLING, Words
 
 CODE = b"\xde\xad\xbe\xef" * 5
 WRITTEN = COUNTING[:1024] + CODE + COUNTING[1024 + len(CODE):]
@@ -36,6 +36,7 @@ class InTheLine(Unnamed):
         self.assertEqual((said.status, said.out), (0, b"segment 1: 1 pages written\nverified 20 bytes\n"))
         self.assertRegex(said.err.decode().splitlines()[0], "^stmflash-line: fw.elf: as HEX, by (arm-none-eabi-)?objcopy$")
         self.assertEqual(board.store(), WRITTEN)
+        self.assertIn(b"\nimage fw.elf!\n", self.raw(self.journal()))
         self.assertEqual(self.short("ttyUSB0", "--", self.path("bin/stmflash"), "verify", "fw.elf").out, b"verified 20 bytes\n")
 
     def test_raw_bytes_are_asked_for_by_a_flag(self):
@@ -63,8 +64,9 @@ class InTheLine(Unnamed):
 @unittest.skipIf(shutil.which("objcopy") is None, "binutils is not installed")
 class InTheWords(Words):
     def test_what_it_loads_is_written(self):
-        board = self.flash(COUNTING)
-        self.store("fw.elf", elf())
+        self.store_all({"fw.elf": elf(), "table": TELLING})
+        board = self.telling()
         said = self.leaves(board, WRITTEN, "-w", "fw.elf", "-v")
+        self.assertIn(b"\nimage fw.elf!\n", self.raw(self.journal_of("A1")))
         self.assertRegex(said.out.decode(), "\nUsing Parser : Intel HEX, by (arm-none-eabi-)?objcopy of ELF\nLocation     : 0x8000400\n")
         self.leaves(board, COUNTING, "--undo")

@@ -3,6 +3,8 @@
 import contextlib
 import os
 
+from stmflash_line.sockets import named
+
 from . import handed
 from . import part as parts
 from .fault import Failed, Fault
@@ -140,7 +142,8 @@ class Actions:
         with open(held, "r+b") as file:
             file.write(data)
             file.flush()
-            return self.board.use("write", *options, f"/proc/self/fd/{held}", show=show, files=(held,))
+            word = named(f"/proc/self/fd/{held}", self.words.file, os.environ["STMFLASH_DEVICE"])
+            return self.board.use("write", *options, word, show=show, files=(held,))
 
     def erase(self):
         part = parts.of(self.words, self.chip)

@@ -7,7 +7,7 @@ import sys
 import time
 
 from .faults import NO_COMMAND, UNDO, Gone, refused, say
-from .sockets import FOLDER
+from .sockets import FOLDER, named
 from .tables import only_beside
 from .tied import tied
 
@@ -66,11 +66,11 @@ def start(command, path, wait, baud):
         settings["STMFLASH_TABLE"] = table
     if callable(command):
         return command(settings)
-    words = [word.replace("{}", path) for word in command]
     try:
+        words = [named(word, word.told, path) if hasattr(word, "told") else word.replace("{}", path) for word in command]
         return subprocess.Popen(words, env=settings, preexec_fn=tied())
     except OSError as error:
-        raise refused(words[0], error, NO_COMMAND) from None
+        raise refused(command[0], error, NO_COMMAND) from None
 
 
 def is_inner(device):

@@ -56,11 +56,17 @@ def with_hex(command):
     return command[:2] + [held(word) if is_elf(word) else word for word in command[2:]]
 
 
+class Held(str):
+    """The name of a file of ours, without a place on a disk; `told` is its user's."""
+
+
 def held(path):
-    """The name of a file of ours, without a place on a disk, that has an ELF file as HEX."""
+    """An ELF file as HEX."""
     text, program = hex_text(path)
     opened = os.memfd_create("image")
     with open(opened, "wb", closefd=False) as file:
         file.write(text)
     say(f"{path}: as HEX, by {program}")
-    return f"/proc/{os.getpid()}/fd/{opened}"
+    image = Held(f"/proc/{os.getpid()}/fd/{opened}")
+    image.told = path
+    return image

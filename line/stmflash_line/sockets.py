@@ -83,6 +83,16 @@ def served_privately():
         shutil.rmtree(folder, ignore_errors=True)
 
 
+def named(opened, name, socket_path):
+    """The word for an image that is an open file: a link beside the socket, by the name that a journal is to tell."""
+    folder = os.path.join(os.path.dirname(socket_path), os.urandom(8).hex())
+    # words are text
+    path = os.path.join(folder, os.fsencode(os.path.basename(name)).decode(errors="replace"))
+    os.mkdir(folder, 0o700)
+    os.symlink(opened, path)
+    return path + "@"
+
+
 def temporary():
     """The folder of temporary files: the first of those that are usual which is there and can be written to."""
     named = (os.environ.get(name) for name in ("TMPDIR", "TEMP", "TMP"))
