@@ -192,7 +192,9 @@ class Refusals(Words):
         self.assertIn(b"nothing was written or erased yet; journals would stand in ", self.words("--log", port="none").out)
 
     def test_a_port_that_isnt_there(self):
-        self.refused(b"no such port", mode=(), port="missing")
+        """Where its journals stand isn't known then."""
+        for words in ((), ("--log",)):
+            self.refused(b"no such port", words=words, mode=(), port="missing")
 
     def test_tools_that_arent_there(self):
         """One that is beside goes before those of PATH."""

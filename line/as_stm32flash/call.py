@@ -5,6 +5,7 @@ import os
 import sys
 
 from stmflash_line import faults
+from stmflash_line.opening import FAR, find_place
 from stmflash_line.patience import is_pty
 
 from . import chip as chips
@@ -65,6 +66,9 @@ def outside(program, given):
     below = tools.find(program)
     journals = Journals(asked.port)
     if asked.action == "log":
+        if not asked.port.startswith(FAR):
+            # while it isn't there it has another name
+            find_place(asked.port)
         from .board import Board
         return show_log(Board(below, journals, 0))
     table = refuse(asked, below)
