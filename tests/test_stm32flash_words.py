@@ -162,7 +162,7 @@ class Refusals(Words):
         for line, *calls in (
                 ("ERROR: /dev/i2c-0: I2C isn't there; the real stm32flash has it", "-a 1 /dev/i2c-0"),
                 ("ERROR: -m 8n1: isn't there; give 8e1, which the bootloader of every STM32 has", "-m 8n1 /dev/null"),
-                ("Invalid serial mode", "-m 9e1"), ("Invalid baud rate, valid options are:", "-b 12345"),
+                ("Invalid serial mode", "-m 9e1"), ("Invalid baud rate, valid options are:", "-b 12345", "-b 0115200"),
                 (f"ERROR: -i -06: {no_signal}", "-i 5,-06"), (f"ERROR: -i foo: {no_signal}", "-i rts:foo"), (f"ERROR: -i dtr:rts: {no_signal}", "-i rts:dtr:rts"),
                 (f"ERROR: -i: GPIO line 7 {alone}", "-i 5&6:5,7"), (f"ERROR: -i: GPIO line 5 {alone}", "-c -i 5:5"),
                 ("ERROR: Invalid options !", "-r a -w image", "-u -k", "-w image --undo", "--undo -r a", "--undo --log"),
@@ -305,6 +305,9 @@ Wrote and verified address 0x080005dc (100.00%) Done.
                 self.leaves(board, BACK, "--undo")
         with open("/dev/full", "wb") as full:
             said = self.words("--log", stdout=full)
+            # what is read is no text that may be lost
+            for more in ({"stdout": full}, {"preexec_fn": lambda: os.close(1)}):
+                self.refused(b"standard output", words=("-r", "-"), **more)
         self.assertEqual((said.status, said.err), (1, b""))
 
     def test_a_part_that_tells_less_flash(self):

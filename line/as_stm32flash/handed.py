@@ -3,6 +3,7 @@ own, or none."""
 
 import os
 import stat
+import sys
 
 from .fault import Fault
 
@@ -27,6 +28,8 @@ def take_output(asked):
     """A file of this process that -r is to write is standard output, as `-` is, or takes the place of standard input, which such a call
     doesn't read."""
     name = asked.file
+    if asked.action == "r" and name == "-" and sys.stdout is None:
+        raise Fault("Raw BINARY ERROR: System Error\nstandard output is closed")
     if asked.action != "r" or name == "-" or not is_handed(name):
         return
     try:

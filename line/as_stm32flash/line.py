@@ -8,7 +8,6 @@ import sys
 import time
 
 from .fault import Fault
-from .told import put
 
 SIGNALS = (signal.SIGTERM, signal.SIGINT, signal.SIGHUP)
 
@@ -43,7 +42,6 @@ class Child:
 
     def __init__(self, body, settings, tie):
         self.returncode = None
-        put(sys.stdout, "")
         # a signal to the child is one that it has a handler of its own for
         held = signal.pthread_sigmask(signal.SIG_BLOCK, SIGNALS)
         try:
@@ -99,5 +97,4 @@ def be_started(body, settings, tie, held):
     except BaseException:
         sys.excepthook(*sys.exc_info())
     finally:
-        put(sys.stdout, "")
         os._exit(status)

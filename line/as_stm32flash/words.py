@@ -103,7 +103,7 @@ FLAGS = {"v": "verify", "f": "force", "c": "resume", "R": "reset"}
 
 
 def take_baud(asked, value):
-    if not value.isdigit() or int(value) not in RATES:
+    if value not in map(str, RATES):
         raise Fault("\n ".join(["Invalid baud rate, valid options are:", *map(str, RATES)]))
     asked.baud = int(value)
 
