@@ -9,6 +9,7 @@ from boards import pty_boards
 from place import COUNTING, ERASED, TABLE, TOP, program, text_in
 from stmflash_line import tables
 from test_stm32flash_words import NEW, Words, places
+from stmflash_line import tables
 from as_stm32flash import chip, tools
 
 
@@ -128,9 +129,9 @@ class Tables(Words):
         for settings, found in (({}, [users, beside]), ({"XDG_CONFIG_HOME": other}, [other + "/stmflash/chips.toml", beside]),
                                 ({"XDG_CONFIG_HOME": "other"}, [users, beside]), ({"HOME": "."}, [beside]), ({"STMFLASH_TABLE": "named"}, ["named"])):
             with self.subTest(settings=settings), mock.patch.dict(os.environ, {**none, **settings}), \
-                    mock.patch.object(tools, "MACHINES", self.path("none")):
+                    mock.patch.object(tables, "MACHINES", self.path("none")):
                 self.assertEqual(tools.find_tables(self.path("bin")), found)
-        with mock.patch.dict(os.environ, none), mock.patch.object(tools, "MACHINES", self.path("table")):
+        with mock.patch.dict(os.environ, none), mock.patch.object(tables, "MACHINES", self.path("table")):
             self.assertEqual(tools.find_tables(self.path("bin")), [users, self.path("table"), beside])
         # stmflash-line names the one beside it where there is no other
         for more in ({}, {"MACHINES": beside}, {"TABLES": (beside,)}, {"BESIDE": "/none"}):

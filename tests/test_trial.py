@@ -278,6 +278,10 @@ class Words(TrialPlace):
             ("--device none --yes --table bad", "bad: is no chip table; --table names another\n"),
             ("--device none --yes --table gone", "gone: No such file or directory; --table names another\n")), lambda words, text: self.assertRefused(self.trial(*words.split()), text))
         self.assertFile("here", b"kept")
+        # where no word names one, one's own is read
+        os.renames(self.path("table"), self.path("stmflash/chips.toml"))
+        words = ("--device", "none", "--yes", "--out", "stmflash/chips.toml")
+        self.assertRefused(run(self.folder, *words, XDG_CONFIG_HOME=self.folder), f"stmflash/chips.toml: is the chip table too; {other}")
 
     def test_what_is_found_replaces_no_other_file(self):
         """A link and a pipe stay, and so does whatever has a name of that kind; a name that is no text is told as far as it is one."""

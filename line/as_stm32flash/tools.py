@@ -2,7 +2,7 @@
 
 import os
 
-from stmflash_line.tables import MACHINES, TABLES, users_own
+from stmflash_line.tables import TABLES, in_order
 
 from .fault import Fault
 
@@ -40,15 +40,8 @@ def find_program(beside, name):
 
 
 def find_tables(*folders):
-    if os.environ.get("STMFLASH_TABLE"):
-        return [os.environ["STMFLASH_TABLE"]]
-    found = [path for path in (users_own(), MACHINES) if os.path.exists(path)]
-    places = [os.path.join(os.path.dirname(folder), "share", "stmflash", "chips.toml") for folder in folders]
-    places += [os.path.join(os.path.dirname(folder), "chips.toml") for folder in folders]
-    for path in (*places, *TABLES):
-        if os.path.isfile(path):
-            found.append(path)
-            break
+    places = [os.path.join(os.path.dirname(folder), *names) for names in (("share", "stmflash", "chips.toml"), ("chips.toml",)) for folder in folders]
+    found = in_order((*places, *TABLES))
     if found:
         return found
     raise Fault("ERROR: there is no table of chips; STMFLASH_TABLE names one")

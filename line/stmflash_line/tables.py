@@ -17,6 +17,13 @@ def users_own():
     return os.path.join(config, "stmflash", "chips.toml") if config else ""
 
 
+def in_order(installed=None):
+    """The tables that stmflash reads without a word, of the installed ones the first that is there. What a chip is says the first that has it."""
+    if named := os.environ.get("STMFLASH_TABLE"):
+        return [named]
+    return [*filter(os.path.exists, (users_own(), MACHINES)), *list(filter(os.path.isfile, installed or (*TABLES, BESIDE)))[:1]]
+
+
 def only_beside():
     """The table that is installed with us, where it is there and stmflash would find none by itself; else nothing."""
     return "" if any(map(os.path.exists, (users_own(), MACHINES, *TABLES))) or not os.path.exists(BESIDE) else BESIDE

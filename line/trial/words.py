@@ -8,7 +8,7 @@ import tomllib
 
 from faults import Refused
 from rows import BACK, NAMES
-from stmflash_line.tables import BESIDE, TABLES
+from stmflash_line.tables import TABLES, in_order
 
 DESCRIPTION = """Tries, row by row, whether a board follows the model that stmflash's promises rest on. It saves the whole flash
 to a file, erases and writes the named pages, puts back what it changed, and tells what it found."""
@@ -40,7 +40,7 @@ def parser():
     add("--port", metavar="PORT", help="a serial port, which stmflash-line opens")
     add("--wiring", default="", metavar="WIRING", help="for stmflash-line; it also resets the board in the midst")
     add("--baud", type=int, default=115200, metavar="N", help="the line's speed; 115200 without it")
-    add("--table", metavar="FILE", help="the chip table; without it that of STMFLASH_TABLE, else the installed one")
+    add("--table", metavar="FILE", help="the chip table; without it those that stmflash reads")
     add("--pages", type=pages_of, default=[], metavar="N,N", help="the pages to work on; the last two without it")
     add("--skip", type=names_of, default=set(), metavar="ROW,ROW", help="rows that are left out, by name")
     add("--save", metavar="FILE", help="where the flash is saved; a new name of the date without it")
@@ -87,9 +87,9 @@ def read(words, folder):
     given.save = given.save or f"flash-{datetime.datetime.now():%Y%m%d-%H%M%S}.bin"
     if os.path.lexists(given.save):
         raise Refused(f"{given.save}: is there already; give --save another name")
-    given.table = given.table or os.environ.get("STMFLASH_TABLE") or next(filter(os.path.exists, (*TABLES, BESIDE)), TABLES[0])
-    given.chips = read_table(given.table)
-    for name, path in (("--save", given.save), ("the chip table", given.table)):
+    tables = [given.table] if given.table else in_order() or TABLES[:1]
+    given.chips = [chip for path in tables for chip in read_table(path)]
+    for name, path in (("--save", given.save), *(("the chip table", path) for path in tables)):
         if os.path.realpath(given.out) == os.path.realpath(path):
             raise Refused(f"{given.out}: is {name} too; give --out another name")
     return given
