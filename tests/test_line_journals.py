@@ -226,7 +226,7 @@ class Stopped(Unnamed):
         said = self.short("ttyUSB0", "undo", "1")
         self.assertEqual((said.status, said.err.decode().splitlines()[1]), (1, "stmflash: journal is of another board"))
         self.assertEqual(board.store(), COUNTING)
-        for words, settings in ((("--fresh",), {}), ((), {"STMFLASH_FRESH": "1"})):
+        for words, settings in ((("--board", 12 * "B2"), {}), ((), {"STMFLASH_BOARD": 12 * "b2"}), (("--fresh",), {}), ((), {"STMFLASH_FRESH": "1"})):
             with self.subTest(words=words):
                 board = self.again(board)
                 said = self.short("ttyUSB0", "write", *words, "fw.bin", **settings)

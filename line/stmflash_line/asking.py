@@ -43,7 +43,12 @@ def name_journal(port, command, run):
     is_fresh = says_fresh and "--in-session" not in command
     is_board_used = command[1] not in WITHOUT_BOARD
     stopped = [] if is_fresh or not is_board_used else [journals.live] if is_stopped(journals.live) else journals.stopped()
-    told = ""
+    told, board = "", value_of(command, "--board") or os.environ.get("STMFLASH_BOARD")
+    if stopped and board:
+        # which may be another, as in any folder of journals
+        os.environ["STMFLASH_JOURNALS"] = journals.boards
+        say(f"{port}: journal of the board {board} in {journals.boards}")
+        return 0
     if len(stopped) > 1:
         raise Fault(f"{port}: a command was stopped in each of {', '.join(stopped)}: --journal names the one of the board that is here")
     if stopped:
