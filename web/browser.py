@@ -30,7 +30,7 @@ class Browser:
     program = "chromium"
 
     def __init__(self, profile):
-        self.count, self.answers, self.events, self.rest = 0, {}, [], b""
+        self.count, self.answers, self.rest = 0, {}, b""
         theirs, self.out = os.pipe()
         self.come, other = os.pipe()
 
@@ -60,11 +60,7 @@ class Browser:
             if not data:
                 raise TimeoutError(f"no answer to {method}: {given}")
             *whole, self.rest = (self.rest + data).split(b"\0")
-            for it in map(json.loads, whole):
-                if "id" in it:
-                    self.answers[it["id"]] = it
-                else:
-                    self.events.append(it)
+            self.answers |= {it["id"]: it for it in map(json.loads, whole) if "id" in it}
         answer = self.answers.pop(mine)
         if "error" in answer:
             raise RuntimeError(f"{method}: {answer['error']}")
