@@ -17,7 +17,7 @@ export async function says(name) {
 
 /** @param {string} name @param {boolean} [isSaid] */
 export async function undo(name, isSaid = false) {
-  const { lines } = await says(name), segments = lines.filter((/** @type {string} */ it) => it.startsWith('segment'));
+  const { lines } = isSaid ? { lines: [] } : await says(name), segments = lines.filter((/** @type {string} */ it) => it.startsWith('segment'));
   if (!isSaid && !(await isSure('Undo the newest write or erase?', segments.slice(-1), 'The board gets back what these pages held before.', 'Undo'))) return undefined;
   const it = await run(['undo', '--journal', `${FOLDER}/${name}`, '--progress', '-v', '1'], { onBoard: true });
   return end(it, it.out.trim().split('\n'));
