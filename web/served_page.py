@@ -23,7 +23,6 @@ sys.path.insert(0, HERE)
 
 from browser import PATIENCE, Browser
 
-PAGE = f"{TOP}/bin/web"
 PROGRAM = os.path.abspath(os.environ.get("STMFLASH") or f"{TOP}/bin/stmflash-unproved")
 SEED = int(os.environ.get("STMFLASH_WEB_SEED", "0")) or random.SystemRandom().randrange(1, 1 << 30)
 UNIQUE = "112233445566778899AABBCC"
@@ -82,7 +81,7 @@ class ServedPage(unittest.TestCase):
         self.part = int(os.environ.get("STMFLASH_WEB_PART", "0"))
         self.some = random.Random(f"{SEED} {self._testMethodName} {self.part}")
         self.flash, self.folder, self.socket = f"{self.room}/flash", f"{self.room}/page", f"{self.room}/board"
-        shutil.copytree(PAGE, self.folder)
+        shutil.copytree(f"{TOP}/bin/web", self.folder)
         self.before = self.some.randbytes(self.size)
         pathlib.Path(self.flash).write_bytes(self.before)
         words = ["--program", PROGRAM, "--id", self.chip, "--flash", self.flash, "--socket", self.socket, "--pace", "460800"]
