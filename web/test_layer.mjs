@@ -164,7 +164,7 @@ function port() {
   holds('the adapter of that kind, which may be plugged in anew; not one of two, nor another', [chosen(other, one), chosen(same), chosen(one, other, same), chosen(other)], [1, 0, 'two adapters', 'the adapter ']);
 }
 for (const [what, over, sum] of [['a wrong parity', (board) => board.into.error(new DOMException('x', 'ParityError')), -1n], ['a lost adapter', (board) => board.into.error(new DOMException('x', 'NetworkError')), -1n],
-  ['an end', (board) => board.into.close(), 0n]]) {
+  ['a break', (board) => board.into.error(new DOMException('x', 'BreakError')), -1n], ['an end', (board) => board.into.close(), 0n]]) {
   const board = port(), line = new Line(board, 9600), it = machine({ line }), fd = it.env.socket(1, 1, 0);
   it.memory.put('/dev/board', 50002n, 100n);
   await it.env.connect(fd, 50000n, 13);
