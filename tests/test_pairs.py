@@ -44,6 +44,8 @@ BESIDE = ("--journals", "--again", "--watch", "--json", "--fresh", "--keep", "--
 VARIABLES = {"--fresh": "1", "--no-board": "1", "--no-lock": "1", "--json": "1", "--board": UNIQUE, "--baud": "115200", "--journals": "journals"}
 # those by which a call goes another way, beside which each variable is tried
 OTHER_WAYS = ("--journals", "--again", "--fresh", "a socket")
+# a variable that counts for nothing, since this word stands beside it
+BEHIND = {("--no-board", "--journals"), ("--no-board", "--board"), ("--board", "--no-board")}
 IN_SESSION = "--in-session asks the board nothing first: no --board, --journals or --watch"
 # those that are refused together, and how
 NOT_BOTH = {("--journals", "--no-board"): "give --journals or --no-board, not both", ("a socket", "--stop"): "--stop needs a simulator",
@@ -75,7 +77,7 @@ class Pairs(Served):
             for flag in flags:
                 asked = () if flag == by else FLAGS[flag] if flag in FLAGS else REFUSED[flag]
                 words += [it for it in asked if it not in words or not it.startswith("--")]
-            self.begin(name, flags)
+            self.begin(name, [it for it in flags if it != by or not any((by, other) in BEHIND for other in flags)])
             used, other = (FOLDER, PLACE) if "--journals" in flags else (PLACE, FOLDER)
             untouched = self.held(other)
             before, behind = CALLS[name]
@@ -149,8 +151,11 @@ class Pairs(Served):
                     with self.subTest(one=one, two=two):
                         self.assertPair(name, one, two)
         for flag in flags:
-            for beside in ((), *((it,) for it in OTHER_WAYS if it in flags and it != flag)) if flag in VARIABLES else ():
-                self.assertEqual(self.came(name, flag, *beside, by=flag), self.came(name, flag, *beside), (flag, beside))
+            others = sorted({*OTHER_WAYS, *(word for variable, word in BEHIND if variable == flag)})
+            for beside in ((), *((it,) for it in others if it in flags and it != flag)) if flag in VARIABLES else ():
+                with self.subTest(variable=flag, beside=beside):
+                    counts = beside if (flag, *beside) in BEHIND else (flag, *beside)
+                    self.assertEqual(self.came(name, flag, *beside, by=flag), self.came(name, *counts))
         for why in REFUSED if "a socket" in flags else ():
             for flag in flags:
                 if not {flag, *FLAGS[flag]} & {"--no-board", "--in-session", "a socket", REFUSED[why][0]}:
