@@ -1,15 +1,15 @@
 // What is done with the devices of a row that is no call of a session.
 //
-// `chip ID FLASH.. [| JOURNAL..]` makes a device; `aside ID FLASH..` puts it aside, and makes another
-// one with a copy of its journal; `back`; `use TABLE`. `stop STEPS`, `free`, `reset`, `send BYTES..`:
-// 7F and these come, and nobody takes the replies; `connected`: one reply is taken;
-// `page-erased N`, `page-written ADDRESS BYTES..`: the commands themselves, 44 and 31 of 256 bytes; `lose COUNT` replies; `power BYTE`, `power-all BYTE`: a loss of power, the
+// `chip ID FLASH.. [| JOURNAL..]` makes a device, of which there is none by `no-chip` and these; `aside ID
+// FLASH..` puts it aside, and makes another one with a copy of its journal; `back`; `use TABLE`. `stop STEPS`, `free`, `reset`, `send BYTES..`:
+// 7F and these come, and nobody takes the replies; `connected`: one reply is taken; `room COUNT`: for so
+// many entries of the record; `lose COUNT` replies; `power BYTE`, `power-all BYTE`: a loss of power, the
 // page at work or all that are kept hold this byte then; `fail put|get|append COUNT`; `bad KIND NUMBER..`:
 // the line is bad from now on (`line.rt`), at the byte that the numbers add up to; `list BYTES|-..`: what
 // comes in place of what the device says, and where it is quiet; `nothing`; `keeps BYTE COUNT`: the
 // flash that the journal keeps has other bytes at most in so many places; `back-to-kept`. `is-list BYTES..`,
 // `no-list BYTES..`: whether a session that settles with 7F may put these (`sent_lists.rt`).
-use crate::bytes::{byte_of, bytes_of, hexadecimal, number, number_at, page};
+use crate::bytes::{byte_of, bytes_of, number, number_at};
 use crate::kept::{kept_flash, others};
 use crate::line::{Line, Trouble};
 use crate::power::lose_power;
@@ -18,7 +18,7 @@ use crate::stage::{Stage, Tables};
 use crate::stopping::Stop;
 use std::alloc::Global;
 use stm_sim::MemoryRig;
-use stm_wire::{EraseKind, Patience, Rig, erase_page, program};
+use stm_wire::{Patience, Rig};
 
 /// Whether all could be put.
 fn send(rig: &mut MemoryRig, bytes: &[u8]) -> bool {
@@ -79,40 +79,22 @@ fn turn(line: &mut Line, words: &[&str]) -> Result<(), Stop> {
 }
 
 /// Adds what comes: bytes, or - where it is quiet.
-fn list(alloc: Global, line: &mut Line, words: &[&str]) -> Result<(), Stop> {
+fn add(alloc: Global, list: &mut Vec<Option<u8>>, words: &[&str]) -> Result<(), Stop> {
     for word in words {
         if *word == "-" {
-            line.other.list.push(None)?;
+            list.push(None)?;
         } else {
-            for byte in &bytes_of(alloc, &[*word])? {
-                line.other.list.push(Some(*byte))?;
-            }
+            add_all(list, &bytes_of(alloc, &[*word])?)?;
         }
     }
-    line.turn(Trouble::Lists, 0);
     Ok(())
 }
 
-/// Writes 256 bytes; whether that was done.
-fn write_page(alloc: Global, rig: &mut MemoryRig, words: &[&str]) -> Result<bool, Stop> {
-    let [address, bytes @ ..] = words else {
-        return Err(Stop::Words);
-    };
-    let address = hexadecimal(address)?;
-    let bytes = bytes_of(alloc, bytes)?;
-    if bytes.len() != 256 {
-        return Err(Stop::Words);
+fn add_all(list: &mut Vec<Option<u8>>, bytes: &[u8]) -> Result<(), Stop> {
+    for byte in bytes {
+        list.push(Some(*byte))?;
     }
-    Ok(program(rig, address, &bytes).is_ok())
-}
-
-/// Erases a page by 44; whether that was done.
-fn erase(rig: &mut MemoryRig, words: &[&str]) -> Result<bool, Stop> {
-    let n = page(words.first().ok_or(Stop::Words)?)?;
-    if n >= 512 {
-        return Err(Stop::Words);
-    }
-    Ok(erase_page(rig, EraseKind::Extended, n).is_ok())
+    Ok(())
 }
 
 /// What is done with a line.
@@ -131,11 +113,13 @@ fn with_line(
         "power-all" => lose_power(alloc, &mut line.memory, byte_of(words)?, true)?,
         "fail" => fail(&mut line.memory, words)?,
         "bad" => turn(line, words)?,
-        "list" => list(alloc, line, words)?,
+        "list" => {
+            add(alloc, &mut line.other.list, words)?;
+            line.turn(Trouble::Lists, 0);
+        }
+        "room" => line.memory.reserve_calls(number_at(words, 0)? as usize)?,
         "send" => return Ok(Some(send(&mut line.memory, &bytes_of(alloc, words)?))),
         "connected" => return Ok(Some(line.memory.get(Patience::Long).is_ok())),
-        "page-erased" => return Ok(Some(erase(&mut line.memory, words)?)),
-        "page-written" => return Ok(Some(write_page(alloc, &mut line.memory, words)?)),
         _ => return Ok(None),
     }
     Ok(Some(true))
@@ -161,6 +145,7 @@ pub fn act(
     let alloc = stage.alloc;
     match verb {
         "chip" => stage.make(tables, words)?,
+        "no-chip" => return Ok(Some(stage.make(tables, words).is_err())),
         "aside" => stage.put_aside(tables, words)?,
         "back" => stage.bring_back(),
         "nothing" => {}

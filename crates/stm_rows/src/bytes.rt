@@ -1,7 +1,7 @@
 // Bytes as words: hex digits; `'TEXT`, in which _ is a space and / ends a line; each may have `*COUNT`
 // behind it, so many times. `%FIRST*COUNT`: so many bytes, each the rest of its place by 251, from a
-// place on. `#*COUNT`: the lines of so many segments that keep nothing. `^COUNT`: no more than so many
-// of the bytes before it.
+// place on. `#*COUNT`: the lines of so many segments that keep nothing; `##*COUNT`: that keep and write a
+// page of three bytes each. `^COUNT`: no more than so many of the bytes before it.
 use crate::stopping::Stop;
 use std::alloc::Global;
 
@@ -77,57 +77,84 @@ fn text_byte(byte: u8) -> u8 {
     }
 }
 
-fn text(alloc: Global, word: &str) -> Result<Vec<u8>, Stop> {
-    let mut bytes = Vec::new(alloc);
-    for byte in word.bytes() {
+fn add_text(bytes: &mut Vec<u8>, letters: &str) -> Result<(), Stop> {
+    for byte in letters.bytes() {
         bytes.push(text_byte(byte))?;
     }
-    Ok(bytes)
+    Ok(())
 }
 
-fn counting(alloc: Global, first: u64, count: u64) -> Result<Vec<u8>, Stop> {
-    let mut bytes = Vec::new(alloc);
+fn add_counting(bytes: &mut Vec<u8>, first: u64, count: u64) -> Result<(), Stop> {
     for place in 0..count {
         bytes.push((first.saturating_add(place) % 251) as u8)?;
     }
-    Ok(bytes)
+    Ok(())
 }
 
-fn segments(alloc: Global, count: u64) -> Result<Vec<u8>, Stop> {
-    let mut bytes = Vec::new(alloc);
+/// Adds the lines of a segment that keeps nothing, or a page of three bytes.
+fn add_segment(lines: &mut String, k: u64, keeps: bool) -> Result<(), Stop> {
+    write!(lines, "open {k}\n")?;
+    if keeps {
+        let n = k % 32;
+        write!(lines, "page {n} 00FF5A\nerase {n}\nprogram {n}\n")?;
+    }
+    Ok(write!(lines, "end {k}\n")?)
+}
+
+fn add_segments(
+    lines: &mut String,
+    bytes: &mut Vec<u8>,
+    count: u64,
+    keeps: bool,
+) -> Result<(), Stop> {
     for before in 0..count {
-        let k = before.saturating_add(1);
-        let lines = format!(in alloc; "open {k}\nend {k}\n")?;
+        lines.clear();
+        add_segment(lines, before.saturating_add(1), keeps)?;
         bytes.extend_from_slice(lines.as_bytes())?;
     }
-    Ok(bytes)
+    Ok(())
 }
 
-/// The bytes of a word, and how many times they come.
-fn unit(alloc: Global, word: &str) -> Result<(Vec<u8>, u64), Stop> {
-    let (unit, count) = counted(word)?;
-    if unit == "#" {
-        return Ok((segments(alloc, count)?, 1));
+fn add_times(bytes: &mut Vec<u8>, unit: &[u8], count: u64) -> Result<(), Stop> {
+    for _i in 0..count {
+        bytes.extend_from_slice(unit)?;
     }
-    if let Some(first) = unit.strip_prefix('%') {
-        return Ok((counting(alloc, number(first)?, count)?, 1));
-    }
-    match unit.strip_prefix('\'') {
-        Some(letters) => Ok((text(alloc, letters)?, count)),
-        None => Ok((digits(alloc, unit)?, count)),
-    }
+    Ok(())
 }
 
-fn digits(alloc: Global, word: &str) -> Result<Vec<u8>, Stop> {
-    match hex::decode(alloc, word) {
-        Ok(bytes) => Ok(bytes),
+fn add_digits(alloc: Global, bytes: &mut Vec<u8>, digits: &str, count: u64) -> Result<(), Stop> {
+    match hex::decode(alloc, digits) {
+        Ok(unit) => add_times(bytes, &unit, count),
         Err(_) => Err(Stop::Words),
     }
 }
 
-fn add(bytes: &mut Vec<u8>, unit: &[u8], count: u64) -> Result<(), Stop> {
-    for _i in 0..count {
-        bytes.extend_from_slice(unit)?;
+fn add_letters(alloc: Global, bytes: &mut Vec<u8>, letters: &str, count: u64) -> Result<(), Stop> {
+    let mut unit = Vec::new(alloc);
+    add_text(&mut unit, letters)?;
+    add_times(bytes, &unit, count)
+}
+
+fn add_word(alloc: Global, bytes: &mut Vec<u8>, word: &str) -> Result<(), Stop> {
+    let (unit, count) = counted(word)?;
+    match unit.get(..1) {
+        Some("#") => {
+            let mut lines = String::new(alloc);
+            add_segments(&mut lines, bytes, count, unit.len() > 1)
+        }
+        Some("%") => add_counting(bytes, number(unit.get(1..).unwrap_or(""))?, count),
+        Some("'") => add_letters(alloc, bytes, unit.get(1..).unwrap_or(""), count),
+        _ => add_digits(alloc, bytes, unit, count),
+    }
+}
+
+/// Adds the bytes of these words.
+fn add(alloc: Global, bytes: &mut Vec<u8>, words: &[&str]) -> Result<(), Stop> {
+    for word in words {
+        match word.strip_prefix('^') {
+            Some(most) => bytes.truncate(number(most)? as usize),
+            None => add_word(alloc, bytes, word)?,
+        }
     }
     Ok(())
 }
@@ -135,56 +162,6 @@ fn add(bytes: &mut Vec<u8>, unit: &[u8], count: u64) -> Result<(), Stop> {
 /// The bytes of these words.
 pub fn bytes_of(alloc: Global, words: &[&str]) -> Result<Vec<u8>, Stop> {
     let mut bytes = Vec::new(alloc);
-    for word in words {
-        if let Some(most) = word.strip_prefix('^') {
-            bytes.truncate(number(most)? as usize);
-        } else {
-            let (unit, count) = unit(alloc, word)?;
-            add(&mut bytes, &unit, count)?;
-        }
-    }
+    add(alloc, &mut bytes, words)?;
     Ok(bytes)
-}
-
-/// The bytes behind one byte, which comes so many times at first.
-fn behind_one(bytes: &[u8], byte: u8, count: u64) -> Option<&[u8]> {
-    let mut left = count;
-    for (place, found) in bytes.iter().enumerate() {
-        if left == 0 {
-            return bytes.get(place..);
-        }
-        if *found != byte {
-            return None;
-        }
-        left = left.saturating_sub(1);
-    }
-    if left == 0 { Some(&[]) } else { None }
-}
-
-/// The bytes behind a unit, which comes so many times at first.
-fn behind_units<'b>(bytes: &'b [u8], unit: &[u8], count: u64) -> Option<&'b [u8]> {
-    if let [byte] = unit {
-        return behind_one(bytes, *byte, count);
-    }
-    let mut left = bytes;
-    for _i in 0..count {
-        if !left.starts_with(unit) {
-            return None;
-        }
-        left = left.get(unit.len()..)?;
-    }
-    Some(left)
-}
-
-/// Whether the bytes are those of the words.
-pub fn are(alloc: Global, bytes: &[u8], words: &[&str]) -> Result<bool, Stop> {
-    let mut left = bytes;
-    for word in words {
-        let (unit, count) = unit(alloc, word)?;
-        match behind_units(left, &unit, count) {
-            Some(behind) => left = behind,
-            None => return Ok(false),
-        }
-    }
-    Ok(left.is_empty())
 }

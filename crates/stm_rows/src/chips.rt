@@ -12,13 +12,13 @@ use crate::images::image_of;
 use crate::stopping::Stop;
 use std::alloc::Global;
 use stm_chip::{
-    Frame, PagePlan, PlanFault, TableFault, is_inside_flash, page_plan, read_table, touched,
+    Frame, PagePlan, PlanFault, Table, TableFault, is_inside_flash, page_plan, read_table, touched,
     tried_boards,
 };
+use stm_image::Image;
 use stm_wire::{BoardPlaces, Chip, EraseKind, UniqueId, UniquePlace};
 
-fn sizes_of(alloc: Global, words: &[&str]) -> Result<Vec<u32>, Stop> {
-    let mut sizes = Vec::new(alloc);
+fn add_sizes(sizes: &mut Vec<u32>, words: &[&str]) -> Result<(), Stop> {
     for word in words {
         let (count, size) = word.split_once('x').ok_or(Stop::Words)?;
         let size = count_of(size)?;
@@ -26,10 +26,16 @@ fn sizes_of(alloc: Global, words: &[&str]) -> Result<Vec<u32>, Stop> {
             sizes.push(size)?;
         }
     }
+    Ok(())
+}
+
+fn sizes_of(alloc: Global, words: &[&str]) -> Result<Vec<u32>, Stop> {
+    let mut sizes = Vec::new(alloc);
+    add_sizes(&mut sizes, words)?;
     Ok(sizes)
 }
 
-fn kind_of(word: &str) -> Result<EraseKind, Stop> {
+pub fn kind_of(word: &str) -> Result<EraseKind, Stop> {
     match word {
         "page" => Ok(EraseKind::Page),
         "extended" => Ok(EraseKind::Extended),
@@ -42,119 +48,122 @@ fn chip_of(alloc: Global, words: &[&str]) -> Result<Option<Chip>, Stop> {
     let [id, base, kind, erased, sizes @ ..] = words else {
         return Err(Stop::Words);
     };
-    let sizes = sizes_of(alloc, sizes)?;
     let (id, base) = (id_of(id)?, hexadecimal(base)?);
-    Ok(Chip::new(id, base, sizes, kind_of(kind)?, byte_of(&[*erased])?))
+    let (kind, erased) = (kind_of(kind)?, byte_of(&[*erased])?);
+    Ok(Chip::new(id, base, sizes_of(alloc, sizes)?, kind, erased))
 }
 
 fn chip(alloc: Global, words: &[&str]) -> Result<Chip, Stop> {
     chip_of(alloc, words)?.ok_or(Stop::Words)
 }
 
-fn chip_text(alloc: Global, chip: &Chip) -> Result<String, Stop> {
+fn tell(chip: &Chip, told: &mut String) -> Result<(), Stop> {
     let kind = match chip.kind() {
         EraseKind::Page => "page",
         EraseKind::Extended => "extended",
     };
     let (id, base, end, pages) = (chip.id(), chip.base(), chip.end(), chip.pages());
     let (size, erased) = (chip.flash_size(), chip.erased());
-    Ok(format!(in alloc; "{id:04X} {base:08X} {end:X} {pages} {size} {kind} {erased:02X}")?)
+    Ok(write!(
+        told,
+        "{id:04X} {base:08X} {end:X} {pages} {size} {kind} {erased:02X}"
+    )?)
 }
 
-fn limits(alloc: Global, words: &[&str]) -> Result<String, Stop> {
+fn limits(alloc: Global, words: &[&str], told: &mut String) -> Result<(), Stop> {
     match chip_of(alloc, words)? {
-        Some(chip) => chip_text(alloc, &chip),
-        None => Ok(String::from_str(alloc, "no chip")?),
+        Some(chip) => tell(&chip, told),
+        None => Ok(told.push_str("no chip")?),
     }
 }
 
-fn page_text(alloc: Global, words: &[&str]) -> Result<String, Stop> {
-    let [n, words @ ..] = words else {
-        return Err(Stop::Words);
-    };
-    let n = page(n)?;
-    let chip = chip(alloc, words)?.clone()?;
+fn tell_page(chip: &Chip, n: u16, told: &mut String) -> Result<(), Stop> {
     chip.keeps_limits();
     if n >= chip.pages() {
         return Err(Stop::Words);
     }
     let (start, size) = (chip.page_start(n), chip.page_size(n));
-    Ok(format!(in alloc; "{start:08X} {size}")?)
+    Ok(write!(told, "{start:08X} {size}")?)
 }
 
-/// A chip of a board that tells its unique id of eight bytes here, its size there.
-fn on_board(chip: Chip, unique_at: &str, size_at: &str, unique: UniqueId) -> Result<Chip, Stop> {
-    let places = BoardPlaces {
+/// Where a board tells its unique id of eight bytes, and its size.
+fn places_at(unique_at: &str, size_at: &str) -> Result<BoardPlaces, Stop> {
+    Ok(BoardPlaces {
         unique: Some(UniquePlace {
             address: hexadecimal(unique_at)?,
             length: 8,
         }),
         size: Some(hexadecimal(size_at)?),
-    };
-    Ok(chip.at_places(places).ok_or(Stop::Words)?.of_board(unique))
+    })
 }
 
-fn cut(alloc: Global, words: &[&str]) -> Result<String, Stop> {
-    let [kib, unique_at, size_at, unique, words @ ..] = words else {
-        return Err(Stop::Words);
-    };
-    let unique = UniqueId::of(&bytes_of(alloc, &[*unique])?).ok_or(Stop::Words)?;
-    let chip = on_board(chip(alloc, words)?, unique_at, size_at, unique)?;
+/// Tells a chip that is cut for a board of this size.
+fn tell_cut(chip: Chip, kib: u32, unique: UniqueId, told: &mut String) -> Result<(), Stop> {
     let places = chip.places();
-    let cut = chip.cut(count_of(kib)?);
+    let cut = chip.of_board(unique).cut(kib);
     let (pages, end) = (cut.pages(), cut.end());
     let same = if cut.places() == places && cut.unique().is(&unique) {
         "the same board"
     } else {
         "another board"
     };
-    Ok(format!(in alloc; "{pages} {end:X} {same}")?)
+    Ok(write!(told, "{pages} {end:X} {same}")?)
+}
+
+fn cut(alloc: Global, words: &[&str], told: &mut String) -> Result<(), Stop> {
+    let [kib, unique_at, size_at, unique, words @ ..] = words else {
+        return Err(Stop::Words);
+    };
+    let (kib, places) = (count_of(kib)?, places_at(unique_at, size_at)?);
+    let unique = UniqueId::of(&bytes_of(alloc, &[*unique])?).ok_or(Stop::Words)?;
+    let chip = chip(alloc, words)?.at_places(places).ok_or(Stop::Words)?;
+    tell_cut(chip, kib, unique, told)
 }
 
 /// Where a chip tells its board.
-fn places_text(alloc: Global, places: BoardPlaces) -> Result<String, Stop> {
-    let unique = match places.unique {
-        Some(UniquePlace { address, length }) => format!(in alloc; "{address:08X} {length}")?,
-        None => String::from_str(alloc, "-")?,
-    };
+fn tell_places(places: BoardPlaces, told: &mut String) -> Result<(), Stop> {
+    match places.unique {
+        Some(UniquePlace { address, length }) => write!(told, ", {address:08X} {length}")?,
+        None => told.push_str(", -")?,
+    }
     match places.size {
-        Some(size) => Ok(format!(in alloc; "{unique}, {size:08X}")?),
-        None => Ok(format!(in alloc; "{unique}, -")?),
+        Some(size) => Ok(write!(told, ", {size:08X}")?),
+        None => Ok(told.push_str(", -")?),
     }
 }
 
-fn find(alloc: Global, words: &[&str]) -> Result<String, Stop> {
-    let [id, text @ ..] = words else {
-        return Err(Stop::Words);
-    };
-    let table = match read_table(alloc, &bytes_of(alloc, text)?) {
-        Ok(table) => table,
-        Err(fault) => return Ok(format!(in alloc; "{fault}")?),
-    };
-    let Some(chip) = table.find(id_of(id)?) else {
-        return Ok(String::from_str(alloc, "no such chip")?);
-    };
-    let text = chip_text(alloc, chip)?;
-    let places = places_text(alloc, chip.places())?;
-    Ok(format!(in alloc; "{text}, {places}")?)
+fn table_of(alloc: Global, words: &[&str]) -> Result<Table, Stop> {
+    Ok(read_table(alloc, &bytes_of(alloc, words)?)?)
 }
 
-fn put_in(alloc: Global, words: &[&str]) -> Result<String, Stop> {
-    let (own, text) = parts(words);
-    let chip = chip(alloc, own)?;
-    let Ok(table) = read_table(alloc, &bytes_of(alloc, text)?) else {
-        return Err(Stop::Words);
-    };
-    let mut told = String::new(alloc);
-    for chip in table.with_chip(chip).chips() {
+fn tell_found(table: &Table, id: u16, told: &mut String) -> Result<(), Stop> {
+    match table.find(id) {
+        Some(chip) => {
+            tell(chip, told)?;
+            tell_places(chip.places(), told)
+        }
+        None => Ok(told.push_str("no such chip")?),
+    }
+}
+
+fn tell_chips(chips: &[Chip], told: &mut String) -> Result<(), Stop> {
+    for chip in chips {
+        if !told.is_empty() {
+            told.push(' ')?;
+        }
         let (id, pages) = (chip.id(), chip.pages());
-        told.push_str(&format!(in alloc; " {id:04X}:{pages}")?)?;
+        write!(told, "{id:04X}:{pages}")?;
     }
-    Ok(String::from_str(alloc, told.as_str().trim())?)
+    Ok(())
 }
 
-fn beginnings(alloc: Global, words: &[&str]) -> Result<String, Stop> {
-    let bytes = bytes_of(alloc, words)?;
+fn put_in(alloc: Global, words: &[&str], told: &mut String) -> Result<(), Stop> {
+    let (own, text) = parts(words);
+    let table = table_of(alloc, text)?;
+    tell_chips(table.with_chip(chip(alloc, own)?).chips(), told)
+}
+
+fn beginnings(alloc: Global, bytes: &[u8], told: &mut String) -> Result<(), Stop> {
     let (mut read, mut empty, mut others) = (0_u32, 0_u32, 0_u32);
     for end in 0..=bytes.len() {
         match read_table(alloc, &bytes[..end]) {
@@ -164,62 +173,52 @@ fn beginnings(alloc: Global, words: &[&str]) -> Result<String, Stop> {
             Err(_) => others = others.saturating_add(1),
         }
     }
-    Ok(format!(in alloc; "{read} {empty} {others}")?)
+    Ok(write!(told, "{read} {empty} {others}")?)
 }
 
-fn tried(alloc: Global, words: &[&str]) -> Result<String, Stop> {
-    let [id, text @ ..] = words else {
-        return Err(Stop::Words);
-    };
-    let id = id_of(id)?;
-    match tried_boards(alloc, &bytes_of(alloc, text)?, id) {
-        Ok(Some(Some(count))) => Ok(format!(in alloc; "{count}")?),
-        Ok(Some(None)) => Ok(String::from_str(alloc, "nothing")?),
-        Ok(None) => Ok(String::from_str(alloc, "no such chip")?),
-        Err(fault) => Ok(format!(in alloc; "{fault}")?),
+fn tried(alloc: Global, bytes: &[u8], id: u16, told: &mut String) -> Result<(), Stop> {
+    match tried_boards(alloc, bytes, id)? {
+        Some(Some(count)) => Ok(write!(told, "{count}")?),
+        Some(None) => Ok(told.push_str("nothing")?),
+        None => Ok(told.push_str("no such chip")?),
     }
 }
 
 /// Numbers of pages, of which those that follow each other are told as FIRST-LAST.
-fn numbers_text(alloc: Global, pages: &[u16]) -> Result<String, Stop> {
-    let mut told = String::from_str(alloc, "pages")?;
+fn tell_numbers(pages: &[u16], told: &mut String) -> Result<(), Stop> {
+    told.push_str("pages")?;
     let mut last = None;
     for (place, n) in pages.iter().enumerate() {
         let goes_on = place > 0 && last == n.checked_sub(1);
         let next = pages.get(place.saturating_add(1)).copied();
         let is_last = next.is_none() || next != n.checked_add(1);
         if !goes_on {
-            told.push_str(&format!(in alloc; " {n}")?)?;
+            write!(told, " {n}")?;
         } else if is_last {
-            told.push_str(&format!(in alloc; "-{n}")?)?;
+            write!(told, "-{n}")?;
         }
         last = Some(*n);
     }
-    Ok(told)
+    Ok(())
 }
 
-fn touches(alloc: Global, words: &[&str]) -> Result<String, Stop> {
-    let (own, image) = parts(words);
-    let chip = chip(alloc, own)?;
-    let Ok(image) = image_of(alloc, image)? else {
-        return Err(Stop::Words);
-    };
-    let is_inside = is_inside_flash(&chip, &image);
-    match touched(alloc, &chip, &image) {
-        Ok(pages) if is_inside => numbers_text(alloc, &pages),
-        Err(PlanFault::OutOfFlash) if !is_inside => Ok(String::from_str(alloc, "outside")?),
-        _ => Ok(String::from_str(alloc, "not as it lies")?),
+fn tell_touched(alloc: Global, chip: &Chip, image: &Image, told: &mut String) -> Result<(), Stop> {
+    let is_inside = is_inside_flash(chip, image);
+    match touched(alloc, chip, image) {
+        Ok(pages) if is_inside => tell_numbers(&pages, told),
+        Err(PlanFault::OutOfFlash) if !is_inside => Ok(told.push_str("outside")?),
+        _ => Ok(told.push_str("not as it lies")?),
     }
 }
 
 /// Frames as OFFSET+LENGTH; so many whole blocks that follow each other as OFFSET+256*COUNT.
-fn frames_text(alloc: Global, frames: &[Frame]) -> Result<String, Stop> {
-    let mut told = String::from_str(alloc, "erase")?;
+fn tell_frames(frames: &[Frame], told: &mut String) -> Result<(), Stop> {
+    told.push_str("erase")?;
     let mut blocks = 0_u32;
     for (place, frame) in frames.iter().enumerate() {
         let (offset, length) = (frame.offset, frame.length);
         if blocks == 0 {
-            told.push_str(&format!(in alloc; " {offset}+{length}")?)?;
+            write!(told, " {offset}+{length}")?;
         }
         let is_followed = match frames.get(place.saturating_add(1)) {
             Some(next) => {
@@ -230,42 +229,74 @@ fn frames_text(alloc: Global, frames: &[Frame]) -> Result<String, Stop> {
         blocks = blocks.saturating_add(1);
         if !is_followed {
             if blocks > 1 {
-                told.push_str(&format!(in alloc; "*{blocks}")?)?;
+                write!(told, "*{blocks}")?;
             }
             blocks = 0;
         }
     }
-    Ok(told)
+    Ok(())
 }
 
-fn plans(alloc: Global, words: &[&str]) -> Result<String, Stop> {
-    let [erased, rest @ ..] = words else {
-        return Err(Stop::Words);
-    };
-    let (old, new) = parts(rest);
-    let (old, new) = (bytes_of(alloc, old)?, bytes_of(alloc, new)?);
+fn tell_plan(
+    alloc: Global,
+    old: &[u8],
+    new: &[u8],
+    erased: u8,
+    told: &mut String,
+) -> Result<(), Stop> {
     if old.len() != new.len() || new.len() % 256 != 0 || new.len() > 131_072 {
         return Err(Stop::Words);
     }
-    match page_plan(alloc, &old, &new, byte_of(&[*erased])?) {
-        Ok(PagePlan::Same) => Ok(String::from_str(alloc, "same")?),
-        Ok(PagePlan::Erase(frames)) => frames_text(alloc, &frames),
+    match page_plan(alloc, old, new, erased) {
+        Ok(PagePlan::Same) => Ok(told.push_str("same")?),
+        Ok(PagePlan::Erase(frames)) => tell_frames(&frames, told),
         Err(_) => Err(Stop::Memory),
     }
 }
 
-/// What is told of a chip or a table; None: it's another word.
-pub fn tell_chip(alloc: Global, verb: &str, words: &[&str]) -> Result<Option<String>, Stop> {
-    Ok(Some(match verb {
-        "limits" => limits(alloc, words)?,
-        "page" => page_text(alloc, words)?,
-        "cut" => cut(alloc, words)?,
-        "find" => find(alloc, words)?,
-        "put-in" => put_in(alloc, words)?,
-        "beginnings" => beginnings(alloc, words)?,
-        "tried" => tried(alloc, words)?,
-        "touches" => touches(alloc, words)?,
-        "plans" => plans(alloc, words)?,
-        _ => return Ok(None),
-    }))
+/// Tells what is asked of two lists of bytes, or of a chip or a table and what is to be done with it.
+fn tell_two(
+    alloc: Global,
+    verb: &str,
+    first: &str,
+    words: &[&str],
+    told: &mut String,
+) -> Result<(), Stop> {
+    match verb {
+        "page" => tell_page(&chip(alloc, words)?.clone()?, page(first)?, told),
+        "find" => tell_found(&table_of(alloc, words)?, id_of(first)?, told),
+        "tried" => tried(alloc, &bytes_of(alloc, words)?, id_of(first)?, told),
+        _ => {
+            let (old, new) = parts(words);
+            let (old, new) = (bytes_of(alloc, old)?, bytes_of(alloc, new)?);
+            tell_plan(alloc, &old, &new, byte_of(&[first])?, told)
+        }
+    }
+}
+
+/// Tells what is asked of a chip or a table; false: it's another word.
+pub fn tell_chip(
+    alloc: Global,
+    verb: &str,
+    words: &[&str],
+    told: &mut String,
+) -> Result<bool, Stop> {
+    match verb {
+        "limits" => limits(alloc, words, told)?,
+        "cut" => cut(alloc, words, told)?,
+        "put-in" => put_in(alloc, words, told)?,
+        "beginnings" => beginnings(alloc, &bytes_of(alloc, words)?, told)?,
+        "touches" => {
+            let (own, image) = parts(words);
+            tell_touched(alloc, &chip(alloc, own)?, &image_of(alloc, image)?, told)?;
+        }
+        "page" | "find" | "tried" | "plans" => {
+            let [first, words @ ..] = words else {
+                return Err(Stop::Words);
+            };
+            tell_two(alloc, verb, first, words, told)?;
+        }
+        _ => return Ok(false),
+    }
+    Ok(true)
 }

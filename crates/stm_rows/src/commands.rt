@@ -15,10 +15,7 @@ fn image(alloc: Global, words: &[&str]) -> Result<Image, Stop> {
         return Err(Stop::Words);
     };
     let start = hexadecimal(address)?;
-    match read_raw(alloc, &bytes_of(alloc, bytes)?, start) {
-        Ok(image) => Ok(image),
-        Err(_) => Err(Stop::Words),
-    }
+    Ok(read_raw(alloc, &bytes_of(alloc, bytes)?, start)?)
 }
 
 fn pages(alloc: Global, words: &[&str]) -> Result<Vec<u16>, Stop> {
@@ -48,15 +45,18 @@ fn command(alloc: Global, words: &[&str]) -> Result<Command, Stop> {
     }
 }
 
-/// The commands of these words.
-pub fn commands_of(alloc: Global, words: &[&str]) -> Result<Vec<Command>, Stop> {
-    let mut commands = Vec::new(alloc);
+/// Adds the commands of these words.
+pub fn add_commands(
+    alloc: Global,
+    words: &[&str],
+    commands: &mut Vec<Command>,
+) -> Result<(), Stop> {
     for part in words.split(|word| *word == ";") {
         if !part.is_empty() {
             commands.push(command(alloc, part)?)?;
         }
     }
-    Ok(commands)
+    Ok(())
 }
 
 /// In how many places there is another byte, and the first of them.
@@ -74,52 +74,51 @@ fn others(bytes: &[u8], held: &[u8]) -> (usize, usize) {
     (count, first)
 }
 
-fn read_text(
-    alloc: Global,
+fn tell_read(
     bytes: &[u8],
     command: Option<&Command>,
     rig: &MemoryRig,
-) -> Result<String, Stop> {
+    told: &mut String,
+) -> Result<(), Stop> {
     let Some(Command::Read { start, length: _ }) = command else {
         return Err(Stop::Words);
     };
     let place = start.saturating_sub(rig.chip().base()) as usize;
     let (count, first) = others(bytes, rig.flash().get(place..).unwrap_or(&[]));
     let size = bytes.len();
-    if count == 0 {
-        return Ok(format!(in alloc; "read {size}")?);
+    write!(told, "read {size}")?;
+    if count > 0 {
+        write!(told, ", {count} other at {first}")?;
     }
-    Ok(format!(in alloc; "read {size}, {count} other at {first}")?)
+    Ok(())
 }
 
-fn outcome_text(
-    alloc: Global,
+fn tell_outcome(
     outcome: &Outcome,
     command: Option<&Command>,
     rig: &MemoryRig,
-) -> Result<String, Stop> {
+    told: &mut String,
+) -> Result<(), Stop> {
     match outcome {
-        Outcome::Written { segment, pages } => Ok(format!(in alloc; "written {segment} {pages}")?),
-        Outcome::Erased { segment, pages } => Ok(format!(in alloc; "erased {segment} {pages}")?),
-        Outcome::Verified => Ok(String::from_str(alloc, "verified")?),
-        Outcome::Read(bytes) => read_text(alloc, bytes, command, rig),
+        Outcome::Written { segment, pages } => Ok(write!(told, "written {segment} {pages}")?),
+        Outcome::Erased { segment, pages } => Ok(write!(told, "erased {segment} {pages}")?),
+        Outcome::Verified => Ok(told.push_str("verified")?),
+        Outcome::Read(bytes) => tell_read(bytes, command, rig, told),
     }
 }
 
 /// What the commands answered.
-pub fn outcomes_text(
-    alloc: Global,
+pub fn tell_outcomes(
     outcomes: &[Outcome],
     commands: &[Command],
     rig: &MemoryRig,
-) -> Result<String, Stop> {
-    let mut text = String::new(alloc);
+    told: &mut String,
+) -> Result<(), Stop> {
     for (place, outcome) in outcomes.iter().enumerate() {
         if place > 0 {
-            text.push_str("; ")?;
+            told.push_str("; ")?;
         }
-        let told = outcome_text(alloc, outcome, commands.get(place), rig)?;
-        text.push_str(told.as_str())?;
+        tell_outcome(outcome, commands.get(place), rig, told)?;
     }
-    Ok(text)
+    Ok(())
 }

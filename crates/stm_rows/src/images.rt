@@ -4,47 +4,25 @@
 // which / ends a line; `lays IMAGE | ADDRESS BYTES.. | BYTES..` whether a copy, laid over bytes from an
 // address on, makes the others of them; `differs IMAGE | ADDRESS BYTES..` where it first has another
 // byte; `joined IMAGE | IMAGE` what both texts mean, one behind the other. A fault is told by its text.
-use crate::bytes::{are, bytes_of, hexadecimal, parts};
+use crate::bytes::{bytes_of, hexadecimal, parts};
 use crate::stopping::Stop;
 use std::alloc::Global;
-use stm_image::{HexFault, Image, RawFault, read_hex, read_raw, write_hex};
-
-/// An image, or the text of its fault.
-type Read = Result<Image, String>;
-
-fn of_hex(alloc: Global, read: Result<Image, HexFault>) -> Result<Read, Stop> {
-    match read {
-        Ok(image) => Ok(Ok(image)),
-        Err(fault) => Ok(Err(format!(in alloc; "{fault}")?)),
-    }
-}
-
-fn of_raw(alloc: Global, read: Result<Image, RawFault>) -> Result<Read, Stop> {
-    match read {
-        Ok(image) => Ok(Ok(image)),
-        Err(fault) => Ok(Err(format!(in alloc; "{fault}")?)),
-    }
-}
+use stm_image::{Image, read_hex, read_raw, write_hex};
 
 /// The image of these words.
-pub fn image_of(alloc: Global, words: &[&str]) -> Result<Read, Stop> {
+pub fn image_of(alloc: Global, words: &[&str]) -> Result<Image, Stop> {
     match words {
-        ["hex", text @ ..] => {
-            let text = bytes_of(alloc, text)?;
-            of_hex(alloc, read_hex(alloc, &text))
-        }
+        ["hex", text @ ..] => Ok(read_hex(alloc, &bytes_of(alloc, text)?)?),
         ["raw", start, bytes @ ..] => {
             let start = hexadecimal(start)?;
-            let bytes = bytes_of(alloc, bytes)?;
-            of_raw(alloc, read_raw(alloc, &bytes, start))
+            Ok(read_raw(alloc, &bytes_of(alloc, bytes)?, start)?)
         }
         _ => Err(Stop::Words),
     }
 }
 
-/// The bytes of an image behind their addresses, and how many there are.
-fn told_pairs(alloc: Global, image: &Image) -> Result<(String, usize), Stop> {
-    let mut text = String::new(alloc);
+/// Tells the bytes of an image behind their addresses, and answers how many there are.
+fn tell_pairs(image: &Image, told: &mut String) -> Result<usize, Stop> {
     let mut from = Some(0_u32);
     let mut count = 0_usize;
     for _i in 0..u64::MAX {
@@ -52,101 +30,106 @@ fn told_pairs(alloc: Global, image: &Image) -> Result<(String, usize), Stop> {
         let Some((address, byte)) = image.next_from(least) else {
             break;
         };
-        if count == 0 || address != least {
-            text.push_str(&format!(in alloc; " {address:08X} ")?)?;
+        if count == 0 {
+            write!(told, "{address:08X} ")?;
+        } else if address != least {
+            write!(told, " {address:08X} ")?;
         }
-        text.push_str(&format!(in alloc; "{byte:02X}")?)?;
+        write!(told, "{byte:02X}")?;
         if image.get(address) != Some(byte) {
-            text.push_str("?")?;
+            told.push_str("?")?;
         }
         count = count.saturating_add(1);
         from = address.checked_add(1);
     }
-    Ok((text, count))
+    Ok(count)
 }
 
-fn pairs(alloc: Global, image: &Image) -> Result<String, Stop> {
+fn pairs(image: &Image, told: &mut String) -> Result<(), Stop> {
     image.rises();
-    let (text, count) = told_pairs(alloc, image)?;
+    let count = tell_pairs(image, told)?;
     if count != image.len() || (count == 0) != image.is_empty() {
-        return Ok(String::from_str(alloc, "another count")?);
+        told.push_str(", another count")?;
     }
     if count == 0 {
-        return Ok(String::from_str(alloc, "nothing")?);
+        told.push_str("nothing")?;
     }
-    Ok(String::from_str(alloc, text.as_str().trim())?)
+    Ok(())
 }
 
 /// A text with / in the place of each LF.
-fn shown(alloc: Global, text: &[u8]) -> Result<String, Stop> {
-    let mut shown = String::new(alloc);
+fn shown(text: &[u8], told: &mut String) -> Result<(), Stop> {
     for byte in text {
         let byte = if *byte == b'\n' { b'/' } else { *byte };
-        shown.push(char::from(byte))?;
+        told.push(char::from(byte))?;
     }
-    Ok(shown)
+    Ok(())
 }
 
-/// An address, and the bytes from there on.
-fn placed(alloc: Global, words: &[&str]) -> Result<(u32, Vec<u8>), Stop> {
-    let [address, bytes @ ..] = words else {
-        return Err(Stop::Words);
-    };
-    Ok((hexadecimal(address)?, bytes_of(alloc, bytes)?))
-}
-
-fn lays(alloc: Global, image: &Image, words: &[&str]) -> Result<String, Stop> {
-    let (over, due) = parts(words);
-    let (address, mut bytes) = placed(alloc, over)?;
+/// Whether an image over these bytes from an address on makes those.
+fn lays(
+    alloc: Global,
+    image: Image,
+    address: u32,
+    bytes: &mut [u8],
+    due: &[&str],
+) -> Result<bool, Stop> {
     if u64::from(address).saturating_add(bytes.len() as u64) > 0x1_0000_0000 {
         return Err(Stop::Words);
     }
-    image.clone()?.lay(address, &mut bytes);
-    let told = if are(alloc, &bytes, due)? {
-        "so"
-    } else {
-        "other bytes"
-    };
-    Ok(String::from_str(alloc, told)?)
+    image.lay(address, bytes);
+    Ok(bytes_of(alloc, due)?.as_slice() == bytes)
 }
 
-fn differs(alloc: Global, image: &Image, words: &[&str]) -> Result<String, Stop> {
-    let (address, bytes) = placed(alloc, words)?;
+/// Tells of an image and bytes at an address.
+fn beside(
+    alloc: Global,
+    image: &Image,
+    verb: &str,
+    words: &[&str],
+    told: &mut String,
+) -> Result<(), Stop> {
+    let (over, due) = parts(words);
+    let [address, bytes @ ..] = over else {
+        return Err(Stop::Words);
+    };
+    let address = hexadecimal(address)?;
+    let mut bytes = bytes_of(alloc, bytes)?;
+    if verb == "lays" {
+        let is_so = lays(alloc, image.clone()?, address, &mut bytes, due)?;
+        return Ok(told.push_str(if is_so { "so" } else { "other bytes" })?);
+    }
     match image.first_difference(address, &bytes) {
-        Some(place) => Ok(format!(in alloc; "{place:08X}")?),
-        None => Ok(String::from_str(alloc, "nowhere")?),
+        Some(place) => Ok(write!(told, "{place:08X}")?),
+        None => Ok(told.push_str("nowhere")?),
     }
 }
 
 /// What a text means without its last record, and another one behind it.
-fn joined(alloc: Global, image: &Image, words: &[&str]) -> Result<String, Stop> {
-    let Ok(other) = image_of(alloc, words)? else {
-        return Err(Stop::Words);
-    };
+fn joined(alloc: Global, image: &Image, other: &Image, told: &mut String) -> Result<(), Stop> {
     let mut text = write_hex(alloc, image)?;
     text.truncate(text.len().saturating_sub(12));
-    text.extend_from_slice(&write_hex(alloc, &other)?)?;
-    match of_hex(alloc, read_hex(alloc, &text))? {
-        Ok(both) => pairs(alloc, &both),
-        Err(fault) => Ok(fault),
-    }
+    text.extend_from_slice(&write_hex(alloc, other)?)?;
+    pairs(&read_hex(alloc, &text)?, told)
 }
 
-/// What is told of an image; None: it's another word.
-pub fn tell_image(alloc: Global, verb: &str, words: &[&str]) -> Result<Option<String>, Stop> {
+/// Tells what is asked of an image; false: it's another word.
+pub fn tell_image(
+    alloc: Global,
+    verb: &str,
+    words: &[&str],
+    told: &mut String,
+) -> Result<bool, Stop> {
     if !matches!(verb, "pairs" | "writes" | "lays" | "differs" | "joined") {
-        return Ok(None);
+        return Ok(false);
     }
     let (image, rest) = parts(words);
-    let image = match image_of(alloc, image)? {
-        Ok(image) => image,
-        Err(fault) => return Ok(Some(fault)),
-    };
-    Ok(Some(match verb {
-        "pairs" => pairs(alloc, &image)?,
-        "writes" => shown(alloc, &write_hex(alloc, &image)?)?,
-        "lays" => lays(alloc, &image, rest)?,
-        "differs" => differs(alloc, &image, rest)?,
-        _ => joined(alloc, &image, rest)?,
-    }))
+    let image = image_of(alloc, image)?;
+    match verb {
+        "pairs" => pairs(&image, told)?,
+        "writes" => shown(&write_hex(alloc, &image)?, told)?,
+        "joined" => joined(alloc, &image, &image_of(alloc, rest)?, told)?,
+        _ => beside(alloc, &image, verb, rest, told)?,
+    }
+    Ok(true)
 }

@@ -3,8 +3,8 @@
 // Of the device's journal: `says` its header's version, line, product id and unique id, how many segments
 // there are, the intent, and whether the newest is unfinished; `kept K I` the page and the line of the I-th
 // page line of segment K; `placed K N` and `placed-as K I` where such a page stands, by its number and by its
-// place; `counts K` how many pages segment K keeps, and how many all of them; `begin ID [UNIQUE]` begins a
-// segment for a device. A fault is told by its text.
+// place; `counts K` how many pages segment K keeps, and how many all of them;
+// `begin ID [UNIQUE]` begins a segment for a device. A fault is told by its text.
 use crate::bytes::{bytes_of, count_of, id_of, number, page};
 use crate::line::Line;
 use crate::stopping::Stop;
@@ -12,122 +12,142 @@ use std::alloc::Global;
 use stm_journal::{Intent, Journal, PagePlace};
 use stm_wire::UniqueId;
 
-fn header_text(alloc: Global, journal: &Journal) -> Result<String, Stop> {
+/// Bytes as hex digits.
+pub fn tell_bytes(bytes: &[u8], told: &mut String) -> Result<(), Stop> {
+    for byte in bytes {
+        write!(told, "{byte:02X}")?;
+    }
+    Ok(())
+}
+
+fn tell_header(journal: &Journal, told: &mut String) -> Result<(), Stop> {
     let Some((version, line)) = journal.header() else {
-        return Ok(String::from_str(alloc, "no header")?);
+        return Ok(told.push_str("no header")?);
     };
     let Some(id) = journal.id() else {
-        return Ok(String::from_str(alloc, "a header without an id")?);
+        return Ok(told.push_str("a header without an id")?);
     };
+    write!(told, "{version} in line {line}: {id:04X}")?;
     match journal.unique() {
         Some(unique) => {
-            let digits = hex::encode_upper(alloc, unique.as_bytes())?;
-            Ok(format!(in alloc; "{version} in line {line}: {id:04X} {digits}")?)
+            told.push(' ')?;
+            tell_bytes(unique.as_bytes(), told)
         }
-        None => Ok(format!(in alloc; "{version} in line {line}: {id:04X}")?),
+        None => Ok(()),
     }
 }
 
-fn intent_text(alloc: Global, intent: Option<Intent>) -> Result<String, Stop> {
+fn tell_intent(intent: Option<Intent>, told: &mut String) -> Result<(), Stop> {
     match intent {
-        Some(Intent::Erase(n)) => Ok(format!(in alloc; "erase {n}")?),
-        Some(Intent::Program(n)) => Ok(format!(in alloc; "program {n}")?),
-        None => Ok(String::from_str(alloc, "no intent")?),
+        Some(Intent::Erase(n)) => Ok(write!(told, "erase {n}")?),
+        Some(Intent::Program(n)) => Ok(write!(told, "program {n}")?),
+        None => Ok(told.push_str("no intent")?),
     }
 }
 
-fn says(alloc: Global, journal: &Journal) -> Result<String, Stop> {
-    let header = header_text(alloc, journal)?;
-    let intent = intent_text(alloc, journal.last_intent())?;
+fn says(journal: &Journal, told: &mut String) -> Result<(), Stop> {
+    tell_header(journal, told)?;
     let depth = journal.depth();
+    write!(told, ", {depth}, ")?;
+    tell_intent(journal.last_intent(), told)?;
     let newest = match (journal.is_open(), journal.is_unfinished()) {
-        (true, true) => "unfinished",
-        (true, false) => "finished",
-        (false, false) => "none",
-        (false, true) => "none, but unfinished",
+        (true, true) => ", unfinished",
+        (true, false) => ", finished",
+        (false, false) => ", none",
+        (false, true) => ", none, but unfinished",
     };
-    Ok(format!(in alloc; "{header}, {depth}, {intent}, {newest}")?)
+    Ok(told.push_str(newest)?)
 }
 
-fn place_text(alloc: Global, place: Option<PagePlace>) -> Result<String, Stop> {
+fn tell_place(place: Option<PagePlace>, told: &mut String) -> Result<(), Stop> {
     match place {
         Some(PagePlace { at, length, line }) => {
-            Ok(format!(in alloc; "at {at}, {length} bytes, line {line}")?)
+            Ok(write!(told, "at {at}, {length} bytes, line {line}")?)
         }
-        None => Ok(String::from_str(alloc, "none")?),
+        None => Ok(told.push_str("none")?),
     }
 }
 
-fn kept_text(alloc: Global, kept: Option<(u16, u64)>) -> Result<String, Stop> {
+fn tell_kept(kept: Option<(u16, u64)>, told: &mut String) -> Result<(), Stop> {
     match kept {
-        Some((n, line)) => Ok(format!(in alloc; "{n} in line {line}")?),
-        None => Ok(String::from_str(alloc, "none")?),
+        Some((n, line)) => Ok(write!(told, "{n} in line {line}")?),
+        None => Ok(told.push_str("none")?),
     }
 }
 
-/// What a journal tells of a segment, and of a page or a place in it.
+/// Tells of a segment, and of a page or a place in it.
 fn of_segment(
-    alloc: Global,
     journal: &Journal,
     verb: &str,
     words: &[&str],
-) -> Result<String, Stop> {
-    let [k, rest @ ..] = words else {
-        return Err(Stop::Words);
-    };
-    let k = count_of(k)?;
-    let at = rest.first().unwrap_or(&"0");
+    told: &mut String,
+) -> Result<(), Stop> {
+    let k = count_of(words.first().ok_or(Stop::Words)?)?;
+    let at = words.get(1).unwrap_or(&"0");
     match verb {
-        "kept" => kept_text(alloc, journal.kept(k, number(at)? as usize)),
-        "placed" => place_text(alloc, journal.page(k, page(at)?)),
-        "placed-as" => place_text(alloc, journal.kept_place(k, number(at)? as usize)),
+        "kept" => tell_kept(journal.kept(k, number(at)? as usize), told),
+        "placed" => tell_place(journal.page(k, page(at)?), told),
+        "placed-as" => tell_place(journal.kept_place(k, number(at)? as usize), told),
         _ => {
             let (count, all) = (journal.kept_count(k), journal.entries());
-            Ok(format!(in alloc; "{count} of {all}")?)
+            Ok(write!(told, "{count} of {all}")?)
         }
     }
 }
 
-fn begin(alloc: Global, line: &mut Line, words: &[&str]) -> Result<String, Stop> {
-    let [id, unique @ ..] = words else {
-        return Err(Stop::Words);
-    };
-    let id = id_of(id)?;
-    let unique = match unique {
-        [] => UniqueId::none(),
-        _ => UniqueId::of(&bytes_of(alloc, unique)?).ok_or(Stop::Words)?,
-    };
-    let Ok(mut journal) = Journal::load(alloc, line) else {
-        return Err(Stop::Words);
-    };
+fn begin(
+    journal: &mut Journal,
+    line: &mut Line,
+    id: u16,
+    unique: UniqueId,
+    told: &mut String,
+) -> Result<(), Stop> {
     if journal.depth() >= 65535 || journal.is_unfinished() {
         return Err(Stop::Words);
     }
-    match journal.begin(line, id, &unique) {
-        Ok(segment) => Ok(format!(in alloc; "{segment}")?),
-        Err(fault) => Ok(format!(in alloc; "{fault}")?),
+    let segment = journal.begin(line, id, &unique)?;
+    Ok(write!(told, "{segment}")?)
+}
+
+fn unique_of(alloc: Global, words: &[&str]) -> Result<UniqueId, Stop> {
+    match words {
+        [] => Ok(UniqueId::none()),
+        _ => UniqueId::of(&bytes_of(alloc, words)?).ok_or(Stop::Words),
     }
 }
 
-/// What is told of the device's journal; None: it's another word.
+fn of_journal(
+    alloc: Global,
+    journal: &mut Journal,
+    line: &mut Line,
+    verb: &str,
+    words: &[&str],
+    told: &mut String,
+) -> Result<bool, Stop> {
+    match (verb, words) {
+        ("says", _) => says(journal, told)?,
+        ("begin", [id, unique @ ..]) => {
+            begin(journal, line, id_of(id)?, unique_of(alloc, unique)?, told)?;
+        }
+        _ => of_segment(journal, verb, words, told)?,
+    }
+    Ok(true)
+}
+
+/// Tells what is asked of the device's journal; false: it's another word.
 pub fn tell_journal(
     alloc: Global,
     line: &mut Line,
     verb: &str,
     words: &[&str],
-) -> Result<Option<String>, Stop> {
-    if verb == "begin" {
-        return Ok(Some(begin(alloc, line, words)?));
+    told: &mut String,
+) -> Result<bool, Stop> {
+    if !matches!(
+        verb,
+        "begin" | "says" | "kept" | "placed" | "placed-as" | "counts"
+    ) {
+        return Ok(false);
     }
-    if !matches!(verb, "says" | "kept" | "placed" | "placed-as" | "counts") {
-        return Ok(None);
-    }
-    let journal = match Journal::load(alloc, line) {
-        Ok(journal) => journal,
-        Err(fault) => return Ok(Some(format!(in alloc; "{fault}")?)),
-    };
-    if verb == "says" {
-        return Ok(Some(says(alloc, &journal)?));
-    }
-    Ok(Some(of_segment(alloc, &journal, verb, words)?))
+    let mut journal = Journal::load(alloc, line)?;
+    of_journal(alloc, &mut journal, line, verb, words, told)
 }

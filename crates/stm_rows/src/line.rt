@@ -65,6 +65,35 @@ impl Other {
     }
 }
 
+/// How many gets waited briefly, long, and long behind 7F, since the line turned last.
+#[derive(Clone, Copy)]
+pub struct Waits {
+    pub brief: u64,
+    pub long: u64,
+    pub connecting: u64,
+}
+
+impl Waits {
+    /// Counts a get, behind this byte that was put last.
+    fn add(&mut self, patience: Patience, last: u8) {
+        match patience {
+            Patience::Brief => self.brief = self.brief.saturating_add(1),
+            Patience::Long => {
+                self.long = self.long.saturating_add(1);
+                if last == 0x7F {
+                    self.connecting = self.connecting.saturating_add(1);
+                }
+            }
+        }
+    }
+}
+
+const NO_WAITS: Waits = Waits {
+    brief: 0,
+    long: 0,
+    connecting: 0,
+};
+
 #[derive(Drop)]
 pub struct Line {
     pub memory: MemoryRig,
@@ -73,6 +102,7 @@ pub struct Line {
     due: u64,
     came: u64,
     pub other: Other,
+    pub waits: Waits,
 }
 
 impl Line {
@@ -89,6 +119,7 @@ impl Line {
                 list,
                 place: 0,
             },
+            waits: NO_WAITS,
         }
     }
 
@@ -97,6 +128,7 @@ impl Line {
         self.trouble = trouble;
         self.due = due;
         self.came = 0;
+        self.waits = NO_WAITS;
     }
 
     fn is_listened_to(&self) -> bool {
@@ -136,6 +168,7 @@ impl Rig for Line {
     }
 
     fn get(&mut self, patience: Patience) -> Result<Option<u8>, RigFault> {
+        self.waits.add(patience, self.other.last);
         let sent = self.memory.get(patience)?;
         if !self.is_listened_to() {
             return Ok(self.other.says(self.trouble));

@@ -8,27 +8,32 @@
 // steps behind a letter: l of the line, j of the journal, o of the journal with an `open` line. Only
 // those at most NEAR from where a part begins or ends, or that STRIDE divides.
 use crate::bytes::{hexadecimal, number};
-use crate::names::Names;
+use crate::names::{Names, words_of};
 use crate::stopping::Stop;
 use std::alloc::Global;
 
-/// Gives each of the names its value.
-fn name_all(names: &mut Names, listed: &str, values: &str) -> Result<(), Stop> {
+/// Gives each of the names its value, and tells where the loop is.
+fn name_all(
+    names: &mut Names,
+    listed: &str,
+    values: &str,
+    place: u64,
+) -> Result<Option<u64>, Stop> {
     let mut left = values.split(',');
     for name in listed.split(',') {
         names.name(name, left.next().ok_or(Stop::Words)?)?;
     }
-    Ok(())
+    Ok(Some(place))
 }
 
-/// Whether the numbers of `NAME[,HEX] FROM TO [STEP [BASE]]` have one in this place, which is named.
+/// Names the number of `NAME[,HEX] FROM TO [STEP [BASE]]` in this place, if there is one.
 fn name_number(
     alloc: Global,
     names: &mut Names,
     listed: &str,
     words: &[&str],
     place: u64,
-) -> Result<bool, Stop> {
+) -> Result<Option<u64>, Stop> {
     let [from, to, rest @ ..] = words else {
         return Err(Stop::Words);
     };
@@ -36,12 +41,11 @@ fn name_number(
     let base = hexadecimal(rest.get(1).unwrap_or(&"0"))?;
     let value = place.saturating_mul(step).saturating_add(number(from)?);
     if value >= number(to)? {
-        return Ok(false);
+        return Ok(None);
     }
     let sum = u64::from(base).saturating_add(value);
     let values = format!(in alloc; "{value},{sum:08X}")?;
-    name_all(names, listed, values.as_str())?;
-    Ok(true)
+    name_all(names, listed, values.as_str(), place)
 }
 
 /// A part of a run.
@@ -129,31 +133,36 @@ fn name_stop(
     };
     let (steps, answer, begun) = (stop.steps, stop.answer, stop.begun);
     let values = format!(in alloc; "{steps},{answer},{begun}")?;
-    name_all(names, listed, values.as_str())?;
-    Ok(Some(steps))
+    name_all(names, listed, values.as_str(), steps)
 }
 
-/// Gives the names of a loop their values in this place or the next one that has any, and tells that
-/// place.
-fn name_at(alloc: Global, names: &mut Names, line: &str, place: u64) -> Result<Option<u64>, Stop> {
-    let line = names.expand(line)?;
-    let words: Vec<&str> = line.as_str().split(' ').collect(alloc)?;
-    let [verb, listed, rest @ ..] = words.as_slice() else {
+/// Gives the names of a loop of these words their values in this place or the next one that has any,
+/// and tells that place.
+fn name_words(
+    alloc: Global,
+    names: &mut Names,
+    words: &[&str],
+    place: u64,
+) -> Result<Option<u64>, Stop> {
+    let [verb, listed, rest @ ..] = words else {
         return Err(Stop::Words);
     };
-    if *verb == "stops" {
-        return name_stop(alloc, names, listed, rest, place);
+    match *verb {
+        "stops" => name_stop(alloc, names, listed, rest, place),
+        "each" => name_number(alloc, names, listed, rest, place),
+        _ => match rest.get(place as usize) {
+            Some(values) => name_all(names, listed, values, place),
+            None => Ok(None),
+        },
     }
-    if *verb == "each" {
-        return Ok(name_number(alloc, names, listed, rest, place)?.then_some(place));
-    }
-    match rest.get(place as usize) {
-        Some(values) => {
-            name_all(names, listed, values)?;
-            Ok(Some(place))
-        }
-        None => Ok(None),
-    }
+}
+
+/// The same of a line.
+fn name_at(alloc: Global, names: &mut Names, line: &str, place: u64) -> Result<Option<u64>, Stop> {
+    let mut text = String::new(alloc);
+    names.expand(line, &mut text)?;
+    let words = words_of(alloc, text.as_str())?;
+    name_words(alloc, names, &words, place)
 }
 
 /// Whether a line is a loop.

@@ -9,8 +9,8 @@
 //! - `row NAME..`, and its lines up to an empty one: its loops (`loops.rt`), and what is done, one act a
 //!   line: `WORD WORDS.. [= ANSWER [| ANSWER]..]`. An act is a call of a session (`sessions.rt`), which
 //!   answers one of these texts (*: any), `after STEPS` and a call, which is stopped so; what else is
-//!   done (`acts.rt`); what is to be so then (`looks.rt`); or a call of the libraries of images,
-//!   chips and journals (`images.rt`, `chips.rt`, `journals.rt`).
+//!   done (`acts.rt`); what is to be so then (`looks.rt`); a call of the line (`wire.rt`); or a call of
+//!   the libraries of images, chips and journals (`images.rt`, `chips.rt`, `journals.rt`).
 //!
 //! It writes a line for each row that differs, with the values of its loops, and how many rows each
 //! file has, how often they were played, and how many differ. Its status is 1 where one does.
@@ -33,6 +33,7 @@ mod sent_lists;
 mod sessions;
 mod stage;
 mod stopping;
+mod wire;
 
 use rows::play_file;
 use std::process::ExitCode;

@@ -16,6 +16,17 @@ pub struct Names {
     all: Vec<Named>,
 }
 
+/// The words of a line; two of them may have more than one space between them.
+pub fn words_of(alloc: Global, line: &str) -> Result<Vec<&str>, Stop> {
+    let mut words = Vec::new(alloc);
+    for word in line.split(' ') {
+        if !word.is_empty() {
+            words.push(word)?;
+        }
+    }
+    Ok(words)
+}
+
 impl Names {
     pub fn new(alloc: Global) -> Names {
         Names {
@@ -51,21 +62,24 @@ impl Names {
         Err(Stop::Words)
     }
 
-    /// A line with the words of each `$NAME`, at the end of a word, in its place.
-    pub fn expand(&self, line: &str) -> Result<String, Stop> {
-        let mut text = String::new(self.alloc);
+    /// Adds a word, or the words of `$NAME` at its end.
+    fn add(&self, word: &str, text: &mut String) -> Result<(), Stop> {
+        let Some((before, name)) = word.split_once('$') else {
+            return Ok(text.push_str(word)?);
+        };
+        text.push_str(before)?;
+        Ok(text.push_str(self.find(name)?)?)
+    }
+
+    /// Makes the text a line with the words of each `$NAME`, at the end of a word, in its place.
+    pub fn expand(&self, line: &str, text: &mut String) -> Result<(), Stop> {
+        text.clear();
         for word in line.split(' ') {
             if !text.is_empty() {
                 text.push(' ')?;
             }
-            match word.split_once('$') {
-                Some((before, name)) => {
-                    text.push_str(before)?;
-                    text.push_str(self.find(name)?)?;
-                }
-                None => text.push_str(word)?,
-            }
+            self.add(word, text)?;
         }
-        Ok(text)
+        Ok(())
     }
 }

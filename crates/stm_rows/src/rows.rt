@@ -4,16 +4,15 @@ use crate::bytes::number;
 use crate::chips::tell_chip;
 use crate::images::tell_image;
 use crate::journals::tell_journal;
-use crate::line::Line;
-use crate::looks::{look, tell_count};
+use crate::looks::{look, tell};
 use crate::loops::{Loops, is_loop};
-use crate::names::Names;
-use crate::sessions::{board_text, call};
+use crate::names::{Names, words_of};
+use crate::sessions::{call, tell_board};
 use crate::stage::{Stage, Tables};
 use crate::stopping::Stop;
+use crate::wire::wire;
 use std::alloc::Global;
 use std::{fs, io};
-use stm_chip::Table;
 use stm_session::ask_board;
 
 /// What all rows of a file share, and what came of them.
@@ -27,9 +26,6 @@ struct Played {
     differ: u64,
 }
 
-/// What an act answers where it isn't as it is due; None: it is.
-type Other = Option<String>;
-
 /// Whether the answer is one of those that are due.
 fn is_due(answer: &str, due: &str) -> bool {
     for one in due.split('|') {
@@ -41,163 +37,151 @@ fn is_due(answer: &str, due: &str) -> bool {
     false
 }
 
-/// An answer that isn't due.
-fn unless_due(answer: String, due: &str) -> Other {
-    if is_due(answer.as_str(), due) {
-        None
-    } else {
-        Some(answer)
-    }
-}
-
-/// Tells where something isn't so.
-fn unless(alloc: Global, is_so: bool) -> Result<Other, Stop> {
-    if is_so {
-        Ok(None)
-    } else {
-        Ok(Some(String::from_str(alloc, "not so")?))
-    }
-}
-
-/// What a call of a session on this line answers; None: it's none.
-fn answer_on(
-    stage: &Stage,
-    tables: &Tables,
-    line: &mut Line,
-    verb: &str,
-    words: &[&str],
-) -> Result<Option<String>, Stop> {
-    match &stage.own {
-        Some(table) => call(stage.alloc, line, table, verb, words),
-        None => call(stage.alloc, line, tables.at(stage.table)?, verb, words),
-    }
-}
-
-/// Does a call of a session, and tells what it answers; None: it's none.
-fn answered(
+/// Does a call of a session or of the line, and tells what it answers; false: it's none.
+fn called(
     stage: &mut Stage,
     tables: &Tables,
     verb: &str,
     words: &[&str],
-) -> Result<Option<String>, Stop> {
-    let Some(mut line) = stage.line.take() else {
-        return Ok(None);
+    told: &mut String,
+) -> Result<bool, Stop> {
+    let Some(line) = &mut stage.line else {
+        return Ok(false);
     };
+    if tell_journal(stage.alloc, line, verb, words, told)? {
+        return Ok(true);
+    }
     let before = line.memory.calls().len();
-    let answer = answer_on(stage, tables, &mut line, verb, words);
-    stage.line = Some(line);
-    if matches!(answer, Ok(Some(_))) {
+    let is_called = if verb == "wire" {
+        wire(stage.alloc, line, words, told).map(|()| true)
+    } else {
+        let table = match &stage.own {
+            Some(table) => table,
+            None => tables.at(stage.table)?,
+        };
+        call(stage.alloc, line, table, verb, words, told)
+    };
+    if !matches!(is_called, Ok(false)) {
         stage.before = before;
     }
-    answer
+    is_called
 }
 
 /// Asks which board it is, which makes a chip of the table its own; tells that, and its pages.
-fn own(stage: &mut Stage, tables: &Tables, words: &[&str]) -> Result<String, Stop> {
+fn own(stage: &mut Stage, tables: &Tables, words: &[&str], told: &mut String) -> Result<(), Stop> {
     let id = words.first().ok_or(Stop::Words)?;
     let (alloc, place) = (stage.alloc, stage.table);
-    let Ok(board) = ask_board(alloc, stage.line()?, tables.at(place)?) else {
-        return Err(Stop::Words);
-    };
-    let told = board_text(alloc, &board)?;
+    let board = ask_board(alloc, stage.line()?, tables.at(place)?)?;
+    tell_board(&board, told)?;
     let table = tables.own(place, id, board)?;
     let pages = table.find(board.id).ok_or(Stop::Words)?.pages();
     stage.own = Some(table);
-    Ok(format!(in alloc; "{told} {pages}")?)
+    Ok(write!(told, " {pages}")?)
 }
 
 /// The same of a call that is stopped after so many steps; the stop is lifted then.
-fn stopped(stage: &mut Stage, tables: &Tables, words: &[&str]) -> Result<Option<String>, Stop> {
+fn stopped(
+    stage: &mut Stage,
+    tables: &Tables,
+    words: &[&str],
+    told: &mut String,
+) -> Result<bool, Stop> {
     let [steps, verb, rest @ ..] = words else {
         return Err(Stop::Words);
     };
     stage.line()?.memory.stop_after(number(steps)?);
-    let answer = answered(stage, tables, verb, rest)?;
+    let is_called = called(stage, tables, verb, rest, told);
     stage.line()?.memory.stop_after(u64::MAX);
-    Ok(answer)
+    is_called
 }
 
-/// What a library tells, or a call of a session answers; None: it's neither.
-fn told(
+/// Does an act that isn't answered by a text, and tells where it isn't so.
+fn act_or_look(
     stage: &mut Stage,
     tables: &Tables,
     verb: &str,
     words: &[&str],
-) -> Result<Option<String>, Stop> {
-    let alloc = stage.alloc;
-    if let Some(told) = tell_image(alloc, verb, words)? {
-        return Ok(Some(told));
+    told: &mut String,
+) -> Result<(), Stop> {
+    let is_so = match act(stage, tables, verb, words)? {
+        Some(is_done) => is_done,
+        None => look(stage, verb, words)?.ok_or(Stop::Words)?,
+    };
+    if !is_so {
+        told.push_str("not so")?;
     }
-    if let Some(told) = tell_chip(alloc, verb, words)? {
-        return Ok(Some(told));
-    }
-    if let Some(line) = &mut stage.line {
-        if let Some(told) = tell_journal(alloc, line, verb, words)? {
-            return Ok(Some(told));
-        }
-    }
-    answered(stage, tables, verb, words)
+    Ok(())
 }
 
-/// What isn't as it is due of an act.
-fn play_words(
+/// Does an act, and tells what it answers.
+fn answer(
     stage: &mut Stage,
     tables: &Tables,
     words: &[&str],
-    due: &str,
-) -> Result<Other, Stop> {
-    let alloc = stage.alloc;
+    told: &mut String,
+) -> Result<(), Stop> {
     let [verb, rest @ ..] = words else {
         return Err(Stop::Words);
     };
-    let answer = match *verb {
-        "after" => stopped(stage, tables, rest)?,
-        "own" => Some(own(stage, tables, rest)?),
-        _ => told(stage, tables, verb, rest)?,
+    let alloc = stage.alloc;
+    if *verb == "own" {
+        return own(stage, tables, rest, told);
+    }
+    let is_told = if *verb == "after" {
+        stopped(stage, tables, rest, told)?
+    } else {
+        tell_image(alloc, verb, rest, told)?
+            || tell_chip(alloc, verb, rest, told)?
+            || called(stage, tables, verb, rest, told)?
+            || tell(stage, verb, rest, told)?
     };
-    if let Some(answer) = answer {
-        return Ok(unless_due(answer, due));
+    if is_told {
+        return Ok(());
     }
-    if let Some(count) = tell_count(stage, verb, rest)? {
-        return Ok(unless_due(count, due));
-    }
-    if let Some(is_done) = act(stage, tables, verb, rest)? {
-        return unless(alloc, is_done);
-    }
-    match look(stage, verb, rest)? {
-        Some(is_so) => unless(alloc, is_so),
-        None => Err(Stop::Words),
-    }
+    act_or_look(stage, tables, verb, rest, told)
 }
 
-/// What isn't as it is due of a line.
-fn play_line(stage: &mut Stage, tables: &Tables, line: &str) -> Result<Other, Stop> {
+/// Whether a line is as it is due; and what it answers.
+fn play_line(
+    stage: &mut Stage,
+    tables: &Tables,
+    line: &str,
+    told: &mut String,
+) -> Result<bool, Stop> {
     let (done, due) = line.split_once(" =").unwrap_or((line, ""));
-    let words: Vec<&str> = done
-        .split(' ')
-        .filter(|word| !word.is_empty())
-        .collect(stage.alloc)?;
-    play_words(stage, tables, &words, due)
+    let words = words_of(stage.alloc, done)?;
+    told.clear();
+    match answer(stage, tables, &words, told) {
+        Err(Stop::Words) => return Err(Stop::Words),
+        Err(Stop::Memory) => return Err(Stop::Memory),
+        Err(stop) => {
+            told.clear();
+            stop.tell(told)?;
+        }
+        Ok(()) => {}
+    }
+    Ok(is_due(told.as_str(), due))
 }
 
-/// The first line of a row that isn't as it is due, and what came.
+/// The first line of a row that isn't as it is due; what it is with its values, and what came.
 fn play_lines(
-    alloc: Global,
+    stage: &mut Stage,
     names: &Names,
     tables: &Tables,
     lines: &[&str],
-) -> Result<Option<(usize, String)>, Stop> {
-    let mut stage = Stage::new(alloc);
-    for (place, line) in lines.iter().enumerate() {
+    (expanded, told): (&mut String, &mut String),
+) -> Result<bool, Stop> {
+    for line in lines {
         if line.starts_with('#') {
             continue;
         }
-        let expanded = names.expand(line)?;
-        if let Some(other) = play_line(&mut stage, tables, expanded.as_str())? {
-            return Ok(Some((place, other)));
+        names.expand(line, expanded)?;
+        if !play_line(stage, tables, expanded.as_str(), told)? {
+            return Ok(false);
         }
     }
-    Ok(None)
+    expanded.clear();
+    Ok(true)
 }
 
 impl Played {
@@ -213,23 +197,22 @@ impl Played {
     }
 
     /// Tells what differs.
-    fn tell(&mut self, rt: &HostRuntime, row: &str, line: &str, came: &str) -> Result<(), Stop> {
+    fn tell(&mut self, rt: &HostRuntime, row: &str, values: &str, came: &str) -> io::Result<()> {
         self.differ = self.differ.saturating_add(1);
-        let values = self.names.expand(line)?;
-        println!(rt; "{row}: {values}: {came}")?;
-        Ok(())
+        println!(rt; "{row}: {values}: {came}")
     }
 
     /// Plays a row once.
-    fn play_once(&mut self, rt: &HostRuntime, row: &str, lines: &[&str]) -> Result<(), Stop> {
+    fn play_once(&mut self, rt: &HostRuntime, row: &str, lines: &[&str]) -> io::Result<()> {
         self.times = self.times.saturating_add(1);
-        match play_lines(self.alloc, &self.names, &self.tables, lines) {
-            Ok(None) => Ok(()),
-            Ok(Some((place, came))) => {
-                let line = lines.get(place).unwrap_or(&"");
-                self.tell(rt, row, line, came.as_str())
-            }
-            Err(stop) => self.tell(rt, row, "", stop.text()),
+        let mut stage = Stage::new(self.alloc);
+        let mut line = String::new(self.alloc);
+        let mut told = String::new(self.alloc);
+        let texts = (&mut line, &mut told);
+        match play_lines(&mut stage, &self.names, &self.tables, lines, texts) {
+            Ok(true) => Ok(()),
+            Ok(false) => self.tell(rt, row, line.as_str(), told.as_str()),
+            Err(stop) => self.tell(rt, row, line.as_str(), stop.text()),
         }
     }
 
@@ -251,20 +234,26 @@ impl Played {
         Ok(())
     }
 
-    /// A line outside of rows.
-    fn read(&mut self, rt: &HostRuntime, line: &str) -> Result<(), Stop> {
-        let line = self.names.expand(line)?;
-        match line.as_str().split_once(' ') {
-            Some(("let", rest)) => match rest.split_once(' ') {
-                Some((name, words)) => self.names.name(name, words),
-                None => self.names.name(rest, ""),
-            },
+    /// A line outside of rows, whose words these are.
+    fn read_words(&mut self, rt: &HostRuntime, line: &str) -> Result<(), Stop> {
+        match line.split_once(' ') {
+            Some(("let", rest)) => {
+                let (name, words) = rest.split_once(' ').unwrap_or((rest, ""));
+                self.names.name(name, words)
+            }
             Some(("table", rest)) => {
-                let words: Vec<&str> = rest.split(' ').collect(self.alloc)?;
+                let words = words_of(self.alloc, rest)?;
                 self.tables.read(rt, &words)
             }
             _ => Err(Stop::Words),
         }
+    }
+
+    /// A line outside of rows.
+    fn read(&mut self, rt: &HostRuntime, line: &str) -> Result<(), Stop> {
+        let mut text = String::new(self.alloc);
+        self.names.expand(line, &mut text)?;
+        self.read_words(rt, text.as_str())
     }
 
     /// Plays a block of lines: a row, or lines outside of rows.

@@ -24,24 +24,35 @@ pub struct Tables {
     all: Vec<Tabled>,
 }
 
-/// The chip of a board that told this unique id, and so many KiB.
-fn told(alloc: Global, chip: Chip, words: &[&str]) -> Result<Chip, Stop> {
+/// The unique id of these words, and how many KiB there are.
+fn told(alloc: Global, words: &[&str]) -> Result<(UniqueId, Option<u32>), Stop> {
     let [unique, rest @ ..] = words else {
-        return Ok(chip);
+        return Ok((UniqueId::none(), None));
     };
-    let bytes = bytes_of(alloc, &[*unique])?;
-    let unique = UniqueId::of(&bytes).ok_or(Stop::Words)?;
+    let unique = UniqueId::of(&bytes_of(alloc, &[*unique])?).ok_or(Stop::Words)?;
     match rest {
-        [] => Ok(chip.of_board(unique)),
-        [kib, ..] => Ok(chip.cut(count_of(kib)?).of_board(unique)),
+        [] => Ok((unique, None)),
+        [kib, ..] => Ok((unique, Some(count_of(kib)?))),
     }
 }
 
-fn table_of(alloc: Global, text: &[u8]) -> Result<Table, Stop> {
-    match read_table(alloc, text) {
-        Ok(table) => Ok(table),
-        Err(_) => Err(Stop::Words),
+/// The chip of a board that told this unique id, and so many KiB.
+fn of_board(chip: Chip, unique: UniqueId, kib: Option<u32>) -> Chip {
+    match kib {
+        Some(kib) => chip.cut(kib).of_board(unique),
+        None => chip.of_board(unique),
     }
+}
+
+/// The table of a text, or that of a board of one of its chips.
+fn table_of(alloc: Global, text: &[u8], words: &[&str]) -> Result<Table, Stop> {
+    let table = read_table(alloc, text)?;
+    let [id, board @ ..] = words else {
+        return Ok(table);
+    };
+    let (unique, kib) = told(alloc, board)?;
+    let chip = copy_of(&table, id)?;
+    Ok(table.with_chip(of_board(chip, unique, kib)))
 }
 
 fn copy_of(table: &Table, id: &str) -> Result<Chip, Stop> {
@@ -63,18 +74,7 @@ impl Tables {
             return Err(Stop::Words);
         };
         let text = fs::read(rt, *file)?;
-        let table = table_of(self.alloc, &text)?;
-        self.add(name, text, table, rest)
-    }
-
-    fn add(&mut self, name: &str, text: Vec<u8>, table: Table, words: &[&str]) -> Result<(), Stop> {
-        let table = match words {
-            [id, board @ ..] => {
-                let chip = told(self.alloc, copy_of(&table, id)?, board)?;
-                table.with_chip(chip)
-            }
-            [] => table,
-        };
+        let table = table_of(self.alloc, &text, rest)?;
         let name = String::from_str(self.alloc, name)?;
         self.all.push(Tabled { name, text, table })?;
         Ok(())
@@ -84,7 +84,7 @@ impl Tables {
     pub fn own(&self, place: usize, id: &str, board: Board) -> Result<Table, Stop> {
         let tabled = self.all.get(place).ok_or(Stop::Words)?;
         let chip = board.chip_of(copy_of(&tabled.table, id)?);
-        Ok(table_of(self.alloc, &tabled.text)?.with_chip(chip))
+        Ok(read_table(self.alloc, &tabled.text)?.with_chip(chip))
     }
 
     /// Where the table of this name stands.
@@ -103,20 +103,13 @@ impl Tables {
             None => Err(Stop::Words),
         }
     }
+}
 
-    /// A fresh device with this chip of a table, this flash and this journal.
-    fn device(
-        &self,
-        place: usize,
-        id: &str,
-        flash: Vec<u8>,
-        journal: Vec<u8>,
-    ) -> Result<Line, Stop> {
-        let chip = copy_of(self.at(place)?, id)?;
-        match MemoryRig::new(self.alloc, chip, flash, journal) {
-            Some(memory) => Ok(Line::new(memory, Vec::new(self.alloc))),
-            None => Err(Stop::Words),
-        }
+/// A fresh device with this chip, this flash and this journal.
+fn device(alloc: Global, chip: Chip, flash: Vec<u8>, journal: Vec<u8>) -> Result<Line, Stop> {
+    match MemoryRig::new(alloc, chip, flash, journal) {
+        Some(memory) => Ok(Line::new(memory, Vec::new(alloc))),
+        None => Err(Stop::Words),
     }
 }
 
@@ -167,9 +160,10 @@ impl Stage {
             return Err(Stop::Words);
         };
         let (flash, journal) = parts(rest);
+        let chip = copy_of(tables.at(self.table)?, id)?;
         let flash = bytes_of(self.alloc, flash)?;
         let journal = bytes_of(self.alloc, journal)?;
-        self.line = Some(tables.device(self.table, id, flash, journal)?);
+        self.line = Some(device(self.alloc, chip, flash, journal)?);
         self.before = 0;
         Ok(())
     }
@@ -179,9 +173,10 @@ impl Stage {
         let [id, flash @ ..] = words else {
             return Err(Stop::Words);
         };
+        let chip = copy_of(tables.at(self.table)?, id)?;
         let flash = bytes_of(self.alloc, flash)?;
         let journal = Vec::from_slice(self.alloc, self.line()?.memory.journal())?;
-        let other = tables.device(self.table, id, flash, journal)?;
+        let other = device(self.alloc, chip, flash, journal)?;
         self.aside = self.line.replace(other);
         self.before = 0;
         Ok(())
