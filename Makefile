@@ -118,16 +118,16 @@ tests:
 	@without=$$(sh tools/packages) && python3 tests/run bin/stmflash-unproved --without $(FORBIDDEN) $$without $(WITHOUT)
 
 # the crate that has the tests of a library, or plays its rows
-TESTS_stm_wire = stm_wire_tests
-TESTS_stm_sim = stm_wire_tests
-TESTS_stm_watch = stm_watch_tests
-TESTS_stm_line = stm_watch_tests
-TESTS_stm_disk = stm_disk_tests
+TESTS_stm_wire = stm_rows
+TESTS_stm_sim = stm_rows
+TESTS_stm_watch = stm_tests
+TESTS_stm_line = stm_tests
+TESTS_stm_disk = stm_tests
 TESTS_stm_image = stm_rows
 TESTS_stm_chip = stm_rows
 TESTS_stm_journal = stm_rows
 TESTS_stm_session = stm_rows
-TESTS_stm_any_line = stm_session_tests
+TESTS_stm_any_line = stm_tests
 TESTS_stm_weak = stm_rows
 NAMED = $(if $(wildcard crates/$(CRATE)/src),$(CRATE),$(error CRATE= is the name of a crate, one of $(notdir $(wildcard crates/*))))
 

@@ -34,8 +34,7 @@ def headings(text):
 
 
 # crates that no call of a user comes to: tests and what is measured, Rigs for proofs, and what is told of a stored simulator
-UNCALLED = ("stm_wire_tests", "stm_watch_tests", "stm_disk_tests", "stm_tests", "stm_session_tests", "stm_rows", "bench", "refused_memory", "stm_histories",
-         "stm_line")
+UNCALLED = ("stm_tests", "stm_rows", "bench", "refused_memory", "stm_histories", "stm_line")
 # faults that hand on what the memory, the line, or a file of the system said
 HANDED_ON = re.compile(r"::(?:Memory|Session|of_\w+|from|other)$|^(?:RigFault|io::Error)::|Fault::(?:Line|Journal|File)$")
 # what `make pages` makes: each tool with its page

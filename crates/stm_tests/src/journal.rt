@@ -7,7 +7,7 @@ mod places;
 
 use std::alloc::Global;
 use std::test::Fail;
-use stm_journal::{Journal, JournalFault};
+use stm_journal::Journal;
 use stm_sim::MemoryRig;
 use stm_wire::{Chip, EraseKind};
 
@@ -22,27 +22,6 @@ pub(crate) fn rig_with(alloc: Global, bytes: &[u8]) -> Result<MemoryRig, Fail> {
     let flash = vec![in alloc; 0xFF; 256]?;
     let journal = Vec::from_slice(alloc, bytes)?;
     Ok(MemoryRig::new(alloc, one_page(alloc)?, flash, journal).ok_or("length")?)
-}
-
-/// Why these bytes are no journal.
-pub(crate) fn fault_of(alloc: Global, bytes: &[u8]) -> Result<Option<JournalFault>, Fail> {
-    let mut rig = rig_with(alloc, bytes)?;
-    Ok(Journal::load(alloc, &mut rig).err())
-}
-
-/// The first of these beginnings of a journal, each `step` bytes longer than the one before, that
-/// doesn't load.
-pub(crate) fn first_beginning(
-    alloc: Global,
-    bytes: &[u8],
-    step: usize,
-) -> Result<Option<usize>, Fail> {
-    for n in 0..=bytes.len() {
-        if n.checked_rem(step) == Some(0) && fault_of(alloc, &bytes[..n])?.is_some() {
-            return Ok(Some(n));
-        }
-    }
-    Ok(None)
 }
 
 /// The journal that these bytes are, and its Rig.

@@ -1,8 +1,8 @@
-// Journals of real size: longer than a loader reads at once, and with the longest page.
+// Journals that calls write, longer than a loader reads at once, and with the longest page.
 ghost use Rattle.std.specs.Prelude.{◌<◌, length, AllPairs};
 
 use crate::journal::call_order::write_pages;
-use crate::journal::{KeptRow, fault_of, first_kept, rig_with};
+use crate::journal::{KeptRow, first_kept, rig_with};
 use crate::verdicts::passes;
 use std::alloc::{AllocError, Global};
 use std::test::Fail;
@@ -113,43 +113,4 @@ fn is_longest_page_loaded(alloc: Global) -> Result<bool, Fail> {
 #[test]
 fn a_page_of_131072_bytes(rt: HostRuntime) -> Result<(), Fail> {
     passes(is_longest_page_loaded(rt.alloc())?)
-}
-
-/// A whole segment of one page.
-fn segment(alloc: Global, k: u32, n: u32) -> Result<String, AllocError> {
-    format!(in alloc; "open {k}\npage {n} 00FF5A\nerase {n}\nprogram {n}\nend {k}\n")
-}
-
-/// Whole segments of one page each, as many as are told, and a line.
-fn segments(alloc: Global, count: u32, last: &str) -> Result<String, AllocError> {
-    let mut text = String::from_str(alloc, "stmjournal 1 0412\n")?;
-    for k in 1..=count {
-        text.push_str(&segment(alloc, k, k % 32)?)?;
-    }
-    text.push_str(last)?;
-    Ok(text)
-}
-
-const SEVERAL: Large = (
-    501,
-    true,
-    &[(1, 0, Some((1, 3))), (500, 0, Some((20, 2498)))],
-);
-
-/// Whether a journal of several buffers is loaded.
-fn are_several_loaded(alloc: Global) -> Result<bool, Fail> {
-    let text = segments(alloc, 500, "open 501\n")?;
-    let mut rig = rig_with(alloc, text.as_bytes())?;
-    Ok(is_loaded_as(alloc, &mut rig, SEVERAL))
-}
-
-#[test]
-fn a_journal_of_several_buffers(rt: HostRuntime) -> Result<(), Fail> {
-    passes(are_several_loaded(rt.alloc())?)
-}
-
-#[test]
-fn a_journal_of_several_buffers_with_a_number_twice(rt: HostRuntime) -> Result<(), Fail> {
-    let text = segments(rt.alloc(), 500, "open 500\n")?;
-    passes(fault_of(rt.alloc(), text.as_bytes())? == Some(JournalFault::Bad(2502)))
 }

@@ -1,6 +1,6 @@
 // Lines that are added to a file, in pieces.
-use crate::failing_file::FileCall::{Append, Sync};
-use crate::failing_file::{FailingFile, FileCall};
+use crate::disk::failing_file::FileCall::{Append, Sync};
+use crate::disk::failing_file::{FailingFile, FileCall};
 use std::alloc::Global;
 use std::test::Fail;
 use stm_disk::add_lines;

@@ -1,5 +1,5 @@
 // A session over a line that is recorded, and over its record again.
-use crate::watched::{device, write};
+use crate::watch::watched::{device, write};
 use std::alloc::Global;
 use std::test::Fail;
 use stm_line::{Answered, Course, RecordingRig, ReplayedRig};

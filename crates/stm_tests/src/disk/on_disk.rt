@@ -1,18 +1,9 @@
 // A device in memory, with its journal in a file.
-use crate::failing_file::FailingFile;
-use std::alloc::Global;
+use crate::disk::failing_file::FailingFile;
+use crate::watch::watched::device;
 use std::test::Fail;
 use stm_disk::{DiskRig, memory_disk};
-use stm_sim::MemoryRig;
-use stm_wire::{Chip, EraseKind, Patience, Rig, RigFault, WireFault, connect, get_id};
-
-/// A device whose flash is all 00.
-fn device(alloc: Global) -> Result<MemoryRig, Fail> {
-    let sizes = vec![in alloc; 256; 4]?;
-    let chip = Chip::new(0xA01, 0x0800_0000, sizes, EraseKind::Extended, 0xFF).ok_or("limits")?;
-    let flash = vec![in alloc; 0x00; 1024]?;
-    Ok(MemoryRig::new(alloc, chip, flash, Vec::new(alloc)).ok_or("length")?)
-}
+use stm_wire::{Patience, Rig, RigFault, WireFault, connect, get_id};
 
 /// The device's id, between two appends, and the first bytes of the journal then.
 fn ask<R: Rig>(rig: &mut R) -> Result<(u16, [u8; 12], usize), WireFault> {

@@ -1,15 +1,9 @@
-// The laws of what is known of a watched device, and a session's record, byte by byte.
-use crate::watched::{chip, device, write};
+// A session's record, heard byte by byte.
+use crate::watch::watched::{chip, device, write};
 use std::alloc::Global;
 use std::test::Fail;
-use stm_watch::{Watch, honest_passes, watched_is_heard_of};
+use stm_watch::Watch;
 use stm_wire::{RigCall, connect, get_commands};
-
-#[test]
-fn the_laws_are_had(_rt: HostRuntime) {
-    honest_passes();
-    watched_is_heard_of();
-}
 
 /// Feeds what was put, hears what came, the byte of one number complemented, and answers the number
 /// of the first byte that is refused; the first to come is 1.

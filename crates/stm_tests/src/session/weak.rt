@@ -1,6 +1,6 @@
 // A write whose page a loss of power leaves weak, and its undo: it reads that page only once it was
 // erased whole, so the line that answers no such read doesn't fail.
-use crate::greeting::{counting, failed_at, is_counting, the_table};
+use crate::session::greeting::{counting, failed_at, is_counting, the_table};
 use std::test::Fail;
 use stm_chip::Table;
 use stm_image::read_raw;

@@ -1,0 +1,3 @@
+// Sessions behind stops, with greetings and with weak pages.
+mod greeting;
+mod weak;

@@ -1,0 +1,4 @@
+// Lines that are watched, and lines that are recorded.
+mod heard;
+mod recorded;
+pub mod watched;
