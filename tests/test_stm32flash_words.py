@@ -189,7 +189,7 @@ class Refusals(Words):
         self.assertEqual((said.status, said.out, said.err[:6]), (0, b"", b"Usage:"))
         said = self.words("-r", "a", port=None)
         self.assertEqual((said.status, said.err.splitlines()[0]), (1, b"ERROR: Device not specified"))
-        self.assertIn(b"nothing was written or erased yet; journals would stand in ", self.words("--log", port="none").out)
+        self.assertIn(b"nothing was written or erased yet; journals would stand in ", self.words("--log", port="/dev/null").out)
 
     def test_a_port_that_isnt_there(self):
         """Where its journals stand isn't known then."""

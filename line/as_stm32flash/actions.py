@@ -3,8 +3,6 @@
 import contextlib
 import os
 
-from stmflash_line.sockets import named
-
 from . import handed
 from . import part as parts
 from .fault import Failed, Fault
@@ -139,6 +137,7 @@ class Actions:
         if data is None:
             return self.board.use("write", *options, f"{image.path}@", show=show)
         held = os.memfd_create("image")
+        from stmflash_line.sockets import named
         with open(held, "r+b") as file:
             file.write(data)
             file.flush()
