@@ -20,7 +20,7 @@ use Rattle.stm_work.specs.StepsText.{steps_text}
 use Rattle.stmflash.specs.Confirmation.{IsConfirmed, wants_yes}
 use Rattle.stmflash.specs.JournalTasks.{TellsKept, TellsLog}
 use Rattle.stmflash.specs.Standing.{StandsFor}
-use Rattle.stmflash.specs.Tables.{AreStanding}
+use Rattle.stmflash.specs.Tables.{AreStanding, IsUsersName}
 use Rattle.stmflash.specs.TaskUse.{UsesTask}
 use Rattle.stmflash.specs.declared.variables.Variables.{Variables}
 use Rattle.stm_work.specs.ToldJson.{AreLines, answer_name}
@@ -103,8 +103,10 @@ IsWell simulated connected e words is_there typed left old new =
 pub record IsWellBy {A B : Type 0} (simulated : A → RigState) (connected : B → RigState)
     (variables : Variables) (words : List (List ℕ)) (is_there : Bool)
     (typed left old new : Option (List ℕ)) : Type 0 where
+  pub users : Option (List ℕ)
+  pub named : IsUsersName variables.config_home variables.home users
   pub tables : List (Bor (List ℕ))
-  pub are : AreStanding (option_map string_bytes variables.users_table) tables
+  pub are : AreStanding users tables
   pub standing : Environment
   pub stands : StandsFor variables tables standing
   pub well : IsWell simulated connected standing words is_there typed left old new

@@ -1,8 +1,9 @@
 -- What stands in the place of words that aren't given.
-use Rattle.std.specs.Prelude.{◌≡◌, ℕ, List, [], ◌∷◌, option_map, string_bytes}
+use Rattle.std.specs.Prelude.{◌≡◌, ℕ, List, [], ◌∷◌, option_map}
 use Rattle.std.specs.Prelude.{Option, Some, None}
 use Rattle.std.specs.Borrow.{Bor}
 use Rattle.stm_words.specs.declared.environment.Environment.{Environment}
+use Rattle.stmflash.specs.Variable.{is_one, variable_text}
 use Rattle.stmflash.specs.declared.variables.Variables.{Variables}
 
 -- a text that there may be
@@ -30,16 +31,16 @@ pub record IsTables (named : Option (Bor (List ℕ))) (tables : List (Bor (List 
 -- Each stands in the place of its own word; no others are read where a variable names the table.
 pub record StandsFor (variables : Variables) (tables : List (Bor (List ℕ)))
     (standing : Environment) : Type 0 where
-  pub table : text standing.table ≡ lowest (option_map string_bytes variables.table) tables
+  pub table : text standing.table ≡ lowest (variable_text variables.table) tables
   pub over : option_map (λ over. over.now) standing.over
-      ≡ others (option_map string_bytes variables.table) tables
-  pub device : text standing.device ≡ option_map string_bytes variables.device
-  pub journal : text standing.journal ≡ option_map string_bytes variables.journal
-  pub journals : text standing.journals ≡ option_map string_bytes variables.journals
-  pub board : text standing.board ≡ option_map string_bytes variables.board
-  pub wait : text standing.wait ≡ option_map string_bytes variables.wait
-  pub baud : text standing.baud ≡ option_map string_bytes variables.baud
-  pub without_board : standing.without_board ≡ variables.without_board
-  pub is_fresh : standing.is_fresh ≡ variables.is_fresh
-  pub without_lock : standing.without_lock ≡ variables.without_lock
-  pub is_json : standing.is_json ≡ variables.is_json
+      ≡ others (variable_text variables.table) tables
+  pub device : text standing.device ≡ variable_text variables.device
+  pub journal : text standing.journal ≡ variable_text variables.journal
+  pub journals : text standing.journals ≡ variable_text variables.journals
+  pub board : text standing.board ≡ variable_text variables.board
+  pub wait : text standing.wait ≡ variable_text variables.wait
+  pub baud : text standing.baud ≡ variable_text variables.baud
+  pub without_board : standing.without_board ≡ is_one variables.without_board
+  pub is_fresh : standing.is_fresh ≡ is_one variables.is_fresh
+  pub without_lock : standing.without_lock ≡ is_one variables.without_lock
+  pub is_json : standing.is_json ≡ is_one variables.is_json

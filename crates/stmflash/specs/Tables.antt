@@ -1,19 +1,17 @@
 -- Which chip tables are read where neither a word nor a variable names one.
-use Rattle.std.specs.Prelude.{◌≡◌, ◌⊎◌, ◌++◌, ℕ, List, [], ◌∷◌, codes, string_bytes}
-use Rattle.std.specs.Prelude.{Err, IfSome, None, Ok, Option, Result, Some, String}
+use Rattle.std.specs.Prelude.{◌≡◌, ◌⊎◌, ◌++◌, ℕ, List, [], ◌∷◌, codes}
+use Rattle.std.specs.Prelude.{Err, IfSome, None, Ok, Option, Result, Some}
 use Rattle.std.specs.Borrow.{Bor}
 use Rattle.std.specs.declared.alloc.AllocError.{AllocError}
-use Rattle.std.specs.declared.alloc.Global.{Global}
 use Rattle.stmflash.specs.declared.variable.Variable.{Variable}
 use Rattle.stmflash.specs.Variable.{folder_of}
 
 -- in the folder of what users set, by the variable that names it, or else by the user's own folder
-abbrev pub IsInFolder : Result (Option (String Global)) AllocError
-    → Result (Option (String Global)) AllocError → Option (List ℕ) → Type 0
-IsInFolder (Ok (Some folder)) home name =
-    name ≡ Some (string_bytes folder ++ codes "/stmflash/chips.toml")
+abbrev pub IsInFolder : Result (Option (List ℕ)) AllocError
+    → Result (Option (List ℕ)) AllocError → Option (List ℕ) → Type 0
+IsInFolder (Ok (Some folder)) home name = name ≡ Some (folder ++ codes "/stmflash/chips.toml")
 IsInFolder (Ok None) (Ok (Some home)) name =
-    name ≡ Some (string_bytes home ++ codes "/.config/stmflash/chips.toml")
+    name ≡ Some (home ++ codes "/.config/stmflash/chips.toml")
 IsInFolder (Ok None) (Ok None) name = name ≡ None
 IsInFolder (Ok None) (Err fault) name = ⊥
 IsInFolder (Err fault) home name = ⊥

@@ -23,16 +23,16 @@ abbrev pub is_variable_read : Variable → Bool
 is_variable_read variable = is_text_or_unset variable.told
 
 -- the text of one that is set and not empty
-abbrev pub variable_told : Result (String Global) VarError → Option (String Global)
-variable_told (Ok text) = if string_len text == 0 then None else Some text
+abbrev pub variable_told : Result (String Global) VarError → Option (List ℕ)
+variable_told (Ok text) = if string_len text == 0 then None else Some (string_bytes text)
 variable_told (Err fault) = None
 
-abbrev pub variable_text : Variable → Option (String Global)
+abbrev pub variable_text : Variable → Option (List ℕ)
 variable_text variable = variable_told variable.told
 
 -- one that is set to 1
-abbrev pub says_one : Option (String Global) → Bool
-says_one (Some text) = bytes_eq (string_bytes text) (codes "1")
+abbrev pub says_one : Option (List ℕ) → Bool
+says_one (Some text) = bytes_eq text (codes "1")
 says_one None = false
 
 abbrev pub is_one : Variable → Bool
@@ -48,11 +48,11 @@ abbrev pub IsVariableUnread : Variable → Failure → Type 0
 IsVariableUnread variable failure = IsNoText variable.name.now variable.told failure
 
 -- the folder that it names: a text that begins at the root; or memory is out
-abbrev pub told_folder : Result (String Global) VarError → Result (Option (String Global)) AllocError
+abbrev pub told_folder : Result (String Global) VarError → Result (Option (List ℕ)) AllocError
 told_folder (Ok text) =
-    Ok (if starts_with nat_eq (string_bytes text) (codes "/") then Some text else None)
+    Ok (if starts_with nat_eq (string_bytes text) (codes "/") then Some (string_bytes text) else None)
 told_folder (Err OutOfMemory) = Err alloc_error
 told_folder (Err fault) = Ok None
 
-abbrev pub folder_of : Variable → Result (Option (String Global)) AllocError
+abbrev pub folder_of : Variable → Result (Option (List ℕ)) AllocError
 folder_of variable = told_folder variable.told

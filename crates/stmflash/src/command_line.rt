@@ -6,6 +6,7 @@ ghost use Rattle.stmflash.specs.Printed.{IsWellBy};
 use crate::planned_session::{ShownSimulator, ShownSocket};
 use crate::program::program;
 use crate::system::System;
+use crate::tables::{standing_tables, users_table};
 use crate::variables::Variables;
 use std::alloc::AllocError;
 use std::io;
@@ -29,7 +30,8 @@ pub fn run_words<'a, 'r, 'e, R: System, I: Read, O: Write, E: Write + IsTerminal
         variables.now (map (λ s. s.now) words.now) is_there
         (I.remaining input.old) (I.remaining input.new) (O.contents out.old) (O.contents out.new)) }
 {
-    let tables = variables.tables(rt)?;
+    let users = users_table(rt.alloc(), &variables.config_home, &variables.home)?;
+    let tables = standing_tables(rt, &users)?;
     let environment = variables.environment(tables.as_slice());
     let status = program(rt, environment, words, is_there, input, out, err);
     Ok(status)

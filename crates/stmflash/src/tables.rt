@@ -22,10 +22,10 @@ const MACHINES: &str = "/etc/stmflash/chips.toml";
 /// The name of the user's own table, which is read over both, in the folder of what users set.
 pub fn users_table(
     alloc: Global,
-    config_home: Variable,
-    home: Variable,
+    config_home: &Variable,
+    home: &Variable,
 ) -> Result<Option<String>, AllocError>
-    ensures { IfOk result (λ name. IsUsersName config_home home (option_map string_bytes name)) }
+    ensures { IfOk result (λ name. IsUsersName config_home.now home.now (option_map string_bytes name)) }
 {
     if let Some(folder) = config_home.folder()? {
         return Ok(Some(format!(in alloc; "{folder}/stmflash/chips.toml")?));
@@ -40,9 +40,9 @@ pub fn users_table(
 /// first: the installed one, the machine's and the user's, each where it is there.
 pub fn standing_tables<'a, R: Files + AllocGlobal>(
     rt: &R,
-    users: Option<&'a str>,
+    users: &'a Option<String>,
 ) -> Result<Vec<&'a str>, AllocError>
-    ensures { IfOk result (λ names. AreStanding (option_map (λ name. name.now) users.entry) names.items) }
+    ensures { IfOk result (λ names. AreStanding (option_map string_bytes users.now) names.items) }
 {
     let mut names: Vec<&'a str> = Vec::new(rt.alloc());
     add(&mut names, installed_table(rt))?;
@@ -52,11 +52,11 @@ pub fn standing_tables<'a, R: Files + AllocGlobal>(
 }
 
 /// The user's own table, where it has a name.
-fn users_own<'a, R: Files>(rt: &R, users: Option<&'a str>) -> Option<&'a str>
-    ensures { IsUsers (option_map (λ name. name.now) users.entry) result }
+fn users_own<'a, R: Files>(rt: &R, users: &'a Option<String>) -> Option<&'a str>
+    ensures { IsUsers (option_map string_bytes users.now) result }
 {
     match users {
-        Some(name) => unless_missing(rt, name),
+        Some(name) => unless_missing(rt, name.as_str()),
         None => None,
     }
 }

@@ -1,23 +1,20 @@
 // What stands in the place of words: variables of the environment, and the chip tables that are
 // there.
-ghost use Rattle.std.specs.Prelude.{◌≡◌, IfErr, IfOk, OnErr, option_map, string_bytes};
+ghost use Rattle.std.specs.Prelude.{◌≡◌, IfOk};
 ghost use Rattle.stmflash.specs.Standing.{IsTables, StandsFor};
-ghost use Rattle.stmflash.specs.Tables.{AreStanding};
-ghost use Rattle.stmflash.specs.Variables.{AreNamed, FailsFirst, SystemIsAsked, SaysAs};
+ghost use Rattle.stmflash.specs.Variables.{AreChecked, AreNamed, ComesOfEach, SystemIsAsked, names_of};
+ghost use Rattle.stmflash.specs.Variables.{others_of};
 
-use crate::tables::{standing_tables, users_table};
 use crate::variable::Variable;
-use std::alloc::{AllocError, Global};
 use std::env::Env;
-use std::fs::Files;
 use stm_words::Environment;
 use stm_work::Failure;
 
-/// The variables, as the system tells them.
+/// The variables of the environment, as the system tells them.
 #[derive(Drop)]
-struct Asked {
-    config_home: Variable,
-    home: Variable,
+pub struct Variables {
+    pub config_home: Variable,
+    pub home: Variable,
     table: Variable,
     device: Variable,
     journal: Variable,
@@ -31,12 +28,23 @@ struct Asked {
     is_json: Variable,
 }
 
-impl Asked {
+impl Variables {
+    /// Reads the variables. The first that is set and is no text is the failure.
+    pub fn read<'a, R: Env + AllocGlobal>(rt: &R) -> Result<Variables, Failure<'a>>
+        ensures { SystemIsAsked result }
+    {
+        let variables = Variables::ask(rt);
+        match variables.check() {
+            Ok(()) => Ok(variables),
+            Err(failure) => Err(failure),
+        }
+    }
+
     /// Asks the system for each of them.
-    fn ask<R: Env + AllocGlobal>(rt: &R) -> Asked
+    fn ask<R: Env + AllocGlobal>(rt: &R) -> Variables
         ensures { AreNamed result }
     {
-        Asked {
+        Variables {
             config_home: Variable::ask(rt, "XDG_CONFIG_HOME"),
             home: Variable::ask(rt, "HOME"),
             table: Variable::ask(rt, "STMFLASH_TABLE"),
@@ -52,91 +60,57 @@ impl Asked {
             is_json: Variable::ask(rt, "STMFLASH_JSON"),
         }
     }
-}
 
-/// What stands in the place of words that aren't given.
-#[derive(Drop)]
-pub struct Variables {
-    users_table: Option<String>,
-    table: Option<String>,
-    device: Option<String>,
-    journal: Option<String>,
-    journals: Option<String>,
-    board: Option<String>,
-    wait: Option<String>,
-    baud: Option<String>,
-    without_board: bool,
-    is_fresh: bool,
-    without_lock: bool,
-    is_json: bool,
-}
-
-impl Variables {
-    /// Reads the variables. One that is empty counts as one that isn't set.
-    pub fn read<'a, R: Env + AllocGlobal>(rt: &R) -> Result<Variables, Failure<'a>>
-        ensures { SystemIsAsked result }
+    /// Refuses one that is set and is no text. Of the two of folders it doesn't count.
+    fn check<'a>(&self) -> Result<(), Failure<'a>>
+        ensures { AreChecked self.now result }
     {
-        Variables::of(rt.alloc(), Asked::ask(rt))
+        self.check_names()?;
+        self.check_others()
     }
 
-    /// What the variables say. The first that can't be read is the failure.
-    fn of<'a>(alloc: Global, asked: Asked) -> Result<Variables, Failure<'a>>
-        ensures read { IfOk result (SaysAs asked) }
-        ensures unread { IfErr result (FailsFirst asked) }
+    /// The same of what names files and boards.
+    fn check_names<'a>(&self) -> Result<(), Failure<'a>>
+        ensures { ComesOfEach (names_of self.now) result }
     {
-        let users_table = users_table(alloc, asked.config_home, asked.home)?;
-        let table = asked.table.text()?;
-        let device = asked.device.text()?;
-        let journal = asked.journal.text()?;
-        let journals = asked.journals.text()?;
-        let board = asked.board.text()?;
-        let wait = asked.wait.text()?;
-        let baud = asked.baud.text()?;
-        let without_board = asked.without_board.is_one()?;
-        let is_fresh = asked.is_fresh.is_one()?;
-        let without_lock = asked.without_lock.is_one()?;
-        let is_json = asked.is_json.is_one()?;
-        Ok(Variables {
-            users_table,
-            table,
-            device,
-            journal,
-            journals,
-            board,
-            wait,
-            baud,
-            without_board,
-            is_fresh,
-            without_lock,
-            is_json,
-        })
+        self.table.check()?;
+        self.device.check()?;
+        self.journal.check()?;
+        self.journals.check()?;
+        self.board.check()?;
+        Ok(())
     }
 
-    /// The tables that stand where neither a word nor a variable names one, the lowest first.
-    pub fn tables<R: Files + AllocGlobal>(&self, rt: &R) -> Result<Vec<&str>, AllocError>
-        ensures { IfOk result (λ names. AreStanding (option_map string_bytes self.now.users_table) names.items) }
+    fn check_others<'a>(&self) -> Result<(), Failure<'a>>
+        ensures { ComesOfEach (others_of self.now) result }
     {
-        standing_tables(rt, text_of(&self.users_table))
+        self.wait.check()?;
+        self.baud.check()?;
+        self.without_board.check()?;
+        self.is_fresh.check()?;
+        self.without_lock.check()?;
+        self.is_json.check()?;
+        Ok(())
     }
 
     /// What stands in the place of words. Where no variable names a table, these are read.
     pub fn environment<'a>(&'a self, tables: &'a [&'a str]) -> Environment<'a>
         ensures { StandsFor self.now tables.now result }
     {
-        let (table, over) = tables_of(text_of(&self.table), tables);
+        let (table, over) = tables_of(self.table.text(), tables);
         Environment {
             table,
             over,
-            device: text_of(&self.device),
-            journal: text_of(&self.journal),
-            journals: text_of(&self.journals),
-            board: text_of(&self.board),
-            wait: text_of(&self.wait),
-            baud: text_of(&self.baud),
-            without_board: self.without_board,
-            is_fresh: self.is_fresh,
-            without_lock: self.without_lock,
-            is_json: self.is_json,
+            device: self.device.text(),
+            journal: self.journal.text(),
+            journals: self.journals.text(),
+            board: self.board.text(),
+            wait: self.wait.text(),
+            baud: self.baud.text(),
+            without_board: self.without_board.is_one(),
+            is_fresh: self.is_fresh.is_one(),
+            without_lock: self.without_lock.is_one(),
+            is_json: self.is_json.is_one(),
         }
     }
 }
@@ -152,15 +126,5 @@ fn tables_of<'a>(
         (Some(name), _) => (Some(name), None),
         (None, Some((lowest, over))) => (Some(*lowest), Some(over)),
         (None, None) => (None, None),
-    }
-}
-
-/// The text of a variable that is set.
-fn text_of(variable: &Option<String>) -> Option<&str>
-    ensures { option_map (λ text. text.now) result ≡ option_map string_bytes variable.now }
-{
-    match variable {
-        Some(text) => Some(text.as_str()),
-        None => None,
     }
 }
