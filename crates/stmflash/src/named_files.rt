@@ -168,16 +168,13 @@ impl<'a> NamedFiles<'a> {
         rt: &R,
         stream: &str,
     ) -> Result<Option<&'a str>, Failure<'a>> {
-        if leads_to(rt, stream, self.journal) {
-            return Ok(Some(self.journal));
-        }
-        if !is_file(rt, stream) {
-            return Ok(None);
-        }
-        if self.is_devices(rt, stream)? {
-            return Ok(Some("a file of the device"));
-        }
-        Ok(if self.is_read(rt, stream) {
+        Ok(if !is_file(rt, stream) {
+            None
+        } else if is_same_file(rt, stream, self.journal) {
+            Some(self.journal)
+        } else if self.is_devices(rt, stream)? {
+            Some("a file of the device")
+        } else if self.is_read(rt, stream) {
             Some("a file that is read")
         } else {
             None

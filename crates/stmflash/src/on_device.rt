@@ -23,8 +23,9 @@ use std::fs::Files;
 use std::io::{IsTerminal, Read, Write};
 use std::net::Net;
 use std::time::{Clock, Instant};
+use stm_chip::Table;
 use stm_files::Locks;
-use stm_session::Fault;
+use stm_watch::Watch;
 use stm_wire::Rig;
 use stm_words::{Device, Options, Sequel, Task};
 use stm_work::{
@@ -154,6 +155,27 @@ fn use_beside<'a, 'r, 'e, R: Locks + Net + Clock + AllocGlobal, E: Write + IsTer
     done_or_end(rt, options.journal, tables.chips(), done)
 }
 
+/// Opens where the bytes of a flash go. The name for the journal is tried before, and a journal is cut
+/// that is to be.
+fn open_output<'a, R: Locks + AllocGlobal, E: Write>(
+    rt: &R,
+    options: &Options<'a>,
+    tables: &ChipTables<'a>,
+    files: NamedFiles<'a>,
+    sequel: &Sequel<'a>,
+    err: &mut E,
+) -> Result<Output<'a, R>, Failure<'a>>
+    ensures { IfOk result (λ output. goes_out output ≡ is_some files.entry.out) }
+{
+    if let Some(to) = sequel.to {
+        files.check_new(rt, to)?;
+    }
+    if options.recovers {
+        recover(rt, options, tables.chips(), err)?;
+    }
+    Output::open(rt, files)
+}
+
 /// The same, without what is to be done behind it.
 fn use_files<'a, 'r, 'e, R: Locks + Net + Clock + AllocGlobal, E: Write + IsTerminal>(
     rt: &'r R,
@@ -170,14 +192,8 @@ fn use_files<'a, 'r, 'e, R: Locks + Net + Clock + AllocGlobal, E: Write + IsTerm
         ⟦<ShownSimulator<'r, 'e, R, E> as Rig>⟧.view ⟦<ShownSocket<'r, 'e, R, E> as Rig>⟧.view
         options.now (table_texts tables.now) work sequel.now (is_some files.entry.out)) }
 {
-    if let Some(to) = sequel.to {
-        files.check_new(rt, to)?;
-    }
-    if options.recovers {
-        recover(rt, options, tables.chips(), err)?;
-    }
     let from = Instant::now(rt).ok();
-    let output = Output::open(rt, files)?;
+    let output = open_output(rt, options, tables, files, sequel, err)?;
     let is_begun = begins_journal(rt, options, &work);
     let is_lacking = lacks_journal(rt, options, &work);
     tell_notes(options, is_begun, &work, err);
@@ -247,6 +263,17 @@ fn milliseconds_since<R: Clock>(rt: &R, from: Option<Instant>) -> Option<u64> {
     u64::try_from(from?.elapsed(rt).ok()?.as_millis()).ok()
 }
 
+/// Whether a device may tell its board: a simulator by its chip, another by any of these.
+fn may_tell(device: Device, chips: &Table) -> bool {
+    match device {
+        Device::Simulator { id, .. } => match chips.find(id) {
+            Some(chip) => tells_board(chip),
+            None => false,
+        },
+        Device::Socket(_) => has_telling_chip(chips),
+    }
+}
+
 /// Does it once: the files are opened, and closed.
 pub fn use_once<'a, 'r, 'e, R: Locks + Net + Clock + AllocGlobal, E: Write + IsTerminal>(
     rt: &'r R,
@@ -264,18 +291,18 @@ pub fn use_once<'a, 'r, 'e, R: Locks + Net + Clock + AllocGlobal, E: Write + IsT
         options.now (table_texts tables.now) work sequel.now (goes_out output.entry)) }
 {
     let chips = tables.chips();
+    // nothing is known of the device yet
+    let watch = Watch::of_nothing(rt.alloc())?;
+    let is_told = may_tell(options.device, chips);
+    let plan = Plan::of(rt, options, tables, work, sequel, is_told)?;
     match options.device {
         Device::Simulator { id, file } => {
-            let Some(chip) = chips.find(id) else {
-                return Err(Failure::Session(Fault::UnknownChip(id)));
-            };
-            let plan = Plan::of(rt, options, tables, work, sequel, tells_board(chip))?;
-            on_simulator(rt, options, plan, chips, file, chip, output, err, hint)
+            on_simulator(rt, options, plan, chips, id, file, watch, output, err, hint)
         }
         Device::Socket(path) => {
-            let is_told = has_telling_chip(chips);
-            let plan = Plan::of(rt, options, tables, work, sequel, is_told)?;
-            on_socket(rt, options, plan, chips, path, line, output, err, hint)
+            on_socket(
+                rt, options, plan, chips, path, line, watch, output, err, hint,
+            )
         }
     }
 }

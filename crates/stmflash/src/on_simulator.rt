@@ -9,20 +9,25 @@ use std::io::{IsTerminal, Write};
 use std::time::Clock;
 use stm_chip::Table;
 use stm_files::{FileFault, JournalFile, Locks, SimulatorFiles, SimulatorRig, Unusable};
+use stm_session::Fault;
 use stm_watch::Watch;
-use stm_wire::{Chip, Rig};
+use stm_wire::Rig;
 use stm_words::{Extent, Options};
 use stm_work::{Failure, Hint, Plan, Steps, done_on, read_journal};
 
-/// A simulator of this chip in a file, which is stored where its journal can't be read.
+/// A simulator of the chip with this id in a file, which is stored where its journal can't be read.
 fn open_simulator<'a: 'r, 'r, R: Locks + AllocGlobal>(
     rt: &'r R,
     options: &Options<'a>,
     name: &'a str,
     checked: Option<Extent>,
     file: &'a str,
-    chip: &Chip,
+    chips: &Table,
+    id: u16,
 ) -> Result<SimulatorRig<'r, 'a, R>, Failure<'a>> {
+    let Some(chip) = chips.find(id) else {
+        return Err(Failure::Session(Fault::UnknownChip(id)));
+    };
     let opened = match JournalFile::open(rt, name, options.without_lock, options.trusts_others) {
         // a simulator of which nothing else is known is fresh
         Err(Unusable::Unread(e)) => Err(Unusable::Unread(e)),
@@ -54,8 +59,9 @@ pub fn on_simulator<'a, 'r, 'e, R: Locks + Clock + AllocGlobal, E: Write + IsTer
     options: &Options<'a>,
     plan: Plan<'a>,
     chips: &Table,
+    id: u16,
     file: &'a str,
-    chip: &Chip,
+    watch: Watch,
     output: Output<'a, R>,
     err: &'e mut E,
     hint: &mut Option<Hint>,
@@ -63,11 +69,9 @@ pub fn on_simulator<'a, 'r, 'e, R: Locks + Clock + AllocGlobal, E: Write + IsTer
     ensures { IfOk result (UsesPlan ⟦<ShownSimulator<'r, 'e, R, E> as Rig>⟧.view
         (goes_out output.entry) None plan.entry) }
 {
-    // nothing is known of the device yet
-    let watch = Watch::of_nothing(rt.alloc())?;
     let name = plan.journal;
     let checked = checked_extent(&plan.work, options);
-    let rig = open_simulator(rt, options, name, checked, file, chip)?;
+    let rig = open_simulator(rt, options, name, checked, file, chips, id)?;
     let Taken { rig, done } = take_on(rt, options, rig, plan, None, chips, watch, err, hint);
     let is_unstored = rig.is_unstored();
     let (memory, journal, mut files) = rig.into_parts();

@@ -91,6 +91,7 @@ pub fn on_socket<'a, 'r, 'e, R: Locks + Net + Clock + AllocGlobal, E: Write + Is
     chips: &Table,
     path: &'a str,
     line: Option<Line<'r, R>>,
+    watch: Watch,
     output: Output<'a, R>,
     err: &'e mut E,
     hint: &mut Option<Hint>,
@@ -98,8 +99,6 @@ pub fn on_socket<'a, 'r, 'e, R: Locks + Net + Clock + AllocGlobal, E: Write + Is
     ensures { IfOk result (UsesPlan ⟦<ShownSocket<'r, 'e, R, E> as Rig>⟧.view
         (goes_out output.entry) (greeting_for plan.entry.work options.now) plan.entry) }
 {
-    // nothing is known of the device yet
-    let watch = Watch::of_nothing(rt.alloc())?;
     let name = plan.journal;
     let rig = open_socket(rt, options, name, &plan.work, path, line)?;
     let greeting = greeting_for(&plan.work, options);
