@@ -133,6 +133,9 @@ class Tables(Words):
                 self.assertEqual(tools.find_tables(self.path("bin")), found)
         with mock.patch.dict(os.environ, none), mock.patch.object(tables, "MACHINES", self.path("table")):
             self.assertEqual(tools.find_tables(self.path("bin")), [users, self.path("table"), beside])
+            os.makedirs("share/stmflash")
+            self.store("share/stmflash/chips.toml", TABLE)
+            self.assertEqual(tools.find_tables(self.path("bin"))[2:], [self.path("share/stmflash/chips.toml")])
         # stmflash-line names the one beside it where there is no other
         for more in ({}, {"MACHINES": beside}, {"TABLES": (beside,)}, {"BESIDE": "/none"}):
             with mock.patch.multiple(tables, **{"MACHINES": "/none", "TABLES": (), "BESIDE": beside, **more}), mock.patch.dict(os.environ, HOME="/none", XDG_CONFIG_HOME=""):
