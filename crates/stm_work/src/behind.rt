@@ -18,13 +18,13 @@ pub enum Behind<'f> {
     #[error("it was moved, replaced, cut or added to")]
     Moved,
     /// The same, and what it held is in a file of this name.
-    #[error("it was moved, replaced, cut or added to; what it held is in {0}: undo --journal {0}")]
+    #[error("it was moved, replaced, cut or added to; what it held is in {0}: undo 1 --journal {0}, if log says unfinished")]
     Rescued(&'f Rescued<'f>),
     /// A crash of the PC may have left the journal's bad end.
-    #[error("a crash of the PC may have left it: undo --recover cuts it off, and keeps it beside")]
+    #[error("a crash of the PC may have left it: undo 1 --recover cuts it off, and keeps it beside")]
     UnsyncedEnd,
     /// The same of the journal of this name.
-    #[error("a crash of the PC may have left it: undo --recover --journal {0} cuts it off, and keeps it beside")]
+    #[error("a crash of the PC may have left it: undo 1 --recover --journal {0} cuts it off, and keeps it beside")]
     UnsyncedEndIn(&'f str),
     /// The device is a port, of this name.
     #[error("serial ports want stmflash-line {0} -- stmflash .. (no --device)")]

@@ -12,6 +12,7 @@ use crate::failure::Failure;
 use crate::steps::{Steps, failed_by, failure_of};
 use crate::way_back::count_of;
 use std::alloc::Global;
+use std::io::ErrorKind;
 use stm_files::{
     Damage, JournalFile, JournalRig, Locks, Source, TextSource, Unusable, find_damage,
 };
@@ -106,9 +107,15 @@ fn failure_on<'a, R: Locks + AllocGlobal>(
     journal: &mut JournalFile<'_, R>,
     name: &'a str,
 ) -> Failure<'a> {
-    match Failure::of_reason(journal.take_reason()) {
-        Failure::JournalMoved => failure_moved(journal, name),
-        failure => failure,
+    match journal.take_reason() {
+        // a file that was read, and whose name leads nowhere now
+        Some(e) if e.kind() == ErrorKind::NotFound && journal.is_there() => failure_moved(
+            journal, name,
+        ),
+        reason => match Failure::of_reason(reason) {
+            Failure::JournalMoved => failure_moved(journal, name),
+            failure => failure,
+        },
     }
 }
 

@@ -100,7 +100,8 @@ impl<'a> NamedFiles<'a> {
         to: &'a str,
     ) -> Result<(), Failure<'a>> {
         let is_free = match fs::symlink_metadata(rt, to) {
-            Err(e) => e.kind() == ErrorKind::NotFound,
+            // an empty name is of no file
+            Err(e) => e.kind() == ErrorKind::NotFound && !to.is_empty(),
             Ok(_) => false,
         };
         if !is_free || self.is_devices(rt, to)? || is_same_file(rt, to, self.journal) {
