@@ -38,9 +38,7 @@ class PtyBoard:
         files = ["--table", table or os.path.join(TOP, "chips.toml"), "--id", chip, "--flash", name + ".flash"]
         words = [program, "sim", *files, "--socket", self.behind, "--clients", "1000000", *more]
         self.simulator = subprocess.Popen(words, stdin=subprocess.DEVNULL)
-        self.device = None
-        self.master = None
-        self.left = None
+        self.device = self.master = self.left = None
         self.busy, self.storing = threading.Lock(), False
         self.ended, self.end = os.pipe()
         self.renew()
@@ -136,7 +134,7 @@ class PtyBoard:
             self.left -= len(data)
         if self.device is None:
             self.device = self.wire()
-        self.wait(len(data) * self.byte_time)
+        time.sleep(len(data) * self.byte_time)
         with contextlib.suppress(OSError):
             self.device.sendall(data)
 
@@ -150,17 +148,12 @@ class PtyBoard:
                 self.device = None
             device.close()
             return
-        self.wait(len(data) * self.byte_time + self.hold)
+        time.sleep(len(data) * self.byte_time + self.hold)
         while data:
             try:
                 data = data[os.write(master, data):]
             except OSError:
                 return
-
-    @staticmethod
-    def wait(seconds):
-        if seconds:
-            time.sleep(seconds)
 
     def pull(self):
         """The board goes, as an adapter that is pulled."""

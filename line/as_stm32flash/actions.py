@@ -3,6 +3,9 @@
 import contextlib
 import os
 
+from stmflash_line.faults import as_text
+from stmflash_line.held import hold
+
 from . import handed
 from . import part as parts
 from .fault import Failed, Fault
@@ -47,15 +50,18 @@ class Actions:
         self.told.far("Read", part.end, 1, end="Done.\n")
 
     def fetch_file(self, part, path):
-        """Reads raw bytes into a file, whatever its name: by `stmflash read` one that ends in .hex would be a text."""
-        if not path.lower().endswith(".hex"):
+        """Reads raw bytes into a file, whatever its name: by `stmflash read` one that ends in .hex would be a text, and one that isn't
+        UTF-8 no word."""
+        if as_text(path) == path and not path.lower().endswith(".hex"):
             return self.fetch(part, path)
         unready = f"{path}.{os.getpid()}"
         try:
             if os.path.exists(path) and not os.path.isfile(path):
                 with open(path, "wb") as file:
                     return self.fetch(part, "-", out=file)
-            self.fetch(part, unready)
+            with open(unready, "xb") as file:
+                self.fetch(part, "-", out=file)
+                os.fsync(file)
             os.replace(unready, path)
         except OSError as error:
             raise Fault(f"Raw BINARY ERROR: System Error\n{path}: {error.strerror}") from None
@@ -136,11 +142,9 @@ class Actions:
         show = self.told.progress(("Wrote", what), part, self.chip)
         if data is None:
             return self.board.use("write", *options, f"{image.path}@", show=show)
-        held = os.memfd_create("image")
         from stmflash_line.sockets import named
-        with open(held, "r+b") as file:
-            file.write(data)
-            file.flush()
+        held = hold(data)
+        with open(held, "rb"):
             word = named(f"/proc/self/fd/{held}", self.words.file, os.environ["STMFLASH_DEVICE"])
             return self.board.use("write", *options, word, show=show, files=(held,))
 

@@ -10,7 +10,7 @@ from stmflash_line.journals import is_stopped
 from stmflash_line.tied import tied
 
 from .fault import Failed, Fault
-from .journals import rename
+from .journals import KEPT, rename
 from .owner import Owner, owner_of
 from .patience import UNKNOWN, wait_at_rest
 from .segments import kept_pages
@@ -91,8 +91,10 @@ class Board:
                 started.terminate()
                 raise
         if started.returncode:
-            self.hint = hints[-1] if hints else ""
-            raise Failed(told[-1] if told else f"stmflash ended with status {started.returncode}", printed)
+            text = told[-1] if told else f"stmflash ended with status {started.returncode}"
+            # nobody has named it
+            self.hint = "; ".join([*hints[-1:], *[f"the journal is {words[words.index('--journal') + 1]}"] * text.startswith("journal ")])
+            raise Failed(text, printed)
         return printed
 
     # ---- the journal
@@ -108,7 +110,8 @@ class Board:
         return text
 
     def is_unfinished(self):
-        return "unfinished, undo first" in self.log()
+        # an image may have that name
+        return self.log().endswith("unfinished, undo first\n")
 
     def undoable(self):
         """How many writes and erases the journal in use has that can be undone."""
@@ -129,7 +132,8 @@ class Board:
     def drop_old(self):
         """Drops those that have changed nothing, so that none of them counts, and then those that are too old. What nobody else
         uses any more is looked at, and removed under its lock, by stmflash, which leaves one that is unfinished or can't be read."""
-        for path in self.journals.newest():
+        # those that may be the newest ones of one board
+        for path in self.journals.kept()[-1 - KEPT:]:
             if not any(kept_pages(path)):
                 with contextlib.suppress(Failed):
                     self.run(["keep", "--journal", path])

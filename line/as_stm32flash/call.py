@@ -2,11 +2,13 @@
 open, and we are a process of our own as its COMMAND."""
 
 import os
+import re
 import sys
 
 from stmflash_line import faults
 from stmflash_line.opening import FAR, find_place
 from stmflash_line.patience import is_pty
+from stmflash_line.tables import table_text
 
 from . import chip as chips
 from . import handed, line, sequence, tools, words
@@ -15,7 +17,7 @@ from .journals import Journals
 from .owner import owner_of
 from .patience import wait
 from .segments import kept_pages
-from .told import Told, note, put
+from .told import VERSION, Told, note, put
 
 # that the entry sequence of -i resets the board, which its user says
 RESETS = "STM32FLASH_RESETS"
@@ -24,6 +26,8 @@ CHIP = "STM32FLASH_GPIO_CHIP"
 # why a journal is refused that is another's
 OTHERS = ("journal belongs to another device", "journal is of another board")
 NEWEST = "the newest write or erase at this port"
+# what a hint says to type
+HINTED = re.compile(r"\b(undo (1 )?--|protect )")
 # the actions that change nothing, and so undo nothing at a board that may be another
 READING = ("", "r", "C")
 
@@ -77,7 +81,7 @@ def outside(program, given):
     handed.take_output(asked)
     if asked.action != "undo":
         told = Told(asked)
-        told.banner()
+        told.lines([f"stm32flash {VERSION}", "", "http://stm32flash.sourceforge.net/", ""])
         if asked.action == "w":
             from . import image
             image.keep(asked.file)
@@ -125,14 +129,16 @@ def show_log(board):
 
 def inside(asked, below, table, patience, slowest):
     from .board import Board
-    if len(below.tables) > 1:
-        below.hold(chips.table_text(table))
+    if len(below.tables) > 1 or faults.as_text(below.table) != below.table:
+        below.hold(table_text(chip.entry for chip in table.values()))
     board = Board(below, Journals(asked.port), patience, slowest)
     try:
         board.journals.end_keeping()
         return undo(board, asked) if asked.action == "undo" else do(board, asked, table)
     except Fault as fault:
-        raise Fault(str(fault) + (f"\nstm32flash: {board.hint}" if board.hint else "")) from None
+        # its words are those of stmflash
+        hint = HINTED.sub(f"{in_line(asked)} \\g<0>", board.hint)
+        raise Fault(str(fault) + (f"\nstm32flash: {hint}" if hint not in str(fault) else "")) from None
 
 
 def do(board, asked, table):
@@ -148,7 +154,8 @@ def do(board, asked, table):
         if board.take_own():
             undo_first(board, asked)
         actions = Actions(asked, board, told, chip)
-        refuse_start(asked, actions.chip)
+        if asked.start_at and not chip.holds(asked.start_at):
+            raise Fault(f"ERROR: -g 0x{asked.start_at:08x}: not in the flash of this chip, which ends at 0x{chip.end:08x}")
         actions.do()
         return leaving.leave(actions)
     finally:
@@ -161,7 +168,7 @@ def undo_first(board, asked):
         if not board.is_unfinished():
             return
     except Failed as fault:
-        raise Fault(f"{fault}\nERROR: the journal of this port can't be read; move {board.journals.live} away to go on without it") from None
+        raise unreadable(board, asked, fault) from None
     if asked.action in READING and owner_of(board.journals.live).board is None:
         raise Fault("ERROR: an earlier call was stopped in the midst of a write, an erase or an undo at a board that doesn't tell which "
                     f"it is; if it is the one that is there, stm32flash --undo {asked.port} undoes that")
@@ -170,8 +177,17 @@ def undo_first(board, asked):
         board.undo(fresh=was_reset(board, asked))
     except Failed as fault:
         if not leave_other(board, fault):
-            way = f"its journal is {board.journals.live}, and --undo at its own board undoes it"
+            way = f"the journal is {board.journals.live}, and --undo at its own board undoes it"
             raise Fault(f"{fault}\nERROR: what an earlier call has begun can't be undone now; {way}") from None
+
+
+def in_line(asked):
+    return f"stmflash-line {asked.port} --baud {asked.baud}"
+
+
+def unreadable(board, asked, fault):
+    return Fault(f"{fault}\nERROR: the journal of this port can't be read; {in_line(asked)} undo 1 tells whether it can be mended; "
+                 f"move {board.journals.live} away to go on without it, and without its way back")
 
 
 def was_reset(board, asked):
@@ -197,11 +213,6 @@ def greet(board, told, table):
     return chip.cut(int(information["pages"]))
 
 
-def refuse_start(asked, chip):
-    if asked.start_at and not chip.holds(asked.start_at):
-        raise Fault(f"ERROR: -g 0x{asked.start_at:08x}: not in the flash of this chip, which ends at 0x{chip.end:08x}")
-
-
 def leave_other(board, fault):
     """Takes the journal of the board that is there where this fault says that the one in use, in which something was stopped, is
     another's, and it is sure to be; whether it did."""
@@ -222,6 +233,8 @@ def undo(board, asked):
                 raise
             undone = undo_newest(board, asked)
     except Failed as fault:
+        if str(fault).startswith("bad journal line"):
+            raise unreadable(board, asked, fault) from None
         raise Fault(f"{fault}\nERROR: not undone; the journal is {board.journals.live}, and --undo goes on with it") from None
     put(sys.stdout, f"Undone: {undone}.\n")
     return 0

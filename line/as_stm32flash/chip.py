@@ -3,9 +3,9 @@
 import bisect
 import copy
 
-from .fault import Fault
+from stmflash_line.tables import entries
 
-KEYS = ("id", "base", "pages", "erase", "erased", "unique", "size_at")
+from .fault import Fault
 
 
 class Chip:
@@ -52,20 +52,10 @@ def read_table(paths):
 
 
 def read_one(path):
-    import tomllib
     try:
-        with open(path, "rb") as file:
-            return {entry["id"]: Chip(entry) for entry in tomllib.load(file)["chip"]}
-    except (OSError, tomllib.TOMLDecodeError, KeyError, TypeError, ValueError) as error:
+        return {entry["id"]: Chip(entry) for entry in entries(path)}
+    except (OSError, KeyError, TypeError, ValueError) as error:
         raise Fault(f"ERROR: the table of chips, {path}, can't be read: {getattr(error, 'strerror', None) or error}; STMFLASH_TABLE names one") from None
-
-
-def table_text(chips):
-    """These chips as one table, with the keys of which stmflash asks a chip's flash."""
-    def value(held):
-        return f'"{held}"' if isinstance(held, str) else str(held)
-
-    return "".join("[[chip]]\n" + "".join(f"{key} = {value(chip.entry[key])}\n" for key in KEYS if key in chip.entry) for chip in chips.values())
 
 
 def refuse_outside(chips, address, option):

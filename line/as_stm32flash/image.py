@@ -3,7 +3,8 @@
 import os
 import stat
 
-from stmflash_line import elf
+from stmflash_line import elf, faults
+from stmflash_line.held import hold
 
 from . import hex_text
 from .fault import Fault
@@ -20,9 +21,10 @@ class Image:
 
     def __init__(self, words):
         self.is_input, self.maker = words.file == "-", None
-        self.path = None if os.environ.get(KEPT) else os.path.abspath(words.file)
-        self.text = read_kept() if self.path is None else read_file(words.file)
-        if not words.force and self.path and self.text.startswith(elf.MAGIC):
+        is_kept, path = os.environ.get(KEPT), os.path.abspath(words.file)
+        self.path = None if is_kept or faults.as_text(path) != path else path
+        self.text = read_file("/proc/self/fd/0" if is_kept else words.file)
+        if not (words.force or is_kept) and self.text.startswith(elf.MAGIC):
             self.text, self.maker = elf.hex_text(words.file)
             self.path = None
         # standard input is raw bytes, as for stm32flash, and an empty file is an empty text
@@ -74,15 +76,7 @@ def keep(name):
             text = given.read()
     except OSError as error:
         raise Fault(f"Intel HEX ERROR: System Error\n{name}: {error.strerror}") from None
-    held = os.memfd_create("image")
-    with open(held, "wb", closefd=False) as file:
-        file.write(text)
+    held = hold(text)
     os.dup2(held, 0)
     os.close(held)
     os.environ[KEPT] = "1"
-
-
-def read_kept():
-    os.lseek(0, 0, os.SEEK_SET)
-    with open(0, "rb", closefd=False) as given:
-        return given.read()

@@ -28,10 +28,6 @@ class Journals(journals.Journals):
         """The journals that were put aside, the newest last."""
         return self.numbered("kept")
 
-    def newest(self):
-        """Those of them that may be the newest ones of one board."""
-        return self.kept()[-1 - KEPT:]
-
     def numbered(self, word):
         try:
             found = [name for name in os.listdir(self.folder) if re.fullmatch(word + "-[0-9]{6}", name)]

@@ -14,12 +14,13 @@ def steps(text):
     return [(word, mark) for word, mark in re.findall("([^,&]*)([,&]?)", text) if word or mark]
 
 
-def refuse_unknown(text):
-    """A fault unless every signal of both sequences is one of the port, or a GPIO line."""
+def known(text):
+    """Both sequences; a fault unless every signal of them is one of the port, or a GPIO line."""
     for word, _ in steps(text.replace(":", ",", 1)):
         name = word.removeprefix("-")
         if word and name not in SIGNALS and not LINE.fullmatch(name):
             raise Fault(f"ERROR: -i {word}: no signal; give rts, dtr, brk, or the number of a GPIO line")
+    return text
 
 
 def refuse_late(entry, leave):

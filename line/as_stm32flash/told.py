@@ -16,9 +16,6 @@ class Told:
         self.stream = sys.stderr if words.action == "r" and words.file == "-" else sys.stdout
         self.errors = sys.stderr
 
-    def banner(self):
-        self.lines([f"stm32flash {VERSION}", "", "http://stm32flash.sourceforge.net/", ""])
-
     def lines(self, texts):
         for text in texts:
             self.line(text)

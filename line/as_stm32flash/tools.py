@@ -2,6 +2,7 @@
 
 import os
 
+from stmflash_line.held import hold
 from stmflash_line.tables import TABLES, in_order
 
 from .fault import Fault
@@ -17,9 +18,7 @@ class Tools:
 
     def hold(self, text):
         """Makes one table of several, of this text, which sessions have as an open file."""
-        held = os.memfd_create("table")
-        with open(held, "w", encoding="utf-8", closefd=False) as file:
-            file.write(text)
+        held = hold(text)
         self.table, self.files = f"/proc/self/fd/{held}", (held,)
 
 

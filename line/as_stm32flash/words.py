@@ -4,14 +4,13 @@ import getopt
 import re
 
 from .fault import Fault
-from .sequence import refuse_unknown
+from .sequence import known
 
 OPTIONS = "a:b:m:r:w:e:vn:g:jkfcChuos:S:F:i:R"
 OWN = ["undo", "log"]
 RATES = (1200, 1800, 2400, 4800, 9600, 14400, 19200, 38400, 56000, 57600, 115200, 128000, 230400, 256000, 460800, 500000, 576000,
          921600, 1000000, 1152000, 1500000, 2000000, 2500000, 3000000, 3500000, 4000000)
-ACTIONS = {"r": "memory read", "w": "memory write", "u": "write unprotect", "j": "read protect", "k": "read unprotect",
-           "o": "flash erase", "C": "memory crc"}
+ACTIONS = {"r": "memory read", "w": "memory write", "u": "write unprotect", "j": "read protect", "k": "read unprotect", "o": "flash erase", "C": "memory crc"}
 # the least and the largest frames, without the count and the checksum
 LEAST_RX, LEAST_TX, MOST_RX, MOST_TX = 20, 6, 256, 257
 PAGES_OR_ADDRESS = "ERROR: Invalid options, can't specify start page / num pages and start address/length"
@@ -114,22 +113,10 @@ def take_mode(asked, value):
     asked.mode = value.lower()
 
 
-def take_retries(asked, value):
-    asked.retries = number(value)
-
-
 def take_start(asked, value):
     asked.start_at = number(value)
     if asked.start_at % 4:
         raise Fault("ERROR: Execution address must be word-aligned")
-
-
-def take_page(asked, value):
-    asked.page = count_of_pages(asked, value)
-
-
-def take_pages(asked, value):
-    asked.pages = count_of_pages(asked, value)
 
 
 def count_of_pages(asked, value):
@@ -165,10 +152,8 @@ def take_frames(asked, value):
             asked.notes.append(f"WARNING: Ignore {name} length in option -F")
 
 
-def take_sequence(asked, value):
-    refuse_unknown(value)
-    asked.sequence = value
-
-
-TAKERS = {"b": take_baud, "m": take_mode, "n": take_retries, "g": take_start, "s": take_page, "e": take_pages, "S": take_range,
-          "F": take_frames, "i": take_sequence}
+TAKERS = {"b": take_baud, "m": take_mode, "g": take_start, "S": take_range, "F": take_frames,
+          "i": lambda asked, value: setattr(asked, "sequence", known(value)),
+          "n": lambda asked, value: setattr(asked, "retries", number(value)),
+          "s": lambda asked, value: setattr(asked, "page", count_of_pages(asked, value)),
+          "e": lambda asked, value: setattr(asked, "pages", count_of_pages(asked, value))}

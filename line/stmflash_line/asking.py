@@ -11,7 +11,7 @@ from .words import SHORT
 # those of stmflash's commands that need no board
 WITHOUT_BOARD = ("log", "keep")
 # what the question gets of COMMAND's words
-HANDED = ("--table", "--wait", "--give-up", "--baud")
+HANDED = ("--table", "--wait", "--give-up", "--baud", "--board")
 
 
 def names_no_journal(command):
@@ -43,10 +43,15 @@ def name_journal(port, command, run):
     is_fresh = says_fresh and "--in-session" not in command
     is_board_used = command[1] not in WITHOUT_BOARD
     stopped = [] if is_fresh or not is_board_used else [journals.live] if is_stopped(journals.live) else journals.stopped()
-    told, board = "", value_of(command, "--board") or os.environ.get("STMFLASH_BOARD")
+    wanted = value_of(command, "--board")
+    is_unasked = "--no-board" in command or not wanted and os.environ.get("STMFLASH_NO_BOARD") == "1"
+    told, board = "", wanted or not is_unasked and os.environ.get("STMFLASH_BOARD")
     if stopped and board:
         # which may be another, as in any folder of journals
         os.environ["STMFLASH_JOURNALS"] = journals.boards
+        if not journals.live.endswith(f"{board.upper()}.journal"):
+            # a keep would give up the one that the port had last
+            journals.take_board(None)
         say(f"{port}: journal of the board {board} in {journals.boards}")
         return 0
     if len(stopped) > 1:
@@ -54,7 +59,7 @@ def name_journal(port, command, run):
     if stopped:
         journals.live = stopped[0]
         told = ", in which a command was stopped; --journal names another, where its board isn't here"
-    elif "--no-board" in command or os.environ.get("STMFLASH_NO_BOARD") == "1":
+    elif is_unasked:
         journals.take_board(None)
     elif is_board_used:
         status, board = ask(command, journals.none, run)
@@ -80,7 +85,7 @@ def ask(command, journal, run):
     asked = []
 
     def begin(settings):
-        asked.append(subprocess.Popen(words, env=settings, stdin=subprocess.DEVNULL, stdout=subprocess.PIPE, preexec_fn=tied()))
+        asked.append(subprocess.Popen(words, env={**settings, "STMFLASH_NO_BOARD": ""}, stdin=subprocess.DEVNULL, stdout=subprocess.PIPE, preexec_fn=tied()))
         return asked[0]
 
     try:

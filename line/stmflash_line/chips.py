@@ -1,23 +1,23 @@
-"""The chip tables, for a line that watches."""
-
-import tomllib
+"""The chip tables, for a line that watches and for the trial."""
 
 from .faults import Fault, refused
-from .tables import TABLES, in_order
+from .tables import TABLES, entries, in_order
 
 
-def read_chips():
-    """The chips of the tables that stmflash takes without a word."""
-    chips = []
-    for path in in_order() or TABLES[:1]:
+def read_chips(named, option):
+    """The chips of a table that is named, or of those that stmflash takes without a word, and the tables. That a chip is within stmflash's
+    limits is asked where it counts. `option` is what names another table."""
+    paths, chips = [named] if named else in_order() or TABLES[:1], []
+    for path in paths:
         try:
-            with open(path, "rb") as file:
-                chips += tomllib.load(file)["chip"]
-            for chip in chips:
-                # what is asked of an entry later
-                chip["id"] + chip["base"] + sum(count * size for count, size in chip["pages"])
+            chips += (found := entries(path))
+            for chip in found:
+                if chip["erase"] not in ("page", "extended") or chip["id"] < 0 or chip["base"] < 0 or chip.get("erased", 0xFF) not in (0, 0xFF):
+                    raise ValueError
+                if any(count < 1 or size < 256 or size % 256 for count, size in chip["pages"]) or sum(c * s for c, s in chip["pages"]) > 1 << 21:
+                    raise ValueError
         except OSError as error:
-            raise refused(path, error, "--watch needs the chip table, which STMFLASH_TABLE names") from None
+            raise refused(path, error, f"{option} names another") from None
         except (ValueError, TypeError, KeyError):
-            raise Fault(f"{path}: is no chip table; STMFLASH_TABLE names one") from None
-    return chips
+            raise Fault(f"{path}: is no chip table; {option} names another") from None
+    return chips, paths

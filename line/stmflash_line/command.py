@@ -8,7 +8,7 @@ import time
 
 from .faults import NO_COMMAND, UNDO, Gone, refused, say
 from .sockets import FOLDER, named
-from .tables import only_beside
+from .tables import handed_on
 from .tied import tied
 
 # how long COMMAND has to end by itself once it was told to, in seconds; and behind the last byte that it sent to the board, since it
@@ -54,15 +54,15 @@ def start(command, path, wait, baud):
     """COMMAND, with the socket's path for every {}, and how long a reply may take, in ms, and how many bits a second the line has,
     each where that is known and its user says nothing. It is told to end where we are killed. Where it is a function, that begins it."""
     settings = {**os.environ, "STMFLASH_DEVICE": path}
-    if is_inner(os.environ.get("STMFLASH_DEVICE", "")):
-        # what another line has said of its own board
+    if os.path.basename(os.path.dirname(os.environ.get("STMFLASH_DEVICE", ""))).startswith(FOLDER):
+        # we are, or stand below, the COMMAND of another line, which has said these of its own board
         for name in ("STMFLASH_WAIT", "STMFLASH_BAUD"):
             settings.pop(name, None)
     if wait is not None and not settings.get("STMFLASH_WAIT"):
         settings["STMFLASH_WAIT"] = str(wait)
     if baud is not None and not settings.get("STMFLASH_BAUD"):
         settings["STMFLASH_BAUD"] = str(baud)
-    if not settings.get("STMFLASH_TABLE") and (table := only_beside()):
+    if table := handed_on():
         settings["STMFLASH_TABLE"] = table
     if callable(command):
         return command(settings)
@@ -71,11 +71,6 @@ def start(command, path, wait, baud):
         return subprocess.Popen(words, env=settings, preexec_fn=tied())
     except OSError as error:
         raise refused(command[0], error, NO_COMMAND) from None
-
-
-def is_inner(device):
-    """Whether this is the socket of another line, whose COMMAND we are or stand below."""
-    return os.path.basename(os.path.dirname(device)).startswith(FOLDER)
 
 
 def end(child):

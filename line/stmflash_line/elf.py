@@ -4,6 +4,7 @@ import os
 import re
 
 from .faults import Fault, say
+from .held import hold
 
 MAGIC = b"\x7fELF"
 # the first that is there
@@ -15,6 +16,9 @@ DATA = re.compile(rb"^:(?!00)[0-9A-F]{6}00", re.M)
 
 
 def is_elf(path):
+    # of a pipe stmflash would miss what is read here, and a port may have nothing to read
+    if not os.path.isfile(path):
+        return False
     try:
         with open(path, "rb") as file:
             return file.read(len(MAGIC)) == MAGIC
@@ -63,10 +67,7 @@ class Held(str):
 def held(path):
     """An ELF file as HEX."""
     text, program = hex_text(path)
-    opened = os.memfd_create("image")
-    with open(opened, "wb", closefd=False) as file:
-        file.write(text)
     say(f"{path}: as HEX, by {program}")
-    image = Held(f"/proc/{os.getpid()}/fd/{opened}")
+    image = Held(f"/proc/{os.getpid()}/fd/{hold(text)}")
     image.told = path
     return image

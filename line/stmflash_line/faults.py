@@ -5,7 +5,7 @@ import os
 import sys
 
 # what is told where a line ended that a COMMAND may have been changing the flash over
-UNDO = "where stmflash log says unfinished, stmflash undo 1 undoes what was begun"
+UNDO = "where the same call with log says unfinished, with undo 1 it undoes what was begun"
 # a port without the signal of this name
 HAS_NONE = "has no {}; leave --wiring, --boot and --after out"
 # what to do where what is called isn't a program
@@ -28,6 +28,11 @@ class Gone(Exception):
 def plain(text):
     """A text for a terminal: what isn't printable, as in the name of a port or a program, is told by its number."""
     return "".join(it if it.isprintable() else it.encode("unicode_escape").decode() for it in text)
+
+
+def as_text(name):
+    """A name as stmflash takes one, whose words are text: what isn't UTF-8 is replaced."""
+    return os.fsencode(name).decode(errors="replace")
 
 
 def say(text):

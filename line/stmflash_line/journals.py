@@ -6,15 +6,15 @@ import fcntl
 import os
 import re
 
-from .faults import Fault, refused
+from .faults import Fault, as_text, refused
 from .opening import FAR
 from .patience import is_pty
 from .trusted import refuse_others
 
 BY_PATH = "/dev/serial/by-path"
 KEPT_THERE = "journals are kept there; XDG_STATE_HOME names another folder"
-# a journal whose last line that isn't void begins so has a command that didn't end; and how many bytes the longest line has at most
-BEGUN, LONGEST = (b"open ", b"page ", b"erase ", b"program "), 1 << 23
+# behind another last line that isn't void a command didn't end, or a crash left that one; and how many bytes the longest has at most
+ENDED, LONGEST = (b"stmjournal ", b"end ", b"undone "), 1 << 23
 # the name of a board's journal, and of what a session saved of one that was taken away; a copy, or what an undo cut off, is none
 OF_BOARD = re.compile(r"[^.]+\.journal(\.rescued.*)?")
 
@@ -75,7 +75,7 @@ class Journals:
 
 
 def is_stopped(path):
-    """Whether a command of this journal didn't end, and no program that runs has it."""
+    """Whether a command of this journal may not have ended, and no program that runs has it."""
     try:
         with open(path, "rb") as file:
             fcntl.flock(file, fcntl.LOCK_SH | fcntl.LOCK_NB)
@@ -83,7 +83,7 @@ def is_stopped(path):
             lines = file.read().split(b"\n")[:-1]
     except OSError:
         return False
-    return next((line for line in reversed(lines) if not line.endswith(b"!")), b"").startswith(BEGUN)
+    return not next((line for line in reversed(lines) if not line.endswith(b"!")), ENDED[0]).startswith(ENDED)
 
 
 def state_folder():
@@ -94,6 +94,8 @@ def state_folder():
     if not home.startswith("/"):
         # in each folder there would be others
         raise Fault(f"HOME names no folder; {KEPT_THERE}")
+    if as_text(home) != home:
+        raise Fault(f"{home}: isn't UTF-8, as stmflash's words are; {KEPT_THERE}")
     return os.path.join(home, "stmflash")
 
 
@@ -118,4 +120,4 @@ def named_by(name, whole):
     """A name, with what tells it from others that are like it."""
     # loaded for few
     import hashlib
-    return f"{name}-{hashlib.sha256(os.fsencode(whole)).hexdigest()[:12]}"
+    return f"{as_text(name)}-{hashlib.sha256(os.fsencode(whole)).hexdigest()[:12]}"

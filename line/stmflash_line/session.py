@@ -90,7 +90,7 @@ def baud_of(port):
 def make_watch():
     from .chips import read_chips
     from .watch import Watch
-    return Watch(read_chips())
+    return Watch(read_chips(None, "STMFLASH_TABLE")[0])
 
 
 def make_lines(chip):

@@ -6,7 +6,7 @@ import shutil
 import socket
 import stat
 
-from .faults import Fault, refused
+from .faults import Fault, as_text, refused
 
 # a private folder's name begins so; the names of its socket before and after it listens
 FOLDER, UNREADY, READY = "stmflash-line-", "unready", "socket"
@@ -86,8 +86,7 @@ def served_privately():
 def named(opened, name, socket_path):
     """The word for an image that is an open file: a link beside the socket, by the name that a journal is to tell."""
     folder = os.path.join(os.path.dirname(socket_path), os.urandom(8).hex())
-    # words are text
-    path = os.path.join(folder, os.fsencode(os.path.basename(name)).decode(errors="replace"))
+    path = os.path.join(folder, as_text(os.path.basename(name)))
     os.mkdir(folder, 0o700)
     os.symlink(opened, path)
     return path + "@"

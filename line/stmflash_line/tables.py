@@ -2,11 +2,15 @@
 
 import os
 
+from .held import hold
+
 # the machine's own table, and the installed ones
 MACHINES = "/etc/stmflash/chips.toml"
 TABLES = ("/usr/local/share/stmflash/chips.toml", "/usr/share/stmflash/chips.toml")
 # the one that is installed with us, under whatever PREFIX
 BESIDE = os.path.join(os.path.dirname(os.path.dirname(os.path.abspath(__file__))), "chips.toml")
+# what stmflash asks of a chip's entry
+KEYS = ("id", "base", "pages", "erase", "erased", "unique", "size_at", "tried")
 
 
 def users_own():
@@ -24,6 +28,33 @@ def in_order(installed=None):
     return [*filter(os.path.exists, (users_own(), MACHINES)), *list(filter(os.path.isfile, installed or (*TABLES, BESIDE)))[:1]]
 
 
-def only_beside():
-    """The table that is installed with us, where it is there and stmflash would find none by itself; else nothing."""
-    return "" if any(map(os.path.exists, (users_own(), MACHINES, *TABLES))) or not os.path.exists(BESIDE) else BESIDE
+def entries(path):
+    """The chips of a table, before which one byte order mark may stand, as for stmflash."""
+    # loaded by few
+    import tomllib
+    with open(path, encoding="utf-8-sig", newline="") as file:
+        return tomllib.loads(file.read())["chip"]
+
+
+def table_text(chips):
+    """Entries as one table, with what stmflash asks of them."""
+    def value(held):
+        if isinstance(held, dict):
+            return f"{{{', '.join(f'{key} = {value(it)}' for key, it in held.items())}}}"
+        return f"[{', '.join(map(value, held))}]" if isinstance(held, list) else f'"{held}"' if isinstance(held, str) else str(held)
+
+    return "".join("[[chip]]\n" + "".join(f"{key} = {value(chip[key])}\n" for key in KEYS if key in chip) for chip in chips).encode()
+
+
+def handed_on():
+    """The name of a table for a stmflash that doesn't find the one that is installed with us: that, or one made of it and of those that
+    go over it; else nothing, also where one is no table, as stmflash says itself."""
+    found, chips = in_order(), []
+    if BESIDE in TABLES or found[-1:] != [BESIDE]:
+        return ""
+    try:
+        for path in found if found[1:] else ():
+            chips += [chip for chip in entries(path) if chip["id"] not in [it["id"] for it in chips]]
+    except (OSError, ValueError, TypeError, KeyError):
+        return ""
+    return f"/proc/{os.getpid()}/fd/{hold(table_text(chips))}" if chips else BESIDE

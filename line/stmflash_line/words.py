@@ -38,8 +38,7 @@ def make_parser():
     parser.add_argument("--wiring", metavar="WIRING",
                         help="what reset and BOOT0 hang on: dtr-reset,rts-boot0, with inverted- before what goes through an "
                         "inverter; the board is reset into its bootloader, and in the end into its program")
-    parser.add_argument("--boot", metavar="SEQUENCE",
-                        help="how RTS, DTR, break and GPIO lines are moved once the port is open: '-rts&dtr,-dtr,,:rts&dtr,-dtr'")
+    parser.add_argument("--boot", metavar="SEQUENCE", help="how RTS, DTR, break and GPIO lines are moved once the port is open: '-rts&dtr,-dtr,,:rts&dtr,-dtr'")
     parser.add_argument("--resets", action="store_true", help="--boot is a reset: it is played for each client")
     parser.add_argument("--after", metavar="SEQUENCE", help="the same for the end; also what follows ':' in --boot")
     parser.add_argument("--gpio-chip", metavar="NAME", help=f"the chip of the GPIO lines that a sequence names; {CHIP} without it")
@@ -66,6 +65,8 @@ def read_words(words):
         parser.error("either --socket PATH or -- COMMAND")
     if given.socket is None and not command:
         given.command = ["stmflash", SHORT[0]]
+    if given.port == "":
+        parser.error("PORT is an empty word: give a port, or leave the word out where there is one port alone")
     if given.socket == "":
         parser.error("--socket names no path")
     if not 1 <= given.baud <= 4000000:

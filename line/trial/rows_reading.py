@@ -23,8 +23,7 @@ SIZE_REGISTERS = {
 }
 
 
-@row("save", "each block of the flash can be read, 256 bytes at a time, and none is lost", "Read Memory; what a journal keeps",
-     "the journal can't keep a page")
+@row("save", "each block of the flash can be read, 256 bytes at a time, and none is lost", "Read Memory; what a journal keeps", "the journal can't keep a page")
 def save(board):
     model, data, lost, begun = board.model, bytearray(), [], time.monotonic()
     for at in range(0, model.size, BLOCK):

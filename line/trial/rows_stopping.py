@@ -12,8 +12,7 @@ RESET = "press reset, with BOOT0 as it is, each time it asks; or --reset COMMAND
 POWER = "take the board's power while page P is erased, and give it again with BOOT0 high, when it asks"
 
 
-@row("settle-ask", "stopped at each byte of Get, Get ID and Read, 7F settles it", "settling; announced bytes are awaited",
-     "after a stop no session begins")
+@row("settle-ask", "stopped at each byte of Get, Get ID and Read, 7F settles it", "settling; announced bytes are awaited", "after a stop no session begins")
 def settle_ask(board):
     frame = [READ, READ ^ 0xFF, *board.address(board.model.starts[board.page]), 0xFF, 0x00]
     return cut_and_settle(board, [[GET], [GET_ID], *(frame[:count] for count in range(1, len(frame)))], "ask")

@@ -4,11 +4,11 @@ import argparse
 import datetime
 import os
 import sys
-import tomllib
 
 from faults import Refused
 from rows import BACK, NAMES
-from stmflash_line.tables import TABLES, in_order
+from stmflash_line.chips import read_chips
+from stmflash_line.faults import Fault
 
 DESCRIPTION = """Tries, row by row, whether a board follows the model that stmflash's promises rest on. It saves the whole flash
 to a file, erases and writes the named pages, puts back what it changed, and tells what it found."""
@@ -68,6 +68,8 @@ def read(words, folder):
     given.folder = folder
     if given.rows:
         return given
+    if "" in (given.port, given.device):
+        made.error("--port or --device is an empty word: name the board, or leave it out")
     if given.port and given.device:
         made.error("either --device or --port")
     given.device = None if given.port else given.device or os.environ.get("STMFLASH_DEVICE")
@@ -87,27 +89,11 @@ def read(words, folder):
     given.save = given.save or f"flash-{datetime.datetime.now():%Y%m%d-%H%M%S}.bin"
     if os.path.lexists(given.save):
         raise Refused(f"{given.save}: is there already; give --save another name")
-    tables = [given.table] if given.table else in_order() or TABLES[:1]
-    given.chips = [chip for path in tables for chip in read_table(path)]
+    try:
+        given.chips, tables = read_chips(given.table, "--table")
+    except Fault as fault:
+        raise Refused(str(fault)) from None
     for name, path in (("--save", given.save), *(("the chip table", path) for path in tables)):
         if os.path.realpath(given.out) == os.path.realpath(path):
             raise Refused(f"{given.out}: is {name} too; give --out another name")
     return given
-
-
-def read_table(path):
-    """The chips of a table. That a chip is within stmflash's limits is asked where it counts."""
-    try:
-        with open(path, "rb") as file:
-            chips = tomllib.load(file)["chip"]
-        for chip in chips:
-            erase, pages = chip["erase"], [(int(count), int(size)) for count, size in chip["pages"]]
-            if erase not in ("page", "extended") or chip["id"] < 0 or chip["base"] < 0 or chip.get("erased", 0xFF) not in (0, 0xFF):
-                raise ValueError
-            if any(count < 1 or size < 256 or size % 256 for count, size in pages) or sum(c * s for c, s in pages) > 1 << 21:
-                raise ValueError
-        return chips
-    except OSError as error:
-        raise Refused(f"{path}: {error.strerror}; --table names another") from None
-    except (ValueError, TypeError, KeyError):
-        raise Refused(f"{path}: is no chip table; --table names another") from None
