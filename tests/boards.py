@@ -15,6 +15,7 @@ import tty
 import unittest
 
 from place import COUNTING, PATIENCE, TOP, WAIT, Place, Said, program, readable
+from rows import Rows, bytes_of
 from served import Served
 
 LINE = os.path.join(TOP, "line", "stmflash-line")
@@ -208,6 +209,49 @@ class Named(LinePlace):
         if byte:
             self.store(name + ".flash.board", b"unique " + 12 * byte.encode() + b"\n")
         return self.board(name, flash=flash)
+
+
+class OnPorts(Named, Rows):
+    """A test whose cases are played at ports with boards behind them (tests/stm32flash.rows says how they are told)."""
+
+    def begin(self):
+        # the case before has left nothing that is temporary
+        self.tearDown()
+        super().begin()
+        self.flashes = {}
+
+    def unplugged(self, name):
+        """The flash of a board that is taken away."""
+        flash = self.given_board.store()
+        self.given_board.stop()
+        self.clear(name + ".flash.line")
+        return flash
+
+    def does(self, sign, told, name, *more):
+        if sign == "board":
+            byte, data = told.removeprefix(name + " ").partition(" --")[0].split(" ", 1)
+            if byte != "none":
+                self.store(name + ".flash.board", b"unique " + 12 * byte.encode() + b"\n")
+            self.given_board = self.board(name, flash=self.flashes.get(data) or bytes_of(data), more=[it for it in more if it.startswith("--")])
+        elif sign == "plain":
+            self.end = self.plain()
+        elif sign == "nothing":
+            self.assertNothingSent(self.end)
+        elif sign == "holds":
+            self.assertEqual(self.given_board.store(), bytes_of(told))
+        elif sign == "unplug":
+            self.flashes[more[0]] = self.unplugged(name)
+            self.clear(name + ".flash.board")
+        elif sign == "reset":
+            self.unplugged("ttyUSB0")
+            self.given_board = self.board()
+        elif sign == "instead":
+            self.clear("bin/stmflash")
+            if told != "none":
+                self.store("bin/stmflash", f'#!/bin/sh\nprogram={program()}\n{told}\nexec $program "$@"\n'.encode())
+                os.chmod(self.path("bin/stmflash"), 0o755)
+        else:
+            super().does(sign, told, name, *more)
 
 
 class WiredPlace(LinePlace):

@@ -1,24 +1,15 @@
-"""What tests of a board share that refuses a step: the board, what is told of it, and calls of the program on a board that isn't
-there."""
+"""What tests of a board share that refuses a step: the board, and cases that are played on boards that aren't there."""
 
-from place import Place
-from test_giving_up import at_peer
+import itertools
+
+from rows import Rows, bytes_of
+from served import Peer
 
 from device import exclusive_or as check
 from planted_board import FRESH, READ, REFUSED, PlantedBoard
 
-DEVICE = "device does not follow the protocol"
 BASE = 0x08000000
 SIZES = [1024] * 32
-# over the pages 4 to 6
-IMAGE = bytes(range(256)) * 12
-AT = BASE + 4 * 1024
-# what is told of page 5, by its number and by its address
-THEN = "If so: protect write-unprotect --in-session, undo 1"
-NOW_UNDO = "the board resets itself; now: undo 1"
-IN_SESSION = "to undo what a write-protected page refuses: protect write-unprotect --in-session, undo 1"
-NOT_ERASED = f"page 5: the device refused to erase it: is it write-protected? {THEN}"
-NOT_WRITTEN = f"address {AT + 1024:08X}: the device refused to write it: is its page write-protected? {THEN}"
 
 
 def write_to(at, data):
@@ -68,16 +59,49 @@ class Guarded(PlantedBoard):
         return not self.refuses("page", page) and super().has_page(page)
 
 
-class OnBoard(Place):
-    """A test that calls the program on boards, each call with a line of its own."""
+class OnBoard(Rows):
+    """A test whose cases are played on boards, each call with a line of its own (tests/hints.rows says how they are told)."""
 
-    begins = {"image": IMAGE}
+    # by their names, with what a board or a peer is made of
+    kinds = {"guarded": Guarded}
 
-    def at(self, serve, name, *words, hasty=("--wait", "300"), journal="journal"):
-        return at_peer(self, serve, name, *hasty, *words, journal=journal)
+    def begin(self):
+        super().begin()
+        # who listens in a case before is nobody's in this one
+        self.serving = None
 
-    def on(self, board, name, *words, journal="journal"):
-        return self.at(board.serve, name, *words, journal=journal)
+    def call(self, *words, **how):
+        """Runs the program, at the board where it names one."""
+        if "board" not in words or not self.serving:
+            return super().call(*words, **how)
+        name = next(it for it in map("peer{}".format, itertools.count()) if not self.is_there(it))
+        Peer(self, name, self.serving)
+        return super().call(*(name if it == "board" else it for it in words), **how)
 
-    def write_on(self, board):
-        return self.on(board, "write", "-S", f"{AT:#x}", "image")
+    def does(self, sign, told, name, *more):
+        if sign == "peer":
+            self.serving = self.kinds[name]
+        elif sign == "board":
+            self.board = self.kinds[name](*(int(it, 0) if it[0].isdigit() and "-" not in it else it for it in more))
+            self.serving, self.heard, feed = self.board.serve, bytearray(), self.board.feed
+            self.board.feed = lambda byte: self.heard.append(byte) or feed(byte)
+        elif sign == "fed":
+            for byte in bytes.fromhex(name):
+                self.board.feed(byte)
+            self.board.owed.clear()
+        elif sign == "sets":
+            setattr(self.board, name, int(*more))
+        elif sign == "reset":
+            self.board.reset()
+        elif sign == "lets":
+            self.board.sets.clear()
+            getattr(self.board, "refused", set()).clear()
+        elif sign == "refuses":
+            self.assertTrue(self.board.refused)
+        elif sign == "holds":
+            self.assertEqual(bytes(self.board.flash), bytes_of(told))
+        elif sign == "heard":
+            self.assertRegex(self.heard.hex().upper(), rf"\A{told}\Z")
+            self.heard.clear()
+        else:
+            super().does(sign, told, name, *more)

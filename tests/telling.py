@@ -9,6 +9,7 @@ import os
 import socket
 
 from place import PATIENCE, WAIT, files, readable, served
+from rows import Rows
 from served import Served
 
 from image import crc
@@ -42,6 +43,18 @@ def left(pages):
     return b"".join(b"left %d %d %s!\n" % (number, len(data), sum_of(data).encode()) for number, data in pages.items())
 
 
+def run_beside(place, serve, *words, variables=None):
+    """Runs the program where a board is served so at the socket `board`."""
+    listener = place.listen("board")
+    ran = place.start(*words, variables=variables)
+    serving = place.beside(listener, lambda: serve(listener))
+    said = place.ended(ran)
+    serving.join(PATIENCE)
+    listener.close()
+    place.remove("board")
+    return said
+
+
 class Told(Served):
     """A test that has a table of that chip."""
 
@@ -52,14 +65,7 @@ class Told(Served):
 
     def run_on(self, serve, name, *words, variables=None):
         """Runs the program on a board that is served so, with its own table where it names none."""
-        listener = self.listen("board")
-        ran = self.start(name, *files("board")["--table" in words and 2:], "--wait", WAIT, *words, variables=variables)
-        serving = self.beside(listener, lambda: serve(listener))
-        said = self.ended(ran)
-        serving.join(PATIENCE)
-        listener.close()
-        self.remove("board")
-        return said
+        return run_beside(self, serve, name, *files("board")["--table" in words and 2:], "--wait", WAIT, *words, variables=variables)
 
 
 class Unacknowledged(Exception):
@@ -164,3 +170,34 @@ def serve_one(place, listener, flash, told, cuts, kind=Stand):
             stand = kind(line, board, told, cuts)
             stand.run()
     return stand
+
+
+class Asked(Rows):
+    """A test whose cases are played over boards that it serves (tests/boards.rows says how they are told)."""
+
+    kind, cuts = Stand, "0"
+
+    def call(self, *words, variables=None, **how):
+        """Runs the program, at a board where it names one, in so many sessions, some of which are cut."""
+        if "board" not in words:
+            return super().call(*words, variables=variables, **how)
+        self.stands, cuts, self.cuts = [], self.cuts, "0"
+
+        def serve(listener):
+            for it in cuts:
+                self.stands.append(serve_one(self, listener, self.flash, dict(self.told), it == "1", self.kind))
+
+        return run_beside(self, serve, *words, variables=variables)
+
+    def does(self, sign, told, name, *more):
+        if sign == "tells":
+            kib, self.flash = more
+            self.told = {UNIQUE_AT: None if name == "none" else bytes.fromhex(name), SIZE_AT: None if kib == "none" else int(kib).to_bytes(2, "little")}
+        elif sign == "cuts":
+            self.cuts = told
+        elif sign == "asks":
+            self.assertEqual(" ".join("".join("U" if at == UNIQUE_AT else "S" for at in it.asked) for it in self.stands) or "none", told)
+        elif sign == "sent":
+            self.assertRegex(" ".join(it.sent.hex().upper() for it in self.stands), rf"\A{told}\Z")
+        else:
+            super().does(sign, told, name, *more)

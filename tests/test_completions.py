@@ -55,9 +55,7 @@ class Completions(Place):
 
     def options_of(self, script):
         """The options of a companion."""
-        ran = subprocess.run([sys.executable, os.path.join(TOP, "line", script), "--help"], capture_output=True, text=True, timeout=PATIENCE)
-        self.assertEqual((ran.returncode, ran.stderr), (0, ""))
-        return options(ran.stdout)
+        return options("\n".join(self.shell(sys.executable, os.path.join(TOP, "line", script), "--help")))
 
     def shell(self, name, *words):
         """What a shell prints; the test is left out where it isn't installed."""
@@ -84,8 +82,7 @@ class Completions(Place):
             os.chdir(self.folder)
             os.execvpe("zsh", ["zsh", "-f", "-i"], {"PATH": os.environ["PATH"], "TERM": "dumb", "HOME": self.folder})
         try:
-            begin = f"PS1=; fpath=({shlex.quote(FOLDER)} $fpath); autoload -U compinit; compinit -u -D; print rea''dy\n"
-            os.write(terminal, begin.encode())
+            os.write(terminal, f"PS1=; fpath=({shlex.quote(FOLDER)} $fpath); autoload -U compinit; compinit -u -D; print rea''dy\n".encode())
             self.wait_for(terminal, b"ready")
             os.write(terminal, typed.encode() + b"\t")
             self.wait_for(terminal, made.encode())
@@ -132,6 +129,7 @@ class Completions(Place):
         taken, told = self.told_in_zsh()
         self.assertEqual({it.partition(":")[0] for it in told["stmflash help"]}, self.subcommands())
         self.each(taken, lambda typed: self.assertEqual({it[1] for it in map(OPTION.match, told[typed]) if it}, taken[typed]))
+        self.assertEqual([OPTION.match(it)[1] for it in told["stmflash sim"] if it.startswith("*")], re.findall(r"(--\S+) .*several times", self.help_of("sim")))
         manual = text_in("line", "stmflash-trial.1").replace("\\", "")
         self.assertEqual([option for option in taken["stmflash-trial"] - {"-h", "--help"} if f" {option}" not in manual], [])
 
@@ -147,7 +145,8 @@ class Completions(Place):
         self.both(wanted, "/dev/.*|gpiochip.*|inverted-")
 
     def test_all_offer_the_same_ports(self):
-        kinds = set(re.search(r"tty\(([A-Z|]+)\)", text_in(FOLDER, "stmflash.bash"))[1].split("|"))
-        for name in ("_stmflash", "stmflash-line.fish", "stmflash-trial.fish"):
+        kinds = set(re.search(r"\(tty\(([A-Z|]+)\)\|serial/\)", text_in(FOLDER, "stmflash.bash"))[1].split("|"))
+        for name, ports in (("_stmflash", 2), ("stmflash-line.fish", 1), ("stmflash-trial.fish", 1)):
+            self.assertEqual(text_in(FOLDER, name).count(" /dev/serial/by-id/*"), ports, name)
             found = re.findall(r"/dev/tty(?:\(([A-Z|]+)\)|([A-Z]+))\*", text_in(FOLDER, name))
             self.assertEqual({kind for one, other in found for kind in (one or other).split("|")}, kinds, name)

@@ -1,10 +1,10 @@
-"""A page that a journal keeps, of which the disk has changed a digit: its CRC stands behind it, where the journal names its board, and
-no undo gives other bytes back."""
+"""A page that a journal keeps, of which the disk has changed a digit (tests/damage.rows): each digit, and lines of a CRC that are none."""
 
 import random
 
 import telling
 from place import UNIQUE, Said, each_of
+from rows import Rows, cases
 from telling import kept, left, sum_of
 
 SIZE = 256
@@ -23,10 +23,10 @@ def part(page):
     return COUNTING[page * SIZE:(page + 1) * SIZE]
 
 
-def erased(number, *pages, has_sum=True):
+def erased(number, *pages):
     """The lines of an erase of these pages."""
-    lines = b"".join(kept(page, part(page), has_sum) + b"erase %d\n" % page for page in pages)
-    return b"open %d\n%send %d\n" % (number, lines, number) + has_sum * left(dict.fromkeys(pages, b"\xff" * SIZE))
+    lines = b"".join(kept(page, part(page)) + b"erase %d\n" % page for page in pages)
+    return b"open %d\n%send %d\n" % (number, lines, number) + left(dict.fromkeys(pages, b"\xff" * SIZE))
 
 
 def rotten(journal, *pages, chance=random):
@@ -35,6 +35,11 @@ def rotten(journal, *pages, chance=random):
         at = journal.index(b"page %d " % page) + 7 + chance.randrange(2 * SIZE)
         journal = journal[:at] + bytes([chance.choice([it for it in b"0123456789ABCDEF" if it != journal[at]])]) + journal[at + 1:]
     return journal
+
+
+class Pages(Rows):
+    def test_each_page(self):
+        self.play_all(cases("damage.rows"))
 
 
 class Damage(telling.Told):
@@ -52,16 +57,6 @@ class Damage(telling.Told):
         before = {name: self.held(name) for name in ("flash", "flash.line", "journal")}
         self.assertFault(self.at(*words, **more), DAMAGED.format(page, segment), **before)
 
-    def test_the_line(self):
-        """In a journal of version 3 alone, in the process and over a socket."""
-        told, over = "segment 1: 2 pages erased\n", lambda it: telling.serve_one(self, it, "there", TOLD, False)
-        self.assertTold(self.at("erase", "3", "5"), told, journal=HEAD + erased(1, 3, 5))
-        self.store_all({"there": COUNTING, "journal": None, "flash.board": None})
-        self.assertTold(self.run_on(over, "erase", "3", "5"), told, journal=HEAD + erased(1, 3, 5))
-        for version, begun in ((2, b""), (2, b"stmjournal 2 0410\n"), (1, b"stmjournal 1 0410\n")):
-            self.store_all({"flash": COUNTING, "journal": begun})
-            self.assertTold(self.at("erase", "3", "5"), told, journal=b"stmjournal %d 0410\n" % version + erased(1, 3, 5, has_sum=False))
-
     def test_each_rotten_digit_is_told(self):
         whole, chance, flash, line = self.two_segments(), random.Random(1), self.held("flash"), self.held("flash.line")
         for number in range(ROTS):
@@ -76,25 +71,6 @@ class Damage(telling.Told):
                     given = bytes.fromhex(rotted.split(b"page %d " % page)[1].split(b"\n")[0].decode())
                     self.assertFile("flash", COUNTING[:page * SIZE] + given + COUNTING[(page + 1) * SIZE:])
                     self.store_all({"flash": flash, "flash.line": line})
-
-    def test_the_segments_that_are_taken_count(self):
-        """The newest that is damaged is named, and its first page."""
-        whole, flash = self.two_segments(), self.held("flash")
-        for pages, named in (((3, 5), (3, 1)), ((5, 9), (9, 2)), ((9, 7, 3), (7, 2))):
-            self.store("journal", rotten(whole, *pages))
-            self.assertRefused(*named, "undo")
-        # a CRC that rots counts as a page that does, and a segment that changed nothing is passed by `--to-change`
-        digits = sum_of(part(9)).encode()
-        for journal, taken in ((whole.replace(digits, digits[::-1]), "1"), (rotten(whole, 9) + b"open 3\nend 3\n", "--to-change")):
-            self.store("journal", journal)
-            self.assertRefused(9, 2, "undo", taken)
-        self.assertTold(self.at("undo", "1"), "undone 1\n", "segment 3 had changed nothing; 2 more can be undone")
-        for words in (("1",), ("-v", "1"), ("--to-change",)):
-            self.store_all({"flash": flash, "journal": rotten(whole, 9)})
-            self.assertRefused(9, 2, "undo", *words)
-            self.store("journal", rotten(whole, 3))
-            self.assertEqual((self.at("undo", *words).status, self.held("flash") == flash), (0, False))
-            self.assertRefused(3, 1, "undo", *words)
 
     def test_what_is_no_such_line(self):
         """One that a crash has cut, whatever it says, of another form, or not directly behind its page; only the whole one counts."""
@@ -121,51 +97,6 @@ class Damage(telling.Told):
         self.assertEqual(self.at("undo").status, 0)
         self.assertFile("flash", COUNTING)
 
-    def test_a_journal_without_such_lines_goes_on(self):
-        """That of an older version of the program, which may have begun one that this one goes on with."""
-        self.two_segments()
-        self.store("journal", rotten(HEAD + erased(1, 3, 5, has_sum=False) + erased(2, 7, 9, has_sum=False), 3))
-        self.assertWell(self.call(*CHECK))
-        self.assertTold(self.at("undo"), "undone 2\n")
-        self.store_all({"flash": COUNTING, "journal": HEAD + erased(1, 3, has_sum=False)})
-        self.assertTold(self.at("erase", "5"), "segment 2: 1 pages erased\n", journal=HEAD + erased(1, 3, has_sum=False) + erased(2, 5))
-
-    def test_a_last_page_is_left_out(self):
-        """By `--recover`, where no line behind it says anything: nobody touched that page, whose CRC may be old digits of the disk."""
-        front = HEAD + b"open 1\n" + kept(3, part(3)) + b"erase 3\n"
-        changed = COUNTING[:3 * SIZE] + b"\xff" * SIZE + COUNTING[4 * SIZE:]
-        others = front + kept(5, part(5), has_sum=False) + b"crc 0BADC0DE!\n"
-        for end in (others, others + b"connect!\nerase 5", rotten(front + kept(5, part(5)), 5)):
-            with self.subTest(end=end[-20:]):
-                self.clear("journal.cut")
-                self.store_all({"flash": changed, "flash.line": b"idle\n", "journal": end})
-                self.assertRefused(5, 1, "undo")
-                self.assertEqual(self.at("undo", "--recover").out, b"undone 1\n")
-                self.assertFiles({"flash": COUNTING, "journal.cut": end[len(front):]})
-                self.assertTrue(self.held("journal").startswith(front + b"erase 3\n"))
-                self.clear("journal.cut")
-                self.store_all({"flash": changed, "flash.line": b"idle\n", "journal": end.removesuffix(b"erase 5") + b"erase 5\n"})
-                self.assertRefused(5, 1, "undo", "--recover")
-                self.assertFile("journal.cut", None)
-
-    def test_no_line_is_opened(self):
-        self.store("journal", rotten(self.two_segments(), 9))
-        listener = self.listen("board")
-        listener.setblocking(False)
-        for words in ((), ("1",), ("-v",), ("--to-change",), ("--fresh",)):
-            self.assertFault(self.use("undo", *words, device="board"), DAMAGED.format(9, 2))
-            self.assertRaises(BlockingIOError, listener.accept)
-
-    def test_what_goes_on_beside_it(self):
-        """What looks or writes counts on no kept page."""
-        journal = rotten(self.two_segments(), 3)
-        self.store("journal", journal)
-        for words in (("info",), ("write", "image"), ("undo", "1")):
-            self.assertEqual(self.at(*words).status, 0)
-        self.assertWell(self.call("log", "--journal", "journal"))
-        self.assertTrue(self.held("journal").startswith(journal + b"open 3\n"))
-        self.assertRefused(3, 1, "undo", "--fresh")
-
     def test_a_write_that_is_done_again(self):
         """The undo of one that was broken off compares too: its page rots as it is erased, and the line is cut as it is to be written."""
         class Rotting(telling.Stand):
@@ -177,19 +108,3 @@ class Damage(telling.Told):
         fault = DAMAGED.format(0, 1)
         self.assertEqual(said, Said(1, b"", f"again 1 of 1: line failed; not undone: {fault}\n"
                                     f"stands: segment 1 is unfinished, undo first\nstmflash: {fault}\n".encode()))
-
-    def test_as_json(self):
-        self.store("journal", rotten(self.two_segments(), 9))
-        says = DAMAGED.format(9, 2)
-        for said in (self.at("undo", "1", "--json"), self.call(*CHECK, "--json")):
-            self.assertEqual(said, Said(1, f'{{"fault":"page_damaged","says":"{says}","status":1}}\n'.encode(), f"stmflash: {says}\n".encode()))
-
-    def test_keep_prints_the_journal_anew(self):
-        """With such lines behind the pages that are left, also one that rotted."""
-        whole, lines = self.two_segments(), kept(7, part(7)) + kept(9, part(9))
-        for journal, left in ((whole, lines), (rotten(whole, 9, chance=random.Random(9)), None)):
-            self.store("journal", journal)
-            self.assertTold(self.call("keep", "--last", "1", "--journal", "journal"), "kept 1\n1 can be undone\n")
-            if left:
-                self.assertFile("journal", HEAD + b"open 1\n" + left + b"end 1\n")
-        self.assertRefused(9, 1, "undo")

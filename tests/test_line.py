@@ -96,7 +96,7 @@ class Commands(LinePlace):
 
     def test_a_change_that_a_signal_ends_has_a_next_step(self):
         """Where COMMAND writes, erases or undoes, and had the line."""
-        told = b"stmflash-line: ended by a signal: where stmflash log says unfinished, stmflash undo 1 undoes what was begun\n"
+        told = b"stmflash-line: ended by a signal: where the same call with log says unfinished, with undo 1 it undoes what was begun\n"
         connect = "import os, socket; s = socket.socket(socket.AF_UNIX); s.connect(os.environ['STMFLASH_DEVICE']); s.sendall(b'?')"
         for word, connects, text in (("write", True, told), ("erase", True, told), ("undo", True, told), ("info", True, b""), ("write", False, b"")):
             with self.subTest(word=word, connects=connects):
@@ -242,8 +242,7 @@ class Kills(LinePlace):
                 board.renew()
                 # where it was killed before the journal was made, there is none to undo by
                 # and where it was before a page was kept, nothing had changed
-                due = (b"", b"note: segment 1 had changed nothing; 0 more can be undone\n") if self.is_there("journal") else \
-                    (b"note: journal journal isn't there\n",)
+                due = (b"", b"note: segment 1 had changed nothing; 0 more can be undone\n") if self.is_there("journal") else (b"note: journal journal isn't there\n",)
                 said = self.through("undo")
                 self.assertEqual(said.status, 0, killed)
                 self.assertIn(said.err, due, killed)

@@ -31,12 +31,14 @@ class InTheLine(Unnamed):
     begins = {**Unnamed.begins, "fw.elf": elf()}
 
     def test_what_it_loads_is_written_and_compared(self):
+        """Also where its name ends as a place of an image does."""
         board = self.telling()
-        said = self.short("ttyUSB0", "write", "-v", "fw.elf")
+        shutil.copy(self.path("fw.elf"), self.path("fw@0x08000400"))
+        said = self.short("ttyUSB0", "write", "-v", "fw@0x08000400")
         self.assertEqual((said.status, said.out), (0, b"segment 1: 1 pages written\nverified 20 bytes\n"))
-        self.assertRegex(said.err.decode().splitlines()[0], "^stmflash-line: fw.elf: as HEX, by (arm-none-eabi-)?objcopy$")
+        self.assertRegex(said.err.decode().splitlines()[0], "^stmflash-line: fw@0x08000400: as HEX, by (arm-none-eabi-)?objcopy$")
         self.assertEqual(board.store(), WRITTEN)
-        self.assertIn(b"\nimage fw.elf!\n", self.raw(self.journal()))
+        self.assertIn(b"\nimage fw@0x08000400!\n", self.raw(self.journal()))
         self.assertEqual(self.short("ttyUSB0", "--", self.path("bin/stmflash"), "verify", "fw.elf").out, b"verified 20 bytes\n")
 
     def test_raw_bytes_are_asked_for_by_a_flag(self):
@@ -59,6 +61,16 @@ class InTheLine(Unnamed):
             said = self.short("ttyUSB0", "write", "fw.elf")
             self.assertEqual((said.status, said.out), (1, b""))
             self.assertIn(f"stmflash-line: fw.elf: is ELF, and makes no HEX: {text}", said.err.decode().replace("arm-none-eabi-", ""))
+
+
+class Streams(Unnamed):
+    def test_what_can_be_read_but_once_is_stmflashs_to_read(self):
+        """A pipe is written whole, and a port that was taken for an image is refused."""
+        board = self.telling()
+        started = self.start("ttyUSB0", "write", "-v", "/dev/stdin", reads=True, **self.settings())
+        self.assertEqual(self.ended(started, CODE)[:2], (0, b"segment 1: 1 pages written\nverified 20 bytes\n"))
+        self.assertEqual(board.store(), CODE + COUNTING[len(CODE):])
+        self.assertFault(self.short("ttyUSB0", "write", "--journal", "one", "fw.bin", "/dev/ptmx"), "cannot read /dev/ptmx")
 
 
 @unittest.skipIf(shutil.which("objcopy") is None, "binutils is not installed")

@@ -19,7 +19,7 @@ from place import COUNTING, PATIENCE, SIZE, Said, first_of
 UNKNOWN = "parity, speed and errors are the far end's: a byte that came with an error may be handed on"
 TELLS = "the far end tells of bytes that came with an error, but may hand them on before"
 SILENT = "the far end doesn't tell of bytes that came with an error, and may hand them on"
-CLOSED = "the far end closed the line; where stmflash log says unfinished, stmflash undo 1 undoes what was begun"
+CLOSED = "the far end closed the line; where the same call with log says unfinished, with undo 1 it undoes what was begun"
 
 
 class FarPlace(LinePlace):
@@ -143,8 +143,7 @@ class Rfc2217(FarPlace):
         for setting in ("baudrate 57600", "parity E", "mask 30"):
             self.assertIn(setting, noted)
         self.assertEqual({line for line in noted if line.startswith(("bytesize", "stopbits"))}, {"bytesize 8", "stopbits 1"})
-        self.assertEqual([line for line in noted if line.startswith(("rts ", "dtr "))],
-                         ["rts True", "dtr True", "rts False", "dtr False", "rts True", "dtr True", "dtr False"])
+        self.assertEqual([line for line in noted if line.startswith(("rts ", "dtr "))], ["rts True", "dtr True", "rts False", "dtr False", "rts True", "dtr True", "dtr False"])
 
     def test_bytes_both_ways(self):
         """Each of them, also the one that telnet takes for its own."""

@@ -117,7 +117,7 @@ class Faults(LinePlace):
 
     def test_bad_words(self):
         self.plain()
-        self.each(("--", "ttyUSB0 --", "ttyUSB0 --socket board -- true", "ttyUSB0 --socket board info", "ttyUSB0 --baud 0 -- true",
+        self.each(("--", "'' -- true", "ttyUSB0 --", "ttyUSB0 --socket board -- true", "ttyUSB0 --socket board info", "ttyUSB0 --baud 0 -- true",
                    "ttyUSB0 --socket ''", "ttyUSB0 --baud fast -- true", "ttyUSB0 --baud 4000001 -- true", "ttyUSB0 --boot cts -- true",
                    "ttyUSB0 --boot --rts -- true", "ttyUSB0 --after rts:dtr -- true", "ttyUSB0 --boot rts:dtr --after dtr -- true",
                    "ttyUSB0 --boo rts -- true", "ttyUSB0 ttyUSB1 -- true", "ttyUSB0 --boot", "ttyUSB0 --wiring", "ttyUSB0 --wiring '' -- true",
@@ -132,7 +132,7 @@ class Faults(LinePlace):
 
 
 class Pulled(LinePlace):
-    UNPLUGGED = b"stmflash-line: ttyUSB0: unplugged; plug it in; where stmflash log says unfinished, stmflash undo 1 undoes what was begun\n"
+    UNPLUGGED = b"stmflash-line: ttyUSB0: unplugged; plug it in; where the same call with log says unfinished, with undo 1 it undoes what was begun\n"
 
     def test_in_the_midst(self):
         """The client sees its line closed, and then the port is told."""
@@ -186,8 +186,7 @@ class Texts(unittest.TestCase):
     stm32flash has them are those of its own texts, and behind some the usage follows."""
 
     ABOUT = re.compile(r"\{\}|--?\w|[A-Z]{4}|\b(port|gpioset|GPIO|stmflash|an earlier call|table|others|objcopy)\b")
-    STEP = re.compile(r"(^|[:;(] )(\{\}|[^:;(]*((?<!\S)--?\w|[A-Z]{4}|\b(apt|chmod|chown|give|hand|move|ha(s|ve) to|tells|ends at|real stm32flash)\b)"
-                      r"[^;(]*)$")
+    STEP = re.compile(r"(^|[:;(] )(\{\}( names another)?|[^:;(]*((?<!\S)--?\w|[A-Z]{4}|\b(apt|chmod|chown|give|hand|move|ha(s|ve) to|tells|ends at|real stm32flash)\b)[^;(]*)$")
 
     def texts(self):
         for path in sorted(glob.glob(os.path.join(os.path.dirname(LINE), "**", "*.py"), recursive=True)):

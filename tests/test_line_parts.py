@@ -93,6 +93,12 @@ class Beginning(unittest.TestCase):
             session.use_board(calls.port, calls.moves, given, mock.Mock(number=None), None)
         self.assertEqual([name for name, _, _ in calls.mock_calls], ["moves.play", "port.forget", "served", "serve"])
 
+    def test_a_socket_that_answers_late_is_somebodys(self):
+        with mock.patch.object(sockets.socket, "socket") as made:
+            for error, is_left in ((ConnectionRefusedError, True), (TimeoutError, False), (None, False)):
+                made.return_value.__enter__.return_value.connect.side_effect = error
+                self.assertEqual((error, sockets.is_left("board")), (error, is_left))
+
     def test_a_folder_that_cant_be_made(self):
         with mock.patch.object(sockets.os, "mkdir", side_effect=OSError(errno.ENOSPC, "No space left on device", "/tmp/it")):
             self.assertRaisesRegex(faults.Fault, "^/tmp/it: No space left on device; TMPDIR names another folder$", sockets.served_privately().__enter__)
@@ -133,8 +139,7 @@ class Played(WiredPlace):
     def test_mode(self):
         """What comes is marked where it is bad, and not changed; RTS and DTR stay when the port is closed."""
         marks = termios.INPCK | termios.PARMRK
-        changes = termios.IGNPAR | termios.IGNBRK | termios.BRKINT | termios.ISTRIP | termios.INLCR | termios.IGNCR | \
-            termios.ICRNL | termios.IXON | termios.IXOFF
+        changes = termios.IGNPAR | termios.IGNBRK | termios.BRKINT | termios.ISTRIP | termios.INLCR | termios.IGNCR | termios.ICRNL | termios.IXON | termios.IXOFF
         for words in (("ttyUSB0",), (self.wired, "--baud", "9600")):
             # another program has left it so
             mode = termios.tcgetattr(self.master)
@@ -209,8 +214,7 @@ class Waits(Place):
             given = types.SimpleNamespace(resets=resets, boot=boot)
             self.assertEqual(session.wait_of(port, given, ["stmflash", "write", "image"]), wait)
             # what was stopped may still keep the board busy
-            for words in (["stmflash", "undo", "--journal", "journal"], ["stmflash", "write", "--again", "2", "image"],
-                          ["stmflash", "write", "--again=2", "image"]):
+            for words in (["stmflash", "undo", "--journal", "journal"], ["stmflash", "write", "--again", "2", "image"], ["stmflash", "write", "--again=2", "image"]):
                 self.assertIsNone(session.wait_of(port, given, words))
 
     def told(self, names, wait, baud, **variables):
@@ -292,6 +296,8 @@ class Modes(unittest.TestCase):
     def test_a_driver_that_keeps_another_mode(self):
         """A pseudo-terminal knows no parity: as a port it would be refused."""
         _, slave = self.openpty()
+        with mock.patch.object(opening.termios, "tcsetattr"):
+            self.assertRaises(ValueError, opening.set_mode, slave, is_pty=True)
         self.assertRaises(ValueError, opening.set_mode, slave, is_pty=False)
         opening.set_mode(slave, is_pty=True)
 

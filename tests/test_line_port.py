@@ -17,7 +17,7 @@ from stmflash_line.faults import Fault, Gone
 from stmflash_line.moves import Moves
 
 GOOD, PARITY, FRAMING, BREAK, OVERRUN, FULL, UNPLUGGED, HUNG_UP = range(8)
-PULLED = "unplugged; plug it in; where stmflash log says unfinished, stmflash undo 1 undoes what was begun"
+PULLED = "unplugged; plug it in; where the same call with log says unfinished, with undo 1 it undoes what was begun"
 
 
 def came(data):
@@ -276,8 +276,7 @@ class Clients(LinePlace):
         """All of it, but for a device of another call."""
         self.plain()
         script = 'echo "$STMFLASH_DEVICE" "$STMFLASH_JOURNAL" "$STMFLASH_TABLE" "$A_WORD" "$PWD"; cat'
-        started = self.start("ttyUSB0", "--", "sh", "-c", script, reads=True, STMFLASH_DEVICE="other", STMFLASH_JOURNAL="board 7",
-                             STMFLASH_TABLE="t", A_WORD="an = other")
+        started = self.start("ttyUSB0", "--", "sh", "-c", script, reads=True, STMFLASH_DEVICE="other", STMFLASH_JOURNAL="board 7", STMFLASH_TABLE="t", A_WORD="an = other")
         out, err = started.communicate(b"what is read\n", timeout=PATIENCE)
         path, _, rest = out.decode().partition(" ")
         self.assertTrue(path.startswith(self.path("temporary/")), path)

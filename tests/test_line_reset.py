@@ -22,13 +22,10 @@ STOPS = int(os.environ.get("STMFLASH_LINE_STOPS", "12"))
 # the sequences into the bootloader, and out of it
 WIRINGS = {
     "dtr-reset,rts-boot0": ("-rts&dtr,-dtr,,", "rts&dtr,-dtr"), "dtr-reset,inverted-rts-boot0": ("rts&dtr,-dtr,,", "-rts&dtr,-dtr"),
-    "inverted-dtr-reset,rts-boot0": ("-rts&-dtr,dtr,,", "rts&-dtr,dtr"),
-    "inverted-dtr-reset,inverted-rts-boot0": ("rts&-dtr,dtr,,", "-rts&-dtr,dtr"),
+    "inverted-dtr-reset,rts-boot0": ("-rts&-dtr,dtr,,", "rts&-dtr,dtr"), "inverted-dtr-reset,inverted-rts-boot0": ("rts&-dtr,dtr,,", "-rts&-dtr,dtr"),
     "rts-reset,dtr-boot0": ("-dtr&rts,-rts,,", "dtr&rts,-rts"), "rts-reset,inverted-dtr-boot0": ("dtr&rts,-rts,,", "-dtr&rts,-rts"),
-    "inverted-rts-reset,dtr-boot0": ("-dtr&-rts,rts,,", "dtr&-rts,rts"),
-    "inverted-rts-reset,inverted-dtr-boot0": ("dtr&-rts,rts,,", "-dtr&-rts,rts"),
-    "dtr-reset": ("dtr,-dtr,,", ""), "rts-reset": ("rts,-rts,,", ""),
-    "inverted-dtr-reset": ("-dtr,dtr,,", ""), "inverted-rts-reset": ("-rts,rts,,", "")}
+    "inverted-rts-reset,dtr-boot0": ("-dtr&-rts,rts,,", "dtr&-rts,rts"), "inverted-rts-reset,inverted-dtr-boot0": ("dtr&-rts,rts,,", "-dtr&-rts,rts"),
+    "dtr-reset": ("dtr,-dtr,,", ""), "rts-reset": ("rts,-rts,,", ""), "inverted-dtr-reset": ("-dtr,dtr,,", ""), "inverted-rts-reset": ("-rts,rts,,", "")}
 EXAMPLE = "dtr-reset,rts-boot0"
 # the calls of the stand-in port at the example's entry
 ENTRY = ["RTS inactive", "DTR active", "DTR inactive"]

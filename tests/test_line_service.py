@@ -96,6 +96,6 @@ class Confinement(Place):
                      "RestrictAddressFamilies=AF_UNIX", "ProtectProc=invisible", "ProcSubset=pid", "IPAddressDeny=any", "UMask=0077",
                      "SystemCallArchitectures=native", "SystemCallFilter=~@privileged @resources", "Restart=on-failure", "RestartSec=1",
                      "Documentation=man:stmflash-line(1)", "RuntimeDirectoryMode=0750", *(f"{name}=yes" for name in CONFINING.split()),
-                     *(f"{name}=dev-%i.device" for name in ("BindsTo", "After", "WantedBy"))):
+                     "Environment=LINE_OPTIONS=", "SystemCallErrorNumber=EPERM", *(f"{name}=dev-%i.device" for name in ("BindsTo", "After", "WantedBy"))):
             self.assertIn(line, lines)
         self.assertFalse([line for line in lines if line.startswith(("User=", "AmbientCapabilities=", "PermissionsStartOnly="))])

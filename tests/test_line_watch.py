@@ -13,7 +13,7 @@ from unittest import mock
 
 from boards import LinePlace
 from place import COUNTING, TOP, Said
-from stmflash_line import chips, tables
+from stmflash_line import session, tables
 from stmflash_line.watch import Watch
 
 import pty_boards
@@ -320,13 +320,10 @@ class Boards(WatchedPlace):
         """The one that is named is read alone, else one's own over the installed one."""
         os.mkdir(self.path("stmflash"))
         self.store_all({"stmflash/chips.toml": TABLE.replace(b"440", b"441"), "other": b"none"})
-        with mock.patch.multiple(tables, TABLES=[self.path("table"), self.path("other")], MACHINES=""), \
-                mock.patch.dict(os.environ, XDG_CONFIG_HOME=self.folder):
+        with mock.patch.multiple(tables, TABLES=[self.path("table"), self.path("other")], MACHINES=""), mock.patch.dict(os.environ, XDG_CONFIG_HOME=self.folder):
             for os.environ["STMFLASH_TABLE"], ids in (("", [0x441, 0x440]), (self.path("table"), [0x440])):
-                self.assertEqual([chip["id"] for chip in chips.read_chips()], ids)
+                self.assertEqual([chip["id"] for chip in session.make_watch().chips], ids)
         self.plain()
-        for text, told_of in ((None, "No such file or directory; --watch needs the chip table, which STMFLASH_TABLE names"),
-                              (b"[[chip", "is no chip table; STMFLASH_TABLE names one"), (b"[[chip]]\nid = 1\n", "is no chip table; STMFLASH_TABLE names one")):
-            with self.subTest(text=text):
-                self.remove("table") if text is None else self.store("table", text)
-                self.assertLineFault(self.over("true"), f"{self.path('table')}: {told_of}")
+        for text, told_of in ((b"[[chip", "is no chip table"), (b"[[chip]]\nid = 1\n", "is no chip table"), (None, "No such file or directory")):
+            self.store("table", text)
+            self.assertLineFault(self.over("true"), f"{self.path('table')}: {told_of}; STMFLASH_TABLE names another")

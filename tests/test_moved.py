@@ -10,12 +10,14 @@ from place import WAIT, Said
 from served import Served
 from test_disk import ENDED, IMAGE, KEPT, SMALL_FLASH, SMALL_TABLE, SYNCED, WRITTEN
 
+# the call by which a session reaches its board, behind a look at the journal
+CONNECT = 42
 CHANGED = "it was moved, replaced, cut or added to"
 
 
 def rescued(name):
     """What is told behind the fault where this file has what the journal held."""
-    return f"{CHANGED}; what it held is in {name}: undo --journal {name}"
+    return f"{CHANGED}; what it held is in {name}: undo 1 --journal {name}, if log says unfinished"
 
 
 class Moved(Served):
@@ -54,6 +56,15 @@ class Moved(Served):
 
     def test_removed(self):
         self.assertFails(lambda: os.remove(self.path("here/journal")))
+
+    def test_removed_before_it_was_added_to(self):
+        self.begin()
+        self.store("here/journal", ENDED)
+        self.serve(1)
+        said, _ = self.write(lambda at, process: at == 0 and os.remove(self.path("here/journal")), held=CONNECT)
+        self.assertFault(said, "journal failed", hint=rescued("here/journal.rescued"))
+        self.assertServed(flash=SMALL_FLASH)
+        self.assertFile("here/journal.rescued", ENDED)
 
     def test_renamed(self):
         """What was there by then leads back."""

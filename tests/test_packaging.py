@@ -1,6 +1,7 @@
 """What packaging/deb refuses: no package says of a program that it is proved which isn't. And what a release is made of."""
 
 import concurrent.futures
+import email.utils
 import glob
 import os
 import pathlib
@@ -75,7 +76,8 @@ class Packaging(unittest.TestCase):
         running = subprocess.Popen([old, "60"])
         self.addCleanup(running.wait)
         self.addCleanup(running.kill)
-        subprocess.run(["make", "install", "PREFIX=/opt/ours", f"DESTDIR={folder}", f"BINARY={program()}"], cwd=TOP, check=True, capture_output=True, umask=0o077)
+        for _ in ("anew", "over itself"):
+            subprocess.run(["make", "install", "PREFIX=/opt/ours", f"DESTDIR={folder}", f"BINARY={program()}"], cwd=TOP, check=True, capture_output=True, umask=0o077)
         wanted = {to + name: pathlib.Path(TOP, it).read_bytes() for to, of in INSTALLED.items() for name, it in copies(of)}
         wanted |= {f"share/bash-completion/completions/stmflash{it}": "stmflash" for it in ("-line", "-trial")}
         unit = "lib/systemd/system/stmflash-line@.service"
@@ -114,16 +116,16 @@ class Packaging(unittest.TestCase):
         # (a language's order is another than that of bytes)
         others = self.instead(room, dpkg_deb=f'chown -R 1:1 "$tree" 2> /dev/null; exec {shutil.which("dpkg-deb")} "$@"',
                               sort='[ "$LC_ALL" = C ] || set -- -r "$@"; exec /usr/bin/sort "$@"')
-        others |= {"LC_ALL": "C.UTF-8", "LANGUAGE": "sv:ja:zh_CN:de:fr", "TMPDIR": self.folder()}
-        at = subprocess.run([f"{TOP}/packaging/{words[0]}", *words[1:]], capture_output=True, text=True, timeout=PATIENCE, cwd=folder or room,
-                            env=self.instead(self.folder(), dpkg_deb='echo "$last" >&2; exit 1')).stderr
-        self.assertEqual(os.path.dirname(at), f"{TOP}/bin", "where no folder is named")
+        others |= {"LC_ALL": "C.UTF-8", "LANGUAGE": "sv:ja:zh_CN:de:fr", "TMPDIR": self.folder(), "SOURCE_DATE_EPOCH": "1767384246", "TZ": "UTC"}
+        when, at = subprocess.run([f"{TOP}/packaging/{words[0]}", *words[1:]], capture_output=True, text=True, timeout=PATIENCE, cwd=folder or room,
+                                  env=self.instead(self.folder(), dpkg_deb='echo "$SOURCE_DATE_EPOCH" "$last" >&2; exit 1')).stderr.split(" ", 1)
+        newest = email.utils.parsedate_to_datetime(re.search(">  (.*)", text_in("packaging", "changelog"))[1])
+        self.assertEqual((int(when), os.path.dirname(at)), (newest.timestamp(), f"{TOP}/bin"), "where no date and no folder is named")
         made = subprocess.run([os.path.join(TOP, "packaging", words[0]), *words[1:], room], capture_output=True, text=True, timeout=PATIENCE,
                               check=True, umask=0o077, env=others, cwd=folder).stdout.strip()
         self.assertEqual(os.listdir(others["TMPDIR"]), [])
-        contents = subprocess.run(["dpkg-deb", "--contents", made], capture_output=True, text=True, check=True).stdout
-        date = subprocess.run(["date", "-d", text_in("packaging", "changelog").partition(">  ")[2].split("\n")[0], "+%F %R"], capture_output=True, text=True).stdout
-        self.assertEqual({" ".join(line.split()[1::2][:2] + line.split()[4:5]) for line in contents.splitlines()}, {"root/root " + date.strip()})
+        contents = subprocess.run(["dpkg-deb", "--contents", made], capture_output=True, text=True, check=True, env=others).stdout
+        self.assertEqual({" ".join(line.split()[1::2][:2] + line.split()[4:5]) for line in contents.splitlines()}, {"root/root 2026-01-02 20:04"})
         subprocess.run(["dpkg-deb", "--raw-extract", made, f"{room}/tree"], check=True)
         fields = dict(re.findall(r"^([\w-]+): (.*)$", text_in(room, "tree/DEBIAN/control"), re.MULTILINE))
         named = re.findall(r"^\w+  (.*)$", text_in(room, "tree/DEBIAN/md5sums"), re.MULTILINE)
@@ -148,8 +150,8 @@ class Packaging(unittest.TestCase):
         given = pathlib.Path(shutil.copy(program().removesuffix("-under-qemu"), self.folder()))
         held = given.stat().st_mtime_ns
         fields, tree = self.packed("deb", "--unproved", given.name, folder=given.parent)
-        told = (fields["Package"], fields["Conflicts"], fields["Replaces"], given.stat().st_mtime_ns)
-        self.assertEqual(told, ("stmflash-unproved", "stmflash", "stmflash", held))
+        told = [fields[it] for it in ("Package", "Conflicts", "Replaces")] + re.findall(r"^ .*\. (.* was proved .*)$", text_in(tree, "DEBIAN/control"), re.M)
+        self.assertEqual([*told, given.stat().st_mtime_ns], ["stmflash-unproved", "stmflash", "stmflash", "Nothing was proved of this program.", held])
         packed = pathlib.Path(tree, "usr/bin/stmflash").read_bytes()
         self.assertNotIn(b".comment", packed[-20000:])
         newest = max(re.findall(rb"GLIBC_([0-9.]+)\0", packed), key=lambda it: [int(part) for part in it.split(b".")]).decode()
@@ -161,7 +163,7 @@ class Packaging(unittest.TestCase):
         self.needs(**{"dpkg-deb": "dpkg-dev"})
         script, *words = ("deb", "--unproved", program().removesuffix("-under-qemu")) if is_unproved() else ("deb-as-stm32flash",)
         # (what is there, and which processor is this one, isn't what the package is made of)
-        named = {it for file in (f"packaging/{script}", "Makefile") for it in re.findall(r"[a-z][a-z0-9-]+", text_in(file))} - {"rm", "sh", "uname"}
+        named = {it for file in (f"packaging/{script}", "packaging/deb.sh", "Makefile") for it in re.findall(r"[a-z][a-z0-9-]+", text_in(file))} - {"rm", "sh", "uname"}
         tools = {it: f'echo >> "$CALLS/{it}"; [ "{it} $(/usr/bin/wc -l < "$CALLS/{it}")" != "$FAILS" ] || exit 1; exec {shutil.which(it)} "$@"'
                  for it in named if shutil.which(it)}
         stand_ins = self.instead(self.folder(), **tools)
@@ -188,9 +190,10 @@ class Packaging(unittest.TestCase):
         self.assertEqual(os.listdir(f"{tree}/usr/share/man/man1"), ["stmflash-as-stm32flash.1.gz"])
 
     def release(self, clone, folder, *programs, env=None):
-        """As from the folder beside it, in another zone of time."""
+        """As from the folder beside it, in another zone of time. Nothing is left elsewhere."""
         ran = subprocess.run([os.path.join(clone, "packaging", "release"), os.path.basename(folder), *programs], cwd=os.path.dirname(folder),
-                             env={**(env or os.environ), "TZ": "Asia-9"}, capture_output=True, text=True, timeout=60)
+                             env={**(env or os.environ), "TZ": "Asia-9", "TMPDIR": (room := self.folder())}, capture_output=True, text=True, timeout=60)
+        self.assertEqual(os.listdir(room), [])
         return ran.returncode, ran.stderr, ran.stdout
 
     def test_the_tests_get_their_packages(self):
@@ -204,14 +207,14 @@ class Packaging(unittest.TestCase):
     def test_a_release(self):
         """It is made of what was committed and has a version, and its sums are those of its files."""
         self.needs(git="git", **{"dpkg-deb": "dpkg-dev"})
-        with tempfile.TemporaryDirectory() as room:
+        with tempfile.TemporaryDirectory(prefix="a room_") as room:
             clone, folder = os.path.join(room, "clone"), os.path.join(room, "a release")
             shutil.copytree(TOP, clone, ignore=shutil.ignore_patterns("out", "bin", ".git", "crates", "__pycache__"))
             git = ["git", "-C", clone, "-c", "user.name=a", "-c", "user.email=a@example.org"]
             log = os.path.join(clone, "CHANGELOG.md")
+            pathlib.Path(clone, "packaging/changelog").write_text((it := text_in("packaging", "changelog")) + it.replace("(0.", "(0.0."), encoding="utf-8")
             text = text_in(log)
             released = text[:text.index("## ")] + text[text.index("## 0"):]
-            unreleased = released.replace("## 0", "## Unreleased\n\n- One.\n\n## 0", 1)
 
             def commit(text):
                 pathlib.Path(log).write_text(text, encoding="utf-8")
@@ -219,18 +222,17 @@ class Packaging(unittest.TestCase):
                     subprocess.run([*git, *words], check=True, env={**os.environ, "GIT_COMMITTER_DATE": "2026-01-02T20:04:06Z"})
 
             subprocess.run([*git, "init", "--quiet"], check=True, capture_output=True)
-            commit(unreleased)
+            commit(released.replace("## 0", "## Unreleased\n\n- One.\n\n## 0", 1))
             self.assertEqual(self.release(clone, folder), (1, "packaging/release: CHANGELOG.md has changes of no version yet\n", ""))
             commit(released)
             pathlib.Path(clone, "more").touch()
             self.assertEqual(self.release(clone, folder), (1, "packaging/release: there are changes that aren't committed\n", ""))
             self.assertFalse(os.path.exists(folder))
             os.remove(os.path.join(clone, "more"))
-            older = pathlib.Path(folder, "stmflash_0.1.0-1_amd64.deb")
-            older.parent.mkdir()
-            older.touch()
+            older = os.path.join(folder, ".older")
+            os.makedirs(older)
             self.assertEqual(self.release(clone, folder), (1, f"packaging/release: there is something in {folder}, which may be an older release\n", ""))
-            older.unlink()
+            os.removedirs(older)
             program, version = os.path.join(room, "one.exe"), released[released.index("## 0") + 3:].split()[0]
             for name, does in (("_all.deb", {"dpkg_deb": 'echo $$ > "$last"'}), ("a.zip", {"python3": 'echo $$ > "$last/a.zip"'})):
                 status, err, _ = self.release(clone, folder, program, env=self.instead(self.folder(), **{"python3": "", **does}))
@@ -246,7 +248,7 @@ class Packaging(unittest.TestCase):
                 self.assertEqual({it.date_time for it in made.infolist()}, {(2026, 1, 2, 20, 4, 6)})
             held = {it: pathlib.Path(TOP, it).read_bytes() for it in ("LICENSE", "chips.toml")}
             self.assertEqual(names, {**held, "stmflash.exe": pathlib.Path(program).read_bytes(), "WINDOWS.md": names["WINDOWS.md"]})
-            self.assertRegex(names["WINDOWS.md"], rb"(?s)\A## On Windows\n.*Nothing was run on Windows")
+            self.assertRegex(names["WINDOWS.md"], rb"(?s)\A## On Windows\n(?!.*\n## ).*Nothing was run on Windows")
             self.assertEqual(sorted(re.findall(r" \./(.*)$", text_in(folder, "SHA256SUMS"), re.M)), sorted({*os.listdir(folder)} - {"SHA256SUMS"}))
             self.assertIn(f"  gpg --armor --detach-sign {folder}/SHA256SUMS\n  git tag --sign --file {folder}/NOTES.md --cleanup=verbatim v{version} && git push origin v{version}\n", out)
             notes = text_in(folder, "NOTES.md")

@@ -35,6 +35,7 @@ def headings(text):
 
 # crates that no call of a user comes to: tests and what is measured, Rigs for proofs, and what is told of a stored simulator
 UNCALLED = ("stm_tests", "stm_rows", "bench", "refused_memory", "stm_histories", "stm_line")
+IN_A_COMMAND = ("--raw", "--yes", "--check", "--last", "--help")  # options that stmflash(1) tells of where it tells of their command
 # faults that hand on what the memory, the line, or a file of the system said
 HANDED_ON = re.compile(r"::(?:Memory|Session|of_\w+|from|other)$|^(?:RigFault|io::Error)::|Fault::(?:Line|Journal|File)$")
 # what `make pages` makes: each tool with its page
@@ -108,7 +109,7 @@ class Pages(Place):
         missing = [name for name in subcommands if not re.search(rf'\.(B|BI|BR) "?{name}\b', page)]
         for name in subcommands:
             told = options(self.call(name, "--help").out.decode()) - {"-h"}
-            missing += [f"{name} {option}" for option in told if option not in page]
+            missing += [f"{name} {option}" for option in told if not re.search(option if option in IN_A_COMMAND else rf"^\.TP\n\.BI? {option}\b", page, re.M)]
         self.assertEqual(missing, [])
 
     @each_of(MADE.items())

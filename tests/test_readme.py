@@ -215,8 +215,8 @@ class Fleet(Place):
         """It undoes what was begun and nothing else, and a journal that can't be read is no journal in which nothing stands."""
         text, words = self.recipe("# undo-begun PORT JOURNAL"), ("port", "journal")
         self.assertEqual(self.run_recipe(text, *words).returncode, 0)
-        for journal, status, said in ((b"open 1\nend 1\n", 0, ""), (b"nonsense\n", 1, ""),
+        for journal, status, said in ((b"open 1\nimage undo first!\nend 1\n", 0, ""), (b"nonsense\n", 1, ""),
                                       (b"open 1\n", 0, "port -- stmflash undo -v --journal journal 1\n")):
-            self.store("journal", b"stmjournal 2 0412\n" + journal)
+            self.store("journal", b"stmjournal 3 0412 " + 12 * b"A1" + b"\n" + journal)
             ran = self.run_recipe(text, *words)
             self.assertEqual((ran.returncode, ran.stdout), (status, said), ran.stderr)

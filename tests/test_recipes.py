@@ -65,8 +65,8 @@ class Recipes(Unnamed):
         self.store("with-firmware", recipe("#!/bin/sh").encode())
         self.assertIn(b"# with-firmware IMAGE COMMAND..", self.held("with-firmware"))
         self.script("look", f'stmflash-line read -S 0x08000400:20 {self.path("seen")} && exit "$1"')
-        for status in (0, 7):
-            self.assertFlash(self.run_here("sh", "with-firmware", "firmware.elf", "look", str(status)), COUNTING, status)
+        for status, settings in ((0, {}), (7, {"STMFLASH_JOURNAL": ""})):
+            self.assertFlash(self.run_here("sh", "with-firmware", "firmware.elf", "look", str(status), **settings), COUNTING, status)
             self.assertFile("seen", WRITTEN[1024:1044])
         # what can't be written isn't tested, and what a call that was killed has left is given back
         self.store("firmware.elf", elf(0x08100000))

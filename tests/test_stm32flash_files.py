@@ -7,10 +7,9 @@ from unittest import mock
 
 from boards import pty_boards
 from place import COUNTING, ERASED, TABLE, TOP, program, text_in
-from stmflash_line import tables
 from test_stm32flash_words import NEW, Words, places
 from stmflash_line import tables
-from as_stm32flash import chip, tools
+from as_stm32flash import actions, tools
 
 
 class Handed(Words):
@@ -78,6 +77,14 @@ class Hex(Words):
             self.assertTrue(os.path.islink(self.path(name)))
             self.remove("out.hex")
 
+    def test_what_stands_there_stays_until_all_is_read(self):
+        synced, reads = [], actions.Actions(None, None, None, None)
+        self.store("out.hex", b"before")
+        with mock.patch.object(reads, "fetch", lambda *_, out: (out.write(b"read"), out.flush())), \
+                mock.patch.object(os, "fsync", lambda file: synced.append((self.raw("out.hex"), os.fstat(file.fileno()).st_size))):
+            reads.fetch_file(None, self.path("out.hex"))
+        self.assertEqual((synced, self.raw("out.hex"), len(os.listdir(self.folder))), ([(b"before", 4)], b"read", 5))
+
     def test_a_pipe_stays_one(self):
         self.flash(COUNTING)
         os.mkfifo(self.path("pipe.hex"))
@@ -98,7 +105,7 @@ class Tables(Words):
 
     def test_the_users_own_goes_over_the_installed_one(self):
         """A chip of a table of one's own has the pages that stand there, whatever the installed table says of it."""
-        self.own(self.OWN)
+        self.own(b"\xef\xbb\xbf" + self.OWN)
         # what the board is
         self.store("table", self.OWN)
         board = self.flash(COUNTING)
@@ -128,24 +135,26 @@ class Tables(Words):
         users, beside, other = map(self.path, (".config/stmflash/chips.toml", "chips.toml", "other"))
         for settings, found in (({}, [users, beside]), ({"XDG_CONFIG_HOME": other}, [other + "/stmflash/chips.toml", beside]),
                                 ({"XDG_CONFIG_HOME": "other"}, [users, beside]), ({"HOME": "."}, [beside]), ({"STMFLASH_TABLE": "named"}, ["named"])):
-            with self.subTest(settings=settings), mock.patch.dict(os.environ, {**none, **settings}), \
-                    mock.patch.object(tables, "MACHINES", self.path("none")):
+            with self.subTest(settings=settings), mock.patch.dict(os.environ, {**none, **settings}), mock.patch.object(tables, "MACHINES", self.path("none")):
                 self.assertEqual(tools.find_tables(self.path("bin")), found)
         with mock.patch.dict(os.environ, none), mock.patch.object(tables, "MACHINES", self.path("table")):
             self.assertEqual(tools.find_tables(self.path("bin")), [users, self.path("table"), beside])
             os.makedirs("share/stmflash")
             self.store("share/stmflash/chips.toml", TABLE)
             self.assertEqual(tools.find_tables(self.path("bin"))[2:], [self.path("share/stmflash/chips.toml")])
-        # stmflash-line names the one beside it where there is no other
-        for more in ({}, {"MACHINES": beside}, {"TABLES": (beside,)}, {"BESIDE": "/none"}):
-            with mock.patch.multiple(tables, **{"MACHINES": "/none", "TABLES": (), "BESIDE": beside, **more}), mock.patch.dict(os.environ, HOME="/none", XDG_CONFIG_HOME=""):
-                self.assertEqual((more, tables.only_beside()), (more, "" if more else beside))
+        # stmflash-line names the one beside it where stmflash finds none, with those that go over it
+        self.store("machines", b"\xef\xbb\xbf" + TABLE.replace(b"412", b"416"))
+        for more, found in (({}, [0x412]), ({"MACHINES": self.path("machines")}, [0x416, 0x412]), ({"MACHINES": beside}, [0x412]), ({"MACHINES": users}, None),
+                            ({"TABLES": (beside,)}, None), ({"BESIDE": "/none"}, None)):
+            with mock.patch.multiple(tables, **{"MACHINES": "/none", "TABLES": (), "BESIDE": beside, **more}), mock.patch.dict(os.environ, none, HOME="/none"):
+                name = tables.handed_on()
+                self.assertEqual((more, name and [it["id"] for it in tables.entries(name)]), (more, found or ""))
 
     def test_what_is_handed_on_is_the_same(self):
-        entries = {entry["id"]: entry for entry in tomllib.loads(text_in("chips.toml"))["chip"]}
-        text = chip.table_text(chip.read_table([os.path.join(TOP, "chips.toml")]))
-        made = {entry["id"]: entry for entry in tomllib.loads(text)["chip"]}
-        self.assertEqual(made, {number: {key: entry[key] for key in chip.KEYS if key in entry} for number, entry in entries.items()})
+        entries = tables.entries(os.path.join(TOP, "chips.toml"))
+        entries[0]["tried"] = [{"who": "a", "date": "b"}, {}]
+        made = tomllib.loads(tables.table_text(entries).decode())["chip"]
+        self.assertEqual(made, [{key: entry[key] for key in tables.KEYS if key in entry} for entry in entries])
 
 
 class Standing(Words):
@@ -168,6 +177,19 @@ class Standing(Words):
             self.assertRaisesRegex(places.Fault, "HOME names no folder", places.state_folder)
             os.environ["XDG_STATE_HOME"] = "/state"
             self.assertEqual(places.state_folder(), "/state/stmflash")
+
+    def test_names_that_arent_utf8(self):
+        """Of a folder, of what stands in it, of a table and of a port; a journal can have none."""
+        bad = os.fsdecode(b"\xff")
+        os.mkdir(self.path(bad))
+        self.store_all({bad + "/image": b"new", bad + "/table": TABLE})
+        os.symlink("ttyUSB0", self.path(bad + "USB0"))
+        how = {"port": bad + "USB0", "STMFLASH_TABLE": self.path(bad + "/table"), "PYTHONIOENCODING": "utf-8"}
+        self.leaves(self.flash(COUNTING), NEW, "-w", bad + "/image", "-v", **how)
+        self.well("-r", bad + "/out", **how)
+        self.assertFile(bad + "/out", NEW)
+        self.assertIn("/\ufffdUSB0-".encode(), self.well("--log", **how).out)
+        self.refused(b"isn't UTF-8, as stmflash's words are; journals are kept there", words=("-w", "image"), XDG_STATE_HOME=self.path(bad))
 
     def test_a_name_that_is_no_text_is_told(self):
         self.flash(COUNTING)

@@ -15,29 +15,25 @@ import sys
 import unittest
 from unittest import mock
 
-from boards import REAL, Named, default_signals, pty_boards
-from place import COUNTING, ERASED, PATIENCE, SIZE, TABLE, TOP, Place, Said, program, readable, text_in
+from boards import REAL, Named, OnPorts, default_signals, pty_boards
+from place import COUNTING, PATIENCE, TABLE, TOP, Place, Said, program, readable, text_in
+from rows import bytes_of, cases, in_parts
 
 import image
 from stmflash_line import journals as places
 from stmflash_line.tied import tied
-from as_stm32flash import actions, board as boards, call, hex_text, journals, line, patience, sequence, tools, words
+from as_stm32flash import actions, board as boards, call, hex_text, journals, line, patience, segments, sequence, tools, words
 from as_stm32flash.fault import Failed, Fault
 from as_stm32flash.owner import Owner, owner_of
 
 WORDS = os.path.join(TOP, "line", "stm32flash")
-NOTHING = b"ERROR: nothing that was written or erased at this port can be undone; --log tells what there is\n"
 # page 5 of a flash of 55 is to be erased, and was not yet
 STOPPED = "stmjournal 2 0412\nopen 1\npage 5 " + "55" * 1024 + "\nerase 5\n"
 # what its undo makes of a flash that counts, and what a write of the image does
 BACK = COUNTING[:5120] + b"\x55" * 1024 + COUNTING[6144:]
 NEW = b"new" + COUNTING[3:]
-# what a call says of what was stopped
-FOUND = b"stm32flash: an earlier call was stopped in the midst of a write, an erase or an undo: that is undone first\n"
 # a table of a chip that tells its board
 TELLING = TABLE + b"unique = [0x1FFFF7E8, 12]\n"
-# behind a header: that page can be given back
-KEPT = b"open 1\npage 5 " + b"55" * 1024 + b"\nend 1\n"
 
 
 def of_board(byte, chip="0412"):
@@ -70,11 +66,6 @@ class Words(Named):
         self.assertEqual(board.store(), flash)
         return said
 
-    def written(self, board, *words, **more):
-        """The board, behind a write of the image."""
-        self.well("-w", "image", *words, **more)
-        return board
-
     def fails(self, err, *words, **more):
         """The same, which ends with 1, and says just this."""
         said = self.words("-m", "8n1", *words, **more)
@@ -88,27 +79,9 @@ class Words(Named):
             self.assertIn(text, getattr(said, on))
         return said
 
-    def instead(self, text=""):
-        """This text of a shell takes the place of stmflash, in which that is $program; without one it is stmflash again."""
-        self.remove("bin/stmflash")
-        self.store("bin/stmflash", f'#!/bin/sh\nprogram={program()}\n{text}\nexec $program "$@"\n'.encode())
-        os.chmod(self.path("bin/stmflash"), 0o755)
-
     def flash(self, data):
         """A board whose flash holds these bytes."""
         return self.telling(None, data)
-
-    def reset(self, board):
-        """The board as its reset leaves it, on a new pseudo-terminal of the same name."""
-        self.unplugged(board)
-        return self.board()
-
-    def unplugged(self, board, name="ttyUSB0"):
-        """The flash of a board that is taken away."""
-        flash = board.store()
-        board.stop()
-        self.remove(name + ".flash.line")
-        return flash
 
     def folder_of_port(self):
         """Also while no board is there."""
@@ -123,17 +96,40 @@ class Words(Named):
         os.makedirs(self.path(self.folder_of_port()), exist_ok=True)
         self.store(self.name(name), text)
 
-    def put_aside(self, number, text):
-        """Stores one that was put aside."""
-        self.keep(f"kept-{number:06d}", text)
-
-    def journals(self):
-        """What the port has: the journal of boards that tell no unique id, and those that were put aside."""
-        return sorted({*os.listdir(self.path(self.folder_of_port()))} - {"last"})
-
     def journal_of(self, byte):
         """The journal of a board that tells a unique id of this byte alone."""
         return os.path.join(".local", "state", "stmflash", "journals", 12 * byte + ".journal")
+
+
+class Played(Words, OnPorts):
+    """Cases that are told as text (tests/stm32flash.rows says how)."""
+
+    unsaid = None
+
+    def placed(self, told):
+        return super().placed(told).replace("{port}", self.folder_of_port())
+
+    def run_words(self, words):
+        words = shlex.split(words)
+        if words[0] == "stmflash-line":
+            return self.line(*words[1:], **self.settings(**self.variables))
+        return self.words(*words, port=None, given=self.given, **self.variables)
+
+    def does(self, sign, told, name, *more):
+        if sign == "keep":
+            self.keep(name, bytes_of(told.partition(" ")[2]))
+        elif sign == "kept":
+            self.assertEqual(sorted({*os.listdir(self.path(self.folder_of_port()))} - {"last"}), told.split())
+        else:
+            super().does(sign, told, name, *more)
+
+    def test_each_call(self):
+        self.play_all(cases("stm32flash.rows"))
+
+
+in_parts(Played, "back.rows", 2)
+in_parts(Played, "ports.rows", 2)
+in_parts(Played, "unchanged.rows", 2)
 
 
 class Refusals(Words):
@@ -153,143 +149,14 @@ class Refusals(Words):
                 refused.append(str(fault))
         self.assertEqual([re.search("I2C|GPIO line 2", text)[0] for text in refused], ["I2C", "GPIO line 2"])
 
-    def test_what_cant_be_is_refused_by_name_and_no_byte_is_sent(self):
-        self.store_all({"bad.hex": b":0400000001020304F3\n:00000001FF\n", "cut.hex": b":04000000010203\n", "image": b"abc"})
-        no_signal = "no signal; give rts, dtr, brk, or the number of a GPIO line"
-        alone = "is moved in the end alone; it has to be moved at the beginning too"
-        outside = "not in the flash; RAM, option bytes and system memory aren't reached, but by the real stm32flash"
-        end = self.plain()
-        for line, *calls in (
-                ("ERROR: /dev/i2c-0: I2C isn't there; the real stm32flash has it", "-a 1 /dev/i2c-0"),
-                ("ERROR: -m 8n1: isn't there; give 8e1, which the bootloader of every STM32 has", "-m 8n1 /dev/null"),
-                ("Invalid serial mode", "-m 9e1"), ("Invalid baud rate, valid options are:", "-b 12345", "-b 0115200"),
-                (f"ERROR: -i -06: {no_signal}", "-i 5,-06"), (f"ERROR: -i foo: {no_signal}", "-i rts:foo"), (f"ERROR: -i dtr:rts: {no_signal}", "-i rts:dtr:rts"),
-                (f"ERROR: -i: GPIO line 7 {alone}", "-i 5&6:5,7"), (f"ERROR: -i: GPIO line 5 {alone}", "-c -i 5:5"),
-                ("ERROR: Invalid options !", "-r a -w image", "-u -k", "-w image --undo", "--undo -r a", "--undo --log"),
-                ("ERROR: Invalid usage, -v is only valid when writing", "-v"),
-                ("ERROR: Invalid usage, -g and -R don't go with --undo", "--undo -g 0"),
-                ("ERROR: Invalid usage, -g and -R don't go with --log", "-R --log"),
-                ("ERROR: Execution address must be word-aligned", "-g 2"), (f"ERROR: -g 0x20000000: {outside}", "-g 0x20000000"),
-                ("ERROR: start is no number; give it as 64, 0x40 or 0100", "-g start"),
-                (f"ERROR: -S 0x1ffff7e8: {outside}", "-r a -S 0x1ffff7e8:12"), ("ERROR: Start address must be word-aligned", "-S 0x08000002"),
-                ("ERROR: Invalid options, can't specify zero length", "-S 0x08000000:0"),
-                (words.PAGES_OR_ADDRESS, "-S 0x08000000 -s 1", "-e 2 -S 0x08000000"), (f"ERROR: -S 0x00000000: {outside}", "-r a -S 0:4"),
-                ("ERROR: You need to specify a page count between 0 and 0xffff", "-e 70000"),
-                ("ERROR: current code cannot work with small frames.", "-F 10"), ("stm32flash: option -Z not recognized", "-Z"),
-                ("ERROR: Invalid parameter specified", "other"), ("Intel HEX ERROR: System Error", "-w missing"),
-                ("Intel HEX ERROR: Invalid File", "-w bad.hex", "-w cut.hex")):
-            for call in calls:
-                with self.subTest(call=call):
-                    said = self.words(*call.split(), port=None if "/dev/" in call else "ttyUSB0")
-                    self.assertEqual((said.status, said.err.decode().splitlines()[0]), (1, line))
-        self.assertNothingSent(end)
-
-    def test_help_and_no_port(self):
-        said = self.words("-h", port=None)
-        self.assertEqual((said.status, said.out, said.err[:6]), (0, b"", b"Usage:"))
-        said = self.words("-r", "a", port=None)
-        self.assertEqual((said.status, said.err.splitlines()[0]), (1, b"ERROR: Device not specified"))
-        self.assertIn(b"nothing was written or erased yet; journals would stand in ", self.words("--log", port="/dev/null").out)
-
-    def test_a_port_that_isnt_there(self):
-        """Where its journals stand isn't known then."""
-        for words in ((), ("--log",)):
-            self.refused(b"no such port", words=words, mode=(), port="missing")
-
     def test_tools_that_arent_there(self):
         """One that is beside goes before those of PATH."""
         shutil.copy("/bin/true", self.path("stmflash"))
         with mock.patch.dict(os.environ, PATH=self.path("bin")):
             self.assertEqual(tools.find_program(self.folder, "stmflash"), self.path("stmflash"))
-        os.remove(self.path("bin/stmflash"))
-        self.fails(b"ERROR: stmflash isn't there, neither beside stm32flash nor in PATH, which has to name its folder\n", PATH="/nowhere:/usr/bin")
-
-    def test_a_hint_of_stmflash_is_handed_on(self):
-        self.plain()
-        fault = "stmflash: no answer from the device\\nhint: the line echoes: are RX and TX joined?\\n"
-        self.instead(f"printf '{fault}' >&2; exit 1")
-        self.fails(b"Failed to init device, timeout.\nstm32flash: the line echoes: are RX and TX joined?\n")
-
-    def test_a_silent_board(self):
-        self.plain()
-        said = self.words("-m", "8n1")
-        # a hint may follow
-        self.assertEqual((said.status, said.err.splitlines()[0]), (1, b"Failed to init device, timeout."))
 
 
 class Doing(Words):
-    def test_a_write_is_told_as_by_stm32flash_and_undone(self):
-        board = self.flash(COUNTING)
-        self.store("image", b"new" * 500)
-        said = self.well("-w", "image", "-v")
-        self.assertEqual(re.sub(r"\r.*\r", "", said.out.decode()), f"""stm32flash 0.7
-
-http://stm32flash.sourceforge.net/
-
-Using Parser : Raw BINARY
-Size         : 1500
-Interface serial_posix: 57600 8N1
-Version      : 0x22
-Device ID    : 0x0412 ()
-- Flash      : Up to 32KiB (size first sector: 1x1024)
-Write to memory
-Erasing memory
-Wrote and verified address 0x080005dc (100.00%) Done.
-
-""")
-        self.assertEqual(said.err, b"")
-        self.assertEqual(board.store(), b"new" * 500 + COUNTING[1500:])
-        self.assertIn(b"segment 1: ended, 2 pages: 0-1\n1 can be undone\n", self.words("--log").out)
-        self.assertEqual(self.leaves(board, COUNTING, "--undo").out, b"Undone: the newest write or erase at this port.\n")
-        self.fails(NOTHING, "--undo")
-
-    def test_images_lie_where_stm32flash_puts_them(self):
-        board = self.flash(ERASED)
-        self.store_all({"image": bytes(range(200)), "at0.hex": b":0400000001020304F2\n:00000001FF\n",
-                        "at500.hex": b":020000040800F2\n:0405000011121314AD\n:00000001FF\n"})
-        held = bytearray(ERASED)
-        for words, at, data in [(("at0.hex", "-S", "0x08007ffc:100"), SIZE - 4, b"\1\2\3\4"), (("image", "-S", "0x08000800:100"), 2048, bytes(range(100))), (("at0.hex", "-s", "1", "-e", "1", "-F", "128:257"), 0, b"\1\2\3\4"),
-                                (("at500.hex",), 0x500, b"\x11\x12\x13\x14"), (("at500.hex", "-S", "0x08001000:2"), 4096, b"\x11\x12"),
-                                (("at0.hex", "-f", "-S", "0x08001400"), 5120, self.held("at0.hex"))]:
-            with self.subTest(words=words):
-                held[at:at + len(data)] = data
-                said = self.leaves(board, held, "-w", *words)
-                self.assertEqual(re.findall(b"(-[es]) says nothing here|(RX) length", said.err), [(b"", b"RX"), (b"-s", b""), (b"-e", b"")] * ("-s" in words))
-        held[8192:8195] = b"pip"
-        self.leaves(board, held, "-w", "-", "-S", "0x08002000:3", given=b"piped")
-        # what a HEX text leaves out stays, also where it is moved; it comes by a pipe that can be read but once
-        held[2052], held[2060] = 0x41, 0x42
-        self.leaves(board, held, "-w", "/dev/stdin", "-S", "0x08000804", given=b":0100000041BE\n:0100080042B5\n:00000001FF\n")
-
-    def test_reads_and_the_crc(self):
-        self.flash(COUNTING)
-        self.well("-r", "out")
-        self.assertFile("out", COUNTING)
-        # what is longer ends with the flash
-        self.well("-r", "out", "-S", "0x08007c00:4096")
-        self.assertFile("out", COUNTING[-1024:])
-        # raw bytes, whatever the name is
-        self.well("-r", "out.hex")
-        self.assertFile("out.hex", COUNTING)
-        self.assertEqual({name for name in os.listdir(self.folder) if "out" in name}, {"out", "out.hex"})
-        said = self.well("-r", "-", "-S", "0x08000400:100")
-        self.assertEqual(said.out, COUNTING[1024:1124])
-        self.assertIn(b"Memory read\n", said.err)
-        value = 0xFFFFFFFF
-        for at in range(0, 2048, 4):
-            value ^= int.from_bytes(COUNTING[1024 + at:1028 + at], "little")
-            for _ in range(32):
-                value = value * 2 % (1 << 32) ^ (0x04C11DB7 if value >> 31 else 0)
-        self.assertIn(f"CRC computation\nCRC(0x08000400-0x08000c00) = 0x{value:08x}\n", self.well("-C", "-s", "1", "-e", "2").out.decode())
-
-    def test_erases_by_pages(self):
-        board = self.flash(COUNTING)
-        self.fails(b"Specified start & length are invalid (must be page aligned)\n", "-o", "-S", "0x08000400:1000")
-        self.leaves(board, COUNTING[:1024] + ERASED[:2048] + COUNTING[3072:], "-o", "-s", "1", "-e", "2")
-        self.leaves(board, ERASED, "-o")
-        self.well("--undo")
-        self.leaves(board, COUNTING, "--undo")
-
     def test_nobody_who_reads_stops_nothing(self):
         """A full disk, and files that were closed: all is done, also what an earlier call has left."""
         board = self.flash(COUNTING)
@@ -310,36 +177,16 @@ Wrote and verified address 0x080005dc (100.00%) Done.
                 self.refused(b"standard output", words=("-r", "-"), **more)
         self.assertEqual((said.status, said.err), (1, b""))
 
-    def test_a_part_that_tells_less_flash(self):
-        """What says no length is all of its flash, and what lies behind that is refused by it."""
-        self.store_all({"table": TABLE + b"size_at = 0x1FFFF7E0\n", "ttyUSB0.flash.board": b"size 16\n"})
-        board = self.flash(COUNTING[:16384])
-        said = self.well("-r", "out")
-        self.assertFile("out", COUNTING[:16384])
-        self.assertIn(b"- Flash      : Up to 32KiB", said.out)
-        self.assertIn(b"CRC(0x08000000-0x08004000) = ", self.well("-C").out)
-        self.well("-r", "end", "-s", "15")
-        self.assertFile("end", COUNTING[15360:16384])
-        self.store("image", b"new" * 400)
-        for words, text in ((("-w", "image", "-S", "0x08003c00"), b"doesn't lie in the flash, 0x08000000 to 0x08004000\n"),
-                            (("-o", "-s", "15", "-e", "2"), b"Specified start & length are invalid"),
-                            (("-r", "out", "-s", "17"), b"Address range exceeds flash size."),
-                            (("-C", "-S", "0x08000000:6"), b"Start and end addresses must be 4 byte aligned\nFailed to read CRC\n"),
-                            (("-C", "-S", "0x08004000"), b"ERROR: -S 0x08004000: not in the flash of this chip"),
-                            (("-g", "0x08005000"), b"not in the flash of this chip, which ends at 0x08004000\n")):
-            self.refused(text, words=words)
-        self.assertEqual(board.store(), COUNTING[:16384])
-        self.leaves(board, ERASED[:16384], "-o")
-        self.leaves(board, COUNTING[:16384], "--undo")
+    def test_a_file_that_is_open_gets_nothing_where_a_call_is_refused(self):
+        self.keep("journal", STOPPED.encode())
+        self.store("held", b"before")
+        self.flash(COUNTING)
+        with open(self.path("held"), "ab") as held:
+            self.refused(b"stm32flash --undo ttyUSB0 undoes that\n", words=("-r", f"/dev/fd/{held.fileno()}"), pass_fds=[held.fileno()])
+        self.assertFile("held", b"before")
 
 
 class TakingBack(Words):
-    def test_what_never_ended_is_undone_before_anything_else(self):
-        board = self.flash(COUNTING)
-        self.keep("journal", STOPPED.encode())
-        self.assertEqual(self.leaves(board, b"new" + BACK[3:], "-w", "image").err, FOUND)
-        self.leaves(board, BACK, "--undo")
-
     def test_a_signal_in_the_midst(self):
         """The call is ended while it writes; the next one gives the flash back."""
         self.store_all({"image": b"new" * 1000, "ttyUSB0.flash": COUNTING})
@@ -358,211 +205,6 @@ class TakingBack(Words):
                 self.assertIn(b"that is undone first", said.err)
                 self.well("--undo")
                 self.remove(journal)
-
-    def test_what_cant_be_undone_ends_the_call(self):
-        board = self.flash(COUNTING)
-        self.keep("journal", STOPPED.replace("0412", "0410").encode())
-        self.store("table", TABLE + TABLE.replace(b"412", b"410"))
-        self.refused(b"journal belongs to another device\nERROR: what an earlier call has begun can't be undone now", words=("-w", "image"))
-        self.store("table", TABLE.replace(b"412", b"410"))
-        self.refused(b"Unknown/unsupported device (Device ID: 0x0412)\n", words=("-r", "out", "-S", "0x08000000:4"), XDG_STATE_HOME=self.path("other"))
-        self.assertEqual(board.store(), COUNTING)
-
-    def test_go_keeps_the_way_back(self):
-        board = self.flash(COUNTING)
-        self.assertIn(b"\nStarting execution at address 0x08000000... done.\n", self.well("-w", "image", "-v", "-g", "0x0").out)
-        self.assertEqual(self.journals(), ["kept-000001"])
-        board = self.reset(board)
-        self.assertEqual(board.store(), NEW)
-        self.leaves(board, COUNTING, "--undo")
-        self.assertEqual(self.journals(), ["journal"])
-
-    def test_what_stands_behind_a_fault_is_told(self):
-        """A write ended, and what compares it failed: it is undone where the board answers, and said to stand elsewhere."""
-        board = self.flash(COUNTING)
-        for fault, told, flash in (
-                ("device does not follow the protocol", b"stm32flash: the flash is as it was before this call", COUNTING),
-                ("no answer from the device", b"stm32flash: what was written stands, and isn't verified; --undo undoes it", NEW)):
-            self.instead(f'[ "$1" != write ] || {{ $program "$@"; echo "stmflash: {fault}" >&2; exit 1; }}')
-            said = self.words("-m", "8n1", "-w", "image")
-            self.assertEqual((said.status, said.err.splitlines()[-1]), (1, told))
-            self.assertEqual(board.store(), flash)
-        self.instead()
-        self.leaves(board, COUNTING, "--undo")
-
-    def test_the_journal_in_use_isnt_replaced_unread(self):
-        """Whatever stmflash is told to print, and where what it prints isn't known."""
-        board = self.written(self.flash(COUNTING), STMFLASH_JSON="1")
-        self.keep("kept-000001", b"stmjournal 2 0412\n" + KEPT)
-        before = [self.held(self.name(name)) for name in self.journals()]
-        self.instead('[ "$1" != log ] || exec echo "{}"')
-        self.refused(b"/journal isn't understood; ", words=("--undo",))
-        self.assertEqual([self.held(self.name(name)) for name in self.journals()], before)
-        self.instead()
-        self.leaves(board, COUNTING, "--undo", STMFLASH_JSON="1")
-
-    def test_a_write_and_go_are_one_session(self):
-        self.instead(f'echo "$@" >> {self.path("calls")}')
-        board = self.flash(COUNTING)
-        for image, words in ((b"new", ("-g", "0x08000000")), (b"newer", ("-R",))):
-            self.store("image", image)
-            # with a wait as long as stmflash's own, so that no call is done again for want of a processor
-            self.well("-w", "image", "-v", *words, STMFLASH_WAIT="500")
-            calls = self.held("calls").decode().splitlines()
-            self.assertEqual([call.split()[0] for call in calls], ["info", "write"])
-            self.assertRegex(calls[1], " -v --keep-to [^ ]*/kept-00000[12] --go 0x08000000 ")
-            self.remove("calls")
-            board = self.reset(board)
-
-    def test_a_program_that_cant_be_started_is_told(self):
-        self.flash(COUNTING)
-        self.instead('[ "$1" != go ] || { echo "stmflash: line failed" >&2; exit 1; }')
-        for words, status, out in ((("-R",), 1, b"Reset failed.\n"), (("-g", "0"), 0, b" at address 0x08000000... failed.\n")):
-            said = self.words("-m", "8n1", *words)
-            self.assertEqual((said.status, out in said.out, said.err.count(b"stm32flash: line failed\n")), (status, True, 1), said)
-
-    def test_another_board_at_the_port_has_its_own_journal(self):
-        self.store("table", TELLING)
-        first = self.unplugged(self.written(self.telling("A1")))
-        there = self.telling("B2", ERASED)
-        self.assertEqual(self.well("-w", "image").err, b"")
-        self.assertEqual(self.journals(), [])
-        self.assertTrue(all(map(self.is_there, map(self.journal_of, ("A1", "B2")))))
-        self.leaves(there, ERASED, "--undo")
-        # the first board's journal isn't one of this
-        self.fails(NOTHING, "--undo")
-        self.assertEqual(self.unplugged(there), ERASED)
-        self.leaves(self.telling("A1", first), COUNTING, "--undo")
-
-    def test_a_killed_keep_is_ended(self):
-        self.written(self.flash(COUNTING))
-        os.link(self.path(self.name("journal")), self.path(self.name("kept-000001")))
-        self.well()
-        self.assertEqual(self.journals(), ["kept-000001"])
-
-    def test_protections_give_the_way_back_up(self):
-        board = self.written(self.flash(COUNTING))
-        # which resets the board by itself
-        self.assertNotIn(b"Reset", self.well("-u", "-R").out)
-        self.assertEqual(self.journals(), ["kept-000001"])
-        board = self.reset(board)
-        self.assertIn(b"Read-UnProtecting flash\nDone.\n", self.well("-k").out)
-        self.assertEqual(self.journals(), ["ended-000001"])
-        self.assertEqual(self.reset(board).store(), ERASED)
-        self.fails(NOTHING, "--undo")
-
-    def test_a_readout_protection_is_put_on_and_off(self):
-        board = self.board(flash=COUNTING, more=["--readout-protection"])
-        self.assertIn(b"Read-Protecting flash\nDone.\n", self.well("-j").out)
-        for words in (("-r", "out"), ("-w", "image"), ("-o",), ("-C",)):
-            self.refused(b"is its flash readout-protected?", words=words)
-        self.leaves(board, ERASED, "-k")
-        self.well("-r", "out")
-        self.assertFile("out", ERASED)
-
-    def test_another_chip_begins_a_journal_of_its_own(self):
-        self.flash(COUNTING)
-        for held, told in ((KEPT, b"is put aside"), (b"open 1\nend 1\n", b"has changed nothing, and is removed")):
-            self.keep("journal", b"stmjournal 2 0410\n" + held)
-            self.assertEqual(self.well().err, b"stm32flash: another board was at this port before: its journal " + told + b"\n")
-            self.assertEqual(self.journals(), ["kept-000001"])
-
-    def test_no_reset_is_claimed_unless_the_user_does(self):
-        """Where it was claimed, a board that wasn't reset would take the connecting byte for one of a command."""
-        self.instead(f'echo "$STMFLASH_FRESH $*" >> {self.path("called")}')
-        board = self.flash(COUNTING)
-        says = {"STM32FLASH_RESETS": "1"}
-        for sequence, settings, claimed in (("brk", {}, False), ("brk", says, True), (":brk", says, False)):
-            for words in (("-o", "-s", "0", "-e", "1"), ("--undo",)):
-                self.keep("journal", STOPPED.encode())
-                self.store("called", b"")
-                self.well(*words, "-i", sequence, STMFLASH_FRESH="1", **settings)
-                called = self.held("called").decode().splitlines()
-                self.assertEqual([line for line in called if not line.startswith(" ")], [])
-                self.assertEqual([line.split()[0] for line in called if "--fresh" in line], ["undo"] * claimed)
-                board = self.reset(board)
-
-
-class Boards(Words):
-    """Boards that take one another's place at a port."""
-
-    begins = {"image": b"new", "table": TELLING}
-
-    def test_other_boards_dont_cost_the_only_way_back(self):
-        first = self.unplugged(self.written(self.telling("A1"), "-g", "0"))
-        there = self.telling("B2", ERASED)
-        for number in range(2, 11):
-            self.put_aside(number, of_board("B2") + b"\n" + KEPT)
-        self.well("-w", "image", "-g", "0")
-        self.assertEqual(self.journals(), [f"kept-{number:06d}" for number in (1, *range(4, 12))])
-        self.unplugged(there)
-        self.leaves(self.telling("A1", first), COUNTING, "--undo")
-
-    def test_an_undo_passes_over_the_journal_in_use_of_another_board(self):
-        first = self.unplugged(self.written(self.telling("A1"), "-g", "0"))
-        second = self.unplugged(self.written(self.telling("B2", ERASED)))
-        here = self.telling("A1", first)
-        self.assertEqual(self.well("--undo").err, b"")
-        self.assertEqual(self.unplugged(here), COUNTING)
-        self.leaves(self.telling("B2", second), ERASED, "--undo")
-
-    def test_a_board_that_tells_its_id_leaves_the_ports_journal(self):
-        """It may be another's; and what it kept can be undone all the same where it is this one's."""
-        self.telling("A1")
-        self.keep("journal", b"stmjournal 2 0412\n" + KEPT)
-        self.assertEqual(self.well("-w", "image").err, b"stm32flash: another board was at this port before: its journal is put aside\n")
-        self.assertEqual(self.journals(), ["kept-000001"])
-        self.assertTrue(self.is_there(self.journal_of("A1")))
-        self.well("--undo")
-        self.well("--undo")
-        # what a board was stopped in stays
-        self.keep("journal", STOPPED.encode())
-        self.assertEqual(self.well("-w", "image").err, b"")
-        self.assertFile(self.name("journal"), STOPPED.encode())
-
-    def test_an_undo_passes_over_another_kind_of_chip(self):
-        self.store("table", self.held("table") + TABLE.replace(b"412", b"410"))
-        board = self.written(self.flash(COUNTING), "-g", "0")
-        self.put_aside(2, b"stmjournal 2 0410\n" + KEPT)
-        self.put_aside(3, of_board("A1") + b"\n" + KEPT)
-        self.leaves(self.reset(board), COUNTING, "--undo")
-        self.assertEqual(self.journals(), ["journal", "kept-000002", "kept-000003"])
-        self.fails(NOTHING, "--undo")
-
-    def test_an_erased_chip_ends_its_own_ways_back_alone(self):
-        board = self.telling("B2")
-        for number, header in enumerate((of_board("A1"), b"stmjournal 2 0410", b"stmjournal 2 0412", of_board("B2")), 1):
-            self.put_aside(number, header + b"\n" + KEPT)
-        self.assertEqual(self.well("-k").err, b"")
-        self.assertEqual(self.journals(), ["ended-000003", "ended-000004", "kept-000001", "kept-000002"])
-        # the next number is none that has been there
-        self.reset(board)
-        self.well("-w", "image", "-g", "0")
-        self.assertIn("kept-000005", self.journals())
-
-    def test_an_erased_chip_that_doesnt_tell_its_board(self):
-        self.flash(COUNTING)
-        self.put_aside(1, of_board("A1") + b"\n" + KEPT)
-        self.assertIn(b"ended-000001 may be another's, but isn't looked at any more\n", self.well("-k").err)
-        self.assertEqual(self.journals(), ["ended-000001"])
-
-    def test_an_erase_of_the_chip_that_fails_tells_where_the_ways_back_are(self):
-        self.written(self.flash(COUNTING))
-        self.instead('[ "$1" != protect ] || exec $program false')
-        self.refused(b"ERROR: whether the chip is erased isn't known; what could be undone is kept as ", words=("-k",))
-        self.assertEqual(self.journals(), ["ended-000001"])
-
-    def test_a_journal_that_cant_be_read_is_told_by_its_name(self):
-        board = self.written(self.flash(COUNTING), "-g", "0")
-        self.keep("kept-000002", b"nonsense\n")
-        said = self.refused(b"kept-000002 is no journal: name another, or move it away: it can't be read\n", b"1 can be undone\n", mode=("--log",), on="out")
-        self.assertLess(said.out.index(b"kept-000002"), said.out.index(b"kept-000001"))
-        board = self.reset(board)
-        self.refused(b"kept-000002 is the newest and can't be read", words=("--undo",))
-        self.remove(self.name("kept-000002"))
-        self.leaves(board, COUNTING, "--undo")
-        self.keep("journal", b"nonsense\n")
-        self.refused(b"ERROR: the journal of this port can't be read; move " + self.path(self.folder_of_port()).encode())
 
 
 class Dropping(Place):
@@ -664,6 +306,22 @@ class Dropping(Place):
 class Parts(Place):
     """What needs no board."""
 
+    def test_which_pages_are_kept(self):
+        """Those of what wasn't undone; a void line and a torn one count as nothing."""
+        text = b"stmjournal 2 0412\nopen 1\npage 5 5!\npage 5 55\nerase 5\nend 1\nopen 2\npage 6 55\npage 7 55\nend 2\nundone 2\n"
+        self.store("held", text + b"open 2\nend 2\nopen 3\npage 8 5")
+        self.assertEqual(segments.kept_pages(self.path("held")), [1, 0, 0])
+        self.assertEqual(segments.kept_pages(self.path("missing")), [])
+
+    def test_what_is_anothers_is_refused(self):
+        """Its user's is taken by root too, who was called by sudo."""
+        held = mock.Mock(st_uid=1000, st_mode=0o100600)
+        for user, called, is_taken in ((1000, "", True), (1001, "1000", False), (0, "1000", True), (0, "1001", False), (0, "", False)):
+            with self.subTest(user=user, called=called), mock.patch.object(os, "geteuid", lambda: user), \
+                    mock.patch.object(os, "stat", lambda _: held), mock.patch.dict(os.environ, SUDO_UID=called):
+                with contextlib.nullcontext() if is_taken else self.assertRaisesRegex(places.Fault, "is another user's"):
+                    places.refuse_others("journal")
+
     def test_the_line_is_asked_for_with_both_sequences(self):
         asked = []
         with mock.patch.object(call.line, "use", lambda *words: asked.append(words[:4])), \
@@ -756,15 +414,16 @@ class Parts(Place):
 
     def test_where_journals_are(self):
         """In a folder of their owner alone; a relative XDG_STATE_HOME counts as none; one that is large is put aside before a write."""
+        synced = []
         for state, place in (("", ".local/state"), ("relative", ".local/state"), (self.path("own"), "own")):
             with mock.patch.dict(os.environ, HOME=self.folder, XDG_STATE_HOME=state):
                 made = journals.Journals("/dev/ttyS0")
             self.assertEqual(made.folder, self.path(f"{place}/stmflash/ports/ttyS0"))
             made.make()
             self.assertEqual([os.stat(folder).st_mode & 0o777 for folder in (made.folder, made.boards)], [0o700, 0o700])
-        with mock.patch.object(places.os, "fsync") as synced:
+        with mock.patch.object(places.os, "fsync", lambda it: synced.append((os.readlink(f"/proc/self/fd/{it}"), os.readlink(made.last)))):
             made.take_board("A1")
-        self.assertEqual((os.readlink(made.last), synced.call_count), (made.live, 1), "the port has it on the disk")
+        self.assertEqual(synced, [(made.folder, made.live)], "the port has it on the disk")
         for size, is_large in ((8 << 20, False), ((8 << 20) + 1, True)):
             self.store(made.live, bytes(size))
             board = mock.Mock(journals=made)
@@ -934,9 +593,10 @@ class Parts(Place):
         for printed, times in (("segment 1: 1 pages written\nkept 1\n", 1), ("", 2)):
             with self.subTest(printed=printed):
                 board = boards.Board(None, mock.Mock(**{"size.return_value": 0}), 100)
+                board.hint = "of the first"
                 with mock.patch.object(board, "session", side_effect=Failed(boards.NO_PROTOCOL, printed)) as done:
                     self.assertRaises(Failed, board.use, "write")
-                self.assertEqual(done.call_count, times)
+                self.assertEqual((done.call_count, board.hint), (times, "of the first" * (times == 1)))
 
     def test_a_port_is_where_its_adapter_is_plugged_in(self):
         links = {"/dev/serial/by-path/pci-usb-0:2": "/dev/ttyUSB3", "/dev/serial/by-path/pci-usbv2-0:2": "/dev/ttyUSB3",

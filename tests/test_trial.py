@@ -51,16 +51,14 @@ def table(code, pages=PAGES, size=SIZE):
 
 
 def run(folder, *words, **settings):
-    ran = subprocess.run([sys.executable, TRIAL, *words], cwd=folder, env={"PATH": os.environ["PATH"], **settings},
-                         stdin=subprocess.DEVNULL, capture_output=True, timeout=PATIENCE)
+    ran = subprocess.run([sys.executable, TRIAL, *words], cwd=folder, env={"PATH": os.environ["PATH"], **settings}, stdin=subprocess.DEVNULL, capture_output=True, timeout=PATIENCE)
     return Said(ran.returncode, ran.stdout, ran.stderr)
 
 
 def rows_of(said):
     """The result of each row, by its name; and the verdict."""
     lines = said.out.decode().splitlines()
-    found = {line.split()[0]: re.match(r"holds|differs|not tried", line[18:])[0] for line in lines
-             if re.match(r"\S+ +(holds|differs|not tried)\b", line)}
+    found = {line.split()[0]: re.match(r"holds|differs|not tried", line[18:])[0] for line in lines if re.match(r"\S+ +(holds|differs|not tried)\b", line)}
     return found, lines[-1] if lines else ""
 
 
@@ -266,7 +264,7 @@ class Words(TrialPlace):
         os.symlink("saved", self.path("linked"))
         other = "give --out another name\n"
         self.each((
-            ("", "no board"), ("--device none", "--yes, where nobody can be asked"), ("--device none --port none", "either --device or --port"),
+            ("", "no board"), ("--port= --yes", "an empty word"), ("--device none", "--yes, where nobody can be asked"), ("--device none --port none", "either --device or --port"),
             ("--device none --yes", "stmflash-trial: none: No such file or directory; --device names a socket that is served\n"),
             ("--device none --wiring dtr-reset", "--wiring is for --port"), ("--device none --yes --pages 1,-2", "--pages"),
             ("--device none --yes --skip erase,nothing", "no row is named nothing"),
@@ -274,7 +272,7 @@ class Words(TrialPlace):
             ("--device none --yes --out saved", f"saved: is --save too; {other}"), ("--device none --yes --wait 0", "--wait is 1 to 60000"),
             ("--device none --yes --out linked", f"linked: is --save too; {other}"),
             ("--device none --yes --out ./table", f"./table: is the chip table too; {other}"),
-            ("--device none --yes --save here", "here: is there already; give --save another name\n"),
+            *((f"--device none --yes --save {it}", f"{it}: is there already; give --save another name\n") for it in ("here", "linked")),
             ("--device none --yes --table bad", "bad: is no chip table; --table names another\n"),
             ("--device none --yes --table gone", "gone: No such file or directory; --table names another\n")), lambda words, text: self.assertRefused(self.trial(*words.split()), text))
         self.assertFile("here", b"kept")
@@ -655,7 +653,7 @@ FLAGS = """
 import contextlib, io, itertools, line, progress, words
 class Stream(io.StringIO):
     def isatty(self): return is_terminal
-taken, words.read_table = 0, lambda _: ()
+taken, words.read_chips = 0, lambda *_: ((), ())
 for is_terminal, *given in itertools.product((False, True), *(('', it) for it in (
         '--device=D', '--port=P', '--wiring=W', '--reset=R', '--yes', '--only-read', '--speeds', '--progress', '--quiet'))):
     sys.stdin = Stream()
@@ -781,8 +779,7 @@ class Ends(TrialPlace):
 
     def started(self, *words):
         call = [sys.executable, TRIAL, "--device", "board", *SAVED, "--yes", "--wait", "20", *words]
-        started = subprocess.Popen(call, cwd=self.folder, env={}, stdin=subprocess.DEVNULL,
-                                   stdout=subprocess.PIPE, stderr=subprocess.PIPE, preexec_fn=default_signals)
+        started = subprocess.Popen(call, cwd=self.folder, env={}, stdin=subprocess.DEVNULL, stdout=subprocess.PIPE, stderr=subprocess.PIPE, preexec_fn=default_signals)
         self.addCleanup(started.communicate)
         self.addCleanup(started.kill)
         return started
