@@ -231,7 +231,7 @@ class Trial:
         try:
             raise Bad("undo reads what it can't: %s" % self.use("undo", name))
         except Bad as refused:
-            if not re.search(r"says: stmflash: bad journal line \d+\nhint: .* undo --recover ", str(refused)):
+            if not re.search(r"says: stmflash: bad journal line \d+\nhint: .* undo 1 --recover ", str(refused)):
                 raise
         self.same(self.flash, "an undo that was refused changed the flash")
         if self.read(name) != left:
