@@ -52,9 +52,8 @@ function machine({ words = ['stmflash'], variables = {}, store = new Store([]), 
 }
 
 {
-  const { memory } = machine(), calls = clockCalls(memory, { now: () => 1999.5, timeOrigin: 1.8e12 });
-  const at = (which) => { calls.clock_gettime(which, 8n); return [memory.view().getBigInt64(8, true), memory.view().getBigInt64(16, true)]; };
-  holds('the steady clock', at(1), [1n, 999500000n]); holds('the time of day', at(0), [1800000001n, 999500000n]);
+  const { memory } = machine(), calls = clockCalls(memory, { now: () => 1999.5, timeOrigin: 1.8e12 }), at = (which) => [calls.clock_gettime(which, 8n), memory.view().getBigInt64(8, true), memory.view().getBigInt64(16, true)];
+  holds('the steady clock', at(1), [0, 1n, 999500000n]); holds('the time of day', at(0), [0, 1800000001n, 999500000n]);
 }
 
 const [CREATE, EXCLUSIVE, TRUNCATE, APPEND] = [0x40, 0x80, 0x200, 0x400];
@@ -78,24 +77,22 @@ const disks = (count) => Array.from({ length: count }, () => inMemory());
   holds('what may not be written', [it.write(looks, 'x'), it.fault(), env.ftruncate(looks, 0n), it.told(fd).size], [-1n, E.BADF, -1, 7]);
   holds('one file', [it.told(fd).ino === it.told(more).ino, it.told(0, '/boards/a').ino === it.told(fd).ino], [true, true]);
   holds('a lock', [env.flock(fd, 6), env.flock(fd, 6), env.flock(more, 6), it.fault()], [0, 0, -1, E.AGAIN]);
-  const copy = env.fcntl(fd, 1030, 0n);
-  env.close(fd);
-  holds('a copy holds it', [env.flock(more, 6), it.read(copy, 0)], [-1, '']);
+  const copy = env.fcntl(fd, 1030, 0n); env.close(fd); holds('a copy holds it', [env.flock(more, 6), it.read(copy, 0)], [-1, '']);
   holds('closed, it is free', [env.close(copy), env.flock(more, 6), env.close(copy), it.fault()], [0, 0, -1, E.BADF]); holds('shortened', [env.ftruncate(more, 2n), it.told(more).size], [0, 2]);
   holds('closed and removed, its place is free', Array.from({ length: 5 }, () => [env.close(it.open('/boards/x', 1 | CREATE)), env.unlink(it.path('/boards/x'))]).flat(), Array(10).fill(0));
   const inos = [1, 2].map(() => { const made = it.open('/boards/x', 1 | CREATE), { ino } = it.told(made); env.close(made); env.unlink(it.path('/boards/x')); return ino; });
   holds('what is made in its place is another file', inos[0] !== inos[1]); holds('emptied as it is opened', [it.told(it.open('/boards/a', 1 | TRUNCATE)).size], [0]);
   holds('a folder', [it.told(0, '/boards').mode, it.open('/boards', 1), it.fault(), env.rattle_open_dir_at(-100, it.path('/boards/a')), it.fault(), it.read(env.rattle_open_dir_at(-100, it.path('/boards')), 1), it.fault()], [4, -1, E.ISDIR, -1, E.NOTDIR, -1n, E.ISDIR]);
-  const second = it.open('/boards/second', 2 | CREATE);
-  holds('another file', [it.told(second).ino !== it.told(more).ino, it.told(0, '/boards/second').ino === it.told(second).ino], [true, true]);
-  const [list, top] = ['/boards', '/'].map((folder) => env.rattle_open_dir_at(-100, it.path(folder))), names = [], view = it.memory.view();
-  for (const fd of [list, list, top]) for (let at = 30000, end = it.memory.bytes(at, 64).fill(7) && at + Number(env.getdents64(fd, 30000n, 40n)); at < end; at += view.getUint16(at + 16, true)) names.push([view.getUint8(at + 18), it.memory.text(BigInt(at + 19))]);
-  holds('names and kinds, once', [names, env.getdents64(list, 30000n, 1000n)], [[[8, 'a'], [8, 'second'], [4, 'boards']], 0n]);
+  const second = it.open('/boards/zwei 二三四', 2 | CREATE);
+  holds('another file', [it.told(second).ino !== it.told(more).ino, it.told(0, '/boards/zwei 二三四').ino === it.told(second).ino], [true, true]);
+  const [list, both, top] = ['/boards', '/boards', '/'].map((folder) => env.rattle_open_dir_at(-100, it.path(folder))), names = [], view = it.memory.view();
+  for (const [fd, room] of [[list, 40n], [list, 40n], [both, 80n], [top, 40n]]) for (let at = 30000, end = it.memory.bytes(at, 96).fill(7) && at + Number(env.getdents64(fd, 30000n, room)); at < end; at += view.getUint16(at + 16, true)) names.push([view.getUint8(at + 18), it.memory.text(BigInt(at + 19))]);
+  holds('names and kinds, once', [names, env.getdents64(list, 30000n, 1000n)], [[[8, 'a'], [8, 'zwei 二三四'], [8, 'a'], [8, 'zwei 二三四'], [4, 'boards']], 0n]);
   holds('no room for a name', [env.getdents64(env.rattle_open_dir_at(-100, it.path('/boards')), 30000n, 4n), it.fault()], [-1n, E.INVAL]);
   holds('a real path, and none of none', [env.realpath(it.path('boards//./a'), 40000n), it.memory.text(40000n), env.realpath(it.path('/dev/stdout'), 40000n), it.memory.text(40000n), env.realpath(it.path('boards/none'), 40000n), it.fault()], [40000n, '/boards/a', 40000n, '/dev/stdout', 0n, E.NOENT]);
   holds('no links', [env.readlink(it.path('/boards/a'), 0n, 9n), it.fault(), env.readlink(it.path('/none'), 0n, 9n), it.fault()], [-1n, E.INVAL, -1n, E.NOENT]);
   holds('no second names', [env.link(it.path('/boards/a'), it.path('/boards/b', 5000n)), it.fault(), it.told(0, '/boards/a') !== false, it.told(0, '/boards/b')], [-1, E.PERM, true, false]);
-  holds('a journal stays among them', [env.rename(it.path('/boards/a'), it.path('/a', 5000n)), it.fault()], [-1, E.PERM]);
+  holds('a journal stays among them, and where it is', [env.rename(it.path('/boards/a'), it.path('/a', 5000n)), it.fault(), env.rename(it.path('/boards/a'), it.path('boards/./a', 5000n)), it.store.list('/boards').length], [-1, E.PERM, 0, 2]);
   holds('no terminal', [env.isatty(0), env.isatty(1), env.isatty(2)], [0, 0, 0]); holds('no pipe that waits', env.poll(0n, 0n, 0), 0);
   holds('streams', [it.write(1, 'ab'), it.write(2, 'c'), it.out], [2n, 1n, [[1, 97, 98], [2, 99]]]); holds('what is given', [it.read(0, 3), it.read(0, 9), it.read(0, 9)], ['giv', 'en', '']);
   const out = it.open('/dev/stdout', 1);
@@ -107,14 +104,11 @@ const disks = (count) => Array.from({ length: count }, () => inMemory());
   const told = [], disk = { ...inMemory(), flush: () => told.push('flush') }, it = machine({ store: new Store([disk]) });
   const fd = it.open('/boards/a', 2 | CREATE), before = told.length;
   holds('a sync reaches the disk', [it.env.fsync(fd), it.env.fdatasync(fd), told.length - before], [0, 0, 2]);
-  disk.flush = () => { throw new DOMException('no', 'InvalidStateError'); };
-  holds('a sync that fails is told', [it.env.fsync(fd), it.fault()], [-1, E.IO]);
-  disk.write = () => { throw new DOMException('full', 'QuotaExceededError'); };
-  holds('a full disk is told', [it.write(fd, 'x'), it.fault()], [-1n, E.NOSPC]);
+  disk.flush = () => { throw new DOMException('no', 'InvalidStateError'); }; holds('a sync that fails is told', [it.env.fsync(fd), it.fault()], [-1, E.IO]);
+  disk.write = () => { throw new DOMException('full', 'QuotaExceededError'); }; holds('a full disk is told', [it.write(fd, 'x'), it.fault()], [-1n, E.NOSPC]);
   disk.write = () => 0;
   holds('and where nothing is taken, nor a name', [it.write(fd, 'x'), it.fault(), it.env.unlink(it.path('/boards/a')), it.env.rename(it.path('/boards/a'), it.path('/boards/b', 5000n)), it.fault(), it.told(0, '/boards/a').mode, it.store.list('/boards').length], [-1n, E.NOSPC, -1, -1, E.NOSPC, 8, 1]);
-  disk.write = (bytes) => Math.min(2, bytes.length);
-  holds('a short write is as short as it was', [it.write(fd, 'abcd'), it.env.lseek(fd, 0n, 1)], [2n, 2n]);
+  disk.write = (bytes) => Math.min(2, bytes.length); holds('a short write is as short as it was', [it.write(fd, 'abcd'), it.env.lseek(fd, 0n, 1)], [2n, 2n]);
 }
 
 // line: over a port that does what it is told
@@ -134,27 +128,20 @@ function port() {
   holds('eight bits, even parity, one stop bit', [board.told[0].baudRate, board.told[0].dataBits, board.told[0].parity, board.told[0].stopBits], [57600, 8, 'even', 1]);
   const recv = async (room) => { const got = await ends(env.recv(fd, 9000n, BigInt(room), 0)); return typeof got === 'bigint' && got > 0n ? it.memory.bytes(9000n, got).slice() : got; };
   for (const [at, parts] of [[16, 0n], [24, 30000n]]) it.memory.view().setBigInt64(at, parts, true);
-  holds('a wait is set', env.setsockopt(fd, 1, 20, 16n, 16), 0);
-  it.memory.view().setBigInt64(16, 60n, true);
-  holds('and another one, for what is sent, is no matter', env.setsockopt(fd, 1, 21, 16n, 16), 0);
+  holds('a wait is set', env.setsockopt(fd, 1, 20, 16n, 16), 0); it.memory.view().setBigInt64(16, 60n, true); holds('and another one, for what is sent, is no matter', env.setsockopt(fd, 1, 21, 16n, 16), 0);
   const began = performance.now();
   holds('nothing comes in time', [await recv(9), it.fault(), performance.now() - began > 20], [-1n, E.AGAIN, true]);
-  setTimeout(() => board.into.enqueue(Uint8Array.of(1, 2, 3, 4, 5)), 10);
-  env.setsockopt(fd, 1, 20, 16n, 16);
+  setTimeout(() => board.into.enqueue(Uint8Array.of(1, 2, 3, 4, 5)), 10); env.setsockopt(fd, 1, 20, 16n, 16);
   holds('what comes is taken, in order, and no more than there is room for', [await recv(2), await recv(9)], [[1, 2], [3, 4, 5]]);
-  it.memory.bytes(9000n, 3n).set([0x7f, 0, 255]);
-  holds('sent', env.send(fd, 9000n, 3n, 0), 3n);
-  it.memory.bytes(9000n, 3n).fill(0);
-  const copy = env.fcntl(fd, 1030, 0n);
-  await env.close(copy);
+  it.memory.bytes(9000n, 3n).set([0x7f, 0, 255]); holds('sent', env.send(fd, 9000n, 3n, 0), 3n); it.memory.bytes(9000n, 3n).fill(0);
+  const copy = env.fcntl(fd, 1030, 0n); await env.close(copy);
   holds('open as long as one has it', board.told.includes('closed'), false);
   holds('closed, which isn\'t why it ended', [await ends(env.close(fd)), board.told.at(-1), line.ended], [0, 'closed', undefined]);
   holds('and all that was sent went out before', board.sent, [0x7f, 0, 255]);
 }
 {
   for (const connections of [[[6]], [[3], [3]], [[2, 2, 2]], [[1, 1], [1, 1, 1, 1]]]) for (let stop = 0; stop < 6; stop++) {
-    const board = port(), line = new Line(board, 9600, undefined, undefined, stop);
-    let count = 0;
+    const board = port(), line = new Line(board, 9600, undefined, undefined, stop); let count = 0;
     const send = (size) => thrownBy(() => line.send(Uint8Array.from({ length: size }, () => ++count)));
     for (const sends of connections) await line.connect().then(() => sends.forEach(send)).then(() => line.close());
     holds('a stop, behind so many bytes of all sends and connections', [line.ended, line.sent, board.sent], ['stopped', stop, [1, 2, 3, 4, 5, 6].slice(0, stop)]);
@@ -164,12 +151,11 @@ function port() {
   holds('the adapter of that kind, which may be plugged in anew; not one of two, nor another', [chosen(other, one), chosen(same), chosen(one, other, same), chosen(other)], [1, 0, 'two adapters', 'the adapter ']);
 }
 for (const [what, over, sum] of [['a wrong parity', (board) => board.into.error(new DOMException('x', 'ParityError')), -1n], ['a lost adapter', (board) => board.into.error(new DOMException('x', 'NetworkError')), -1n],
-  ['a break', (board) => board.into.error(new DOMException('x', 'BreakError')), -1n], ['an end', (board) => board.into.close(), 0n]]) {
+  ['a break', (board) => board.into.error(new DOMException('x', 'BreakError')), -1n], ['an end', (board) => board.into.close(), 0n], ['a write that fails', (board, line) => { board.sent.push = () => { throw new DOMException('x', 'NetworkError'); }; line.send(Uint8Array.of(1)); }, -1n]]) {
   const board = port(), line = new Line(board, 9600), it = machine({ line }), fd = it.env.socket(1, 1, 0);
-  it.memory.put('/dev/board', 50002n, 100n);
-  await it.env.connect(fd, 50000n, 13);
-  setTimeout(() => { if (sum) board.into.enqueue(Uint8Array.of(9)); over(board); }, 5);
-  const begun = (sum ? soon(20) : soon()).then(() => it.env.recv(fd, 9000n, 9n, 0));
+  it.memory.put('/dev/board', 50002n, 100n); await it.env.connect(fd, 50000n, 13);
+  setTimeout(() => { if (sum) board.into.enqueue(Uint8Array.of(9)); over(board, line); }, 5);
+  const begun = (sum ? soon(20).then(() => line.sending) : soon()).then(() => it.env.recv(fd, 9000n, 9n, 0));
   holds(`${what} ends the line`, [await ends(begun), await ends(it.env.recv(fd, 9000n, 9n, 0))], [sum, sum]);
   holds(`${what}: no more is sent`, [it.env.send(fd, 9000n, 1n, 0), it.fault()], [-1n, E.IO]);
   holds(`${what}: it still closes`, [await ends(it.env.close(fd)), board.told.at(-1), line.came.push(bytesOf('old'))], [0, 'closed', 1]);
@@ -178,8 +164,7 @@ for (const [what, over, sum] of [['a wrong parity', (board) => board.into.error(
 }
 {
   const board = port(), line = new Line(board, 9600, stepsOf('dtr-reset,rts-boot0')), began = performance.now();
-  await line.connect();
-  const took = performance.now() - began, { came } = line;
+  await line.connect(); const took = performance.now() - began, { came } = line;
   await line.close();
   holds('a wiring is played, in and out of an open port, and what comes by then is no answer', [board.told.map((it) => it.baudRate ?? it), came],
     [[9600, { requestToSend: false }, { dataTerminalReady: true }, { dataTerminalReady: false }, { requestToSend: true }, { dataTerminalReady: true }, { dataTerminalReady: false }, 'closed'], []]);
@@ -191,17 +176,35 @@ for (const [what, over, sum] of [['a wrong parity', (board) => board.into.error(
   holds('nobody is served', [it.env.bind(fd, 0n, 0), it.fault(), it.env.listen(fd, 1), it.env.accept4(fd, 0n, 0n, 0)], [-1, E.NOSYS, -1, -1]);
 }
 
-// what keeps the page: what others keep at its host stays
+// what keeps the page: what others keep at its host stays, and a version is kept that has each file as it was made
 {
-  const kept = new Set(['stmflash-old', 'stmflash-/* the sum */', 'others']), heard = {}, caches = { keys: async () => [...kept], delete: async (it) => kept.delete(it), match: async () => 'any', open: async () => ({ match: async () => 'its own' }) };
-  Object.assign(globalThis, { caches, self: { addEventListener: (name, does) => { heard[name] = does; }, skipWaiting: () => kept.add('at once') } });
-  await from('offline.js');
-  for (const name of ['install', 'activate']) await new Promise((resolve) => heard[name]({ waitUntil: (it) => it.then(resolve) }));
+  const kept = new Set(['stmflash-old', 'stmflash-/* the sum */', 'others']), heard = {}, told = [], cache = { match: async () => 'its own', put: async (it) => told.push(it) };
+  Object.assign(globalThis, { caches: { keys: async () => [...kept], delete: async (it) => kept.delete(it), match: async () => 'any', open: async () => cache }, self: { addEventListener: (name, does) => { heard[name] = does; }, skipWaiting: () => kept.add('at once') } });
+  await import(`data:text/javascript,${encodeURIComponent(fs.readFileSync(new URL('offline.js', folder), 'utf8').replace('/* the files */', '"index.html": "ba7816bf8f01cfea414140de5dae2223b00361a396177a9cb410ff61f20015ad"'))}`);
+  for (const [name, ...answer] of [['install', 'another'], ['install', 'abc', { status: 404 }], ['install', 'abc'], ['activate']]) {
+    globalThis.fetch = async () => new Response(...answer);
+    await new Promise((resolve) => heard[name]({ waitUntil: (it) => it.then(resolve, () => resolve(told.push('no'))) }));
+  }
   const got = await new Promise((resolve) => heard.fetch({ request: { method: 'GET', url: 'page.css' }, respondWith: resolve }));
-  holds('what is kept of others stays, and no version counts beside a tab of another', [...kept, got], ['stmflash-/* the sum */', 'others', 'its own']);
+  holds('what is kept of others stays, no version counts beside a tab of another, and none has a file that is another or isn\'t there', [...kept, got, told], ['stmflash-/* the sum */', 'others', 'its own', ['no', 'no', './']]);
 }
 
 tryImages(await from('image.js'), await from('chips.js'), await from('difference.js'), holds);
+
+// what can be begun, and the words of a call, over elements that are no browser's
+{
+  const made = () => ({ value: '', dataset: {}, all: [], append(...it) { this.all.push(...it); }, replaceChildren(...it) { this.all = it; }, querySelectorAll: () => [], setAttribute() {}, removeAttribute() {}, scrollIntoView() {} });
+  const it = {}, asked = [], off = () => Object.keys(it).filter((id) => it[id].disabled), logs = { bad: undefined, done: ['segment 1: ended', '1 can be undone'], stopped: ['unfinished: write', '1 can be undone'], undone: ['0 can be undone'] };
+  Object.assign(globalThis, { document: { getElementById: (id) => (it[id] ??= made()), createElement: made }, Worker: class { postMessage({ id, words, line }) {
+    asked.push([words, line, off()]);
+    setTimeout(() => this.onmessage({ data: { id, names: Object.keys(logs).map((it) => `${it}.journal`), status: 0, out: JSON.stringify({ says: 'none', lines: logs[words?.at(-1).slice(7, -8)] }) } }));
+  } } });
+  const { state, run, takePort } = await from('calls.js'), { journals } = await from('journals.js'); Object.assign(state, { ready: true, image: {} }); await journals();
+  holds('what a journal can\'t: undone, and kept', it.journals.all.map((row) => row.all[2].all.map(({ dataset }) => 'off' in dataset)), [[true, false, true], [false, false, false], [false, false, true], [true, false, false]]);
+  takePort({ getInfo: () => ({ usbVendorId: 1, usbProductId: 0xabc }) }); Object.assign(it.fresh ??= made(), { checked: true }); await run(['write', '/image'], { onBoard: true });
+  holds('a call on the board', [asked.at(-1), off(), it.fresh.checked, it.chosen.textContent], [[['write', '--table', '/chips.toml', '--device', '/dev/board', '--baud', '0', '--fresh', '/image'], { info: { usbVendorId: 1, usbProductId: 0xabc }, baud: 0, wiring: '', stopAt: undefined, plan: undefined },
+    ['port', 'ask', 'try', 'read', 'stopped-undo', 'upload', 'file', 'write', 'compare']], [], false, 'The USB adapter 0001:0abc.']);
+}
 
 // the store: names on the disk. A disk that loses its power has of each sector that was written since the last flush the old bytes, the
 // new ones, or some of both.
@@ -233,12 +236,12 @@ const OPERATIONS = {
   'a name is moved': [(store) => store.rename('/boards/a', '/boards/é 電'), { b: 'B', 'é 電': 'A' }],
   'a name is moved over another': [(store) => store.rename('/boards/a', '/boards/b'), { b: 'A' }],
 };
+let seed = 7;
+const choose = () => { seed = (seed * 48271) % 2147483647; return seed >> 6; };
 {
-  let seed = 1;
-  const choose = () => { seed = (seed * 48271) % 2147483647; return seed >> 6; };
   for (const [what, [does, after]] of Object.entries(OPERATIONS)) {
     const seen = new Set();
-    for (let round = 0; round < 240; round++) {
+    for (let round = 0; round < 480; round++) {
       const disk = Array.from({ length: 4 }, weak), store = new Store(disk);
       for (let i = 0; i <= round % 3; i++) { make(store, 'a', `was ${i}`); make(store, 'b', 'was'); store.remove('/boards/a'); store.remove('/boards/b'); }
       for (const it of ['a', 'b', 'before']) make(store, it, it.toUpperCase());
@@ -266,44 +269,37 @@ const OPERATIONS = {
   holds('of two files of a name the newer one', contents(again), { a: 'newer' });
   again.remove('/boards/a');
   holds('and the older one doesn\'t come back', contents(new Store(disk)), {});
-  const { told } = machine({ store: again, line: { name: '/dev/board' } });
-  holds('no file is the line', again.pool.some((it) => it.ino === told(0, '/dev/board').ino), false);
+  holds('no file is the line', again.pool.every((it) => it.ino > machine({ store: again, line: { name: '/dev/board' } }).told(0, '/dev/board').ino));
 }
 {
   const store = new Store(disks(3)), open = store.open('/boards/a', { creates: true });
-  open.write(bytesOf('kept'), 0);
-  store.remove('/boards/a');
+  open.write(bytesOf('kept'), 0); store.remove('/boards/a');
   const bytes = new Uint8Array(4);
   holds('what is open stays readable without a name', [open.read(bytes, 0), new TextDecoder().decode(bytes), store.look('/boards/a') === undefined], [4, 'kept', true]);
-  make(store, 'b', 'B');
-  open.read(bytes, 0);
+  make(store, 'b', 'B'); open.read(bytes, 0);
   holds('and nobody else gets its place', new TextDecoder().decode(bytes), 'kept');
   open.close();
   const one = inMemory(), have = new Uint8Array(8194), wanted = new Uint8Array(8194);
   make(new Store([one]), 'é', '!');
   wanted.set([...bytesOf('stmpool1'), 1, 0, 0, 0, 0, 0, 0, 0, 10, 0, ...bytesOf('/boards/é')], 4096), new DataView(wanted.buffer).setUint32(4604, 0xa477d188, true), wanted.set([33], 8192);
   holds('a journal lies on the disk as pages of before have it', [one.read(have, { at: 0 }), have], [8193, wanted]);
-  const over = store.open('/boards/b', {});
-  make(store, 'c', 'C');
-  store.rename('/boards/c', '/boards/b');
+  const over = store.open('/boards/b', {}); make(store, 'c', 'C'); store.rename('/boards/c', '/boards/b');
   holds('what is replaced while it is open', [over.read(bytes, 0), contents(store), store.look('/boards/c')], [1, { b: 'C' }, undefined]);
-  over.close();
-  holds('places come back', store.free(), 2);
-  make(store, 'd', 'long before');
-  store.remove('/boards/d');
-  make(store, 'd', '');
+  over.close(); holds('places come back', store.free(), 2);
+  make(store, 'd', 'long before'); store.remove('/boards/d'); make(store, 'd', '');
   holds('nothing is left of another file', contents(store), { b: 'C', d: '' });
   make(store, 'e', '');
-  holds('no place left', thrownBy(() => make(store, 'f', '')).number, E.NOSPC);
+  holds('no place left', thrownBy(() => make(store, 'f', '')).number, E.NOSPC); holds('nor in a head', [482, 483].map((it) => thrownBy(() => make(new Store([inMemory()]), 'n'.repeat(it), ''))?.number), [undefined, E.INVAL]);
   store.open('image', { creates: true }).close();
-  holds('files beside are in memory', [store.free(), store.look('/image')?.kind, contents(store).image], [0, 'file', undefined]);
+  holds('files beside are in memory', [store.free(), store.look('/image')?.kind, store.look('/image')?.size, contents(store).image], [0, 'file', 0, undefined]);
 }
 
 // the worker: what it is handed over has a place each time, and is whole or not there where the power goes ahead of any flush. One page at
 // a time has a file of the pool.
 {
-  let seed = 1, opening = -3;
-  const asked = {}, files = new Map(), path = '/boards/a', choose = () => { seed = (seed * 48271) % 2147483647; return seed >> 6; };
+  let opening = -3;
+  seed = 1;
+  const asked = {}, files = new Map(), path = '/boards/a';
   const file = (disk, holder) => ({ disk, async createSyncAccessHandle() { if (holder === opening) throw new DOMException('', 'NoModificationAllowedError'); holder = opening; return disk; } });
   const folder = { values: () => [...files.values()], getDirectoryHandle: async () => folder, getFileHandle: async (name) => files.get(name) ?? files.set(name, file(weak())).get(name) };
   Object.defineProperty(globalThis, 'navigator', { value: { locks: { request: (...it) => it.at(-1)({}) }, storage: { getDirectory: async () => folder } } });
@@ -319,11 +315,10 @@ const OPERATIONS = {
     let left = opening % 6, lost;
     for (const it of disk) it.before = () => { if (!left--) { lost = lose(); throw new Error('no power'); } };
     await ask('put', { path, bytes: bytesOf('whole') });
-    holds('it is whole, or not there where the power went', lost === 'not there' || (lost ?? lose()) === 'whole');
+    holds('it is whole, or not there where the power went, and nothing is beside it', [lost === 'not there' || (lost ?? lose()) === 'whole', (await ask('list')).names.filter((it) => it !== 'a')], [true, []]);
   }
 }
-const asked = process.argv[3] && WebAssembly.Module.imports(new WebAssembly.Module(fs.readFileSync(process.argv[3]))).map((it) => it.name).sort();
-if (asked) holds('what the module asks for is what is answered', Object.keys(machine().env).sort(), asked);
+if (process.argv[3]) holds('what the module asks for is what is answered', Object.keys(machine().env).sort(), WebAssembly.Module.imports(new WebAssembly.Module(fs.readFileSync(process.argv[3]))).map((it) => it.name).sort());
 if (process.argv.includes('--wirings')) console.log(JSON.stringify(Object.fromEntries(WIRINGS.map((it) => [it, stepsOf(it)]))));
 console.log(`${held} of ${all} hold`);
 process.exitCode = held === all ? 0 : 1;

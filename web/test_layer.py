@@ -101,8 +101,7 @@ class Layer(Tried):
         self.assertHolds(self.try_memory(f"{HERE}/memory.c", "-Wall", "-Wextra", "-Werror"))
 
     def test_types(self):
-        ran = run(["tsc", "-p", f"{HERE}/tsconfig.json"])
-        self.assertEqual((ran.returncode, ran.stdout), (0, ""))
+        self.assertEqual(((ran := run(["tsc", "-p", f"{HERE}/tsconfig.json"])).returncode, ran.stdout), (0, ""))
 
     def test_finds_each_fault(self):
         planted = [("nothing", f"{HERE}/page"), *((f"{file}: {name}", self.with_fault(file, old, new)) for name, file, _, old, new in FAULTS)]
@@ -159,8 +158,7 @@ class Layer(Tried):
             names = {"requestToSend": "rts", "dataTerminalReady": "dtr"}
             return [("wait", it["wait"] / 1000) if "wait" in it else (names[next(iter(it["signals"]))], next(iter(it["signals"].values()))) for it in steps]
 
-        ran = self.try_page(f"{HERE}/page", "", "--wirings")
-        wirings = json.loads(ran.stdout.splitlines()[0])
+        wirings = json.loads(self.try_page(f"{HERE}/page", "", "--wirings").stdout.splitlines()[0])
         self.assertEqual(len(wirings), 12)
         for name, steps in wirings.items():
             self.assertEqual([said(steps[it]) for it in ("entry", "leave")], [read_sequence(it) for it in read_wiring(name)], name)

@@ -6,7 +6,7 @@ export const FOLDER = 'boards', ENDING = '.journal', NEW = ':new';
 const DEVICE = '/dev/board';
 // what the program says in words of the command line, in the page's
 /** @type {[RegExp, string][]} */
-const MEANT = [[/; say --board .*$/, '; undo first, or reset the board, and say above that it was'], [/: undo --recover.*/, ': download it, and undo by the command line, with --recover'],
+const MEANT = [[/; say --board .*$/, '; undo first, or reset the board, and say above that it was'], [/: undo (1 )?--recover.*/, ': download it, and undo by the command line, with --recover'],
   [/: --journal names its journal$/, ': choose a board with a name of its own, above']];
 // why a line ended, as Web Serial names it
 /** @type {Record<string, string>} */
