@@ -6,7 +6,7 @@ import resource
 import shlex
 import shutil
 
-from place import COUNTING, Said, is_slow, program, text_in
+from place import COUNTING, WAIT, Said, is_slow, is_unproved, program, text_in
 from served import Served
 
 # a part of a file's bytes, and how often it comes
@@ -59,7 +59,8 @@ def spread(title, lines):
 
 def cases(page):
     """Each case of a page: its title, and its lines as their sign and what is behind it."""
-    names, first = {}, []
+    # (a program that is run by another one may be held up for as long as the default is)
+    names, first = {"WAIT": WAIT if is_unproved() else "400"}, []
     for block in re.sub(r"(?m)^#.*\n", "", text_in("tests", page)).strip().split("\n\n"):
         title, *lines = named(block, names).split("\n")
         if title.startswith("let "):

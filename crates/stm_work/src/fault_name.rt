@@ -18,9 +18,9 @@ impl Failure<'_> {
                 "cannot_read",
             Failure::CannotWrite(_) | Failure::CannotWriteBoard(_) | Failure::CannotWriteLine(_) =>
                 "cannot_write",
-            Failure::NoOutput(_) | Failure::IsOpened(_) | Failure::OtherFileSystem(_) =>
+            Failure::NoOutput(_) | Failure::IsOpened(_) | Failure::IsJournal(_) => "cannot_write",
+            Failure::OutLeads(_) | Failure::ErrLeads(_) | Failure::OtherFileSystem(_) =>
                 "cannot_write",
-            Failure::OutLeads(_) | Failure::ErrLeads(_) => "cannot_write",
             Failure::JournalInUse => "journal_in_use",
             Failure::NoJournal(_) => "no_journal",
             Failure::NotTrusted(..) => "not_trusted",

@@ -9,7 +9,9 @@ use std::fs::Files;
 use std::io::ErrorKind;
 use std::os::unix::fs::MetadataExt;
 use std::path::Path;
-use stm_files::{Locks, SimulatorNames, doubt_at, is_handed, is_same_file, try_beside};
+use stm_files::{
+    Locks, Shown, SimulatorNames, Source, doubt_at, is_handed, is_same_file, try_beside,
+};
 use stm_words::{Device, Options, TableNames, Task};
 use stm_work::Failure;
 
@@ -20,6 +22,9 @@ const STANDARD: &str = "-";
 const OUT: &str = "/dev/stdout";
 
 const ERR: &str = "/dev/stderr";
+
+/// How a journal's first line begins.
+const JOURNAL: &[u8; 11] = b"stmjournal ";
 
 /// The files that the words of one use name.
 #[derive(Drop)]
@@ -124,13 +129,16 @@ impl<'a> NamedFiles<'a> {
         check_owner(rt, name, self.trusts_others)
     }
 
-    /// Refuses an OUT that is one of the others.
+    /// Refuses an OUT that is one of the others, or a journal.
     fn check_out<R: Files + AllocGlobal>(&self, rt: &R, out: &'a str) -> Result<(), Failure<'a>> {
         if is_same_file(rt, out, self.journal)
             || self.is_read(rt, out)
             || self.is_devices(rt, out)?
         {
             return Err(Failure::CannotWrite(out));
+        }
+        if is_journal(rt, out) {
+            return Err(Failure::IsJournal(out));
         }
         Ok(())
     }
@@ -207,6 +215,21 @@ impl<'a> NamedFiles<'a> {
 pub fn is_file<R: Files>(rt: &R, name: &str) -> bool {
     match fs::metadata(rt, name) {
         Ok(told) => told.is_file(),
+        Err(_) => false,
+    }
+}
+
+/// Whether a regular file of this name begins as a journal does.
+fn is_journal<R: Files>(rt: &R, name: &str) -> bool {
+    if !is_file(rt, name) {
+        return false;
+    }
+    let mut begins = [0; 11];
+    match Shown::open(rt, name) {
+        Ok(mut shown) => match shown.fetch(0, &mut begins) {
+            Ok(_) => begins == *JOURNAL,
+            Err(_) => false,
+        },
         Err(_) => false,
     }
 }
