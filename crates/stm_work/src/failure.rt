@@ -69,7 +69,7 @@ pub enum Failure<'a> {
     #[error("cannot write {0}, a file that is open already: name the file, or say - for standard output")]
     IsOpened(&'a str),
     /// It is a journal, which would be replaced.
-    #[error("cannot write {0}: it is a journal, move it away first")]
+    #[error("cannot write {0}, a journal: name another file")]
     IsJournal(&'a str),
     /// A journal can't be moved there.
     #[error("cannot write {0}: it is on another file system than the journal")]
