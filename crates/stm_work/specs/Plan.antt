@@ -46,9 +46,9 @@ IsWatching false question watching = watching ≡ Unwatched
 -- with the chips that the tables say; the device is asked and watched as the options say.
 pub record IsUsePlan (options : Options) (texts : List (List ℕ)) (is_told : Bool) (does : Work)
     (sequel : Sequel) (plan : Plan) : Type 0 where
-  pub work_is : plan.work ≡ does
-  pub sequel_is : plan.sequel ≡ sequel
-  pub journal_is : plan.journal ≡ options.journal
+  pub work_is : plan.job.work ≡ does
+  pub sequel_is : plan.job.sequel ≡ sequel
+  pub journal_is : plan.job.journal ≡ options.journal
   pub chips_are : AreChips texts plan.table
   pub asked : plan.question.is_asked ≡ is_asked options does is_told
   pub wanted : plan.question.wanted ≡ options.board

@@ -20,6 +20,7 @@ use Rattle.stm_work.specs.declared.board.Due.TheVariants.{Not, Asked, OfNamed}
 use Rattle.stm_work.specs.declared.board.Question.{Question}
 use Rattle.stm_work.specs.declared.failure.Failure.{Failure}
 use Rattle.stm_work.specs.declared.failure.Failure.TheVariants.{Memory, Session}
+use Rattle.stm_work.specs.declared.plan.Plan.{Plan}
 use Rattle.stm_work.specs.declared.steps.Steps.{Steps}
 use Rattle.stm_work.specs.declared.watching.Watching.{Watching}
 use Rattle.stm_work.specs.declared.watching.Watching.TheVariants.{FromBoard, FromId}
@@ -179,12 +180,12 @@ pub record TakesFromId {R : Type 0} (view : R → RigState) (table bare : List C
       (λ failure. (new ≡ mid) × (result ≡ Err failure))
   pub is_asking : asking ≡ asking_of work
 
--- The steps of one call, watched as that is said.
-abbrev pub TakesWatched : {R : Type 0} → (R → RigState) → List ChipData → Watching → Question → Work
-    → Sequel → R → R → Result Steps Failure → Type 0
-TakesWatched view table Unwatched question work sequel old new result =
-    TakesSteps view table question work sequel old new result
-TakesWatched view table FromBoard question work sequel old new result =
-    TakesFromBoard view table question work sequel old new result
-TakesWatched view table (FromId bare) question work sequel old new result =
-    TakesFromId view table bare work sequel old new result
+-- The session that a plan says, and what follows it, watched so.
+abbrev pub TakesWatched : {R : Type 0} → (R → RigState) → Watching → Plan → R → R
+    → Result Steps Failure → Type 0
+TakesWatched view Unwatched plan old new result =
+    TakesSteps view plan.table plan.question plan.job.work plan.job.sequel old new result
+TakesWatched view FromBoard plan old new result =
+    TakesFromBoard view plan.table plan.question plan.job.work plan.job.sequel old new result
+TakesWatched view (FromId bare) plan old new result =
+    TakesFromId view plan.table bare plan.job.work plan.job.sequel old new result

@@ -11,18 +11,24 @@ use crate::work::Work;
 use stm_chip::Table;
 use stm_words::{Options, Sequel};
 
+/// What is done on a device, and what follows it.
+#[derive(Drop)]
+pub struct Job<'a> {
+    pub work: Work,
+    /// The name of the journal's file.
+    pub journal: &'a str,
+    pub sequel: Sequel<'a>,
+}
+
 /// What one use of a device does, and how.
 #[derive(Drop)]
 pub struct Plan<'a> {
-    pub work: Work,
+    pub job: Job<'a>,
     /// What the device is asked before its session.
     pub question: Question<'a>,
     pub watching: Watching,
     /// Its own copy of the table: the device's chip becomes that of its board.
     pub table: Table,
-    /// The name of the journal's file.
-    pub journal: &'a str,
-    pub sequel: Sequel<'a>,
 }
 
 impl<'a> Plan<'a> {
@@ -44,12 +50,14 @@ impl<'a> Plan<'a> {
         let watching = watching_of(rt, options, tables, &question)?;
         let table = tables.copy(rt.alloc())?;
         Ok(Plan {
-            work,
+            job: Job {
+                work,
+                journal: options.journal,
+                sequel: *sequel,
+            },
             question,
             watching,
             table,
-            journal: options.journal,
-            sequel: *sequel,
         })
     }
 

@@ -14,7 +14,7 @@ use crate::board::{Question, ask_first, table_beside};
 use crate::failure::Failure;
 use crate::keeper::Keeper;
 use crate::one_call::a_whole_call_ends_as_asked;
-use crate::work::Work;
+use crate::plan::Job;
 use std::alloc::Global;
 use std::io;
 use std::io::Write;
@@ -96,16 +96,14 @@ pub fn take_steps<'a, L: Keeper>(
     alloc: Global,
     rig: &mut L,
     table: Table,
-    work: Work,
+    job: Job<'a>,
     question: Question<'a>,
-    journal: &'a str,
-    sequel: &Sequel<'a>,
 ) -> Result<Steps<'a>, Failure<'a>>
-    ensures steps { TakesSteps L.view table question.entry work sequel.now rig.old rig.new result }
-    ensures ends { WritesAsAsked L.view table question.entry work sequel.now rig.old rig.new result }
+    ensures steps { TakesSteps L.view table question.entry job.entry.work job.entry.sequel rig.old rig.new result }
+    ensures ends { WritesAsAsked L.view table question.entry job.entry.work job.entry.sequel rig.old rig.new result }
 {
     a_whole_call_ends_as_asked::<L>();
-    ask_and_take(alloc, rig, table, work, question, journal, sequel)
+    ask_and_take(alloc, rig, table, job, question)
 }
 
 /// Asks the device first, and does it.
@@ -113,16 +111,14 @@ fn ask_and_take<'a, L: Keeper>(
     alloc: Global,
     rig: &mut L,
     table: Table,
-    work: Work,
+    job: Job<'a>,
     question: Question<'a>,
-    journal: &'a str,
-    sequel: &Sequel<'a>,
 ) -> Result<Steps<'a>, Failure<'a>>
-    ensures { TakesSteps L.view table question.entry work sequel.now rig.old rig.new result }
+    ensures { TakesSteps L.view table question.entry job.entry.work job.entry.sequel rig.old rig.new result }
 {
-    let asking = work.asking_if(question.is_asked);
+    let asking = job.work.asking_if(question.is_asked);
     let board = ask_first(alloc, rig, &table, asking, question.wanted)?;
-    take_asked(alloc, rig, table, board, work, journal, sequel)
+    take_asked(alloc, rig, table, board, job)
 }
 
 /// Does it on a device that was asked which board it is, or wasn't.
@@ -131,15 +127,13 @@ fn take_asked<'a, L: Keeper>(
     rig: &mut L,
     table: Table,
     board: Option<Board>,
-    work: Work,
-    journal: &'a str,
-    sequel: &Sequel<'a>,
+    job: Job<'a>,
 ) -> Result<Steps<'a>, Failure<'a>>
-    ensures { TakesAsked L.view table board work sequel.now rig.old rig.new result }
+    ensures { TakesAsked L.view table board job.entry.work job.entry.sequel rig.old rig.new result }
 {
     match board {
-        Some(board) => take_told(alloc, rig, table, board, work, journal, sequel),
-        None => work_then_follow(alloc, rig, &table, None, work, journal, sequel),
+        Some(board) => take_told(alloc, rig, table, board, job),
+        None => work_then_follow(alloc, rig, &table, None, job),
     }
 }
 
@@ -149,15 +143,13 @@ fn take_told<'a, L: Keeper>(
     rig: &mut L,
     table: Table,
     board: Board,
-    work: Work,
-    journal: &'a str,
-    sequel: &Sequel<'a>,
+    job: Job<'a>,
 ) -> Result<Steps<'a>, Failure<'a>>
-    ensures { TakesTold L.view table board work sequel.now rig.old rig.new result }
+    ensures { TakesTold L.view table board job.entry.work job.entry.sequel rig.old rig.new result }
 {
     rig.hear_size(board.size);
     let own = table_beside(table, &board)?;
-    work_then_follow(alloc, rig, &own, Some(board), work, journal, sequel)
+    work_then_follow(alloc, rig, &own, Some(board), job)
 }
 
 /// Does it on a device whose chip the table has, and what follows it.
@@ -166,14 +158,17 @@ pub fn work_then_follow<'a, L: Keeper>(
     rig: &mut L,
     table: &Table,
     board: Option<Board>,
-    work: Work,
-    journal: &'a str,
-    sequel: &Sequel<'a>,
+    job: Job<'a>,
 ) -> Result<Steps<'a>, Failure<'a>>
-    ensures { TakesKnown L.view table.now board work sequel.now rig.old rig.new result }
+    ensures { TakesKnown L.view table.now board job.entry.work job.entry.sequel rig.old rig.new result }
 {
+    let Job {
+        work,
+        journal,
+        sequel,
+    } = job;
     let answer = work.run(alloc, rig, table)?;
-    Ok(follow(alloc, rig, table, board, answer, journal, sequel))
+    Ok(follow(alloc, rig, table, board, answer, journal, &sequel))
 }
 
 /// Does what follows a session that answered.

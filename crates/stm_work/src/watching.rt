@@ -8,9 +8,9 @@ ghost use Rattle.stm_work.specs.Watching.{TakesWatched};
 use crate::board::{Question, ask_to_watch, ask_who, table_beside};
 use crate::failure::Failure;
 use crate::otherwise::{Otherwise, Watched};
+use crate::plan::{Job, Plan};
 use crate::steps::{Steps, leave, take_steps, work_then_follow};
 use crate::watchable::Watchable;
-use crate::work::Work;
 use std::alloc::{AllocError, Global};
 use stm_chip::Table;
 use stm_session::{Board, Fault};
@@ -118,17 +118,16 @@ fn take_begun<'a, L: Watchable>(
     table: &Table,
     id: u16,
     board: Option<Board>,
-    work: Work,
-    journal: &'a str,
-    sequel: &Sequel<'a>,
+    job: Job<'a>,
 ) -> Result<Steps<'a>, Failure<'a>>
-    ensures { TakesAndGoes L.view table.now id board work sequel.now rig.old rig.new result }
+    ensures { TakesAndGoes L.view table.now id board job.entry.work job.entry.sequel rig.old rig.new result }
 {
-    let kept = Sequel {
-        go: None,
-        ..*sequel
+    let sequel = job.sequel;
+    let kept = Job {
+        sequel: Sequel { go: None, ..sequel },
+        ..job
     };
-    match work_then_follow(alloc, rig, table, board, work, journal, &kept) {
+    match work_then_follow(alloc, rig, table, board, kept) {
         Ok(steps) => Ok(go_behind(alloc, rig, table, id, sequel.go, steps)),
         Err(failure) => Err(failure),
     }
@@ -141,14 +140,12 @@ fn take_settled<'a, L: Watchable>(
     table: &Table,
     id: u16,
     board: Option<Board>,
-    work: Work,
-    journal: &'a str,
-    sequel: &Sequel<'a>,
+    job: Job<'a>,
 ) -> Result<Steps<'a>, Failure<'a>>
-    ensures { TakesSettled L.view table.now id board work sequel.now rig.old rig.new result }
+    ensures { TakesSettled L.view table.now id board job.entry.work job.entry.sequel rig.old rig.new result }
 {
     match begin(alloc, rig, table, id) {
-        Ok(()) => take_begun(alloc, rig, table, id, board, work, journal, sequel),
+        Ok(()) => take_begun(alloc, rig, table, id, board, job),
         Err(failure) => Err(failure),
     }
 }
@@ -159,16 +156,14 @@ fn take_told<'a, L: Watchable>(
     rig: &mut L,
     table: Table,
     board: Board,
-    work: Work,
-    journal: &'a str,
-    sequel: &Sequel<'a>,
+    job: Job<'a>,
 ) -> Result<Steps<'a>, Failure<'a>>
-    ensures { TakesToldWatched L.view table board work sequel.now rig.old rig.new result }
+    ensures { TakesToldWatched L.view table board job.entry.work job.entry.sequel rig.old rig.new result }
 {
     rig.hear_size(board.size);
     let id = board.id;
     let own = table_beside(table, &board)?;
-    take_settled(alloc, rig, &own, id, Some(board), work, journal, sequel)
+    take_settled(alloc, rig, &own, id, Some(board), job)
 }
 
 /// The same from the question on which board it is. One that isn't asked is sent nothing.
@@ -176,16 +171,14 @@ fn take_from_board<'a, L: Watchable>(
     alloc: Global,
     rig: &mut L,
     table: Table,
-    work: Work,
+    job: Job<'a>,
     question: Question<'a>,
-    journal: &'a str,
-    sequel: &Sequel<'a>,
 ) -> Result<Steps<'a>, Failure<'a>>
-    ensures { TakesFromBoard L.view table question.entry work sequel.now rig.old rig.new result }
+    ensures { TakesFromBoard L.view table question.entry job.entry.work job.entry.sequel rig.old rig.new result }
 {
-    match ask_to_watch(alloc, rig, &table, work.asking(), question.wanted)? {
-        Some(board) => take_told(alloc, rig, table, board, work, journal, sequel),
-        None => work_then_follow(alloc, rig, &table, None, work, journal, sequel),
+    match ask_to_watch(alloc, rig, &table, job.work.asking(), question.wanted)? {
+        Some(board) => take_told(alloc, rig, table, board, job),
+        None => work_then_follow(alloc, rig, &table, None, job),
     }
 }
 
@@ -195,36 +188,34 @@ fn take_from_id<'a, L: Watchable>(
     rig: &mut L,
     table: &Table,
     bare: &Table,
-    work: Work,
-    journal: &'a str,
-    sequel: &Sequel<'a>,
+    job: Job<'a>,
 ) -> Result<Steps<'a>, Failure<'a>>
-    ensures { TakesFromId L.view table.now bare.now work sequel.now rig.old rig.new result }
+    ensures { TakesFromId L.view table.now bare.now job.entry.work job.entry.sequel rig.old rig.new result }
 {
-    match ask_who(alloc, rig, bare, work.asking())? {
-        Some(board) => take_settled(alloc, rig, table, board.id, None, work, journal, sequel),
-        None => work_then_follow(alloc, rig, table, None, work, journal, sequel),
+    match ask_who(alloc, rig, bare, job.work.asking())? {
+        Some(board) => take_settled(alloc, rig, table, board.id, None, job),
+        None => work_then_follow(alloc, rig, table, None, job),
     }
 }
 
-/// Does what is asked of a device, and what follows it, watched as that is said.
+/// Does what a plan says, on a Rig that can be watched, and what follows it.
 pub fn take_watched<'a, L: Watchable>(
     alloc: Global,
     rig: &mut L,
-    table: Table,
-    work: Work,
-    question: Question<'a>,
-    journal: &'a str,
-    sequel: &Sequel<'a>,
-    watching: &Watching,
+    plan: Plan<'a>,
 ) -> Result<Steps<'a>, Failure<'a>>
-    ensures { TakesWatched L.view table watching.now question.entry work sequel.now rig.old rig.new
-        result }
+    ensures { TakesWatched L.view plan.entry.watching plan.entry rig.old rig.new result }
 {
+    let Plan {
+        job,
+        question,
+        watching,
+        table,
+    } = plan;
     match watching {
-        Watching::Not => take_steps(alloc, rig, table, work, question, journal, sequel),
-        Watching::FromBoard => take_from_board(alloc, rig, table, work, question, journal, sequel),
-        Watching::FromId(bare) => take_from_id(alloc, rig, &table, bare, work, journal, sequel),
+        Watching::Not => take_steps(alloc, rig, table, job, question),
+        Watching::FromBoard => take_from_board(alloc, rig, table, job, question),
+        Watching::FromId(bare) => take_from_id(alloc, rig, &table, &bare, job),
     }
 }
 

@@ -13,7 +13,8 @@ use Rattle.stm_work.specs.declared.plan.Plan.{Plan}
 use Rattle.stm_work.specs.declared.steps.Steps.{Steps}
 use Rattle.stm_work.specs.declared.work.Work.{Work}
 use Rattle.stm_session.specs.declared.greeting.Greeting.{Greeting}
-use Rattle.stmflash.specs.DeviceUse.{AreOutOf, TakesAround, UsesOn, UsesOnce, UsesPlan, greeting_for}
+use Rattle.stmflash.specs.DeviceUse.{AreLeft, AreOutOf, TakesAhead, TakesAround, UsesOn, UsesOnce, UsesPlan}
+use Rattle.stmflash.specs.DeviceUse.{greeting_for}
 use Rattle.stm_work.specs.Plan.{AreTold, IsUsePlan, TellsSteps}
 use Rattle.stm_work.specs.Steps.{Stays}
 use Rattle.stm_work.specs.Watching.{IsWatchingBegun}
@@ -71,45 +72,43 @@ stays-as {L} view a b c d same stays is =
     let Q : L → Type 0 = λ x. Stays (view a) (view x) in
     subst P same (subst Q (sym is) stays)
 
--- a session on a Rig around another one, what was made of it, and where its bytes went
-pub uses-plan : {R L : Type 0} (view : R → RigState) (inner : R → L) (inner_view : L → RigState)
-    (known : Known) (way : Option Greeting) (plan : Plan) (before after : L) (is_out : Bool)
-    (told ended out : Result Steps Failure)
-    → TakesAround view inner inner_view known way plan before after told
-    → TellsSteps told ended → IfOk out (AreOutOf is_out ended)
-    → IfOk out (UsesPlan view is_out way plan)
-uses-plan view inner inner_view known way plan before after is_out told ended (Err failure) takes tells are =
-    tt
-uses-plan view inner inner_view known way plan before after is_out told ended (Ok steps) takes tells are =
-    by ended tells are
-  where
-    by : (ended : Result Steps Failure) → TellsSteps told ended → AreOutOf is_out ended steps
-        → UsesPlan view is_out way plan steps
-    by (Err failure) tells are = absurd are
-    by (Ok last) tells are =
-        record {
-          old = takes.old;
-          new = takes.new;
-          done = takes.done;
-          takes = takes.takes;
-          told = last;
-          tells = tells-again takes.done told (Ok last) takes.tells tells;
-          out = are;
-        }
+-- a session that is told otherwise how it is greeted
+pub takes-as : {R : Type 0} (view : R → RigState) (way said : Option Greeting) (plan : Plan)
+    (old new : R) (done : Result Steps Failure) → way ≡ said
+    → TakesAhead way view plan old new done → TakesAhead said view plan old new done
+takes-as {R} view way said plan old new done same takes =
+    let P : Option Greeting → Type 0 = λ w. TakesAhead w view plan old new done in subst P same takes
 
--- the same where it is told otherwise how it is greeted
-pub uses-as : {R : Type 0} (view : R → RigState) (is_out : Bool) (way said : Option Greeting)
-    (plan : Plan) (out : Result Steps Failure) → way ≡ said
-    → IfOk out (UsesPlan view is_out way plan) → IfOk out (UsesPlan view is_out said plan)
-uses-as view is_out way said plan out same uses =
-    let P : Option Greeting → Type 0 = λ w. IfOk out (UsesPlan view is_out w plan) in
-    subst P same uses
+-- what was made of what came of a session, and where its bytes went
+pub are-left : (is_out : Bool) (done ended out : Result Steps Failure) → TellsSteps done ended
+    → IfOk out (AreOutOf is_out ended) → IfOk out (AreLeft is_out done)
+are-left is_out done ended (Err failure) tells are = tt
+are-left is_out done (Err failure) (Ok steps) tells are = absurd are
+are-left is_out done (Ok last) (Ok steps) tells are = (last, tells, are)
+
+-- a session on a Rig around another one, and what is told at its end
+pub uses-plan : {R L : Type 0} (view : R → RigState) (inner : R → L) (inner_view : L → RigState)
+    (known : Known) (options : Options) (plan : Plan) (before after : L) (is_out : Bool)
+    (told out : Result Steps Failure)
+    → TakesAround view inner inner_view known (greeting_for plan.job.work options) plan before after told
+    → IfOk out (AreLeft is_out told) → IfOk out (UsesPlan view options is_out plan)
+uses-plan view inner inner_view known options plan before after is_out told (Err failure) takes left =
+    tt
+uses-plan view inner inner_view known options plan before after is_out told (Ok steps) takes
+    (last, tells, out) =
+    record {
+      old = takes.old;
+      new = takes.new;
+      done = takes.done;
+      takes = takes.takes;
+      left = (last, tells-again takes.done told (Ok last) takes.tells tells, out);
+    }
 
 module _ {A B : Type 0} (simulated : A → RigState) (connected : B → RigState) where
   -- of a simulator in the process
   pub on-simulated : (options : Options) (id : ℕ) (file : Bor (List ℕ)) (is_out : Bool)
       (plan : Plan) (came : Result Steps Failure) → options.device ≡ Simulator id file
-      → IfOk came (UsesPlan simulated is_out None plan) → IfOk came (UsesOn simulated connected options.device options is_out plan)
+      → IfOk came (UsesPlan simulated options is_out plan) → IfOk came (UsesOn simulated connected options.device options is_out plan)
   on-simulated options id file is_out plan came is uses =
       let P : Device → Type 0 = λ d. IfOk came (UsesOn simulated connected d options is_out plan) in
       subst P (sym is) uses
@@ -117,7 +116,7 @@ module _ {A B : Type 0} (simulated : A → RigState) (connected : B → RigState
   -- and of what listens at a socket
   pub on-connected : (options : Options) (path : Bor (List ℕ)) (is_out : Bool)
       (plan : Plan) (came : Result Steps Failure) → options.device ≡ Socket path
-      → IfOk came (UsesPlan connected is_out (greeting_for plan.work options) plan) → IfOk came (UsesOn simulated connected options.device options is_out plan)
+      → IfOk came (UsesPlan connected options is_out plan) → IfOk came (UsesOn simulated connected options.device options is_out plan)
   on-connected options path is_out plan came is uses =
       let P : Device → Type 0 = λ d. IfOk came (UsesOn simulated connected d options is_out plan) in
       subst P (sym is) uses

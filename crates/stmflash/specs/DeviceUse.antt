@@ -36,25 +36,23 @@ use Rattle.stm_work.specs.Watching.{IsWatchingBegun, TakesWatched}
 use Rattle.stmflash.specs.declared.output.Output.{Output}
 use Rattle.stmflash.specs.declared.output.Output.TheVariants.{Printed}
 
--- the session that a plan says, and what follows it
-abbrev pub TakesPlan : {R : Type 0} → (R → RigState) → Plan → R → R → Result Steps Failure → Type 0
-TakesPlan view plan old new done =
-    TakesWatched view plan.table plan.watching plan.question plan.work plan.sequel old new done
-
--- where an undo is greeted: by whether its device is said to be fresh from reset, and whether the
--- line's speed is said
-abbrev pub greeting_at : Bool → Option ℕ → Greeting
-greeting_at true baud = greeting.Fresh
-greeting_at false None = greeting.Brief
-greeting_at false (Some baud) = greeting.Plain
+-- where an undo is greeted: at a socket, by whether its device is said to be fresh from reset, and
+-- whether the line's speed is said
+abbrev pub greeting_at : Device → Bool → Option ℕ → Option Greeting
+greeting_at (Simulator id file) is_fresh baud = None
+greeting_at (Socket path) true baud = Some greeting.Fresh
+greeting_at (Socket path) false None = Some greeting.Brief
+greeting_at (Socket path) false (Some baud) = Some greeting.Plain
 
 -- of what is done on a device an undo is greeted, and what takes the write protection off ahead of one;
 -- the one that follows a write which failed is of a device that isn't fresh any more
 abbrev pub greeting_for : Work → Options → Option Greeting
-greeting_for (work.Undo extent verifies) options = Some (greeting_at options.is_fresh options.baud)
-greeting_for (work.Act (action.Undo count)) options = Some (greeting_at false options.baud)
-greeting_for (work.Act (action.UndoVerified count)) options = Some (greeting_at false options.baud)
-greeting_for (work.Act action.UnprotectBegun) options = Some (greeting_at false options.baud)
+greeting_for (work.Undo extent verifies) options =
+    greeting_at options.device options.is_fresh options.baud
+greeting_for (work.Act (action.Undo count)) options = greeting_at options.device false options.baud
+greeting_for (work.Act (action.UndoVerified count)) options =
+    greeting_at options.device false options.baud
+greeting_for (work.Act action.UnprotectBegun) options = greeting_at options.device false options.baud
 greeting_for does options = None
 
 -- A greeting came ahead of a session. Where the journal has an intent, and doesn't say yet that 7F may
@@ -78,7 +76,7 @@ pub record TakesUnlessSilent {R : Type 0} (view : R → RigState) (plan : Plan) 
     (done : Result Steps Failure) : Type 0 where
   pub at : R
   pub said : Result Steps Failure
-  pub takes : TakesPlan view plan old at said
+  pub takes : TakesWatched view plan.watching plan old at said
   pub ends : ((new ≡ at) × (done ≡ said))
       ⊎ ((said ≡ Err (Session Line)) × ((came : Result (Unit {0}) Fault)
       × TellsSilence (view at) (view new) came
@@ -87,7 +85,7 @@ pub record TakesUnlessSilent {R : Type 0} (view : R → RigState) (plan : Plan) 
 abbrev pub TakesBehind : {R : Type 0} → Bool → (R → RigState) → Plan → R → R → Result Steps Failure
     → Type 0
 TakesBehind true view plan old new done = TakesUnlessSilent view plan old new done
-TakesBehind false view plan old new done = TakesPlan view plan old new done
+TakesBehind false view plan old new done = TakesWatched view plan.watching plan old new done
 
 -- A greeting, and then the session that a plan says. Where the greeting failed, that is all that came.
 pub record TakesGreeted {R : Type 0} (way : Greeting) (view : R → RigState) (plan : Plan) (old new : R)
@@ -101,7 +99,7 @@ pub record TakesGreeted {R : Type 0} (way : Greeting) (view : R → RigState) (p
 -- the session that a plan says, behind a greeting where one comes
 abbrev pub TakesAhead : {R : Type 0} → Option Greeting → (R → RigState) → Plan → R → R
     → Result Steps Failure → Type 0
-TakesAhead None view plan old new done = TakesPlan view plan old new done
+TakesAhead None view plan old new done = TakesWatched view plan.watching plan old new done
 TakesAhead (Some way) view plan old new done = TakesGreeted way view plan old new done
 
 -- It is taken on a Rig around another one, at which watching begins by what is known. The inner one is handed
@@ -138,26 +136,27 @@ AreOut is_out taken told = AreFiledIf (is_out && is_flash taken.answer) taken to
 abbrev pub AreOutOf : Bool → Result Steps Failure → Steps → Type 0
 AreOutOf is_out done told = MatchResult done (λ taken. AreOut is_out taken told) (λ failure. ⊥)
 
--- A session by this plan, on a Rig with this view, greeted so or not, came to what these steps
--- tell: where none of them failed, they are those that the session took.
-pub record UsesPlan {R : Type 0} (view : R → RigState) (is_out : Bool)
-    (way : Option Greeting) (plan : Plan) (steps : Steps) : Type 0 where
+-- what is told at the end of what came of a session: where none of these steps failed, they are those
+-- that it took
+abbrev pub AreLeft : Bool → Result Steps Failure → Steps → Type 0
+AreLeft is_out done steps = (told : Steps) × TellsSteps done (Ok told) × AreOut is_out told steps
+
+-- A session by this plan, on a Rig with this view, came to what these steps tell.
+pub record UsesPlan {R : Type 0} (view : R → RigState) (options : Options) (is_out : Bool)
+    (plan : Plan) (steps : Steps) : Type 0 where
   pub old : R
   pub new : R
   pub done : Result Steps Failure
-  pub takes : TakesAhead way view plan old new done
-  pub told : Steps
-  pub tells : TellsSteps done (Ok told)
-  pub out : AreOut is_out told steps
+  pub takes : TakesAhead (greeting_for plan.job.work options) view plan old new done
+  pub left : AreLeft is_out done steps
 
--- the same on the device that the words name: a simulator in the process, where nothing is greeted, or
--- one behind a socket
+-- the same on the device that the words name: a simulator in the process, or one behind a socket
 abbrev pub UsesOn : {A B : Type 0} → (A → RigState) → (B → RigState) → Device → Options → Bool
     → Plan → Steps → Type 0
 UsesOn simulated connected (Simulator id file) options is_out plan steps =
-    UsesPlan simulated is_out None plan steps
+    UsesPlan simulated options is_out plan steps
 UsesOn simulated connected (Socket path) options is_out plan steps =
-    UsesPlan connected is_out (greeting_for plan.work options) plan steps
+    UsesPlan connected options is_out plan steps
 
 -- Where what is read goes into a file or a pipe.
 abbrev pub goes_out : {R F A : Type 0} → Output R F A → Bool

@@ -3,6 +3,7 @@ ghost use Rattle.std.specs.Prelude.{◌≡◌, IfOk, false};
 ghost use Rattle.stm_work.specs.TriedBoards.{table_texts};
 ghost use Rattle.stmflash.specs.WriteUse.{IsUse, UsesAgain, UsesLast, count_undone, words_by};
 
+use crate::call::Call;
 use crate::first_question::Line;
 use crate::journal_tasks::look;
 use crate::on_device::use_once;
@@ -14,10 +15,9 @@ use std::net::Net;
 use std::time::Clock;
 use stm_files::{Escaped, Locks, is_there};
 use stm_wire::Rig;
-use stm_words::{Options, Sequel};
+use stm_words::Sequel;
 use stm_work::{
-    Action, Answer, Attempts, ChipTables, Failure, Hint, Standing, Stands, Steps, Work,
-    attempt_again,
+    Action, Answer, Attempts, Failure, Hint, Standing, Stands, Steps, Work, attempt_again,
 };
 
 /// What the journal in a file says by now; one that isn't there says nothing.
@@ -42,9 +42,7 @@ fn read_standing<'a, R: Files + AllocGlobal>(
 #[derive(Drop)]
 struct OneWrite<'b, 'a, 'r, R, E> {
     rt: &'r R,
-    options: &'b Options<'a>,
-    tables: &'b ChipTables<'a>,
-    sequel: &'b Sequel<'a>,
+    call: Call<'b, 'a>,
     line: Option<Line<'r, R>>,
     err: &'b mut E,
     hint: &'b mut Option<Hint>,
@@ -55,17 +53,15 @@ impl<'b, 'a, 'r, R: Locks + Net + Clock + AllocGlobal, E: Write + IsTerminal> At
     // of files and lines nothing can be said
     ghost does = { λ act old new.
         IsUse ⟦<ShownSimulator<'r, 'b, R, E> as Rig>⟧.view ⟦<ShownSocket<'r, 'b, R, E> as Rig>⟧.view
-        (words_by old.options.now (table_texts old.tables.now) old.sequel.now) act
-        × (words_by new.options.now (table_texts new.tables.now) new.sequel.now
-        ≡ words_by old.options.now (table_texts old.tables.now) old.sequel.now) };
+        (words_by old.call.options.now (table_texts old.call.tables.now) old.call.sequel) act
+        × (words_by new.call.options.now (table_texts new.call.tables.now) new.call.sequel
+        ≡ words_by old.call.options.now (table_texts old.call.tables.now) old.call.sequel) };
 
     fn attempt(&mut self, work: Work) -> Result<Steps<'a>, Failure<'a>> {
         use_once(
             self.rt,
-            self.options,
-            self.tables,
+            self.call,
             work,
-            self.sequel,
             Output::Printed,
             self.line.take(),
             self.err,
@@ -74,18 +70,19 @@ impl<'b, 'a, 'r, R: Locks + Net + Clock + AllocGlobal, E: Write + IsTerminal> At
     }
 
     fn read(&mut self) -> Result<Standing, Failure<'a>> {
-        read_standing(self.rt, self.options.journal)
+        read_standing(self.rt, self.call.options.journal)
     }
 
     fn undo(&mut self, count: u32) -> Result<u32, Failure<'a>> {
         let undo = Work::Act(Action::Undo(count));
-        let nothing = Sequel::none();
+        let call = Call {
+            sequel: Sequel::none(),
+            ..self.call
+        };
         let steps = use_once(
             self.rt,
-            self.options,
-            self.tables,
+            call,
             undo,
-            &nothing,
             Output::Printed,
             None,
             self.err,
@@ -133,29 +130,26 @@ fn count_undone(answer: &Answer) -> u32
 /// another line tells what stands. A line that there is to the device is used first.
 pub fn use_again<'a, 'r, 'e, R: Locks + Net + Clock + AllocGlobal, E: Write + IsTerminal>(
     rt: &'r R,
-    options: &Options<'a>,
-    tables: &ChipTables<'a>,
+    call: Call<'_, 'a>,
     work: Work,
-    sequel: &Sequel<'a>,
     line: Option<Line<'r, R>>,
     err: &'e mut E,
     hint: &mut Option<Hint>,
 ) -> Result<Steps<'a>, Failure<'a>>
     ensures acts { UsesAgain
         ⟦<ShownSimulator<'r, 'e, R, E> as Rig>⟧.view ⟦<ShownSocket<'r, 'e, R, E> as Rig>⟧.view
-        (words_by options.now (table_texts tables.now) sequel.now) work result }
+        (words_by call.entry.options.now (table_texts call.entry.tables.now) call.entry.sequel) work
+        result }
     ensures last { IfOk result (UsesLast
         ⟦<ShownSimulator<'r, 'e, R, E> as Rig>⟧.view ⟦<ShownSocket<'r, 'e, R, E> as Rig>⟧.view
-        options.now (table_texts tables.now) work sequel.now false) }
+        call.entry.options.now (table_texts call.entry.tables.now) work call.entry.sequel false) }
 {
     let mut write = OneWrite {
         rt,
-        options,
-        tables,
-        sequel,
+        call,
         line,
         err,
         hint,
     };
-    attempt_again(rt.alloc(), &mut write, work, sequel.again)
+    attempt_again(rt.alloc(), &mut write, work, call.sequel.again)
 }

@@ -3,36 +3,36 @@
 ghost use Rattle.std.specs.Prelude.{◌≡◌, true, Err};
 ghost use Rattle.stm_session.specs.declared.fault.Fault.TheVariants.{Line};
 ghost use Rattle.stm_work.specs.declared.failure.Failure.TheVariants.{Session};
-ghost use Rattle.stmflash.specs.DeviceUse.{TakesAhead, TakesGreeted, TakesPlan, TakesUnlessSilent};
+ghost use Rattle.stmflash.specs.DeviceUse.{TakesAhead, TakesGreeted, TakesUnlessSilent};
 ghost use Rattle.stmflash.specs.DeviceUse.{greeting_at, greeting_for};
 
 use std::alloc::Global;
 use stm_session::{Fault, Greeting, greet, tell_silence};
-use stm_words::Options;
+use stm_words::{Device, Options};
 use stm_work::{Action, Failure, Plan, Steps, Watchable, Work, take_watched};
 
-/// Where an undo is greeted, on a line of this speed.
-fn greeting_at(is_fresh: bool, baud: Option<u32>) -> Greeting
-    ensures { result ≡ greeting_at is_fresh baud }
+/// Where an undo is greeted: at a socket, on a line of this speed.
+fn greeting_at(device: Device, is_fresh: bool, baud: Option<u32>) -> Option<Greeting>
+    ensures { result ≡ greeting_at device.entry is_fresh baud }
 {
-    match (is_fresh, baud) {
-        (true, _) => Greeting::Fresh,
-        (false, None) => Greeting::Brief,
-        (false, Some(_)) => Greeting::Plain,
+    match (device, is_fresh, baud) {
+        (Device::Simulator { .. }, _, _) => None,
+        (Device::Socket(_), true, _) => Some(Greeting::Fresh),
+        (Device::Socket(_), false, None) => Some(Greeting::Brief),
+        (Device::Socket(_), false, Some(_)) => Some(Greeting::Plain),
     }
 }
 
-/// Where a work is greeted at a socket, by the options: an undo, and what takes the write protection
-/// off ahead of one. One that follows a write which failed is of a device that isn't fresh from reset
-/// any more.
+/// Where a work is greeted, by the options: an undo, and what takes the write protection off ahead of
+/// one. One that follows a write which failed is of a device that isn't fresh from reset any more.
 pub fn greeting_for(work: &Work, options: &Options) -> Option<Greeting>
     ensures { result ≡ greeting_for work.now options.now }
 {
     match work {
-        Work::Undo { .. } => Some(greeting_at(options.is_fresh, options.baud)),
+        Work::Undo { .. } => greeting_at(options.device, options.is_fresh, options.baud),
         Work::Act(Action::Undo(_))
         | Work::Act(Action::UndoVerified(_))
-        | Work::Act(Action::UnprotectBegun) => Some(greeting_at(false, options.baud)),
+        | Work::Act(Action::UnprotectBegun) => greeting_at(options.device, false, options.baud),
         _ => None,
     }
 }
@@ -44,29 +44,8 @@ fn is_of_line(done: &Result<Steps, Failure>) -> bool
     matches!(done, Err(Failure::Session(Fault::Line)))
 }
 
-/// Does what a plan says, on a Rig that can be watched.
-fn take_plan<'a, L: Watchable>(
-    alloc: Global,
-    rig: &mut L,
-    plan: Plan<'a>,
-) -> Result<Steps<'a>, Failure<'a>>
-    ensures { TakesPlan L.view plan.entry rig.old rig.new result }
-{
-    let Plan {
-        work,
-        question,
-        watching,
-        table,
-        journal,
-        sequel,
-    } = plan;
-    take_watched(
-        alloc, rig, table, work, question, journal, &sequel, &watching,
-    )
-}
-
-/// The same behind a greeting. Where its line was given up, and no byte had come, nothing waited there
-/// for the greeting either, and another one may come: the journal says so.
+/// Does what a plan says, behind a greeting. Where its line was given up, and no byte had come, nothing
+/// waited there for the greeting either, and another one may come: the journal says so.
 fn take_unless_silent<'a, L: Watchable>(
     alloc: Global,
     rig: &mut L,
@@ -74,7 +53,7 @@ fn take_unless_silent<'a, L: Watchable>(
 ) -> Result<Steps<'a>, Failure<'a>>
     ensures { TakesUnlessSilent L.view plan.entry rig.old rig.new result }
 {
-    let done = take_plan(alloc, rig, plan);
+    let done = take_watched(alloc, rig, plan);
     if rig.has_heard() || !is_of_line(&done) {
         return done;
     }
@@ -95,7 +74,7 @@ fn greet_and_take<'a, L: Watchable>(
 {
     match greet(alloc, rig, &plan.table, greeting) {
         Ok(true) => take_unless_silent(alloc, rig, plan),
-        Ok(false) => take_plan(alloc, rig, plan),
+        Ok(false) => take_watched(alloc, rig, plan),
         Err(fault) => Err(Failure::Session(fault)),
     }
 }
@@ -111,6 +90,6 @@ pub fn take_greeted<'a, L: Watchable>(
 {
     match greeting {
         Some(greeting) => greet_and_take(alloc, rig, plan, greeting),
-        None => take_plan(alloc, rig, plan),
+        None => take_watched(alloc, rig, plan),
     }
 }

@@ -3,6 +3,7 @@
 #![tactic(auto)]
 
 mod again;
+mod call;
 mod command_line;
 mod confirmation;
 mod cut_journal;

@@ -1,8 +1,7 @@
 // A use of a device: the files that belong to it are opened, the task is done, and they are closed,
 // whatever came of it. Nothing is printed here but what goes on, on standard error.
-ghost use Rattle.std.specs.Prelude.{◌≡◌, ◌&&◌, ◌==◌, IfOk, OnOk, false, is_some};
+ghost use Rattle.std.specs.Prelude.{◌≡◌, ◌&&◌, ◌==◌, IfOk, is_some};
 ghost use Rattle.stm_words.specs.declared.task.Task.{Task};
-ghost use Rattle.stmflash.specs.Confirmation.{IsConfirmed, erases_for_good};
 ghost use Rattle.stmflash.specs.DeviceUse.{UsesOnce, goes_out};
 ghost use Rattle.stm_work.specs.Action.{work_unless_fresh};
 ghost use Rattle.stmflash.specs.TaskUse.{AreBeside, IsPrepared, UsesBeside, UsesTask};
@@ -10,17 +9,17 @@ ghost use Rattle.stm_work.specs.TriedBoards.{table_texts};
 ghost use Rattle.stmflash.specs.WriteUse.{UsesLast};
 
 use crate::again::use_again;
-use crate::confirmation::{confirm, erases_for_good};
+use crate::call::Call;
 use crate::first_question::{Found, Line, Place, find_journal};
 use crate::named_files::NamedFiles;
-use crate::on_simulator::on_simulator;
-use crate::on_socket::on_socket;
+use crate::on_simulator::{close_simulator, open_simulator};
+use crate::on_socket::{close_socket, open_socket};
 use crate::output::Output;
-use crate::planned_session::{ShownSimulator, ShownSocket};
+use crate::planned_session::{ShownSimulator, ShownSocket, take_on};
 use crate::recovery::{done_or_end, recover, told_end};
 use crate::system::System;
 use std::fs::Files;
-use std::io::{IsTerminal, Read, Write};
+use std::io::{IsTerminal, Write};
 use std::net::Net;
 use std::time::{Clock, Instant};
 use stm_chip::Table;
@@ -44,7 +43,7 @@ pub struct Prepared<'a> {
 
 impl<'a> Prepared<'a> {
     /// That of a task. The tables are read, and its image.
-    fn of<R: Files + AllocGlobal>(
+    pub fn of<R: Files + AllocGlobal>(
         rt: &R,
         options: &Options<'a>,
         task: Task<'a>,
@@ -64,48 +63,21 @@ impl<'a> Prepared<'a> {
     }
 }
 
-/// Does a task on a device, and what follows it. Where it takes the readout protection off, and
-/// someone is there who can be asked, that is done before a file of the session is opened. What
-/// the line's last turns tell of a session that was broken off becomes `hint`, or what is to be
-/// done behind what came of it.
-pub fn use_device<'a, 'r, 'e, R: System, I: Read, E: Write + IsTerminal>(
-    rt: &'r R,
-    options: &Options<'a>,
-    task: Task<'a>,
-    sequel: &Sequel<'a>,
-    place: &'a mut Place,
-    is_there: bool,
-    input: &mut I,
-    err: &'e mut E,
-    hint: &mut Option<Hint>,
-) -> Result<Steps<'a>, Failure<'a>>
-    ensures used { IfOk result (UsesTask
-        ⟦<ShownSimulator<'r, 'e, R, E> as Rig>⟧.view ⟦<ShownSocket<'r, 'e, R, E> as Rig>⟧.view
-        options.now task.entry sequel.now) }
-    ensures confirmed { OnOk result (IsConfirmed (is_there && erases_for_good task.entry)
-        (I.remaining input.old) (I.remaining input.new)) }
-    ensures unasked { is_there && erases_for_good task.entry ≡ false → input.new ≡ input.old }
-{
-    let is_due = is_there && erases_for_good(&task);
-    let prepared = Prepared::of(rt, options, task)?;
-    confirm(is_due, input, err)?;
-    use_prepared(rt, options, prepared, sequel, place, err, hint)
-}
-
-/// The same, once nothing is to be asked of who typed. Where a folder has the journal, the device
-/// is asked first which board it is; `place` keeps what came of that.
-fn use_prepared<'a, 'r, 'e, R: System, E: Write + IsTerminal>(
+/// Does a task on a device, and what follows it. Where a folder has the journal, the device is asked
+/// first which board it is; `place` keeps what came of that. What the line's last turns tell of a
+/// session that was broken off becomes `hint`, or what is to be done behind what came of it.
+pub fn use_prepared<'a, 'r, 'e, R: System, E: Write + IsTerminal>(
     rt: &'r R,
     options: &Options<'a>,
     prepared: Prepared<'a>,
-    sequel: &Sequel<'a>,
+    sequel: Sequel<'a>,
     place: &'a mut Place,
     err: &'e mut E,
     hint: &mut Option<Hint>,
 ) -> Result<Steps<'a>, Failure<'a>>
     ensures { (task : Task) → IsPrepared task prepared.entry → IfOk result (UsesTask
         ⟦<ShownSimulator<'r, 'e, R, E> as Rig>⟧.view ⟦<ShownSocket<'r, 'e, R, E> as Rig>⟧.view
-        options.now task sequel.now) }
+        options.now task sequel.entry) }
 {
     let Prepared {
         tables,
@@ -113,7 +85,12 @@ fn use_prepared<'a, 'r, 'e, R: System, E: Write + IsTerminal>(
         work,
     } = prepared;
     if !options.in_folder {
-        return use_beside(rt, options, &tables, files, work, sequel, None, err, hint);
+        let call = Call {
+            options,
+            tables: &tables,
+            sequel,
+        };
+        return use_beside(rt, call, files, work, None, err, hint);
     }
     let found = match find_journal(rt, options, tables.chips(), place) {
         Ok(found) => found,
@@ -122,29 +99,33 @@ fn use_prepared<'a, 'r, 'e, R: System, E: Write + IsTerminal>(
     let Found { options, line } = found;
     let files = files.beside(options.journal);
     files.check(rt)?;
-    use_beside(rt, &options, &tables, files, work, sequel, line, err, hint)
+    let call = Call {
+        options: &options,
+        tables: &tables,
+        sequel,
+    };
+    use_beside(rt, call, files, work, line, err, hint)
 }
 
 /// The same beside a journal that is known, on a device to which there may be a line.
 fn use_beside<'a, 'r, 'e, R: Locks + Net + Clock + AllocGlobal, E: Write + IsTerminal>(
     rt: &'r R,
-    options: &Options<'a>,
-    tables: &ChipTables<'a>,
+    call: Call<'_, 'a>,
     files: NamedFiles<'a>,
     work: Work,
-    sequel: &Sequel<'a>,
     line: Option<Line<'r, R>>,
     err: &'e mut E,
     hint: &mut Option<Hint>,
 ) -> Result<Steps<'a>, Failure<'a>>
     ensures { IfOk result (UsesBeside
         ⟦<ShownSimulator<'r, 'e, R, E> as Rig>⟧.view ⟦<ShownSocket<'r, 'e, R, E> as Rig>⟧.view
-        options.now (table_texts tables.now) (work_unless_fresh options.now.is_fresh work) sequel.now
+        call.entry.options.now (table_texts call.entry.tables.now)
+        (work_unless_fresh call.entry.options.now.is_fresh work) call.entry.sequel
         (is_some files.entry.out)) }
 {
-    let work = work.unless_fresh(options.is_fresh);
+    let work = work.unless_fresh(call.options.is_fresh);
     let next = work.next();
-    let done = use_files(rt, options, tables, files, work, sequel, line, err, hint);
+    let done = use_files(rt, call, files, work, line, err, hint);
     let told = match failure_of(&done) {
         Some(failure) => Hint::behind(failure, next),
         None => Hint::behind_done(next),
@@ -152,26 +133,24 @@ fn use_beside<'a, 'r, 'e, R: Locks + Net + Clock + AllocGlobal, E: Write + IsTer
     if told.is_some() {
         *hint = told;
     }
-    done_or_end(rt, options.journal, tables.chips(), done)
+    done_or_end(rt, call.options.journal, call.tables.chips(), done)
 }
 
 /// Opens where the bytes of a flash go. The name for the journal is tried before, and a journal is cut
 /// that is to be.
 fn open_output<'a, R: Locks + AllocGlobal, E: Write>(
     rt: &R,
-    options: &Options<'a>,
-    tables: &ChipTables<'a>,
+    call: Call<'_, 'a>,
     files: NamedFiles<'a>,
-    sequel: &Sequel<'a>,
     err: &mut E,
 ) -> Result<Output<'a, R>, Failure<'a>>
     ensures { IfOk result (λ output. goes_out output ≡ is_some files.entry.out) }
 {
-    if let Some(to) = sequel.to {
+    if let Some(to) = call.sequel.to {
         files.check_new(rt, to)?;
     }
-    if options.recovers {
-        recover(rt, options, tables.chips(), err)?;
+    if call.options.recovers {
+        recover(rt, call.options, call.tables.chips(), err)?;
     }
     Output::open(rt, files)
 }
@@ -179,26 +158,26 @@ fn open_output<'a, R: Locks + AllocGlobal, E: Write>(
 /// The same, without what is to be done behind it.
 fn use_files<'a, 'r, 'e, R: Locks + Net + Clock + AllocGlobal, E: Write + IsTerminal>(
     rt: &'r R,
-    options: &Options<'a>,
-    tables: &ChipTables<'a>,
+    call: Call<'_, 'a>,
     files: NamedFiles<'a>,
     work: Work,
-    sequel: &Sequel<'a>,
     line: Option<Line<'r, R>>,
     err: &'e mut E,
     hint: &mut Option<Hint>,
 ) -> Result<Steps<'a>, Failure<'a>>
     ensures { IfOk result (UsesBeside
         ⟦<ShownSimulator<'r, 'e, R, E> as Rig>⟧.view ⟦<ShownSocket<'r, 'e, R, E> as Rig>⟧.view
-        options.now (table_texts tables.now) work sequel.now (is_some files.entry.out)) }
+        call.entry.options.now (table_texts call.entry.tables.now) work call.entry.sequel
+        (is_some files.entry.out)) }
 {
     let from = Instant::now(rt).ok();
-    let output = open_output(rt, options, tables, files, sequel, err)?;
+    let output = open_output(rt, call, files, err)?;
+    let options = call.options;
     let is_begun = begins_journal(rt, options, &work);
     let is_lacking = lacks_journal(rt, options, &work);
     tell_notes(options, is_begun, &work, err);
     let like_erase = work.false_erase();
-    let steps = use_work(rt, options, tables, work, sequel, output, line, err, hint)?;
+    let steps = use_work(rt, call, work, output, line, err, hint)?;
     if like_erase.is_some() {
         *hint = like_erase;
     }
@@ -208,16 +187,14 @@ fn use_files<'a, 'r, 'e, R: Locks + Net + Clock + AllocGlobal, E: Write + IsTerm
     if is_lacking {
         tell_lacking(options, err);
     }
-    tell_beside(rt, steps, options, tables, from)
+    tell_beside(rt, steps, call, from)
 }
 
 /// The same, done once or again where its line fails.
 fn use_work<'a, 'r, 'e, R: Locks + Net + Clock + AllocGlobal, E: Write + IsTerminal>(
     rt: &'r R,
-    options: &Options<'a>,
-    tables: &ChipTables<'a>,
+    call: Call<'_, 'a>,
     work: Work,
-    sequel: &Sequel<'a>,
     output: Output<'a, R>,
     line: Option<Line<'r, R>>,
     err: &'e mut E,
@@ -225,13 +202,13 @@ fn use_work<'a, 'r, 'e, R: Locks + Net + Clock + AllocGlobal, E: Write + IsTermi
 ) -> Result<Steps<'a>, Failure<'a>>
     ensures { IfOk result (UsesLast
         ⟦<ShownSimulator<'r, 'e, R, E> as Rig>⟧.view ⟦<ShownSocket<'r, 'e, R, E> as Rig>⟧.view
-        options.now (table_texts tables.now) work sequel.now
-        (goes_out output.entry && (sequel.now.again == 0))) }
+        call.entry.options.now (table_texts call.entry.tables.now) work call.entry.sequel
+        (goes_out output.entry && (call.entry.sequel.again == 0))) }
 {
-    if sequel.again == 0 {
-        use_once(rt, options, tables, work, sequel, output, line, err, hint)
+    if call.sequel.again == 0 {
+        use_once(rt, call, work, output, line, err, hint)
     } else {
-        use_again(rt, options, tables, work, sequel, line, err, hint)
+        use_again(rt, call, work, line, err, hint)
     }
 }
 
@@ -240,19 +217,21 @@ fn use_work<'a, 'r, 'e, R: Locks + Net + Clock + AllocGlobal, E: Write + IsTermi
 fn tell_beside<'a, R: Clock + AllocGlobal>(
     rt: &R,
     steps: Steps<'a>,
-    options: &Options<'a>,
-    tables: &ChipTables<'a>,
+    call: Call<'_, 'a>,
     from: Option<Instant>,
 ) -> Result<Steps<'a>, Failure<'a>>
-    ensures { IfOk result (AreBeside (table_texts tables.now) options.now.journal.now steps.entry) }
+    ensures { IfOk result (AreBeside (table_texts call.entry.tables.now)
+        call.entry.options.now.journal.now steps.entry) }
 {
     Ok(Steps {
         used: Some(Used {
-            journal: options.journal,
+            journal: call.options.journal,
             milliseconds: milliseconds_since(rt, from),
         }),
         board: steps.board,
-        answer: steps.answer.beside(rt.alloc(), options.table, tables)?,
+        answer: steps
+            .answer
+            .beside(rt.alloc(), call.options.table, call.tables)?,
         kept: steps.kept,
         failure: steps.failure,
     })
@@ -277,10 +256,8 @@ fn may_tell(device: Device, chips: &Table) -> bool {
 /// Does it once: the files are opened, and closed.
 pub fn use_once<'a, 'r, 'e, R: Locks + Net + Clock + AllocGlobal, E: Write + IsTerminal>(
     rt: &'r R,
-    options: &Options<'a>,
-    tables: &ChipTables<'a>,
+    call: Call<'_, 'a>,
     work: Work,
-    sequel: &Sequel<'a>,
     output: Output<'a, R>,
     line: Option<Line<'r, R>>,
     err: &'e mut E,
@@ -288,21 +265,29 @@ pub fn use_once<'a, 'r, 'e, R: Locks + Net + Clock + AllocGlobal, E: Write + IsT
 ) -> Result<Steps<'a>, Failure<'a>>
     ensures { IfOk result (UsesOnce
         ⟦<ShownSimulator<'r, 'e, R, E> as Rig>⟧.view ⟦<ShownSocket<'r, 'e, R, E> as Rig>⟧.view
-        options.now (table_texts tables.now) work sequel.now (goes_out output.entry)) }
+        call.entry.options.now (table_texts call.entry.tables.now) work call.entry.sequel
+        (goes_out output.entry)) }
 {
+    let Call {
+        options,
+        tables,
+        sequel,
+    } = call;
     let chips = tables.chips();
     // nothing is known of the device yet
     let watch = Watch::of_nothing(rt.alloc())?;
     let is_told = may_tell(options.device, chips);
-    let plan = Plan::of(rt, options, tables, work, sequel, is_told)?;
+    let plan = Plan::of(rt, options, tables, work, &sequel, is_told)?;
     match options.device {
         Device::Simulator { id, file } => {
-            on_simulator(rt, options, plan, chips, id, file, watch, output, err, hint)
+            let rig = open_simulator(rt, options, &plan.job.work, chips, id, file)?;
+            let taken = take_on(rt, call, rig, plan, watch, err, hint);
+            close_simulator(rt, options.journal, taken, output)
         }
         Device::Socket(path) => {
-            on_socket(
-                rt, options, plan, chips, path, line, watch, output, err, hint,
-            )
+            let rig = open_socket(rt, options, &plan.job.work, path, line)?;
+            let taken = take_on(rt, call, rig, plan, watch, err, hint);
+            close_socket(rt, options.journal, taken, output)
         }
     }
 }

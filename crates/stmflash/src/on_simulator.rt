@@ -1,30 +1,26 @@
-// A use of a simulator in the process: its files and its journal are opened, and it is stored,
-// whatever came of it.
-ghost use Rattle.std.specs.Prelude.{◌≡◌, IfOk, None, Ok};
-ghost use Rattle.stmflash.specs.DeviceUse.{UsesPlan, goes_out};
+// A simulator in the process: its files and its journal are opened, and it is stored, whatever came of
+// it.
+ghost use Rattle.std.specs.Prelude.{◌≡◌, IfOk, Ok};
+ghost use Rattle.stmflash.specs.DeviceUse.{AreLeft, goes_out};
 
 use crate::output::{Output, write_done};
-use crate::planned_session::{ShownSimulator, Taken, checked_extent, failed_if, take_on};
-use std::io::{IsTerminal, Write};
-use std::time::Clock;
+use crate::planned_session::{Taken, checked_extent, failed_if};
 use stm_chip::Table;
 use stm_files::{FileFault, JournalFile, Locks, SimulatorFiles, SimulatorRig, Unusable};
 use stm_session::Fault;
-use stm_watch::Watch;
-use stm_wire::Rig;
-use stm_words::{Extent, Options};
-use stm_work::{Failure, Hint, Plan, Steps, done_on, read_journal};
+use stm_words::Options;
+use stm_work::{Failure, Steps, Work, done_on, read_journal};
 
 /// A simulator of the chip with this id in a file, which is stored where its journal can't be read.
-fn open_simulator<'a: 'r, 'r, R: Locks + AllocGlobal>(
+pub fn open_simulator<'a: 'r, 'r, R: Locks + AllocGlobal>(
     rt: &'r R,
     options: &Options<'a>,
-    name: &'a str,
-    checked: Option<Extent>,
-    file: &'a str,
+    work: &Work,
     chips: &Table,
     id: u16,
+    file: &'a str,
 ) -> Result<SimulatorRig<'r, 'a, R>, Failure<'a>> {
+    let name = options.journal;
     let Some(chip) = chips.find(id) else {
         return Err(Failure::Session(Fault::UnknownChip(id)));
     };
@@ -36,7 +32,7 @@ fn open_simulator<'a: 'r, 'r, R: Locks + AllocGlobal>(
     };
     let mut files = SimulatorFiles::open(rt, file, options.without_lock)?.beside(name);
     let loaded = files.load(chip.clone()?)?;
-    match read_journal(rt, opened, name, checked) {
+    match read_journal(rt, opened, name, checked_extent(work, options)) {
         Ok((journal, bytes)) => {
             let mut rig = SimulatorRig::new(files.begin(loaded, bytes)?, journal, files);
             if let Some(steps) = options.stop {
@@ -52,27 +48,17 @@ fn open_simulator<'a: 'r, 'r, R: Locks + AllocGlobal>(
     }
 }
 
-/// Does what a plan says on a simulator in the process, and stores it. `chips` are those by which it
-/// is shown.
-pub fn on_simulator<'a, 'r, 'e, R: Locks + Clock + AllocGlobal, E: Write + IsTerminal>(
+/// Closes the journal of this name behind a session, and stores the simulator; what was read goes out
+/// before.
+pub fn close_simulator<'a, 'r, R: Locks + AllocGlobal>(
     rt: &'r R,
-    options: &Options<'a>,
-    plan: Plan<'a>,
-    chips: &Table,
-    id: u16,
-    file: &'a str,
-    watch: Watch,
+    name: &'a str,
+    taken: Taken<'a, SimulatorRig<'r, 'a, R>>,
     output: Output<'a, R>,
-    err: &'e mut E,
-    hint: &mut Option<Hint>,
 ) -> Result<Steps<'a>, Failure<'a>>
-    ensures { IfOk result (UsesPlan ⟦<ShownSimulator<'r, 'e, R, E> as Rig>⟧.view
-        (goes_out output.entry) None plan.entry) }
+    ensures { IfOk result (AreLeft (goes_out output.entry) taken.entry.done) }
 {
-    let name = plan.journal;
-    let checked = checked_extent(&plan.work, options);
-    let rig = open_simulator(rt, options, name, checked, file, chips, id)?;
-    let Taken { rig, done } = take_on(rt, options, rig, plan, None, chips, watch, err, hint);
+    let Taken { rig, done } = taken;
     let is_unstored = rig.is_unstored();
     let (memory, journal, mut files) = rig.into_parts();
     let done = done_on(journal, name, done);

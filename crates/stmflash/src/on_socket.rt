@@ -1,25 +1,20 @@
-// A use of a device behind a socket: its journal is opened, its line is connected, and both are
-// closed, whatever came of it.
+// A device behind a socket: its journal is opened, its line is connected, and both are closed, whatever
+// came of it.
 ghost use Rattle.std.specs.Prelude.{IfOk};
-ghost use Rattle.stmflash.specs.DeviceUse.{UsesPlan, goes_out, greeting_for};
+ghost use Rattle.stmflash.specs.DeviceUse.{AreLeft, goes_out};
 
 use crate::first_question::Line;
-use crate::greeted_session::greeting_for;
 use crate::output::{Output, write_done};
-use crate::planned_session::{ShownSocket, Taken, checked_extent, failed_if, take_on};
+use crate::planned_session::{Taken, checked_extent, failed_if};
 use std::fs;
 use std::fs::Files;
-use std::io::{IsTerminal, Write};
 use std::net::Net;
 use std::os::unix::fs::FileTypeExt;
 use std::os::unix::net::UnixStream;
 use std::time::Clock;
-use stm_chip::Table;
 use stm_files::{JournalFile, Locks, SocketLine, SocketRig};
-use stm_watch::Watch;
-use stm_wire::Rig;
 use stm_words::Options;
-use stm_work::{Failure, Hint, Plan, Steps, Work, done_on, serving_journal};
+use stm_work::{Failure, Steps, Work, done_on, serving_journal};
 
 /// The least and the most seconds without an answer after which a line is given up, unless that is
 /// said.
@@ -65,14 +60,14 @@ pub fn connect_line<'a, 'r, R: Files + Net + Clock>(
 }
 
 /// A journal, and the line to what listens at a socket: the one that there is, or a new one.
-fn open_socket<'a: 'r, 'r, R: Locks + Net + Clock + AllocGlobal>(
+pub fn open_socket<'a: 'r, 'r, R: Locks + Net + Clock + AllocGlobal>(
     rt: &'r R,
     options: &Options<'a>,
-    name: &'a str,
     work: &Work,
     path: &'a str,
     line: Option<Line<'r, R>>,
 ) -> Result<SocketRig<'r, UnixStream, R>, Failure<'a>> {
+    let name = options.journal;
     let opened = JournalFile::open(rt, name, options.without_lock, options.trusts_others);
     let journal = serving_journal(rt, opened, name, checked_extent(work, options))?;
     let line = match line {
@@ -82,27 +77,16 @@ fn open_socket<'a: 'r, 'r, R: Locks + Net + Clock + AllocGlobal>(
     Ok(SocketRig::new(line, journal))
 }
 
-/// Does what a plan says on what listens at a socket, by the line that there is, or a new one.
-/// `chips` are those by which it is shown.
-pub fn on_socket<'a, 'r, 'e, R: Locks + Net + Clock + AllocGlobal, E: Write + IsTerminal>(
+/// Closes the line and the journal of this name behind a session; what was read goes out.
+pub fn close_socket<'a, 'r, R: Locks + Clock + AllocGlobal>(
     rt: &'r R,
-    options: &Options<'a>,
-    plan: Plan<'a>,
-    chips: &Table,
-    path: &'a str,
-    line: Option<Line<'r, R>>,
-    watch: Watch,
+    name: &'a str,
+    taken: Taken<'a, SocketRig<'r, UnixStream, R>>,
     output: Output<'a, R>,
-    err: &'e mut E,
-    hint: &mut Option<Hint>,
 ) -> Result<Steps<'a>, Failure<'a>>
-    ensures { IfOk result (UsesPlan ⟦<ShownSocket<'r, 'e, R, E> as Rig>⟧.view
-        (goes_out output.entry) (greeting_for plan.entry.work options.now) plan.entry) }
+    ensures { IfOk result (AreLeft (goes_out output.entry) taken.entry.done) }
 {
-    let name = plan.journal;
-    let rig = open_socket(rt, options, name, &plan.work, path, line)?;
-    let greeting = greeting_for(&plan.work, options);
-    let Taken { rig, done } = take_on(rt, options, rig, plan, greeting, chips, watch, err, hint);
+    let Taken { rig, done } = taken;
     let done = failed_if(rig.has_given_up(), done, Failure::NoAnswer);
     let done = done_on(rig.into_journal(), name, done);
     write_done(rt, done, output)

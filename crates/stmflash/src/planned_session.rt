@@ -1,15 +1,14 @@
 // A session by a plan, over any Rig: it is shown, its last turns are kept, and it may be watched.
-ghost use Rattle.stmflash.specs.DeviceUse.{TakesAround};
+ghost use Rattle.stmflash.specs.DeviceUse.{TakesAround, greeting_for};
 ghost use Rattle.stm_work.specs.Plan.{TellsSteps};
 
-use crate::greeted_session::take_greeted;
+use crate::call::Call;
+use crate::greeted_session::{greeting_for, take_greeted};
 use std::fs::Files;
 use std::io::{IsTerminal, Write};
 use std::os::unix::net::UnixStream;
 use std::time::Clock;
-use stm_chip::Table;
 use stm_files::{SimulatorRig, SocketRig};
-use stm_session::Greeting;
 use stm_watch::{Watch, WatchRig};
 use stm_wire::Rig;
 use stm_words::{Extent, Options};
@@ -44,7 +43,7 @@ pub fn checked_extent(work: &Work, options: &Options) -> Option<Extent> {
 }
 
 /// Does what a plan says, on a Rig; it is shown, and its last turns are kept. What they tell of a
-/// session that was broken off becomes `hint`. `chips` are those by which it is shown.
+/// session that was broken off becomes `hint`.
 pub fn take_on<
     'a,
     'r,
@@ -54,25 +53,26 @@ pub fn take_on<
     E: Write + IsTerminal,
 >(
     rt: &'r R,
-    options: &Options<'a>,
+    call: Call<'_, 'a>,
     rig: L,
     plan: Plan<'a>,
-    greeting: Option<Greeting>,
-    chips: &Table,
     watch: Watch,
     err: &'e mut E,
     hint: &mut Option<Hint>,
 ) -> Taken<'a, L>
     ensures { TakesAround ⟦<Shown<'r, L, &'e mut E, R> as Rig>⟧.view (λ shown. shown.inner.inner)
-        L.view watch greeting plan.entry rig result.rig result.done }
+        L.view watch (greeting_for plan.entry.job.work call.entry.options.now) plan.entry rig
+        result.rig result.done }
 {
     let alloc = rt.alloc();
-    let style = Style::of(options, err);
+    let chips = call.tables.chips();
+    let style = Style::of(call.options, err);
     let screen = Screen::new(err, rt, alloc, style);
-    let course = Course::new(chips, plan.work.goal());
-    let guard = PageGuard::of(alloc, chips, &plan.work, options.trusts_others);
+    let course = Course::new(chips, plan.job.work.goal());
+    let guard = PageGuard::of(alloc, chips, &plan.job.work, call.options.trusts_others);
     let is_watched = plan.is_watched();
     let mut rig = WatchRig::new(ProgressRig::new(rig, guard, course, screen), watch);
+    let greeting = greeting_for(&plan.job.work, call.options);
     let done = take_greeted(alloc, &mut rig, plan, greeting);
     let done = done_watched(&rig, done);
     let told = watched(&rig, is_watched, failure_of(&done));

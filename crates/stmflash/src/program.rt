@@ -11,9 +11,10 @@ ghost use Rattle.stmflash.specs.Printed.{CameToSteps, IsWell};
 ghost use Rattle.stm_work.specs.ShortLine.{short_line};
 ghost use Rattle.stm_work.specs.StepsText.{steps_text};
 
+use crate::confirmation::{confirm, erases_for_good};
 use crate::first_question::Place;
 use crate::journal_tasks::{check, keep, log};
-use crate::on_device::use_device;
+use crate::on_device::{Prepared, use_prepared};
 use crate::planned_session::{ShownSimulator, ShownSocket};
 use crate::serving::serve;
 use crate::system::System;
@@ -117,7 +118,8 @@ fn answer<'a, 'r, 'e, R: System, I: Read, O: Write, E: Write + IsTerminal>(
     }
 }
 
-/// Does what the words ask for.
+/// Does what the words ask for. Where a task takes the readout protection off, and someone is there who
+/// can be asked, that is done before a file of the session is opened.
 fn run_request<'a, 'r, 'e, R: System, I: Read, E: Write + IsTerminal>(
     rt: &'r R,
     request: Request<'a>,
@@ -135,9 +137,12 @@ fn run_request<'a, 'r, 'e, R: System, I: Read, E: Write + IsTerminal>(
     ensures unasked { wants_yes request.entry is_there ≡ false → input.new ≡ input.old }
 {
     match request {
-        Request::Use(options, task, sequel) => use_device(
-            rt, &options, task, &sequel, place, is_there, input, err, hint,
-        ),
+        Request::Use(options, task, sequel) => {
+            let is_due = is_there && erases_for_good(&task);
+            let prepared = Prepared::of(rt, &options, task)?;
+            confirm(is_due, input, err)?;
+            use_prepared(rt, &options, prepared, sequel, place, err, hint)
+        }
         Request::Log(journal, false) => Ok(alone(log(rt, journal)?)),
         Request::Log(journal, true) => Ok(alone(check(rt, journal)?)),
         Request::Keep(kept) => Ok(alone(keep(rt, &kept)?)),

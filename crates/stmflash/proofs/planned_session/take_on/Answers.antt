@@ -1,5 +1,5 @@
 use Rattle.std.proofs.Common.{◌∙◌, ap}
-use Rattle.stmflash.proofs.DeviceUse.{begun-inner, stays-as, tells-again}
+use Rattle.stmflash.proofs.DeviceUse.{begun-inner, stays-as, takes-as, tells-again}
 use Rattle.stmflash.proofs.planned_session.take_on.Goals as goal
 
 pub returns : goal.returns
@@ -9,7 +9,7 @@ returns g c =
       old = c.new-rig.result;
       new = c.take_greeted-done.new.rig;
       done = c.take_greeted-done.result;
-      takes = c.take_greeted-done.ensures;
+      takes = takes-as _ _ _ _ _ _ _ c.greeting_for-greeting.ensures c.take_greeted-done.ensures;
       within = inner;
       begins = begun-inner g.L.Rig.view _ _ _ _ _ _ _ c.new-rig.ensures.watch
           c.new-rig.ensures.refusal inner;
