@@ -7,6 +7,7 @@ import re
 import shlex
 import shutil
 import subprocess
+from unittest import mock
 
 from boards import LINE, Named, OnPorts
 from place import COUNTING, PATIENCE, SIZE, TOP, text_in
@@ -108,13 +109,16 @@ class Journals(Unnamed):
                 self.remove("ttyUSB0.flash.board") if byte else None
 
     def test_which_are_stopped(self):
-        """By the last line that is whole and isn't void."""
+        """By the last line that is whole and isn't void. What ended isn't locked: its board's next call would be refused meanwhile."""
         for text, is_so in (("", False), ("stmjournal 2 0412\n", False), ("open 1\n", True), ("open 1\nend 1\n", False),
                             ("open 1\nend 1\nerase 5\n", True), ("end 1\nprogram 5\n", True), ("page 5 55\n", True),
                             ("end 1\nundone 1\n", False), ("open 1\nend 1", True), ("open 1\nend 1!\n", True), ("end 1\nopen 2!\nopen", False),
                             ("open 1\nend 1\nof another file\n", True), ("\n", True)):
             self.store("held", text.encode())
-            self.assertEqual((text, journals.is_stopped(self.path("held"))), (text, is_so))
+            with mock.patch("fcntl.flock") as lock:
+                self.assertEqual((text, journals.is_stopped(self.path("held")), lock.called), (text, is_so, is_so))
+        with mock.patch("fcntl.flock", side_effect=lambda *_: self.add("held", b"end 1\n")):
+            self.assertFalse(journals.is_stopped(self.path("held")), "a program adds to it just now")
         self.assertFalse(journals.is_stopped(self.path("missing")))
 
     def test_a_value_of_an_option_is_no_word(self):

@@ -33,8 +33,8 @@ class Board:
         self.tools, self.journals, self.wait = tools, journals, wait
         # how many seconds the slowest answer of this call took; and whether the last session has left the board at rest
         self.slowest, self.is_at_rest = slowest, False
-        # which board it is, once it was asked
-        self.own = Owner()
+        # which board it is, once it was asked; and whether the journal in use is one that this port had last
+        self.own, self.is_of_port = Owner(), True
         # what stmflash made of the last session that failed, if it did
         self.hint = ""
         # that a reset was claimed isn't believed: a sequence may move signals that no reset hangs on
@@ -163,10 +163,16 @@ class Board:
         self.journals.take_board(self.own.board)
         return self.journals.live != before
 
+    def take_stopped(self):
+        """Takes the one journal of a board in which a command was stopped at another port: this one may wait for the rest of it."""
+        stopped = [] if self.own.chip or self.is_unfinished() else self.journals.stopped()
+        if len(stopped) == 1 and stopped[0] != self.journals.nameless:
+            self.journals.live, self.is_of_port = stopped[0], False
+
     def take_from_other(self):
         """The same while a command was stopped in the one in use, if that is sure to be another board's; whether it is."""
         other, own = owner_of(self.journals.live), self.ask_owner()
-        if other.board is None or own is None or own.may_be(other):
+        if other.board is None or own is None or self.is_of_port and own.may_be(other):
             return False
         self.hint = ""
         self.take_own()

@@ -165,6 +165,7 @@ def do(board, asked, table):
 def undo_first(board, asked):
     """What an earlier call has begun at this port and never ended is undone before anything else."""
     try:
+        board.take_stopped()
         if not board.is_unfinished():
             return
     except Failed as fault:
@@ -227,6 +228,7 @@ def undo(board, asked):
     """Undoes the newest write or erase of the board at this port that changed something, also of a journal that was put aside."""
     try:
         try:
+            board.take_stopped()
             undone = undo_newest(board, asked)
         except Failed as fault:
             if not board.is_unfinished() or not leave_other(board, fault):

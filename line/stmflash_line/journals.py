@@ -78,12 +78,15 @@ def is_stopped(path):
     """Whether a command of this journal may not have ended, and no program that runs has it."""
     try:
         with open(path, "rb") as file:
-            fcntl.flock(file, fcntl.LOCK_SH | fcntl.LOCK_NB)
             file.seek(max(0, os.fstat(file.fileno()).st_size - LONGEST))
             lines = file.read().split(b"\n")[:-1]
+            if next((line for line in reversed(lines) if not line.endswith(b"!")), ENDED[0]).startswith(ENDED):
+                # not locked: its board's next call would be refused meanwhile
+                return False
+            fcntl.flock(file, fcntl.LOCK_SH | fcntl.LOCK_NB)
+            return os.fstat(file.fileno()).st_size == file.tell()
     except OSError:
         return False
-    return not next((line for line in reversed(lines) if not line.endswith(b"!")), ENDED[0]).startswith(ENDED)
 
 
 def state_folder():
