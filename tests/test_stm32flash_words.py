@@ -177,6 +177,12 @@ class Doing(Words):
                 self.refused(b"standard output", words=("-r", "-"), **more)
         self.assertEqual((said.status, said.err), (1, b""))
 
+    def test_a_closed_input_is_no_image(self):
+        self.plain()
+        for name in ("-", "/dev/stdin"):
+            said = self.words("-w", name, preexec_fn=lambda: os.close(0))
+            self.assertEqual((said.status, said.err), (1, b"Intel HEX ERROR: System Error\nstandard input is closed\n"))
+
     def test_a_file_that_is_open_gets_nothing_where_a_call_is_refused(self):
         self.keep("journal", STOPPED.encode())
         self.store("held", b"before")

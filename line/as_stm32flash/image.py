@@ -1,7 +1,7 @@
 """The file of -w: what it is, how long, and where it lies."""
 
 import os
-import stat
+import sys
 
 from stmflash_line import elf, faults
 from stmflash_line.held import hold
@@ -56,9 +56,9 @@ class Image:
         return options, None if self.is_whole and self.path else self.text[:self.size]
 
 
-def read_file(name):
+def read_file(name, opened=None):
     try:
-        with open(name, "rb") as file:
+        with open(name if opened is None else opened, "rb") as file:
             return file.read()
     except OSError as error:
         raise Fault(f"Intel HEX ERROR: System Error\n{name}: {error.strerror}") from None
@@ -68,15 +68,11 @@ def keep(name):
     """Where a file can be read but once, standard input or another pipe, or by this process alone, it is read now and put where the
     inside of the call finds it."""
     os.environ.pop(KEPT, None)
-    try:
-        if name != "-" and not is_handed(name):
-            if not os.path.exists(name) or stat.S_ISREG(os.stat(name).st_mode) or os.path.isdir(name):
-                return
-        with open(0 if name == "-" else name, "rb", closefd=name != "-") as given:
-            text = given.read()
-    except OSError as error:
-        raise Fault(f"Intel HEX ERROR: System Error\n{name}: {error.strerror}") from None
-    held = hold(text)
+    if name != "-" and not is_handed(name) and (not os.path.exists(name) or os.path.isfile(name) or os.path.isdir(name)):
+        return
+    if sys.stdin is None and name in ("-", "/dev/stdin"):
+        raise Fault("Intel HEX ERROR: System Error\nstandard input is closed")
+    held = hold(read_file(name, os.dup(0) if name == "-" else None))
     os.dup2(held, 0)
     os.close(held)
     os.environ[KEPT] = "1"

@@ -39,6 +39,4 @@ def pages(part, chip):
     first, behind = chip.page_from(part.start), chip.page_from(part.end)
     if first is None or behind is None or not part.is_exact:
         raise Fault("Specified start & length are invalid (must be page aligned)")
-    if first == behind:
-        return []
-    return [f"{first}-{behind - 1}"] if behind - first > 1 else [str(first)]
+    return [f"{first}-{behind - 1}"] if first < behind else []
