@@ -5,8 +5,10 @@ parts.
 """
 
 import contextlib
+import fcntl
 import os
 import pathlib
+import shlex
 import shutil
 import signal
 import subprocess
@@ -211,12 +213,40 @@ class Named(LinePlace):
         return self.board(name, flash=flash)
 
 
-class OnPorts(Named, Rows):
-    """A test whose cases are played at ports with boards behind them (tests/stm32flash.rows says how they are told)."""
+class LineRows(LinePlace, Rows):
+    """A test whose cases are told as text, each call one of stmflash-line (tests/line.rows says how)."""
+
+    # of a port's name, what stands for it
+    wired = ""
 
     def begin(self):
         # the case before has left nothing that is temporary
         self.tearDown()
+        super().begin()
+
+    def placed(self, told):
+        return super().placed(told).replace("{wired}", self.wired)
+
+    def run_words(self, words):
+        return self.line(*shlex.split(words), **self.variables)
+
+    def does(self, sign, told, name, *more):
+        if sign == "plain":
+            self.end = self.plain()
+        elif sign == "nothing":
+            self.assertNothingSent(self.end)
+        elif sign == "lock":
+            fcntl.flock(self.enterContext(open(self.path(name), "ab")), fcntl.LOCK_EX)
+        elif sign == "listen":
+            self.listen(name)
+        else:
+            super().does(sign, told, name, *more)
+
+
+class OnPorts(Named, LineRows):
+    """A test whose cases are played at ports with boards behind them (tests/stm32flash.rows says how they are told)."""
+
+    def begin(self):
         super().begin()
         self.flashes = {}
 
@@ -233,10 +263,6 @@ class OnPorts(Named, Rows):
             if byte != "none":
                 self.store(name + ".flash.board", b"unique " + 12 * byte.encode() + b"\n")
             self.given_board = self.board(name, flash=self.flashes.get(data) or bytes_of(data), more=[it for it in more if it.startswith("--")])
-        elif sign == "plain":
-            self.end = self.plain()
-        elif sign == "nothing":
-            self.assertNothingSent(self.end)
         elif sign == "holds":
             self.assertEqual(self.given_board.store(), bytes_of(told))
         elif sign == "unplug":

@@ -82,7 +82,12 @@ class Rows(Served):
         self.doCleanups()
         self.setUp()
         self.store_all({"table": self.chips, "chips": self.chips})
-        self.memory, self.variables, self.given, self.noted = None, {}, None, {}
+        self.noted = {}
+        self.set_nothing()
+
+    def set_nothing(self):
+        """What was said of a call is said of no other."""
+        self.memory, self.variables, self.given = None, {}, None
 
     def placed(self, told):
         """A line with what its names in braces stand for."""
@@ -134,7 +139,7 @@ class Rows(Served):
         checks = f"allocator_may_return_null=1:max_allocation_size_mb={most // 2000000}" if most else ""
         variables = {**self.variables, **({"ASAN_OPTIONS": checks} if checks else {})}
         said = self.call(*shlex.split(re.sub(r"(?<!\S)@(\w{4})(?!\S)", at, words)), before=limit, variables=variables, given=self.given)
-        said = said._replace(out=re.sub(rb'(?<="milliseconds":)\d+', b"0", said.out))
+        said = said._replace(out=re.sub(rb'(?<="milliseconds":)\d+', b"0", said.out or b""), err=re.sub(rb", \d+ s left", b"", said.err or b""))
         return said._replace(err=re.sub(rb"(?m)^==\d+==.*\n", b"", said.err)) if checks else said
 
     def expect(self, due, sign, told):
@@ -146,6 +151,9 @@ class Rows(Served):
         if sign in FORMS:
             name, form = FORMS[sign]
             return due._replace(**{name: re.compile(f"(?s)\\A{form.format(told if form == '{}' else re.escape(told))}\\Z")})
+        if sign == "times":
+            first, last, text = re.fullmatch(r"(\d+)-(\d+) (.*)", told).groups()
+            told = "\n".join(text.replace(r"\n", "\n").replace("##", str(it + 1)).replace("#", str(it)) for it in range(int(first), int(last) + 1))
         name = "out" if sign == ">" else "err"
         return due._replace(**{name: (getattr(due, name) or b"") + f"{told}\n".encode()})
 
@@ -170,13 +178,14 @@ class Rows(Served):
             told = self.placed(told)
             if sign == "or":
                 said.append(self.run_words(told))
-            elif sign in ("=", ">", "!", "out", "err", *FORMS):
+            elif sign in ("=", ">", "!", "times", "out", "err", *FORMS):
                 due = self.expect(due, sign, told)
             else:
                 for one in said:
                     self.compare(one, due)
                 if said:
-                    said, self.memory, self.variables, self.given = (), None, {}, None
+                    said = ()
+                    self.set_nothing()
                 if sign == "$":
                     said, due = [self.run_words(told)], Said(0, self.unsaid, self.unsaid)
                 elif sign:

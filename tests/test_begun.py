@@ -10,7 +10,8 @@ import unittest
 
 from place import PATIENCE, Place, had, program
 from telling import TABLE
-from test_disk import FULL, files_up_to
+from holding import files_up_to
+from test_disk import FULL
 
 BOARD = {"flash.board": b"unique 00112233445566778899AABB\n"}
 HEAD = b"stmjournal 3 0410 00112233445566778899AABB\n"

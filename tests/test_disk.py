@@ -1,11 +1,11 @@
-"""The journal's file where it is added to: byte by byte, in a folder that isn't there, on a disk that is full or doesn't sync."""
+"""The journal's file where it is added to: a stop and a disk that is full at one byte after another, and what is on its way to the disk
+at once; and what comes of calls that fail, are held or are the last (tests/held.rows)."""
 
-import os
-import resource
-import signal
-
+import holding
 import syncs
-from place import COUNTING, HEADER, WAIT, ZEROS, Place, each_of, files, had, lacks, served, with_page
+from holding import files_up_to
+from place import HEADER, WAIT, ZEROS, Place, each_of, files, had, served
+from rows import cases
 from served import Served
 
 # a chip with a flash that is shorter than its journal
@@ -26,24 +26,10 @@ PROGRAMMING = ERASING + b"program 0\n"
 ENDED = PROGRAMMING + b"end 1\n"
 # the places of these bytes at which a disk is full: of a page's digits some
 ROOMS = [room for room in range(len(ENDED)) if room not in range(len(OPENED) + 9, len(KEPT) - 2) or room % 64 == 0]
-# why an append fails: the disk is full, or doesn't sync
+# why an append fails where the disk is full
 FULL = "File too large"
-UNSYNCED = "Input/output error"
-# the journal's syncs of a write: its folder; each line; and a line that crosses a sector, before it is ended
-SYNCED = [".", *["journal"] * 6]
 # what an undo adds where the page isn't as it was, and where it is
 GIVEN_BACK = b"erase 0\nprogram 0\nundone 1\n"
-
-
-def files_up_to(size):
-    """Lets no file of the process grow above this size: a write that would cross it is cut there, and the next one fails."""
-
-    def limit():
-        signal.signal(signal.SIGXFSZ, signal.SIG_IGN)
-        _, most = resource.getrlimit(resource.RLIMIT_FSIZE)
-        resource.setrlimit(resource.RLIMIT_FSIZE, (size, most))
-
-    return limit
 
 
 def mended(text):
@@ -61,29 +47,6 @@ class Disk(Place):
         """A fresh device with this flash and this journal; None: no journal is there."""
         self.store_all({"flash": flash, "flash.line": None, "journal": journal})
 
-    def begin_and_go_on(self, journal):
-        """Keeps a page in a journal that isn't there, up to the midst of its line, and goes on with that."""
-        self.store("flash", ZEROS)
-        self.assertTold(self.use("undo", journal=journal), "undone 0\n", lacks(journal))
-        self.assertFile(journal, None)
-        torn = b"stmjournal 2 0412\nopen 1\npage 5 000"
-        self.assertFault(self.use("erase", "--stop", str(27 + 25 + 1072 + 10), "5", journal=journal), "stopped", 3)
-        self.assertFile(journal, torn)
-        self.assertTold(self.use("undo", journal=journal), "undone 1\n", had(1, left=0))
-        self.assertFile(journal, torn + b"!\nundone 1\n")
-        self.assertTold(self.use("erase", "5", journal=journal), "segment 1: 1 pages erased\n")
-        self.assertFile(journal, torn + b"!\nundone 1\n" + with_page(b"open 1\npage 5 ", b"0", b"\nerase 5\nend 1\n"))
-        self.assertTold(self.use("undo", journal=journal), "undone 1\n", holds=(ZEROS, b"idle\n"))
-
-    def test_appends_stand_in_the_file(self):
-        os.mkdir(self.path("folder"))
-        self.begin_and_go_on("folder/journal")
-        self.remove("flash.line")
-        self.begin_and_go_on(self.path("journal"))
-
-    def test_a_name_without_a_folder_is_in_this_one(self):
-        self.begin_and_go_on("journal")
-
     @each_of(range(len(OPENED) + 1))
     def test_a_stop_leaves_a_beginning_in_the_file(self, added):
         """A contact is 27 steps, and each byte that is added one: the file has as many bytes as there were steps for."""
@@ -93,13 +56,6 @@ class Disk(Place):
         if added:
             self.assertTold(self.use("undo"), "undone %d\n" % (added == len(OPENED)), unkept(added))
         self.assertHolds(ZEROS, b"idle\n")
-
-    @each_of((("erase", "5"), ("write", "table")))
-    def test_a_missing_folder_is_not_made(self, *words):
-        self.store("flash", ZEROS)
-        said = self.use(*words, journal="absent/journal")
-        self.assertFault(said, "journal failed", hint="No such file or directory", holds=(ZEROS, b"idle\n"))
-        self.assertFalse(self.is_there("absent"))
 
     def begin_small(self, flash=SMALL_FLASH, journal=None):
         """A fresh device of the small chip, with this flash and this journal, and an image for its first page."""
@@ -134,52 +90,6 @@ class Disk(Place):
         # the page at work is written though it reads right
         self.assertFile("journal", VOID + mended(ENDED + GIVEN_BACK[:room]) + GIVEN_BACK)
 
-    def test_a_full_disk_keeps_the_simulators_files(self):
-        """What the disk has no room for is told, and a flash of which a part alone was written isn't there."""
-        for room in (0, 1, 511):
-            with self.subTest(room=room):
-                self.begin_small()
-                self.assertFault(self.use("info", before=files_up_to(room)), "cannot write flash", holds=(SMALL_FLASH, None))
-                self.assertFault(self.use("read", "out", before=files_up_to(room)), "cannot write out", holds=(SMALL_FLASH, None))
-        self.assertSilent(self.use("read", "out", before=files_up_to(512)), out=SMALL_FLASH)
-
-    def test_a_journal_is_a_regular_file(self):
-        """A device takes every byte, and keeps none; a pipe without a writer would be waited for. Nothing is sent."""
-        os.mkfifo(self.path("pipe"))
-        self.store_all({"flash": ZEROS, "image": IMAGE})
-        for journal in ("/dev/null", "/dev/zero", "/dev/full", "pipe"):
-            with self.subTest(journal=journal):
-                text = f"cannot read {journal}"
-                self.assertFault(self.use("erase", "5", journal=journal), text)
-                self.assertFault(self.use("write", "image", journal=journal), text)
-                self.assertFault(self.use("undo", journal=journal), text, holds=(ZEROS, b"fresh\n"))
-
-    def use_unsynced(self, fails, *words, journal="journal"):
-        """Uses the program with its sync of this number failing, and answers what was said and which files were synced."""
-        return syncs.call(self.folder, (words[0], *files(journal=journal), *words[1:]), fails)
-
-    def test_what_is_not_on_the_disk_is_not_answered(self):
-        """Each sync of a write fails, one after the other. A line that was written, and of which it isn't known that it is on
-        the disk, is no line: it's cut off again, since a later sync would answer for it although the disk may never get it. The
-        command behind it isn't sent, nothing more is added, although the disk works again, and an undo gives the flash back."""
-        simulator = ["flash.stmflash-0.new", "flash.line.stmflash-0.new", ".", "."]
-        journal = [("journal failed", UNSYNCED, added, flash, b"idle\n") for added, flash in (
-            *((it, SMALL_FLASH) for it in (b"", b"", OPENED, OPENED, KEPT)), (ERASING, EMPTIED), (PROGRAMMING, WRITTEN))]
-        stored = [(f"cannot write {name}", None, ENDED, flash, line) for name, flash, line in (
-            ("flash", SMALL_FLASH, None), ("flash.line", SMALL_FLASH, None), ("flash", WRITTEN, None), ("flash.line", WRITTEN, b"idle\n"))]
-        for fails, (text, hint, added, flash, line) in enumerate(journal + stored):
-            with self.subTest(fails=fails):
-                self.begin_small()
-                said, synced = self.use_unsynced(fails, "write", "image")
-                self.assertFault(said, text, hint=hint, holds=(flash, line), journal=added)
-                self.assertEqual(synced, SYNCED[:fails + 1] + simulator if hint else (SYNCED + simulator)[:fails + 1])
-                if hint:
-                    self.assertTold(self.use("undo"), "undone %d\n" % (added != b""), unkept(len(added)), holds=(SMALL_FLASH, b"idle\n"))
-        self.begin_small()
-        said, synced = self.use_unsynced(len(SYNCED + simulator), "write", "image")
-        self.assertTold(said, "segment 1: 1 pages written\n")
-        self.assertEqual(synced, SYNCED + simulator)
-
     def test_a_line_is_whole_on_the_disk_only_behind_what_it_ends(self):
         """A disk writes sectors of 512 bytes in any order, each whole or not at all. Whatever is on its way to it at once has no
         LF but in its first sector, wherever in a sector the journal begins."""
@@ -201,59 +111,6 @@ class Disk(Place):
                 said, _ = syncs.call(self.folder, ("write", *files(), "image"), at=look)
                 self.assertTold(said, "segment 1: 1 pages written\n", journal=journal + (ENDED[len(HEADER):] if begins else ENDED))
                 self.assertTold(self.use("undo"), "undone 1\n")
-
-    def test_the_folder_of_a_new_journal_is_on_the_disk(self):
-        """The one that it stands in, also where a link leads there: before a line of it counts."""
-        os.mkdir(self.path("folder"))
-        os.symlink("folder/journal", self.path("link"))
-        for journal in ("folder/journal", "./folder/../folder/journal", self.path("folder/journal"), "link"):
-            with self.subTest(journal=journal):
-                self.begin_small()
-                said, synced = self.use_unsynced(0, "write", "image", journal=journal)
-                self.assertFault(said, "journal failed", hint=UNSYNCED)
-                self.assertEqual(synced[0], "folder")
-                self.assertFile("folder/journal", b"")
-                self.remove("folder/journal")
-                said, synced = self.use_unsynced(99, "write", "image", journal=journal)
-                self.assertTold(said, "segment 1: 1 pages written\n")
-                self.assertEqual(synced[:2], ["folder", "folder/journal"])
-                self.remove("folder/journal")
-
-    def test_what_is_not_on_the_disk_is_not_undone(self):
-        """The same of an undo, and of the undo after it. What a journal holds that is there is on the disk before more is added,
-        and the simulator's files stand before the line that says so."""
-        simulator = ["flash.stmflash-0.new", "flash.line.stmflash-0.new", ".", "."]
-        whole = ["journal", ".", "journal", "journal", *simulator, "journal"]
-        # by now the line's file is there, and is removed first
-        whole += [*simulator[:2], ".", *simulator[2:]]
-        for fails, (added, flash) in enumerate([*3 * [(b"", WRITTEN)], (b"erase 0\n", EMPTIED), *5 * [(b"erase 0\nprogram 0\n", SMALL_FLASH)]]):
-            with self.subTest(fails=fails):
-                self.begin_small(WRITTEN, ENDED)
-                said, synced = self.use_unsynced(fails, "undo")
-                # the simulator's files, which were stored in the end
-                self.assertFault(said, "journal failed", hint=None if 4 <= fails < 8 else UNSYNCED)
-                self.assertEqual(synced[:fails + 1], whole[:fails + 1])
-                self.assertFile("journal", ENDED + added)
-                self.assertHolds(flash, b"idle\n")
-                self.assertTold(self.use("undo"), "undone 1\n", holds=(SMALL_FLASH, b"idle\n"))
-        self.begin_small(WRITTEN, ENDED)
-        said, synced = self.use_unsynced(len(whole), "undo")
-        self.assertTold(said, "undone 1\n")
-        self.assertEqual(synced, whole)
-
-    @each_of((1, 2))
-    def test_an_undo_is_told_once_the_flash_stands(self, erases):
-        """The disk has room for the journal, and none for the flash: what was undone in memory alone isn't said to be."""
-        self.begin(COUNTING)
-        for page in range(erases):
-            self.assertTold(self.use("erase", str(page)), f"segment {page + 1}: 1 pages erased\n")
-        journal, flash = self.held("journal"), self.held("flash")
-        for _ in range(2):
-            self.assertFault(self.use("undo", before=files_up_to(20000)), "cannot write flash")
-            self.assertNotIn(b"undone", self.held("journal"))
-            self.assertTrue(self.held("journal").startswith(journal))
-            self.assertFile("flash", flash)
-        self.assertTold(self.use("undo"), f"undone {erases}\n", holds=(COUNTING, b"idle\n"))
 
 
 class OverSocket(Served):
@@ -295,22 +152,7 @@ class OverSocket(Served):
             started.append(self.start(name, *files(f"{room}.board", f"{room}.journal"), "--wait", WAIT, *more, before=before(room)))
         return list(map(self.ended, started))
 
-    def test_what_is_not_on_the_disk_is_not_answered(self):
-        """By what stands in the journal then the flash is given back."""
-        self.store_all({"table": SMALL_TABLE, "flash": SMALL_FLASH, "image": IMAGE})
-        self.serve(3 * (len(SYNCED) + 1))
-        for fails, added in enumerate((b"", b"", OPENED, OPENED, KEPT, ERASING, PROGRAMMING, None)):
-            with self.subTest(fails=fails):
-                said, synced = syncs.call(self.folder, ("write", *files("board"), "--wait", WAIT, "image"), fails)
-                self.assertEqual(synced, SYNCED[:fails + 1])
-                if added is None:
-                    self.assertTold(said, "segment 1: 1 pages written\n")
-                    continue
-                self.assertFault(said, "journal failed", hint=UNSYNCED, journal=added)
-                undone = "undone %d\n" % (len(added) >= len(OPENED))
-                self.assertTold(self.use("undo", "--wait", WAIT, device="board"), undone, unkept(len(added)))
-                self.remove("journal")
-                # once a further client is let go, what those before it left is stored
-                self.leave(self.connect())
-                self.assertFile("flash", SMALL_FLASH)
-        self.leave(self.connect())
+
+class Held(holding.Held):
+    def test_each_case(self):
+        self.play_all(cases("held.rows"))

@@ -135,7 +135,7 @@ class Gate(Room):
     def test_what_the_lists_of_rows_leave_out_is_there(self):
         for name in ("web", "windows"):
             ran = subprocess.run([os.path.join(TOP, name, "rows"), "--list"], capture_output=True, text=True)
-            self.assertIn("test_keep.Keep.", ran.stdout + ran.stderr, name)
+            self.assertIn("test_log.Log.", ran.stdout + ran.stderr, name)
 
     def test_a_step_without_its_tools_is_left_out_where_the_call_names_them(self):
         """They are among those that CI installs. Here sh has nothing else but what its first lines call."""

@@ -96,12 +96,6 @@ class Plain(FarPlace):
         self.assertRaises(TimeoutError, end.recv, 1)
         self.assertEqual(self.ended(started).status, 0)
 
-    def test_words_that_name_no_far_port(self):
-        for url in ("socket://", "socket://here", "socket://:1", "rfc2217://here:0", "rfc2217://here:65536",
-                    "rfc2217://here:1?logging=debug", "socket://here:1/", "socket://user@here:1"):
-            kind = url.partition(":")[0]
-            self.assertLineFault(self.line(url, "--", "true"), f"{url}: is no far port; give {kind}://HOST:PORT")
-
     def test_nobody_there(self):
         self.listener.close()
         for url in (self.url, self.url.replace("socket", "rfc2217")):

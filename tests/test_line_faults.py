@@ -1,4 +1,4 @@
-"""What stmflash-line says where a port can't be had or goes: one line each, with what to do."""
+"""What stmflash-line says where a port can't be had or goes: one line each, with what to do (tests/line.rows has most)."""
 
 import ast
 import glob
@@ -6,15 +6,15 @@ import grp
 import os
 import pwd
 import re
-import shlex
 import shutil
 import signal
 import subprocess
 import sys
 import unittest
 
-from boards import LINE, REAL, LinePlace, default_signals, end_with
+from boards import LINE, REAL, LinePlace, LineRows, default_signals, end_with
 from place import WAIT, Said, text_in
+from rows import cases
 
 NOBODY = 65534
 
@@ -25,19 +25,14 @@ def name_of(process):
         return f"{comm.read().strip()} (process {process})"
 
 
+class Played(LineRows):
+    def test_each_call(self):
+        self.play_all(cases("line.rows"))
+
+
 class Faults(LinePlace):
     def assertUnusable(self, port, text, *words, **more):
         self.assertLineFault(self.line(port, *(words or ("--", "true")), **more), text)
-
-    def assertBegins(self, port, text):
-        """One line is said of a port, which begins so."""
-        said, line = self.line(port, "--", "true"), "stmflash-line: " + text
-        self.assertEqual((said.status, said.out, said.err.decode()[:len(line)]), (1, b"", line))
-        self.assertEqual(said.err.count(b"\n"), 1)
-
-    def test_no_such_port(self):
-        for port in ("none", "no/folder", "table/none"):
-            self.assertBegins(port, f"{port}: no such port; this machine has ")
 
     def test_where_nobody_is_told_nothing_is(self):
         """Standard output is COMMAND's alone, and may have the flash of a read: no fault stands there where standard error is closed."""
@@ -46,15 +41,6 @@ class Faults(LinePlace):
             os.close(2)
 
         self.assertEqual(self.line("none", "--", "true", before=close), Said(1, b"", b""))
-
-    def test_not_a_serial_port(self):
-        os.mkdir(self.path("folder"))
-        os.mkfifo(self.path("pipe"))
-        with self.listen("socket"):
-            self.assertUnusable("socket", "socket: is not a serial port but a socket: hand it to stmflash itself, as --device")
-        for port, rest in (("folder", " but a folder"), ("table", " but a file"), ("pipe", " but a file"), ("/dev/null", ""),
-                           ("loop://", " of this machine"), ("none://here", " of this machine")):
-            self.assertBegins(port, f"{port}: is not a serial port{rest}; this machine has ")
 
     def test_held_by_another_line(self):
         """Who came first keeps the port, and its session isn't disturbed."""
@@ -108,28 +94,6 @@ class Faults(LinePlace):
         os.chmod(self.path("ttyUSB0"), 0o000)
         owner = pwd.getpwuid(place.st_uid).pw_name
         self.assertUnusable("ttyUSB0", f"ttyUSB0: no permission; only {owner} has it", line=("line",), before=before)
-
-    def test_no_signals(self):
-        """A pseudo-terminal has neither RTS nor DTR."""
-        self.plain()
-        for words, name in (("--boot rts", "RTS"), ("--boot=-dtr", "DTR"), ("--after -rts", "RTS"), ("--wiring dtr-reset", "DTR")):
-            self.assertUnusable("ttyUSB0", f"ttyUSB0: has no {name}; leave --wiring, --boot and --after out", *words.split(), "--", "true")
-
-    def test_bad_words(self):
-        self.plain()
-        self.each(("--", "'' -- true", "ttyUSB0 --", "ttyUSB0 --socket board -- true", "ttyUSB0 --socket board info", "ttyUSB0 --baud 0 -- true",
-                   "ttyUSB0 --socket ''", "ttyUSB0 --baud fast -- true", "ttyUSB0 --baud 4000001 -- true", "ttyUSB0 --boot cts -- true",
-                   "ttyUSB0 --boot --rts -- true", "ttyUSB0 --after rts:dtr -- true", "ttyUSB0 --boot rts:dtr --after dtr -- true",
-                   "ttyUSB0 --boo rts -- true", "ttyUSB0 ttyUSB1 -- true", "ttyUSB0 --boot", "ttyUSB0 --wiring", "ttyUSB0 --wiring '' -- true",
-                   "ttyUSB0 --resets -- true", "ttyUSB0 --wiring rts-boot0 -- true",
-                   *(f"ttyUSB0 --wiring dtr-reset,rts-boot0 {it} -- true" for it in ("--resets", "--boot dtr"))),
-                  lambda words: self.assertBadWords(self.line(*shlex.split(words))))
-        said = self.line("ttyUSB0", "--baud", "9600", "stmflash", "write", "-v", "my file")
-        self.assertEqual(said.status, 2)
-        self.assertTrue(said.err.endswith(b"error: COMMAND comes behind --, as in: stmflash-line ttyUSB0 -- stmflash write -v 'my file'\n"), said)
-        said = self.line("--help")
-        self.assertEqual((said.status, said.err), (0, b""))
-
 
 class Pulled(LinePlace):
     UNPLUGGED = b"stmflash-line: ttyUSB0: unplugged; plug it in; where the same call with log says unfinished, with undo 1 it undoes what was begun\n"

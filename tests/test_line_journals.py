@@ -1,7 +1,6 @@
 """stmflash-line where nobody names a journal, a port or `stmflash`: each board's journal is found by its unique id, and shared with
 stm32flash's words; and the shortest calls that docs/SWITCH.md has."""
 
-import fcntl
 import os
 import re
 import shlex
@@ -65,10 +64,6 @@ class Played(Unnamed, OnPorts):
     def does(self, sign, told, name, *more):
         if sign == "ports":
             self.noted["ports"] = re.findall(r"(\w+) \(([^)]*)\)", told)
-        elif sign == "locked":
-            held = open(self.path(name), "rb")
-            self.addCleanup(held.close)
-            fcntl.flock(held, fcntl.LOCK_EX)
         else:
             super().does(sign, told, name, *more)
 

@@ -1,29 +1,23 @@
 """A line that watches: over a board that follows the model nothing changes; a reply that no such board gives ends the line, and is
-told (tests/planted has the boards)."""
+told (tests/watch.rows has each byte, tests/planted the boards)."""
 
-import functools
-import operator
 import os
 import random
 import re
 import sys
 import time
-import unittest
+import tomllib
 from unittest import mock
 
 from boards import LinePlace
-from place import COUNTING, TOP, Said
+from place import COUNTING, TOP, UNIQUE, Said
+from rows import Rows, bytes_of, cases
 from stmflash_line import session, tables
 from stmflash_line.watch import Watch
 
 import pty_boards
 
-CODES = bytes.fromhex("00 01 02 11 21 31 44 63 73 82 92")
-CHIP = {"id": 0x440, "base": 0x08000000, "pages": [[2, 1024]], "erase": "extended"}
 TABLE = b'[[chip]]\nid = 0x440\nbase = 0x08000000\npages = [[8, 1024]]\nerase = "extended"\n'
-# a chip's place of its unique id and of its size, as they are asked for, and the unique ids of two boards
-UNIQUE, SIZE = "1F FF F7 AC BB", "1F FF F7 CC DB"
-HERE, THERE = "2B 00 35 00 0A 51 36 30 34 39 33 32", "2B 00 35 00 0A 51 36 30 34 39 33 3F"
 SUMMARY = r"stmflash-line: \S+: watched: [0-9]+ bytes of replies, each as a device of the model sends it(; [0-9]+ more were due)?\n"
 # so many writes are stopped
 STOPS = int(os.environ.get("STMFLASH_LINE_STOPS", "3"))
@@ -35,177 +29,28 @@ FOUND = {
     "writes-a-wrong-last-byte": "FE stands at 080010FF, and FF was read or written there before"}
 
 
-def told(watch, came):
-    """What of a text of replies is handed on, and what there is to say of the first that isn't due."""
-    clean, text = watch.due_of(bytes.fromhex(came))
-    return clean.hex(" ").upper(), text
-
-
-class Bytes(unittest.TestCase):
+class Bytes(Rows):
     """One conversation, byte by byte."""
 
-    def setUp(self):
-        self.watch = Watch([CHIP])
+    def does(self, sign, told, name, *more):
+        if sign == "chips":
+            self.watch = Watch(tomllib.loads(bytes_of(told).decode()).get("chip", []))
+        elif sign == "anew":
+            self.watch.begin()
+        elif sign == "sends":
+            self.watch.put(bytes.fromhex(told))
+        elif sign in ("comes", "bytes", "other"):
+            came, clean, text = told.split(" / ") if sign == "other" else (told, told, None)
+            for came, clean in zip(came.split(), clean.split()) if sign == "bytes" else [(came, clean)]:
+                found, said = self.watch.due_of(bytes.fromhex(came))
+                self.assertEqual((found.hex(" ").upper(), said), (clean, text))
+        elif sign == "tells":
+            self.assertEqual(self.watch.told(), told)
+        else:
+            super().does(sign, told, name, *more)
 
-    def host(self, sent):
-        self.watch.put(bytes.fromhex(sent))
-
-    def board(self, came):
-        self.assertEqual(told(self.watch, came), (bytes.fromhex(came).hex(" ").upper(), None))
-
-    def talk(self, *turns):
-        """What the host sends and what the board answers, by turns."""
-        for turn, text in enumerate(turns):
-            (self.board if turn % 2 else self.host)(text)
-
-    def learn(self, codes=CODES):
-        self.talk("00 FF", f"79 {len(codes):02X} 31 {codes.hex()} 79", "02 FD", "79 01 04 40 79")
-
-    def anew(self):
-        self.watch.begin()
-        self.learn()
-
-    def assertOtherwise(self, came, clean, text):
-        self.assertEqual(told(self.watch, came), (clean, text))
-
-    def read(self, address, data):
-        self.ask(f"{address} {functools.reduce(operator.xor, bytes.fromhex(address)):02X}", len(bytes.fromhex(data)))
-        return "79 " + data
-
-    def test_before_it_knows_the_board(self):
-        """Whatever comes, until codes and id were told one behind the other; also in pieces."""
-        self.talk("7F", "79 79 41")
-        self.learn()
-        self.assertOtherwise("79", "", "79 came unasked")
-        self.watch.begin()
-        self.board("79")
-        self.host("00 FF")
-        for byte in f"79 0B 31 {CODES.hex(' ')} 79".split():
-            self.board(byte)
-        self.talk("11 EE", "79", "02 FD", "79 01 04 40 79")
-        self.board("79")
-        self.assertEqual(self.watch.told(), "nothing, since no chip of the table has told its codes and id")
-
-    def test_a_chip_that_no_table_has(self):
-        self.watch = Watch([])
-        self.learn()
-        self.board("79")
-
-    def test_the_chip_is_the_one_of_the_id_that_was_told(self):
-        """Also where the table has others before it, with fewer pages."""
-        self.watch = Watch([{**CHIP, "id": 0x441, "pages": [[1, 1024]]}, CHIP])
-        self.learn()
-        self.board(self.read("08000400", "11 22"))
-
-    def test_lists_of_codes(self):
-        for codes in ("00 02 11 31 43 44", "00 02 11 31", "00 02 11 44", "00 02 11 31 44 7F"):
-            with self.subTest(codes=codes):
-                self.watch.begin()
-                self.host("00 FF")
-                clean = f"79 {len(bytes.fromhex(codes)):02X} 31 {codes}"
-                self.assertOtherwise(clean + " 79", clean, f"it lists the codes {codes}")
-
-    def test_other_answers(self):
-        for sent, came, clean, text in (
-                ("00 FF", "79 0B 32", "79 0B", "32 came in Get, and 31 was due"),
-                ("02 FD", "79 01 04 41", "79 01 04", "41 came in Get ID, and 40 was due"),
-                ("7F 7F", "79", "", "79 came in 7F, and 1F was due"), ("7F", "1F", "", "1F came unasked"),
-                ("11 EF", "79", "", "79 came in Read Memory, and 1F was due"),
-                ("31 CE 08 00 08 00 00", "79 79", "79", "79 came in Write Memory, and 1F was due"),
-                ("44 BB 00 00 00 02 02", "79 79", "79", "79 came in Extended Erase, and 1F was due"),
-                ("44 BB 00 00 00 01 01", "79 76", "79", "76 came in Extended Erase, and 79 was due"),
-                ("44 BB FF FF 00", "79 1F", "79", "1F came in Extended Erase, and 79 was due"),
-                ("44 BB FF FF 01", "79 79", "79", "79 came in Extended Erase, and 1F was due"),
-                ("43 BC", "79", "", "79 came in Erase Memory, and 1F was due")):
-            with self.subTest(sent=sent):
-                self.anew()
-                self.host(sent)
-                self.assertOtherwise(came, clean, text)
-
-    def test_what_stands_in_the_flash(self):
-        """A byte that isn't known may be any; one that was read, written over an erased one, or erased stands."""
-        self.learn()
-        self.board(self.read("08000000", "11 22"))
-        self.board(self.read("08000000", "11 22"))
-        self.assertOtherwise(self.read("08000001", "23"), "79", "23 stands at 08000001, and 22 was read or written there before")
-        self.anew()
-        self.talk("44 BB 00 00 00 00 00", "79 79", "31 CE 08 00 00 00 08 03 01 02 03 04 07", "79 79 79")
-        self.assertOtherwise(self.read("08000000", "01 02 03 05"), "79 01 02 03", "05 stands at 08000003, and 04 was read or written there before")
-        self.anew()
-        # over bytes that aren't known: any may come to stand
-        self.talk("31 CE 08 00 00 00 08 03 01 02 03 04 07", "79 79 79")
-        self.board(self.read("08000000", "00 00 00 00"))
-        self.talk("44 BB FF FF 00", "79 79")
-        self.assertOtherwise(self.read("080007FF", "00"), "79", "00 stands at 080007FF, and FF was read or written there before")
-
-    def learn_with_places(self):
-        self.watch = Watch([{**CHIP, "unique": [0x1FFFF7AC, 12], "size_at": 0x1FFFF7CC}])
-        self.learn()
-
-    def ask(self, place, count, told=None):
-        """The question at a place, as far as it has to be acknowledged, and its last step; and what is told there."""
-        self.talk("11 EE", "79", place, "79", f"{count - 1:02X} {256 - count:02X}", *([f"79 {told}"] if told else []))
-
-    def test_where_a_board_tells_which_it_is(self):
-        """Outside the flash: what is told first may be anything, and is the same from then on, also behind what is left open."""
-        self.learn_with_places()
-        for place, told in ((UNIQUE, HERE), (SIZE, "40 00")):
-            self.ask(place, len(bytes.fromhex(told)), told)
-            self.host("63 9C")
-            self.learn()
-            self.ask(place, len(bytes.fromhex(told)), told)
-        self.ask(UNIQUE, 12)
-        self.assertOtherwise("79 " + THERE, "79 " + THERE[:-3], "3F stands at 1FFFF7B7, and 32 was told there before")
-
-    def test_a_board_that_told_which_it_is_refuses_no_more(self):
-        for step in range(2):
-            with self.subTest(step=step):
-                self.learn_with_places()
-                self.ask(UNIQUE, 12, HERE)
-                self.talk("11 EE", "79", UNIQUE, *step * ["79", "0B F4"])
-                self.assertOtherwise("1F", "", "1F came in Read Memory, and 79 was due")
-
-    def test_a_place_may_be_refused(self):
-        """Either step; what comes behind is judged."""
-        for step in range(2):
-            with self.subTest(step=step):
-                self.learn_with_places()
-                self.talk("11 EE", "79", UNIQUE, *step * ["79", "0B F4"], "1F")
-                self.ask(SIZE, 2, "40 00")
-                self.talk("11 EE", "79", "1F FF F7 D0 C7")
-                self.assertOtherwise("79", "", "79 came in Read Memory, and 1F was due")
-
-    def test_other_questions_which_board_it_is(self):
-        for turns, came, due in (((), "76", "79 or 1F"), (("79", "0B F4"), "00", "79 or 1F"), (("79", "0B F5"), "79", "1F")):
-            with self.subTest(turns=turns):
-                self.learn_with_places()
-                self.talk("11 EE", "79", UNIQUE, *turns)
-                self.assertOtherwise(came, "", f"{came} came in Read Memory, and {due} was due")
-        # of another length, from a place inside, and on before an answer: all is open until codes and id are told again
-        for place, count in ((UNIQUE, 11), ("1F FF F7 AD BA", 11)):
-            self.learn_with_places()
-            self.ask(place, count) if place == UNIQUE else self.host("11 EE " + place)
-            self.board("79 79 79 1F 00 76")
-        self.learn_with_places()
-        self.talk("11 EE " + UNIQUE + " 0B F4", "79 79 76 00")
-        self.learn()
-        self.assertOtherwise("00", "", "00 came unasked")
-
-    def test_a_read_whose_page_was_erased_before_its_bytes_came(self):
-        self.learn()
-        came = self.read("08000000", "11")
-        self.talk("44 BB 00 00 00 00 00", came + " 79 79")
-        self.board(self.read("08000000", "FF"))
-
-    def test_what_the_model_leaves_open(self):
-        """Behind Go the program runs; of a protection, and of counts that mean something else, nothing is promised."""
-        for sent in ("21 DE 08 00 00 00 08", "73 8C", "63 9C", "44 BB FF F0 00"):
-            with self.subTest(sent=sent):
-                self.anew()
-                self.talk(sent, "48 65 6C 6C 6F")
-        self.anew()
-        self.host("21 DE 07 00 00 00 07")
-        self.assertOtherwise("79 79", "79", "79 came in Go, and 1F was due")
+    def test_each_byte(self):
+        self.play_all(cases("watch.rows"))
 
 
 class WatchedPlace(LinePlace):
@@ -261,7 +106,7 @@ class Boards(WatchedPlace):
 
     def test_a_board_that_tells_which_it_is(self):
         """It is asked before the session, and once more in it; what comes behind is watched too."""
-        here = HERE.replace(" ", "").encode()
+        here = UNIQUE.encode()
         self.store("table", TABLE + b"unique = [0x1FFFF7AC, 12]\nsize_at = 0x1FFFF7CC\n")
         self.store("ttyUSB0.flash.board", b"unique " + here + b"\nsize 8\n")
         board = self.board(chip="0440")

@@ -1,15 +1,12 @@
-"""One journal, one program: what is locked, by whom, and that two programs at once leave nothing that can't be undone."""
+"""One journal, one program: what is locked, by whom, and that two programs at once leave nothing that can't be undone
+(tests/held.rows has what a lock keeps out)."""
 
-import errno
-import fcntl
 import os
 
 import syncs
-import telling
-from place import COUNTING, HEADER, WAIT, Said, each_of, files, new, served
+from place import COUNTING, HEADER, WAIT, Said, each_of, files, new
 from served import Served, relay
 from test_check import counted
-from test_crashed import LEFT, WRITTEN
 
 # how many times two programs are started together, without a journal and with one; 100 are run by hand
 ROUNDS = int(os.environ.get("ROUNDS", "2"))
@@ -27,41 +24,12 @@ WAITING = (b"stmflash: device does not follow the protocol\n", b"stmflash: no an
 
 
 class Locks(Served):
-    def test_a_journal_that_another_has_is_not_used(self):
-        """Whatever is asked for, nothing is sent and nothing written; once the other program is gone, all is as ever."""
-        self.store("flash", COUNTING)
-        self.assertTold(self.use("erase", "5"), "segment 1: 1 pages erased\n")
-        journal, flash = self.held("journal"), self.held("flash")
-        self.store_all({"flash.line": b"fresh\n", "image": b"\xaa"})
-        for name, *words in (("info",), ("read", "out"), ("write", "image"), ("verify", "image"), ("erase", "5"), ("undo",),
-                             ("go", "0x08000000"), ("protect", "write-unprotect")):
-            for how in (fcntl.LOCK_EX, fcntl.LOCK_SH):
-                with self.subTest(name=name, how=how), self.locked("journal", how):
-                    self.assertFault(self.use(name, *words), "journal is in use")
-                    self.assertFault(self.use(name, *words, device="absent"), "journal is in use", holds=(flash, b"fresh\n"))
-                    self.assertFiles({"journal": journal, "out": None})
-        self.assertTold(self.use("undo"), "undone 1\n", holds=(COUNTING, b"idle\n"))
-
-    def test_a_journal_that_another_has_may_be_looked_at(self):
-        self.assertTold(self.use("erase", "5"), "segment 1: 0 pages erased\n", new(1))
-        for name, how, status in (("log", fcntl.LOCK_SH, 0), ("log", fcntl.LOCK_EX, 0), ("keep", fcntl.LOCK_SH, 1)):
-            with self.subTest(name=name, how=how), self.locked("journal", how):
-                said = self.call(name, "--journal", "journal")
-                self.assertEqual((said.status, said.err), (status, BUSY[0] if status else b""))
-
     def hold(self, words, **how):
         """Uses the program with one of the system's calls held, and answers what was said, and which files they were for."""
         return syncs.call(self.folder, words, **how)
 
     def words_on(self, name, *words):
         return (name, *files(), *words)
-
-    def test_a_log_locks_nothing(self):
-        """So no session has to wait for it, however long it is read."""
-        self.assertTold(self.use("erase", "5"), "segment 1: 0 pages erased\n", new(1))
-        said, locked = self.hold(("log", "--journal", "journal"), held=syncs.FLOCK)
-        self.assertTold(said, "id 0412\nsegment 1: ended, 0 pages\n1 can be undone\n")
-        self.assertEqual(locked, [])
 
     def test_a_log_beside_a_session_tells_what_is_there(self):
         """Whole lines alone, at each sync of an erase."""
@@ -136,83 +104,6 @@ class Locks(Served):
         self.assertWell(self.call(*self.words_on("info"), before=bind))
         self.assertFault(self.call(*self.words_on("erase", "5"), before=bind), "journal failed", hint="Permission denied")
 
-    def test_without_locks_a_file_is_refused(self):
-        """A file system that gives none, as NFS may: told by name, unless it's said that no other program has the files."""
-        every = range(100)
-        for error, text in ((errno.EBADF, "Bad file descriptor"), (errno.ENOLCK, "No locks available"),
-                            (errno.EOPNOTSUPP, "Operation not supported")):
-            how = {"held": syncs.FLOCK, "error": error}
-            with self.subTest(text=text):
-                self.store_all({"flash": COUNTING, "journal": b""})
-                for name, words in (("journal", self.words_on("info")), ("journal", ("keep", "--journal", "journal")),
-                                    ("journal", ("keep", "--journal", "journal", "--last", "1")), ("journal", self.words_on("erase", "5")),
-                                    ("flash", served(at="s"))):
-                    said, _ = self.hold(words, fails=0, **how)
-                    self.assertFault(said, f"cannot lock {name}: {text}; --no-lock if no other program has it")
-                said, _ = self.hold(self.words_on("info"), fails=1, **how)
-                self.assertFault(said, f"cannot lock flash: {text}; --no-lock if no other program has it")
-                self.remove("journal")
-                said, _ = self.hold(self.words_on("erase", "5"), fails=1, **how)
-                self.assertFault(said, f"cannot lock journal: {text}; --no-lock if no other program has it", flash=COUNTING, journal=b"")
-                self.remove("journal")
-                self.assertTold(self.hold(self.words_on("erase", "--no-lock", "5"), fails=every, **how)[0], "segment 1: 1 pages erased\n")
-                self.assertTold(self.hold(("keep", "--journal", "journal", "--no-lock"), fails=every, **how)[0], "kept 1\n")
-
-    def test_a_variable_says_that_no_lock_is_needed(self):
-        self.store("flash", COUNTING)
-        how = {"held": syncs.FLOCK, "error": errno.EBADF, "fails": range(100)}
-        for text, status in (("1", 0), ("0", 1), ("", 1)):
-            with self.subTest(text=text):
-                self.store("journal", b"")
-                said, _ = self.hold(self.words_on("erase", "5"), env={"STMFLASH_NO_LOCK": text}, **how)
-                self.assertEqual(said.status, status)
-                said, _ = self.hold(("keep", "--journal", "journal"), env={"STMFLASH_NO_LOCK": text}, **how)
-                self.assertEqual(said.status, status)
-                # a simulator comes as far as its socket, for which there is no folder
-                for more, env in (((), {"STMFLASH_NO_LOCK": text}), (("--no-lock",) if status == 0 else (), {})):
-                    said, _ = self.hold((*served(at="none/s"), *more), env=env, **how)
-                    self.assertEqual(b"cannot lock flash" in said.err, status == 1, said.err)
-
-    def test_the_word_counts_wherever_a_file_is_opened(self):
-        """Over a socket, where a journal is cut before its undo, and where a board is asked for its journal."""
-        how = {"held": syncs.FLOCK, "error": errno.ENOLCK, "fails": range(100)}
-        self.store("flash", COUNTING)
-        self.serve(1)
-        self.assertTold(self.hold(("erase", *files("board"), "--wait", WAIT, "--no-lock", "5"), **how)[0], "segment 1: 1 pages erased\n")
-        self.assertServed()
-        self.store_all({"flash": WRITTEN, "flash.line": b"idle\n", "journal": LEFT})
-        said, _ = self.hold(self.words_on("undo", "--recover", "--no-lock"), **how)
-        self.assertEqual((said.status, said.out), (0, b"undone 2\n"))
-        os.mkdir(self.path("journals"))
-        self.store_all({"table": telling.TABLE, "one": bytes(131072), "one.board": b"unique 2B0035000A51363034393332\n"})
-        self.assertWell(self.hold(("crc", "--table", "table", "--device", "sim:0410:one", "--journals", "journals", "--no-lock"), **how)[0])
-
-    def test_without_a_lock_another_program_is_still_seen(self):
-        """Where there are locks, `--no-lock` is no leave to use what another has."""
-        self.store_all({"flash": COUNTING, "journal": b""})
-        with self.locked("journal"):
-            self.assertFault(self.use("erase", "--no-lock", "5"), "journal is in use")
-            self.assertFault(self.call(*self.words_on("erase", "5"), variables={"STMFLASH_NO_LOCK": "1"}), "journal is in use")
-        with self.locked("flash"):
-            self.assertFault(self.use("erase", "--no-lock", "5"), "simulator file is in use")
-
-    def test_a_journal_is_locked_by_whatever_name(self):
-        self.store("flash", COUNTING)
-        self.assertTold(self.use("erase", "5"), "segment 1: 1 pages erased\n")
-        os.symlink("journal", self.path("soft"))
-        os.link(self.path("journal"), self.path("hard"))
-        with self.locked("journal"):
-            for name in ("soft", "hard"):
-                self.assertFault(self.use("info", journal=name), "journal is in use")
-
-    def test_a_simulator_that_another_has_is_not_used(self):
-        self.store("flash", COUNTING)
-        with self.locked("flash"):
-            self.assertFault(self.use("erase", "5"), "simulator file is in use")
-            self.assertFault(self.call(*served()), "simulator file is in use")
-        self.assertFiles({"flash": COUNTING, "flash.line": None, "journal": None})
-        self.assertFalse(self.is_there("board"))
-
     def test_a_journal_made_meanwhile_is_not_used(self):
         """The journal isn't there when the program begins, and is when it would make it: no erase is sent, and what the other wrote stays."""
         listener = self.listen("device")
@@ -231,11 +122,6 @@ class Locks(Served):
                 self.assertFile("journal", made)
                 self.remove("journal")
         self.assertServed(flash=COUNTING)
-
-    def test_a_flash_made_meanwhile_is_not_used(self):
-        """The simulator's file isn't there when the program begins, and is when it would make it."""
-        said, _ = self.hold(self.words_on("info"), held=syncs.LINK, at=lambda number, _: self.store("flash", COUNTING))
-        self.assertFault(said, "simulator file is in use", holds=(COUNTING, None))
 
     def words(self, words, device):
         name, *rest = words

@@ -19,7 +19,10 @@ class Owners(Rows):
         super().setUp()
 
     def does(self, sign, told, name, *more):
-        if sign != "own":
+        if sign == "owned":
+            held = os.stat(self.path(name))
+            self.assertEqual([str(held.st_uid), str(held.st_gid), f"{held.st_mode & 0o7777:o}"], [*more])
+        elif sign != "own":
             super().does(sign, told, name, *more)
         elif self.is_there(name):
             user, group, mode = more

@@ -3,7 +3,7 @@ to files, case by case (tests/uses.rows, and the pages of rows beside it)."""
 
 from rows import Rows, cases
 
-PAGES = ("stated.rows", "uses.rows", "words.rows", "folders.rows", "answers.rows", "crashed.rows")
+PAGES = ("stated.rows", "uses.rows", "words.rows", "folders.rows", "answers.rows")
 # every text of a fault that was specified, with an example in each place
 TEXTS = """line failed; journal failed; out of memory; unfinished command, undo first; unknown chip 0777; address outside the flash;
 no erase command; journal is open, refused; differs at 08000001; device does not follow the protocol; bad journal line 2;
@@ -40,7 +40,7 @@ class Stated(Rows):
         self.play_page("answers.rows")
 
     def test_each_use_behind_a_crash(self):
-        self.play_page("crashed.rows")
+        self.play_all(cases("crashed.rows"))
 
     def test_each_use_of_a_protected_flash(self):
         self.play_all(cases("protected.rows"))

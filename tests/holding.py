@@ -1,0 +1,80 @@
+"""Rows of calls whose disk is full, of which calls of the system are held, fail or are their last, or whose streams lead to files
+(tests/held.rows says how they are told)."""
+
+import contextlib
+import errno
+import fcntl
+import functools
+import os
+import resource
+import shutil
+import signal
+
+import syncs
+from rows import Rows
+
+
+def files_up_to(size):
+    """Lets no file of the process grow above this size: a write that would cross it is cut there, and the next one fails."""
+
+    def limit():
+        signal.signal(signal.SIGXFSZ, signal.SIG_IGN)
+        _, most = resource.getrlimit(resource.RLIMIT_FSIZE)
+        resource.setrlimit(resource.RLIMIT_FSIZE, (size, most))
+
+    return limit
+
+
+class Held(Rows):
+    def set_nothing(self):
+        super().set_nothing()
+        self.before, self.streams, self.how, self.turns = None, {}, {}, {}
+
+    def turn(self, number, process):
+        """What is done once a call of the system is held, by its number, before it goes on."""
+        for sign, told in self.turns.get(number, ()):
+            if sign == "kill":
+                os.kill(process, signal.SIGKILL)
+            else:
+                self.does(sign, told, *told.split(" "))
+
+    def call(self, *words, before, variables, given):
+        if self.how:
+            said, self.synced = syncs.call(self.folder, words, at=self.turn, env=variables, **self.how)
+            return said
+        with contextlib.ExitStack() as files:
+            streams = {stream: files.enter_context(open(self.path(name), "ab")) for stream, name in self.streams.items()}
+            return super().call(*words, before=self.before or before, variables=variables, given=given, **streams)
+
+    def does(self, sign, told, name, *more):
+        if sign == "room":
+            self.before = files_up_to(int(told))
+        elif sign == "closes":
+            self.before = functools.partial(os.close, int(told))
+        elif sign == "stream":
+            self.streams[name] = more[0]
+        elif sign in ("lock", "share"):
+            self.enterContext(self.locked(told, fcntl.LOCK_EX if sign == "lock" else fcntl.LOCK_SH))
+        elif sign == "holds":
+            self.how["held"] = getattr(syncs, name.upper())
+        elif sign == "fails":
+            self.how |= {"fails": range(100) if name == "all" else int(name), **{"error": getattr(errno, it) for it in more}}
+        elif sign == "at":
+            self.how.setdefault("held", syncs.FSYNC)
+            self.turns.setdefault(int(name), []).append([*" ".join(more).split(" ", 1), ""][:2])
+        elif sign == "synced":
+            due = [it for word in told.removesuffix(" ..").split(" ") for it, _, times in [word.partition("*")] for _ in range(int(times or 1))]
+            self.assertEqual(self.synced[:len(due)] if told.endswith(" ..") else self.synced, due)
+        elif sign == "held":
+            self.assertEqual(len(self.synced), int(told))
+        elif sign == "rename":
+            os.rename(self.path(name), self.path(*more))
+        elif sign == "copied":
+            os.rename(shutil.copy(self.path(name), self.path(name) + "-copy"), self.path(name))
+        elif sign == "cut":
+            os.truncate(self.path(name), len(self.raw(name)) - int(*more))
+        elif sign == "locked":
+            with self.assertRaises(BlockingIOError), self.locked(name):
+                pass
+        else:
+            super().does(sign, told, name, *more)
