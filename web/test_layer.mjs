@@ -61,8 +61,7 @@ holds('numbers of faults are the system\'s', Object.entries(E).filter(([name, nu
 const disks = (count) => Array.from({ length: count }, () => inMemory());
 {
   const it = machine({ store: new Store(disks(4)), input: bytesOf('given') }), { env } = it;
-  holds('no file', [it.open('none', 0), it.fault()], [-1, E.NOENT]);
-  const fd = it.open('/boards/a', 2 | CREATE | EXCLUSIVE);
+  holds('no file', [it.open('none', 0), it.fault()], [-1, E.NOENT]); const fd = it.open('/boards/a', 2 | CREATE | EXCLUSIVE);
   holds('a new file', [fd, it.write(fd, 'hello'), it.told(fd).size, it.told(fd).mode, it.told(fd).links], [3, 5n, 5, 8, 1]);
   holds('what is told ends', [it.memory.bytes(20000, 257).fill(7).length, it.told(fd).size, ...it.memory.bytes(20255, 2)], [257, 5, 0, 7]);
   const only = it.open('/boards/only', 1 | CREATE);
@@ -72,8 +71,7 @@ const disks = (count) => Array.from({ length: count }, () => inMemory());
   holds('places', [env.lseek(fd, -2n, 2), env.lseek(fd, 1n, 1), env.lseek(fd, -9n, 0), it.fault()], [3n, 4n, -1n, E.INVAL]);
   const more = it.open('boards/./a', 1 | CREATE | APPEND);
   holds('added at the end', [it.write(more, '!'), it.write(fd, '?'), it.write(more, '+'), it.told(fd).size], [1n, 1n, 1n, 7]);
-  holds('what may not be read', [it.read(more, 3), it.fault()], [-1n, E.BADF]);
-  const looks = it.open('/boards/a', 0);
+  holds('what may not be read', [it.read(more, 3), it.fault()], [-1n, E.BADF]); const looks = it.open('/boards/a', 0);
   holds('what may not be written', [it.write(looks, 'x'), it.fault(), env.ftruncate(looks, 0n), it.told(fd).size], [-1n, E.BADF, -1, 7]);
   holds('one file', [it.told(fd).ino === it.told(more).ino, it.told(0, '/boards/a').ino === it.told(fd).ino], [true, true]);
   holds('a lock', [env.flock(fd, 6), env.flock(fd, 6), env.flock(more, 6), it.fault()], [0, 0, -1, E.AGAIN]);
@@ -129,13 +127,11 @@ function port() {
   const recv = async (room) => { const got = await ends(env.recv(fd, 9000n, BigInt(room), 0)); return typeof got === 'bigint' && got > 0n ? it.memory.bytes(9000n, got).slice() : got; };
   for (const [at, parts] of [[16, 0n], [24, 30000n]]) it.memory.view().setBigInt64(at, parts, true);
   holds('a wait is set', env.setsockopt(fd, 1, 20, 16n, 16), 0); it.memory.view().setBigInt64(16, 60n, true); holds('and another one, for what is sent, is no matter', env.setsockopt(fd, 1, 21, 16n, 16), 0);
-  const began = performance.now();
-  holds('nothing comes in time', [await recv(9), it.fault(), performance.now() - began > 20], [-1n, E.AGAIN, true]);
+  const began = performance.now(); holds('nothing comes in time', [await recv(9), it.fault(), performance.now() - began > 20], [-1n, E.AGAIN, true]);
   setTimeout(() => board.into.enqueue(Uint8Array.of(1, 2, 3, 4, 5)), 10); env.setsockopt(fd, 1, 20, 16n, 16);
   holds('what comes is taken, in order, and no more than there is room for', [await recv(2), await recv(9)], [[1, 2], [3, 4, 5]]);
   it.memory.bytes(9000n, 3n).set([0x7f, 0, 255]); holds('sent', env.send(fd, 9000n, 3n, 0), 3n); it.memory.bytes(9000n, 3n).fill(0);
-  const copy = env.fcntl(fd, 1030, 0n); await env.close(copy);
-  holds('open as long as one has it', board.told.includes('closed'), false);
+  const copy = env.fcntl(fd, 1030, 0n); await env.close(copy); holds('open as long as one has it', board.told.includes('closed'), false);
   holds('closed, which isn\'t why it ended', [await ends(env.close(fd)), board.told.at(-1), line.ended], [0, 'closed', undefined]);
   holds('and all that was sent went out before', board.sent, [0x7f, 0, 255]);
 }
@@ -159,19 +155,16 @@ for (const [what, over, sum] of [['a wrong parity', (board) => board.into.error(
   holds(`${what} ends the line`, [await ends(begun), await ends(it.env.recv(fd, 9000n, 9n, 0))], [sum, sum]);
   holds(`${what}: no more is sent`, [it.env.send(fd, 9000n, 1n, 0), it.fault()], [-1n, E.IO]);
   holds(`${what}: it still closes`, [await ends(it.env.close(fd)), board.told.at(-1), line.came.push(bytesOf('old'))], [0, 'closed', 1]);
-  await line.connect();
-  holds(`${what}: opened anew it is whole, and has nothing of before`, [line.ended, line.came], [undefined, []]);
+  await line.connect(); holds(`${what}: opened anew it is whole, and has nothing of before`, [line.ended, line.came], [undefined, []]);
 }
 {
   const board = port(), line = new Line(board, 9600, stepsOf('dtr-reset,rts-boot0')), began = performance.now();
-  await line.connect(); const took = performance.now() - began, { came } = line;
-  await line.close();
+  await line.connect(); const took = performance.now() - began, { came } = line; await line.close();
   holds('a wiring is played, in and out of an open port, and what comes by then is no answer', [board.told.map((it) => it.baudRate ?? it), came],
     [[9600, { requestToSend: false }, { dataTerminalReady: true }, { dataTerminalReady: false }, { requestToSend: true }, { dataTerminalReady: true }, { dataTerminalReady: false }, 'closed'], []]);
   holds('with its waits', took >= 290);
   board.open = async () => { throw new DOMException('in use', 'InvalidStateError'); };
-  const it = machine({ line: new Line(board, 9600) }), fd = it.env.socket(1, 1, 0);
-  it.memory.put('/dev/board', 50002n, 100n);
+  const it = machine({ line: new Line(board, 9600) }), fd = it.env.socket(1, 1, 0); it.memory.put('/dev/board', 50002n, 100n);
   holds('a port in use', [await ends(it.env.connect(fd, 50000n, 13)), it.fault(), await ends(it.env.close(fd))], [-1, E.CONNREFUSED, 0]);
   holds('nobody is served', [it.env.bind(fd, 0n, 0), it.fault(), it.env.listen(fd, 1), it.env.accept4(fd, 0n, 0n, 0)], [-1, E.NOSYS, -1, -1]);
 }
@@ -193,17 +186,22 @@ tryImages(await from('image.js'), await from('chips.js'), await from('difference
 
 // what can be begun, and the words of a call, over elements that are no browser's
 {
-  const made = () => ({ value: '', dataset: {}, all: [], append(...it) { this.all.push(...it); }, replaceChildren(...it) { this.all = it; }, querySelectorAll: () => [], setAttribute() {}, removeAttribute() {}, scrollIntoView() {} });
-  const it = {}, asked = [], off = () => Object.keys(it).filter((id) => it[id].disabled), logs = { bad: undefined, done: ['segment 1: ended', '1 can be undone'], stopped: ['unfinished: write', '1 can be undone'], undone: ['0 can be undone'] };
-  Object.assign(globalThis, { document: { getElementById: (id) => (it[id] ??= made()), createElement: made }, Worker: class { postMessage({ id, words, line }) {
+  const made = () => ({ value: '', dataset: {}, all: [], append(...it) { this.all.push(...it); }, replaceChildren(...it) { this.all = it; }, querySelectorAll: () => [], setAttribute() {}, removeAttribute() {}, scrollIntoView() {}, click() { asked.push(this.download); } });
+  const it = {}, asked = [], answers = {}, off = () => Object.keys(it).filter((id) => it[id].disabled), logs = { bad: undefined, done: ['segment 1: ended', '1 can be undone'], stopped: ['unfinished: write', '1 can be undone'], undone: ['0 can be undone'] };
+  Object.assign(globalThis, { document: { getElementById: (id) => (it[id] ??= made()), createElement: made, body: made() }, Worker: class { postMessage({ id, act, words, line }) {
     asked.push([words, line, off()]);
-    setTimeout(() => this.onmessage({ data: { id, names: Object.keys(logs).map((it) => `${it}.journal`), status: 0, out: JSON.stringify({ says: 'none', lines: logs[words?.at(-1).slice(7, -8)] }) } }));
-  } } });
+    setTimeout(() => this.onmessage({ data: { id, names: Object.keys(logs).map((it) => `${it}.journal`), status: 0, out: JSON.stringify({ says: 'none', lines: logs[words?.at(-1).slice(7, -8)] }), ...answers[words?.[0] ?? act] } }));
+  } }, window: globalThis, addEventListener() {}, location: { search: '' } });
   const { state, run, takePort } = await from('calls.js'), { journals } = await from('journals.js'); Object.assign(state, { ready: true, image: {} }); await journals();
   holds('what a journal can\'t: undone, and kept', it.journals.all.map((row) => row.all[2].all.map(({ dataset }) => 'off' in dataset)), [[true, false, true], [false, false, false], [false, false, true], [true, false, false]]);
   takePort({ getInfo: () => ({ usbVendorId: 1, usbProductId: 0xabc }) }); Object.assign(it.fresh ??= made(), { checked: true }); await run(['write', '/image'], { onBoard: true });
   holds('a call on the board', [asked.at(-1), off(), it.fresh.checked, it.chosen.textContent], [[['write', '--table', '/chips.toml', '--device', '/dev/board', '--baud', '0', '--fresh', '/image'], { info: { usbVendorId: 1, usbProductId: 0xabc }, baud: 0, wiring: '', stopAt: undefined, plan: undefined },
     ['port', 'ask', 'try', 'read', 'stopped-undo', 'upload', 'file', 'write', 'compare']], [], false, 'The USB adapter 0001:0abc.']);
+  Object.defineProperty(globalThis, 'navigator', { value: {}, configurable: true }); await from('page.js');
+  Object.assign(state, { image: { says: 'a', parts: [{ at: 0x08000400, bytes: Uint8Array.of(1, 2) }] }, isKept: true, chips: [{ id: '0412', name: 'x', entry: 'base = 0x08000000\npages = [[32, 1024]]\n' }] }); const lost = { status: 1, err: 'stmflash: line failed\n', ended: 'NetworkError' }, gone = { error: 'it is gone', status: undefined }, failed = ['bad', 'Not done: line failed', 'The adapter is gone: plug it in again.'];
+  for (const [act, how, ...due] of [['read', { read: lost }, ...failed], ['read', { get: gone }, 'bad', 'Not done: it is gone'], ['compare', { info: lost }, ...failed], ['compare', { read: lost }, ...failed], ['compare', { get: gone }, 'bad', 'Not done: it is gone'], ['compare', {}, 'good', 'Done: 1 of 1 pages differ, in 1 bytes: 1. A write changes these pages.']]) {
+    Object.assign(answers, { info: { out: 'id 0412\nsize 32768' }, read: {}, get: { bytes: Uint8Array.of(1, 3) } }, how); asked.length = 0; holds(`what came of ${act}, and nothing is saved: ${Object.keys(how)}`, [await ends(stmflash.acts[act]().then(() => [it.told.className, ...it.told.all.map((line) => line.all[0]).filter((text) => !text.startsWith('Download'))])), asked.filter((one) => typeof one === 'string')], [due, []]);
+  }
 }
 
 // the store: names on the disk. A disk that loses its power has of each sector that was written since the last flush the old bytes, the
@@ -265,30 +263,25 @@ const choose = () => { seed = (seed * 48271) % 2147483647; return seed >> 6; };
   const { write } = disk[0];
   disk[0].write = () => { disk[0].write = write; throw new Error('no'); };
   try { store.rename('/boards/b', '/boards/a'); } catch { /* the older name stays */ }
-  const again = new Store(disk);
-  holds('of two files of a name the newer one', contents(again), { a: 'newer' });
+  const again = new Store(disk); holds('of two files of a name the newer one', contents(again), { a: 'newer' });
   again.remove('/boards/a');
   holds('and the older one doesn\'t come back', contents(new Store(disk)), {});
   holds('no file is the line', again.pool.every((it) => it.ino > machine({ store: again, line: { name: '/dev/board' } }).told(0, '/dev/board').ino));
 }
 {
-  const store = new Store(disks(3)), open = store.open('/boards/a', { creates: true });
-  open.write(bytesOf('kept'), 0); store.remove('/boards/a');
+  const store = new Store(disks(3)), open = store.open('/boards/a', { creates: true }); open.write(bytesOf('kept'), 0); store.remove('/boards/a');
   const bytes = new Uint8Array(4);
   holds('what is open stays readable without a name', [open.read(bytes, 0), new TextDecoder().decode(bytes), store.look('/boards/a') === undefined], [4, 'kept', true]);
   make(store, 'b', 'B'); open.read(bytes, 0);
-  holds('and nobody else gets its place', new TextDecoder().decode(bytes), 'kept');
-  open.close();
-  const one = inMemory(), have = new Uint8Array(8194), wanted = new Uint8Array(8194);
-  make(new Store([one]), 'é', '!');
+  holds('and nobody else gets its place', new TextDecoder().decode(bytes), 'kept'); open.close();
+  const one = inMemory(), have = new Uint8Array(8194), wanted = new Uint8Array(8194); make(new Store([one]), 'é', '!');
   wanted.set([...bytesOf('stmpool1'), 1, 0, 0, 0, 0, 0, 0, 0, 10, 0, ...bytesOf('/boards/é')], 4096), new DataView(wanted.buffer).setUint32(4604, 0xa477d188, true), wanted.set([33], 8192);
   holds('a journal lies on the disk as pages of before have it', [one.read(have, { at: 0 }), have], [8193, wanted]);
   const over = store.open('/boards/b', {}); make(store, 'c', 'C'); store.rename('/boards/c', '/boards/b');
   holds('what is replaced while it is open', [over.read(bytes, 0), contents(store), store.look('/boards/c')], [1, { b: 'C' }, undefined]);
   over.close(); holds('places come back', store.free(), 2);
   make(store, 'd', 'long before'); store.remove('/boards/d'); make(store, 'd', '');
-  holds('nothing is left of another file', contents(store), { b: 'C', d: '' });
-  make(store, 'e', '');
+  holds('nothing is left of another file', contents(store), { b: 'C', d: '' }); make(store, 'e', '');
   holds('no place left', thrownBy(() => make(store, 'f', '')).number, E.NOSPC); holds('nor in a head', [482, 483].map((it) => thrownBy(() => make(new Store([inMemory()]), 'n'.repeat(it), ''))?.number), [undefined, E.INVAL]);
   store.open('image', { creates: true }).close();
   holds('files beside are in memory', [store.free(), store.look('/image')?.kind, store.look('/image')?.size, contents(store).image], [0, 'file', 0, undefined]);
@@ -297,19 +290,24 @@ const choose = () => { seed = (seed * 48271) % 2147483647; return seed >> 6; };
 // the worker: what it is handed over has a place each time, and is whole or not there where the power goes ahead of any flush. One page at
 // a time has a file of the pool.
 {
-  let opening = -3;
-  seed = 1;
-  const asked = {}, files = new Map(), path = '/boards/a';
+  let opening = -3, held; seed = 1;
+  const asked = {}, told = [], order = [], files = new Map(), path = '/boards/a';
   const file = (disk, holder) => ({ disk, async createSyncAccessHandle() { if (holder === opening) throw new DOMException('', 'NoModificationAllowedError'); holder = opening; return disk; } });
   const folder = { values: () => [...files.values()], getDirectoryHandle: async () => folder, getFileHandle: async (name) => files.get(name) ?? files.set(name, file(weak())).get(name) };
-  Object.defineProperty(globalThis, 'navigator', { value: { locks: { request: (...it) => it.at(-1)({}) }, storage: { getDirectory: async () => folder } } });
-  Object.assign(globalThis, { onmessage: undefined, fetch: async () => new Response(''), postMessage: (it) => asked[it.id]?.(it) });
-  Object.assign(WebAssembly, { compileStreaming: async () => new WebAssembly.Module(Uint8Array.of(0, 97, 115, 109, 1, 0, 0, 0)) });
+  Object.defineProperty(globalThis, 'navigator', { value: { locks: { request: (_, ...it) => (held = it.at(-1)(it.length > 1 && opening === -3 ? null : {})) }, storage: { getDirectory: async () => folder }, serial: { getPorts: async () => [{ getInfo: () => ({}) }] } } });
+  Object.assign(globalThis, { onmessage: undefined, fetch: async () => new Response(''), postMessage: (it) => (it.id ? asked[it.id](it) : told.push(...Object.keys(it))) });
+  Object.assign(WebAssembly, { compileStreaming: async () => new WebAssembly.Module(Uint8Array.of(0, 97, 115, 109, 1, 0, 0, 0, 1, 7, 1, 96, 2, 127, 126, 1, 127, 3, 2, 1, 0, 7, 8, 1, 4, 109, 97, 105, 110, 0, 0, 10, 6, 1, 4, 0, 65, 0, 11)) });
   const ask = (act, given) => new Promise((resolve) => { asked[act] = resolve; onmessage({ data: { id: act, act, ...given } }); });
   for (; opening < 40; opening++) {
     if (opening >= 0) files.clear();
     await from(`worker.js?${opening}`);
     if (opening < 0) { holds('each opening has a place for 16 more', [(await ask('put', { path: `/boards/${opening}`, bytes: bytesOf('') })).error, files.size], [undefined, 19 + opening]); continue; }
+    if (!opening) {
+      const { close } = Line.prototype, { getDirectoryHandle } = folder, call = () => ask('run', { words: ['info'], line: { info: {}, baud: 9600 } }).then((it) => order.push(it.status, it.error?.slice(0, 28)));
+      Line.prototype.close = () => soon(9).then(() => order.push('closed')); await Promise.all([call(), ask('list').then(() => order.push('listed'))]);
+      folder.getDirectoryHandle = async () => { throw new Error('not there'); }; await call(); Object.assign(Line.prototype, { close }); Object.assign(folder, { getDirectoryHandle });
+      holds('a call is answered once its line is closed, the next waits for it, and none begins where the files were cleared', order, ['closed', 0, '', 'listed', undefined, 'what this page has on the di']); holds('one tab has the files as long as it is open, and another waits', [told, await Promise.race([held, soon(9).then(() => 'held')])], [['waits', ...Array(4).fill('compiled')], 'held']);
+    }
     for (let k = 0; k < 20; k += opening ? 20 : 1) holds('it can be had, and be gone', [(await ask('put', { path, bytes: bytesOf(`${k}`) })).error, (await ask('get', { path })).bytes, (await ask('remove', { path })).error], [undefined, bytesOf(`${k}`), undefined]);
     const disk = [...files.values()].map((it) => it.disk), lose = () => { for (const it of disk) { it.before = undefined; it.lose(choose); } return contents(new Store(disk)).a ?? 'not there'; };
     let left = opening % 6, lost;

@@ -59,14 +59,16 @@ const acts = {
     knowChip(told.id, Number(told.size));
     const it = await run(['read', ...named(), '-S', `0x${laid.low.toString(16)}:${laid.bytes.length}`, '/there'], { onBoard: true });
     if (it.status) return end(it, []);
-    const { bytes } = await ask('get', { path: '/there' }), pages = state.pages ?? [], { numbers } = where(pages, laid.low, laid.bytes, () => true);
+    const { bytes, error } = await ask('get', { path: '/there' }), pages = state.pages ?? [], { numbers } = where(pages, laid.low, laid.bytes, () => true);
+    if (error) return end({ ...it, error }, []);
     const other = where(pages, laid.low, laid.bytes, (byte, i) => byte !== bytes[i]);
     return end(it, [other.count ? `${other.numbers.length} of ${numbers.length} pages differ, in ${other.count} bytes: ${ranges(other.numbers)}. A write changes these pages.` : 'The board has just these bytes.']);
   },
   async read() {
     const form = $('form').value, path = `/flash.${form}`, it = await run(['read', ...named(), ...(form === 'hex' ? ['--hex'] : []), path], { onBoard: true });
-    if (!it.status) save(path.slice(1), (await ask('get', { path })).bytes);
-    return end(it, [`The flash is in ${path.slice(1)}.`]);
+    const { bytes, error } = it.status ? it : await ask('get', { path });
+    if (bytes) save(path.slice(1), bytes);
+    return end(bytes ? it : { ...it, error }, [`The flash is in ${path.slice(1)}.`]);
   },
   try: tryBoard,
   undo,
