@@ -53,7 +53,7 @@ static ULONG flushed_by; // the rights of the handle
 static ULONGLONG locked;
 static int option;
 static DCB state;
-static bool has_posix, private; // (private: a list that has none of its folder's entries)
+static bool has_posix, private, is_link, is_opened; // (private: a list that has none of its folder's entries; is_link: each name is a link, which was opened itself)
 static char signals[64];
 static const wchar_t *list; // in the place of an open file's rights; the answer that Windows gives, and what it was given; and whether there is a list
 static DWORD security, secured, posix_flags;
@@ -66,7 +66,7 @@ static COMMTIMEOUTS waits;
 
 static HANDLE WINAPI tried_create(const wchar_t *path, DWORD access, DWORD share, SECURITY_ATTRIBUTES *rights, DWORD how, DWORD flags, HANDLE like)
 {
-    private |= rights != NULL && (((SECURITY_DESCRIPTOR *)rights->lpSecurityDescriptor)->Control & SE_DACL_PROTECTED) != 0;
+    is_opened = (flags & FILE_FLAG_OPEN_REPARSE_POINT) != 0, private |= rights != NULL && (((SECURITY_DESCRIPTOR *)rights->lpSecurityDescriptor)->Control & SE_DACL_PROTECTED) != 0;
     SetLastError(refused);
     HANDLE it = refused != 0 ? INVALID_HANDLE_VALUE : CreateFileW(path, access, share, rights, how, flags, like);
     return opened += it != INVALID_HANDLE_VALUE, it;
@@ -139,6 +139,8 @@ static DWORD WINAPI tried_security(HANDLE handle, SE_OBJECT_TYPE kind, SECURITY_
     return ERROR_SUCCESS;
 }
 
+static DWORD WINAPI tried_attributes(const wchar_t *path) { return GetFileAttributesW(path) | (is_link ? FILE_ATTRIBUTE_REPARSE_POINT : 0); }
+static BOOL WINAPI tried_information(HANDLE it, BY_HANDLE_FILE_INFORMATION *told) { return GetFileInformationByHandle(it, told) && (told->dwFileAttributes |= is_link && is_opened ? FILE_ATTRIBUTE_REPARSE_POINT : 0, TRUE); }
 static DWORD WINAPI tried_final(HANDLE handle, wchar_t *path, DWORD room, DWORD how)
 {
     return leads != NULL ? (DWORD)wcslen(wcscpy(path, leads)) : GetFinalPathNameByHandleW(handle, path, room, how);
@@ -165,7 +167,8 @@ void *__imp_tried_flush = tried_flush, *__imp_tried_set = tried_set, *__imp_trie
     *__imp_tried_security = tried_security, *__imp_tried_create = tried_create, *__imp_tried_errors = tried_errors, *__imp_tried_waits = tried_waits,
     *__imp_tried_write = tried_write, *__imp_tried_list = tried_list, *__imp_tried_end = tried_end, *__imp_tried_close = tried_close,
     *__imp_tried_secure = tried_secure, *__imp_tried_purge = tried_purge, *__imp_tried_socket = tried_socket, *__imp_tried_accept = tried_accept,
-    *__imp_tried_shut = tried_shut, *__imp_tried_final = tried_final;
+    *__imp_tried_shut = tried_shut, *__imp_tried_final = tried_final, *__imp_tried_attributes = tried_attributes,
+    *__imp_tried_information = tried_information;
 
 // --- helpers
 
@@ -349,22 +352,18 @@ static void test_paths(void)
 static void test_files(void)
 {
     char buf[64];
-    FAILS(sysv_open("none", 0, 0), 2);
-    FAILS(sysv_open("none/none", 0101, 0666), 2);
+    FAILS(sysv_open("none", 0, 0), 2); FAILS(sysv_open("none/none", 0101, 0666), 2);
     int one = sysv_open("one", 0302, 0666);
     HOLDS(one == 3 && sysv_write(one, "abcdef", 6) == 6 && sysv_lseek(one, 2, 0) == 2 && sysv_read(one, buf, 3) == 3 && memcmp(buf, "cde", 3) == 0);
     HOLDS(sysv_lseek(one, -1, 1) == 4 && sysv_lseek(one, 0, 2) == 6 && sysv_read(one, buf, 3) == 0);
-    FAILS(sysv_lseek(one, -1, 0), 22);
-    FAILS(sysv_open("one", 0301, 0666), 17);
+    FAILS(sysv_lseek(one, -1, 0), 22); FAILS(sysv_open("one", 0301, 0666), 17);
     FAILS(sysv_open(".", 1, 0), 21);
     HOLDS(sysv_ftruncate(one, 3) == 0 && told("one", 0).size == 3 && sysv_lseek(one, 0, 1) == 6);
     // another number of the same, from one on
     int same = sysv_fcntl(one, 1030, 20);
     HOLDS(same == 20 && sysv_lseek(same, 1, 0) == 1 && sysv_lseek(one, 0, 1) == 1 && sysv_close(one) == 0 && sysv_read(same, buf, 9) == 2 && sysv_close(same) == 0);
-    FAILS(sysv_close(same), 9);
-    FAILS(sysv_fcntl(3, 1030, 0), 9);
-    FAILS(sysv_read(3, buf, 1), 9);
-    FAILS(sysv_write(-1, buf, 1), 9);
+    FAILS(sysv_close(same), 9); FAILS(sysv_fcntl(3, 1030, 0), 9);
+    FAILS(sysv_read(3, buf, 1), 9); FAILS(sysv_write(-1, buf, 1), 9);
     // a console ends its lines by CR LF, and none of its reads is an end before the end: a reader of single bytes takes each line
     HOLDS(put_file("typed", "y\r\n\r\nyes\r\n") == 0);
     for (size_t room = 1, n = 0; room <= sizeof buf; room++, n = 0) {
@@ -381,8 +380,7 @@ static void test_files(void)
     FAILS(sysv_read(second, buf, 1), 13);
     HOLDS(sysv_close(first) == 0 && sysv_close(second) == 0 && put_file("added", "x") == 0 && holds("added", "x"));
     int folder = sysv_open(".", 0, 0);
-    FAILS(sysv_read(folder, buf, 1), 21);
-    HOLDS(folder == 3 && !sysv_isatty(folder) && sysv_close(folder) == 0);
+    FAILS(sysv_read(folder, buf, 1), 21); HOLDS(folder == 3 && !sysv_isatty(folder) && sysv_close(folder) == 0);
     // 512 numbers, and what has none is closed
     int last = 0, count = 0;
     for (int number; (number = sysv_open("one", 0, 0)) >= 0; count++)
@@ -393,8 +391,7 @@ static void test_files(void)
     HOLDS(sysv_unlink("one") == 0);
     int nothing = sysv_open("NUL", 1, 0);
     HOLDS(nothing == 3 && (most = 1, sysv_write(nothing, "xy", 2)) == 1 && (most = -1, sysv_write(nothing, "xy", 2)) == 2);
-    FAILS(sysv_lseek(nothing, 0, 0), 29);
-    HOLDS(sysv_close(nothing) == 0);
+    FAILS(sysv_lseek(nothing, 0, 0), 29); HOLDS(sysv_close(nothing) == 0);
 }
 
 static void test_rights(void)
@@ -406,8 +403,7 @@ static void test_rights(void)
     HOLDS(sysv_fchmod(one, 0600) == 0 && (told("private", 0).mode & 0777) == 0600 && secured == 0 && sysv_fchmod(one, 0666) == 0 && (told("private", 0).mode & 0777) == 0644);
     HOLDS(secured == (DACL_SECURITY_INFORMATION | UNPROTECTED_DACL_SECURITY_INFORMATION));
     HOLDS(sysv_fchmod(one, 0444) == 0 && (told("private", 0).mode & 0222) == 0 && sysv_close(one) == 0);
-    FAILS(sysv_fchmod(77, 0600), 9);
-    FAILS(sysv_lchown("private", 1007, 1007), 1);
+    FAILS(sysv_fchmod(77, 0600), 9); FAILS(sysv_lchown("private", 1007, 1007), 1);
     // who may what, as Windows writes it: SY the system, BA administrators, BU users, AU who has logged in, WD everybody; as much by a mark (%ls):
     // what is a folder's, or is handed on
     static const wchar_t *const marks[] = {L"", L"ID", L"OICI", L"CIID", L"NPOI"};
@@ -529,6 +525,10 @@ static void test_folder(void)
     HOLDS(sysv_close(folder) == 0);
     FAILS(sysv_rattle_open_dir_at(-100, "many/1-ü"), 20);
     FAILS(sysv_rattle_open_dir_at(-100, "none"), 2);
+    is_link = true; // which is followed for what is told of it, unless that is asked for, and not for its entries
+    FAILS(sysv_rattle_open_dir_at(-100, "many"), 20);
+    HOLDS((told("many", 0).mode & 0170000) == 0040000 && (told("many", 0x100).mode & 0170000) == 0120000 && (told("many/1-ü", 0x100).mode & 0170000) == 0120000);
+    is_link = false;
     int file = sysv_open("many/1-ü", 0, 0);
     FAILS(sysv_getdents64(file, buf, sizeof buf), 20);
     HOLDS(sysv_close(file) == 0);
