@@ -1,6 +1,7 @@
 """What stmflash-line says where a port can't be had or goes: one line each, with what to do (tests/line.rows has most)."""
 
 import ast
+import contextlib
 import glob
 import grp
 import os
@@ -11,10 +12,12 @@ import signal
 import subprocess
 import sys
 import unittest
+from unittest import mock
 
 from boards import LINE, REAL, LinePlace, LineRows, default_signals, end_with
 from place import WAIT, Said, text_in
 from rows import cases
+from stmflash_line import command, faults, session
 
 NOBODY = 65534
 
@@ -121,6 +124,19 @@ class Pulled(LinePlace):
         os.close(master)
         self.assertEqual(self.ended(started), Said(1, b"TERM\n", self.UNPLUGGED))
         self.assertFalse(os.path.exists(f"/proc/{child}"))
+
+    def test_what_was_had_is_let_go_of(self):
+        """Lines and port, whatever ended the call; and COMMAND is waited for, told to end, and killed in the end."""
+        had, call = mock.Mock(), mock.call
+        with mock.patch.multiple(session, make_lines=lambda _: had.lines, open_port=lambda *_: had.port, use_board=mock.Mock(side_effect=[0, faults.Fault])):
+            for chip, ended in ((None, contextlib.nullcontext()), ("chip", self.assertRaises(faults.Fault))):
+                with ended:
+                    session.use_port(mock.Mock(watch=False, after=(), gpio_chip=chip), None)
+        self.assertEqual(had.mock_calls, [call.port.close(), call.lines.close(), call.port.close()])
+        for times in range(3):
+            child = mock.Mock(**{"wait.side_effect": [*times * [subprocess.TimeoutExpired("it", 5)], 0]})
+            command.end(child)
+            self.assertEqual(child.mock_calls, [call.wait(5), call.terminate(), call.wait(5), call.kill(), call.wait()][:2 * times + 1])
 
     def test_a_write_is_undone(self):
         """A board is pulled in a write, and plugged in again."""

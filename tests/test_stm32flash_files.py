@@ -2,6 +2,7 @@
 of a port stand."""
 
 import os
+import threading
 import tomllib
 from unittest import mock
 
@@ -20,8 +21,11 @@ class Handed(Words):
         os.symlink("/dev/stdin", self.path("linked"))
         # which by stmflash is a place of an image
         os.symlink("image", self.path("to@0x08000400"))
+        # and one whose bytes come but once
+        os.mkfifo(self.path("pipe"))
+        threading.Thread(target=self.store, args=("pipe", b"new"), daemon=True).start()
         with open(self.path("image"), "rb") as image:
-            for name in ("/dev/stdin", "/dev/fd/0", f"/dev/fd/{image.fileno()}", f"/proc/self/fd/{image.fileno()}", "linked", "to@0x08000400"):
+            for name in ("/dev/stdin", "/dev/fd/0", f"/dev/fd/{image.fileno()}", f"/proc/self/fd/{image.fileno()}", "linked", "to@0x08000400", "pipe"):
                 with self.subTest(name=name):
                     self.leaves(board, NEW, "-w", name, "-v", stdin=image, pass_fds=[image.fileno()])
                     self.leaves(board, COUNTING, "--undo")
@@ -58,24 +62,9 @@ class Handed(Words):
             self.well("-r", "/dev/stdout", *part, stdout=out)
         self.assertFile("all", b"before" + COUNTING[:1000])
 
-    def test_one_that_is_not_there(self):
-        end = self.plain()
-        for word, text in (("-w", b"Intel HEX"), ("-r", b"Raw BINARY")):
-            self.fails(text + b" ERROR: System Error\n/dev/fd/9: No such file or directory\n", word, "/dev/fd/9")
-        self.assertNothingSent(end)
-
 
 class Hex(Words):
     """Raw bytes into names that end in .hex."""
-
-    def test_a_link_is_followed(self):
-        self.flash(COUNTING)
-        for name in ("link.hex", "link.bin"):
-            os.symlink("out.hex", self.path(name))
-            self.well("-r", name, "-S", "0x08000000:1000")
-            self.assertFile("out.hex", COUNTING[:1000])
-            self.assertTrue(os.path.islink(self.path(name)))
-            self.remove("out.hex")
 
     def test_what_stands_there_stays_until_all_is_read(self):
         synced, reads = [], actions.Actions(None, None, None, None)
@@ -97,24 +86,9 @@ class Hex(Words):
 class Tables(Words):
     """Where no word names a table."""
 
-    OWN = TABLE.replace(b"[32, 1024]", b"[16, 2048]")
-
     def own(self, text, folder=".config/stmflash"):
         os.makedirs(self.path(folder))
         self.store(folder + "/chips.toml", text)
-
-    def test_the_users_own_goes_over_the_installed_one(self):
-        """A chip of a table of one's own has the pages that stand there, whatever the installed table says of it."""
-        self.own(b"\xef\xbb\xbf" + self.OWN)
-        # what the board is
-        self.store("table", self.OWN)
-        board = self.flash(COUNTING)
-        said = self.leaves(board, COUNTING[:2048] + ERASED[:2048] + COUNTING[4096:], "-o", "-s", "1", "-e", "1", STMFLASH_TABLE="")
-        self.assertIn(b"Device ID    : 0x0412 ()\n- Flash      : Up to 32KiB (size first sector: 1x2048)\n", said.out)
-        self.leaves(board, COUNTING, "--undo", STMFLASH_TABLE="")
-        self.store(".config/stmflash/chips.toml", b"[[chip]]\n")
-        said = self.words("-m", "8n1", STMFLASH_TABLE="")
-        self.assertEqual((said.status, said.err.split(b",")[0]), (1, b"ERROR: the table of chips"))
 
     def test_sessions_have_each_table(self):
         """A chip that the installed table alone has is known too, and where it tells its board."""

@@ -526,8 +526,7 @@ class Parts(Place):
             """How often it was done and undone, and whether it ended well; `written`: it has changed something, `stays`: that can't
             be undone, `is_large`: the journal of before is put aside."""
             board, results = mock.Mock(), iter([*map(Failed, faults), "done"])
-            board.journals.is_large.return_value, board.is_unfinished.return_value = is_large, False
-            board.undoable.return_value = 1
+            board.journals.is_large.return_value, board.is_unfinished.return_value, board.undoable.return_value = is_large, False, 1
             board.put_aside.side_effect = lambda: setattr(board.undoable, "return_value", 0)
 
             def change():
@@ -543,13 +542,14 @@ class Parts(Place):
 
             act, board.undo.side_effect = mock.Mock(side_effect=change), undo
             asked, ended = words.Words(action="w", retries=retries), False
-            with contextlib.suppress(Fault), contextlib.redirect_stderr(io.StringIO()):
+            with contextlib.redirect_stderr(io.StringIO()) as told, contextlib.suppress(Fault):
                 actions.Actions(asked, board, None, None).change(act)
                 ended = True
+            self.assertEqual(told.getvalue().count(": the flash is as before, and it is done again\n"), act.call_count - 1)
             return act.call_count, board.undo.call_count, ended
 
         one, other, otherwise = "differs at 08000000", "differs at 08000400", "device does not follow the protocol"
-        for given, due in (((10,), (1, 0, True)), ((10, one, other), (3, 2, True)), ((1, one, other), (2, 2, False)), ((0, one), (1, 1, False)),
+        for given, due in (((10,), (1, 0, True)), ((10, one, other), (3, 2, True)), ((10, one, otherwise), (2, 2, False)), ((1, one, other), (2, 2, False)), ((0, one), (1, 1, False)),
                            ((10, one, one), (2, 2, False)), ((10, otherwise), (1, 1, False)), ((10, "no answer from the device"), (1, 0, False))):
             self.assertEqual((given, tries(*given)), (given, due))
         self.assertEqual(tries(10, otherwise, written=False), (1, 0, False))

@@ -525,7 +525,7 @@ def of_modules(text, *words, status=0):
 
 PARTS = """
 from types import SimpleNamespace as Of
-import builtins, glob, itertools, line as ways, re, rows_asking, rows_ending, rows_reading, settling, socket, told, trial
+import builtins, glob, itertools, line as ways, re, rows_asking, rows_ending, rows_reading, settling, socket, speeds, told, trial
 from board import Board
 from settling import limit_of
 made = Board.__new__(Board)
@@ -594,6 +594,13 @@ for fault in (ways.Refused, KeyboardInterrupt, ways.Ended):
     try: ways.Line(Of(port='P'))
     except fault: print(glob.glob(made[-1]))
 for seconds in (1, 0.3, 61): rows_ending.need_wait(slow, seconds) or print(slow)
+rows_ending.put_back, rows_ending.is_back = lambda it, _: it.changed, lambda it, page: page not in it.left
+for changed, left, harm in (([], [], ''), ([1], [], ''), ([1, 7], [7], ''), ([1, 7], [], ''), ([1, 7], [], 'x')):
+    tell(rows_ending.give_back.act, Of(changed=changed, left=left, harm=harm, words=Of(pages=[1])))
+for given in (Of(wiring='W', reset=''), Of(wiring='', reset='R'), Of(wiring='', reset='')):
+    speeds.Line, speeds.asked, done, given.chips = lambda _: Of(reset=lambda: done.append('reset'), close=lambda: done.append('closed')), lambda *_: done.append('asked'), [], ()
+    speeds.tried(given)
+    print(*done)
 slow.refusal = None
 print(*told.judge(slow, [told.Found(rows_reading.save, told.DIFFERS, '', rows_reading.save.means)], 'a signal'), sep='; ')
 """
@@ -701,6 +708,9 @@ class Parts(unittest.TestCase):
             "[]", "[]", "[]",
             # the longest wait that a row needs; and what a row found goes before a signal
             *2 * ["namespace(options={'wait': 1000}, refusal=None)"], "namespace(options={'wait': 60000}, refusal='it is too slow for any --wait')",
+            # what was put back is as it was, and no other page was another; and before each speed the board is reset, also by a hand
+            "None", "None", "Differs; page 7 isn't as it was: write the saved file; ", "Differs; page 7 was changed, and wasn't named; it is as it was again; ", "None",
+            "asked closed", "reset asked closed", "reset asked closed",
             "don't use; save: the journal can't keep a page"])
 
 
