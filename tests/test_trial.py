@@ -260,17 +260,17 @@ class Words(TrialPlace):
         self.assertFalse(self.is_there("trial.toml"))
 
     def test_words_that_cannot_be_done(self):
-        self.store_all({"table": table("44"), "here": b"kept", "bad": b"[[chip]]\nid = 1\n"})
+        self.store_all({"table": table("44"), "here": b"kept", "held": b"stmjournal 1 0410\n", "bad": b"[[chip]]\nid = 1\n"})
         os.symlink("saved", self.path("linked"))
         other = "give --out another name\n"
         self.each((
             ("", "no board"), ("--port= --yes", "an empty word"), ("--device none", "--yes, where nobody can be asked"), ("--device none --port none", "either --device or --port"),
             ("--device none --yes", "stmflash-trial: none: No such file or directory; --device names a socket that is served\n"),
-            ("--device none --wiring dtr-reset", "--wiring is for --port"), ("--device none --yes --pages 1,-2", "--pages"),
+            ("--device none --wiring dtr-reset", "--wiring is for --port"), *((f"--device none --yes --pages {it}", "--pages: pages are numbers, as 62,63") for it in ("1,-2", "1-3")),
             ("--device none --yes --skip erase,nothing", "no row is named nothing"),
             ("--device none --yes --skip pause,put-back", "put-back can't be left out"),
             ("--device none --yes --out saved", f"saved: is --save too; {other}"), ("--device none --yes --wait 0", "--wait is 1 to 60000"),
-            ("--device none --yes --out linked", f"linked: is --save too; {other}"),
+            ("--device none --yes --out linked", f"linked: is --save too; {other}"), ("--device none --yes --out held", f"held: is a journal; {other}"),
             ("--device none --yes --out ./table", f"./table: is the chip table too; {other}"),
             *((f"--device none --yes --save {it}", f"{it}: is there already; give --save another name\n") for it in ("here", "linked")),
             ("--device none --yes --table bad", "bad: is no chip table; --table names another\n"),

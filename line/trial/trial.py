@@ -189,11 +189,11 @@ def signals(handler):
 
 def write_anew(path, text):
     """The file is the old one or the new one, whatever comes; what is no file, as a pipe or a device, is written to as it is."""
-    path = os.path.realpath(path)
     if os.path.exists(path) and not os.path.isfile(path):
         with open(path, "w", encoding="utf-8") as place:
             place.write(text)
         return
+    path = os.path.realpath(path)
     unready = f"{path}.{os.getpid()}.new"
     # a file that has this name isn't ours
     with open(unready, "x", encoding="utf-8") as file:

@@ -17,10 +17,18 @@ nothing was changed"""
 
 
 def pages_of(text):
-    pages = [int(word) for word in text.split(",")]
-    if min(pages) < 0:
-        raise ValueError
-    return sorted(set(pages))
+    words = text.split(",")
+    if not all(word.isdecimal() for word in words):
+        raise argparse.ArgumentTypeError("pages are numbers, as 62,63")
+    return sorted(set(map(int, words)))
+
+
+def is_journal(name):
+    """Whether a way back is in a file."""
+    if not os.path.isfile(name):
+        return False
+    with open(name, "rb") as file:
+        return file.read(11) == b"stmjournal "
 
 
 def names_of(text):
@@ -96,4 +104,6 @@ def read(words, folder):
     for name, path in (("--save", given.save), *(("the chip table", path) for path in tables)):
         if os.path.realpath(given.out) == os.path.realpath(path):
             raise Refused(f"{given.out}: is {name} too; give --out another name")
+    if is_journal(given.out):
+        raise Refused(f"{given.out}: is a journal; give --out another name")
     return given
