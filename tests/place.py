@@ -51,7 +51,6 @@ SILENT = "nothing came: is the board in its bootloader, with power?"
 ECHO = "the line echoes: are RX and TX joined?"
 NOISE = "bytes came that are no answer: is the board in its bootloader, is the speed right?"
 BUSY = "the board says that it is busy (76): wait, and try again; stmflash can't use one that says so each time"
-UNREAD = "address {:08X}: the device refused to read it: is the flash readout-protected, or smaller?"
 
 
 def program():

@@ -30,24 +30,12 @@ class Stated(Rows):
         self.play_page("stated.rows")
         self.play_page("uses.rows")
 
-    def test_each_use_of_words(self):
-        self.play_page("words.rows")
-
-    def test_each_use_of_a_folder(self):
-        self.play_page("folders.rows")
-
-    def test_each_use_that_is_told_as_json(self):
-        self.play_page("answers.rows")
-
-    def test_each_use_behind_a_crash(self):
-        self.play_all(cases("crashed.rows"))
-
-    def test_each_use_of_a_protected_flash(self):
-        self.play_all(cases("protected.rows"))
-
-    def test_each_use_on_linux(self):
-        self.play_all(cases("linux.rows"))
-
     def test_every_text_has_a_case(self):
         told = {line.removeprefix("stmflash: ") for _, lines in cases("stated.rows") for sign, line in lines if sign == "!"}
         self.assertEqual([text for text in TEXTS if text not in told], [])
+
+
+for name, page in (("of_words", "words"), ("of_a_folder", "folders"), ("that_is_told_as_json", "answers")):
+    setattr(Stated, f"test_each_use_{name}", lambda self, page=page: self.play_page(f"{page}.rows"))
+for name, page in (("behind_a_crash", "crashed"), ("of_a_protected_flash", "protected"), ("on_linux", "linux")):
+    setattr(Stated, f"test_each_use_{name}", lambda self, page=page: self.play_all(cases(f"{page}.rows")))

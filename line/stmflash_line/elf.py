@@ -15,13 +15,14 @@ WITH_IMAGE, RAW = ("write", "verify"), re.compile("-v*fv*|--force")
 DATA = re.compile(rb"^:(?!00)[0-9A-F]{6}00", re.M)
 
 
-def is_elf(path):
+def begins(path, magic=MAGIC):
+    """Whether a file begins with these bytes, an ELF file's where none are said."""
     # of a pipe stmflash would miss what is read here, and a port may have nothing to read
     if not os.path.isfile(path):
         return False
     try:
         with open(path, "rb") as file:
-            return file.read(len(MAGIC)) == MAGIC
+            return file.read(len(magic)) == magic
     except OSError:
         return False
 
@@ -57,7 +58,7 @@ def with_hex(command):
         return command
     if any(map(RAW.fullmatch, command)):
         return command
-    return command[:2] + [held(word) if is_elf(word) else word for word in command[2:]]
+    return command[:2] + [held(word) if begins(word) else word for word in command[2:]]
 
 
 class Held(str):

@@ -8,6 +8,7 @@ import sys
 from faults import Refused
 from rows import BACK, NAMES
 from stmflash_line.chips import read_chips
+from stmflash_line.elf import begins
 from stmflash_line.faults import Fault
 
 DESCRIPTION = """Tries, row by row, whether a board follows the model that stmflash's promises rest on. It saves the whole flash
@@ -21,14 +22,6 @@ def pages_of(text):
     if not all(word.isdecimal() for word in words):
         raise argparse.ArgumentTypeError("pages are numbers, as 62,63")
     return sorted(set(map(int, words)))
-
-
-def is_journal(name):
-    """Whether a way back is in a file."""
-    if not os.path.isfile(name):
-        return False
-    with open(name, "rb") as file:
-        return file.read(11) == b"stmjournal "
 
 
 def names_of(text):
@@ -104,6 +97,6 @@ def read(words, folder):
     for name, path in (("--save", given.save), *(("the chip table", path) for path in tables)):
         if os.path.realpath(given.out) == os.path.realpath(path):
             raise Refused(f"{given.out}: is {name} too; give --out another name")
-    if is_journal(given.out):
+    if begins(given.out, b"stmjournal "):
         raise Refused(f"{given.out}: is a journal; give --out another name")
     return given
