@@ -168,6 +168,7 @@ class Board:
         stopped = [] if self.own.chip or self.is_unfinished() else self.journals.stopped()
         if len(stopped) == 1 and stopped[0] != self.journals.nameless:
             self.journals.live, self.is_of_port = stopped[0], False
+            self.journals.refuse_other(stopped[0])
 
     def take_from_other(self):
         """The same while a command was stopped in the one in use, if that is sure to be another board's; whether it is."""

@@ -16,8 +16,7 @@ DATA = re.compile(rb"^:(?!00)[0-9A-F]{6}00", re.M)
 
 
 def begins(path, magic=MAGIC):
-    """Whether a file begins with these bytes, an ELF file's where none are said."""
-    # of a pipe stmflash would miss what is read here, and a port may have nothing to read
+    """Whether a file begins with these bytes; of a pipe stmflash would miss what is read here, and a port may have nothing to read."""
     if not os.path.isfile(path):
         return False
     try:
