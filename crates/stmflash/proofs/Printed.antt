@@ -5,7 +5,6 @@ use Rattle.std.proofs.Common.{codes, inl, inr, refl, subst, sym}
 use Rattle.std.specs.Io.KnownBytes.{Appends}
 use Rattle.stm_wire.specs.Rig.{RigState}
 use Rattle.stm_words.specs.declared.request.Request.{Request}
-use Rattle.stm_work.specs.declared.failure.Failure.{Failure}
 use Rattle.stm_work.specs.declared.hint.Hint.{Hint}
 use Rattle.stm_work.specs.declared.steps.Steps.{Steps}
 use Rattle.stm_work.specs.Answer.{is_flash}
@@ -56,14 +55,6 @@ printed None P Q status none (inr (is, same)) zero = is
 printed (Some why) P Q status none told zero = absurd (cc)
 
 module _ {A B : Type 0} (simulated : A → RigState) (connected : B → RigState) where
-  -- the steps of a request, by its kind
-  pub steps-of : (request kind : Request) (came : Result Steps Failure) → request ≡ kind
-      → IfOk came (AreStepsOf simulated connected kind)
-      → IfOk came (AreStepsOf simulated connected request)
-  steps-of request kind came is of =
-      let P : Request → Type 0 = λ r. IfOk came (AreStepsOf simulated connected r) in
-      subst P (sym is) of
-
   module _ (request : Request) (is_json : Bool) (hint : Option Hint) (old new : Option (List ℕ))
       (status : ℕ) (steps : Steps) (of : AreStepsOf simulated connected request steps) where
     pub is-told : IsStatusOf is_json hint steps old new status

@@ -1,6 +1,6 @@
 -- From a work that was done to the steps that are told of it, and to the task that asked for it.
 use Rattle.std.proofs.Common.{◌≡◌, ◌==◌, ◌&&◌, Bool, true, false, List, ℕ, Result, Ok, Err, IfOk}
-use Rattle.std.proofs.Common.{◌∙◌, IsErrAnd, ap, inl, refl, subst, sym, ⊎_elim}
+use Rattle.std.proofs.Common.{IsErrAnd, refl, subst, sym, ⊎_elim}
 use Rattle.stm_wire.specs.Rig.{RigState}
 use Rattle.stm_words.specs.declared.options.Options.{Options}
 use Rattle.stm_words.specs.declared.sequel.Sequel.{Sequel}
@@ -8,17 +8,11 @@ use Rattle.stm_words.specs.declared.task.Task.{Task}
 use Rattle.stm_work.specs.declared.failure.Failure.{Failure}
 use Rattle.stm_work.specs.declared.steps.Steps.{Steps}
 use Rattle.stm_work.specs.declared.work.Work.{Work}
-use Rattle.stmflash.specs.DeviceUse.{UsesOnce}
 use Rattle.stm_work.specs.Action.{work_unless_fresh}
 use Rattle.stmflash.specs.TaskUse.{AreAsked, AreBeside, AreFound, AreOptionsOf, AreTaken}
 use Rattle.stmflash.specs.TaskUse.{UsesBeside, UsesTask, is_filed}
 use Rattle.stm_work.specs.TaskWork.{IsWorkFor}
 use Rattle.stmflash.specs.WriteUse.{UsesLast}
-
--- what is read once may go into a file
-once-out : (is_out : Bool) → is_out ≡ (is_out && (0 == 0))
-once-out true = refl
-once-out false = refl
 
 -- a device counts as fresh only by the words
 says-fresh : (in_folder : Bool) (words options : Options) → AreOptionsOf in_folder words options
@@ -57,38 +51,6 @@ found-options words options is found = let P : Bool → Type 0 = λ b. AreOption
     subst P (sym is) found
 
 module _ {A B : Type 0} (simulated : A → RigState) (connected : B → RigState) where
-  -- one use is the last, where none may follow
-  pub uses-last : (options : Options) (texts : List (List ℕ)) (does : Work) (sequel : Sequel)
-      (is_out : Bool) (came : Result Steps Failure) → sequel.again ≡ 0
-      → IfOk came (UsesOnce simulated connected options texts does sequel is_out)
-      → IfOk came (UsesLast simulated connected options texts does sequel
-      (is_out && (sequel.again == 0)))
-  uses-last options texts does sequel is_out (Ok steps) once uses =
-      let P : Bool → Type 0 =
-      λ b. UsesOnce simulated connected options texts does sequel b steps in
-      let Q : ℕ → Type 0 = λ n. is_out ≡ (is_out && (n == 0)) in
-      record {
-        last = does;
-        same = inl refl;
-        uses = subst P (subst Q (sym once) (once-out is_out)) uses;
-      }
-  uses-last options texts does sequel is_out (Err failure) once uses = tt
-
-  -- and what may be done again goes into no file
-  pub uses-later : (options : Options) (texts : List (List ℕ)) (does : Work) (sequel : Sequel)
-      (is_out : Bool) (came : Result Steps Failure) → (sequel.again == 0) ≡ false
-      → IfOk came (UsesLast simulated connected options texts does sequel false)
-      → IfOk came (UsesLast simulated connected options texts does sequel
-      (is_out && (sequel.again == 0)))
-  uses-later options texts does sequel is_out came other uses =
-      let P : Bool → Type 0 =
-      λ b. IfOk came (UsesLast simulated connected options texts does sequel b) in
-      subst P (sym (ap (λ b. is_out && b) other ∙ nowhere is_out)) uses
-    where
-      nowhere : (b : Bool) → (b && false) ≡ false
-      nowhere true = refl
-      nowhere false = refl
-
   -- a task, by its work and the options that were found
   pub uses-task : (words options : Options) (texts : List (List ℕ)) (asked : Task) (does : Work)
       (sequel : Sequel) (is_out : Bool) (came : Result Steps Failure) → IsWorkFor asked does
