@@ -164,7 +164,7 @@ class Board:
         return self.journals.live != before
 
     def take_stopped(self):
-        """Takes the one journal of a board in which a command was stopped at another port: this one may wait for the rest of it."""
+        """Takes the journal in which a command was stopped at another port: this board may wait for the rest of it. Of several none is taken."""
         stopped = [] if self.own.chip or self.is_unfinished() else self.journals.stopped()
         if len(stopped) == 1 and stopped[0] != self.journals.nameless:
             self.journals.live, self.is_of_port = stopped[0], False
