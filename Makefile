@@ -121,7 +121,6 @@ tests:
 TESTS_stm_wire = stm_rows
 TESTS_stm_sim = stm_rows
 TESTS_stm_watch = stm_tests
-TESTS_stm_line = stm_tests
 TESTS_stm_disk = stm_tests
 TESTS_stm_image = stm_rows
 TESTS_stm_chip = stm_rows

@@ -34,7 +34,7 @@ def headings(text):
 
 
 # crates that no call of a user comes to: tests and what is measured, Rigs for proofs, and what is told of a stored simulator
-UNCALLED = ("stm_tests", "stm_rows", "bench", "refused_memory", "stm_histories", "stm_line")
+UNCALLED = ("stm_tests", "stm_rows", "bench", "refused_memory", "stm_histories")
 IN_A_COMMAND = ("--raw", "--yes", "--check", "--last", "--help")  # options that stmflash(1) tells of where it tells of their command
 # faults that hand on what the memory, the line, or a file of the system said
 HANDED_ON = re.compile(r"::(?:Memory|Session|of_\w+|from|other)$|^(?:RigFault|io::Error)::|Fault::(?:Line|Journal|File)$")

@@ -1,4 +1,3 @@
-// Lines that are watched, and lines that are recorded.
+// Lines that are watched.
 mod heard;
-mod recorded;
 pub mod watched;

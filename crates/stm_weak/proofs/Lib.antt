@@ -15,7 +15,6 @@ mod Opening
 mod Feeding
 mod Ordinary
 mod Leading
-mod Vouching
 mod Unread
 mod Openness
 mod UniqueReads

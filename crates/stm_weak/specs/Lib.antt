@@ -4,7 +4,6 @@ pub mod History
 pub mod WeakDevice
 pub mod WeakRuns
 pub mod WeakLaws
-pub mod WeakRecord
 pub mod WeakFrames
 pub mod WeakMeaning
 pub mod WeakBelieved

@@ -3,7 +3,6 @@ ghost use Rattle.stm_weak.specs.WeakLaws.{FedAsOrdinary, LedAsOrdinary, OneIsLef
 ghost use Rattle.stm_weak.specs.WeakBelieved.{MayPutIsUnread};
 ghost use Rattle.stm_weak.specs.WeakFrames.{FramesAreUnread, FreshSettlingIsUnread};
 ghost use Rattle.stm_weak.specs.WeakMeaning.{EraseHeals, ReadsAnything};
-ghost use Rattle.stm_weak.specs.WeakRecord.{VouchedWhileUnread};
 ghost use Rattle.stm_weak.specs.WeakEvents.{EventsAreOrdinary, HistoriesAreOrdinary};
 ghost use Rattle.stm_weak.specs.FedEvents.{StoppedIsTame, StoppedSettlingIsUnread};
 ghost use Rattle.stm_weak.specs.FedHistory.{FedHistoriesAreOrdinary};
@@ -22,13 +21,6 @@ pub fn a_weak_device_is_ordinary_while_unread()
     ensures led { LedAsOrdinary }
     ensures one { OneIsLeft }
     ensures sound { SoundIsOrdinary }
-{}
-
-/// Where a device with weak pages answered as a record of calls says, and no byte of the record
-/// completes a read of one, the record vouches for an ordinary device (`Vouched` of `stm_line`).
-/// Before and behind each call the two differ in bytes of weak pages alone.
-pub fn an_unread_record_is_vouched_for()
-    ensures vouched { VouchedWhileUnread }
 {}
 
 /// A device with weak pages that waits for a command may be sent a frame of Get or Get ID, a read

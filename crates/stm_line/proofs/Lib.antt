@@ -1,3 +1,0 @@
-pub mod Replaying
-pub mod Recording
-pub mod Speaking

@@ -1,2 +1,0 @@
-pub mod ReplayedLaws
-pub mod RecordedLaws
