@@ -2,23 +2,17 @@
 use Rattle.std.proofs.Common.{◌≡◌, inl, inr, ℕ, zero, suc, ◌+◌, ◌*◌, ◌/◌, ◌==◌, ◌&&◌, Bool, true, false, if◌then◌else◌, List, [], ◌∷◌, ◌++◌, length, take, drop, sym, subst}
 use Rattle.std.specs.Prelude.{bytes_eq, is_none}
 use Rattle.std.specs.List.{AllByRecursion}
-use Rattle.stm_wire.specs.Chip.{ChipData, erased_byte, page_count, page_size}
-use Rattle.stm_wire.specs.Frames.{read_turns}
+use Rattle.stm_wire.proofs.Names.{ChipData, erased_byte, page_count, page_size, read_turns}
 use Rattle.stm_chip.specs.declared.plan.Frame.{Frame}
 use Rattle.stm_chip.specs.Plan.{frames_of}
 use Rattle.stm_journal.specs.declared.entry.Entry.TheVariants.{Names, Opens, Keeps, Ends}
-use Rattle.stm_journal.specs.Journals.{begin_entries, version_for}
-use Rattle.stm_journal.specs.States.{StateData}
+use Rattle.stm_journal.proofs.Names.{begin_entries, StateData, version_for}
 use Rattle.stm_session.specs.declared.change.Change.{Change}
 use Rattle.stm_session.specs.declared.fault.Fault.{Fault}
-use Rattle.stm_session.specs.ChangeOrder.{AreTurned, none, more, IsChangedUnless, IsSaved, IsSavedWith, IsSegmentBegun, begins, turns, ends, IsTurnOf}
-use Rattle.stm_session.specs.Contents.{content}
-use Rattle.stm_session.specs.Answers.{OutcomeData}
-use Rattle.stm_session.specs.Meaning.{CommandData, is_change}
-use Rattle.stm_session.specs.Order.{Step, Adds, Sends, page_address, page_reads, read_steps, rewrite_steps, write_steps}
-use Rattle.stm_session.specs.Reaching.{confirmed_at}
-use Rattle.stm_session.specs.RunOrder.{AreBegun, AreDoneInOrder, none as nothing_done, more as more_done, IsBegunIf, IsDoneIf, IsReading}
-use Rattle.stm_session.specs.Undoable.{has_companion}
+use Rattle.stm_session.proofs.Names.{Adds, AreBegun, AreDoneInOrder, AreTurned, begins, CommandData, confirmed_at, content, ends, has_companion, is_change, IsBegunIf, IsChangedUnless, IsDoneIf}
+use Rattle.stm_session.proofs.Names.{IsReading, IsSaved, IsSavedWith, IsSegmentBegun, IsTurnOf, none, OutcomeData, page_address, page_reads, read_steps, rewrite_steps, Sends, Step, turns, write_steps}
+use Rattle.stm_session.specs.ChangeOrder.{more}
+use Rattle.stm_session.specs.RunOrder.{none as nothing_done, more as more_done}
 use Rattle.stm_session.specs.lemmas.ClosingLaws.{goes_on, looked_by, segment_is_begun}
 use Rattle.stm_any_line.specs.Calls.{AllSay, RunSays}
 use Rattle.stm_any_line.proofs.Tracking.{say_as, say_front, say_then}

@@ -2,12 +2,10 @@
 use Rattle.std.proofs.Common.{inl, inr, List, [], Result, Ok, Err, refl}
 use Rattle.std.specs.Prelude.{OnOk, IfErr}
 use Rattle.stm_wire.specs.declared.chip.EraseKind.TheVariants.{Page}
-use Rattle.stm_wire.specs.Chip.{ChipData, chip_of}
-use Rattle.stm_wire.specs.Rig.{RigState}
-use Rattle.stm_journal.specs.Journals.{Loaded, empty_loaded}
+use Rattle.stm_wire.proofs.Names.{chip_of, ChipData, RigState}
+use Rattle.stm_journal.proofs.Names.{empty_loaded, Loaded}
 use Rattle.stm_session.specs.declared.fault.Fault.{Fault}
-use Rattle.stm_session.specs.Meaning.{CommandData}
-use Rattle.stm_session.specs.RunOrder.{RunStops}
+use Rattle.stm_session.proofs.Names.{CommandData, RunStops}
 use Rattle.stm_any_line.specs.Calls.{IsOfIfAny}
 
 -- what is so at Ok and at each fault

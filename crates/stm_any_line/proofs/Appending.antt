@@ -2,9 +2,8 @@
 use Rattle.std.proofs.Common.{◌≡◌, inl, inr, ℕ, List, [], ◌∷◌, ◌++◌, Some, None, refl, sym, ◌∙◌, ap, subst, append_assoc}
 use Rattle.stm_wire.specs.declared.fault.WireFault.{WireFault}
 use Rattle.stm_wire.specs.declared.fault.WireFault.TheVariants.{Line, Nack, Quiet, Garbled}
-use Rattle.stm_wire.specs.Call.{Call, Put, Get, Append, Fetch}
-use Rattle.stm_wire.specs.Dialogue.{Turn, Says, Acknowledged, Expects, Learns, AreLineCalls, IsBrokenOff, call_of, FailsBy}
-use Rattle.stm_session.specs.Order.{acts_of}
+use Rattle.stm_wire.proofs.Names.{Acknowledged, Append, AreLineCalls, Call, call_of, Expects, FailsBy, Fetch, Get, IsBrokenOff, Learns, Put, Says, Turn}
+use Rattle.stm_session.proofs.Names.{acts_of}
 use Rattle.stm_any_line.specs.Texts.{appended_in}
 
 -- what calls append

@@ -2,22 +2,12 @@
 use Rattle.std.proofs.Common.{◌≡◌, ◌⊎◌, inl, inr, ℕ, List, [], ◌∷◌, ◌++◌, length, refl, sym, ◌∙◌, subst}
 use Rattle.stm_image.specs.Lay.{lay}
 use Rattle.stm_image.specs.Pairs.{Pairs}
-use Rattle.stm_wire.specs.Call.{Call}
-use Rattle.stm_wire.specs.Chip.{ChipData}
-use Rattle.stm_wire.specs.Dialogue.{GoesOn}
-use Rattle.stm_wire.specs.Rig.{RigState}
+use Rattle.stm_wire.proofs.Names.{Call, ChipData, GoesOn, RigState}
 use Rattle.stm_journal.specs.declared.entry.Entry.{Entry}
-use Rattle.stm_journal.specs.Journals.{Loaded}
-use Rattle.stm_journal.specs.Newest.{pages_of_segments}
-use Rattle.stm_journal.specs.States.{intent_of}
+use Rattle.stm_journal.proofs.Names.{intent_of, Loaded, pages_of_segments}
 use Rattle.stm_session.specs.declared.fault.Fault.{Fault}
-use Rattle.stm_session.specs.Fault.{cause_of}
-use Rattle.stm_session.specs.Fresh.{contact_way, settling_way}
-use Rattle.stm_session.specs.Kept.{PutsBackFrom, UndoPutsBack, UndoStopsBack}
-use Rattle.stm_session.specs.Meaning.{CommandData}
-use Rattle.stm_session.specs.Order.{Step, Adds, Sends}
-use Rattle.stm_session.specs.Reaching.{IsConfirmedInPart, ReachesAndStops, ReachesInPart, Session}
-use Rattle.stm_session.specs.RunOrder.{AreBegun, AreDoneSomehow, RunStops, RunsInOrder}
+use Rattle.stm_session.proofs.Names.{Adds, AreBegun, AreDoneSomehow, cause_of, CommandData, contact_way, IsConfirmedInPart, PutsBackFrom, ReachesAndStops, ReachesInPart, RunsInOrder, RunStops, Sends}
+use Rattle.stm_session.proofs.Names.{Session, settling_way, Step, UndoPutsBack, UndoStopsBack}
 use Rattle.stm_any_line.specs.Segments.{segments_behind, segments_behind_lines, segments_behind_steps}
 use Rattle.stm_any_line.specs.Texts.{IsLoadedAs, lines_of}
 use Rattle.stm_any_line.specs.Calls.{DoesBehind, IsOfIfAny, Made, RunSays, UndoSays}

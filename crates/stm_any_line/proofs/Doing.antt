@@ -2,17 +2,13 @@
 use Rattle.std.proofs.Common.{◌≡◌, inl, inr, ℕ, ◌/◌, ◌%◌, Bool, List, [], ◌∷◌, ◌++◌, Option, Some, None, refl, sym, ◌∙◌, ap, subst, append-nil}
 use Rattle.stm_wire.specs.declared.places.UniquePlace.{UniquePlace}
 use Rattle.stm_wire.specs.declared.fault.WireFault.TheVariants.{Line}
-use Rattle.stm_wire.specs.Call.{Call, Fetch}
-use Rattle.stm_wire.specs.Chip.{ChipData}
-use Rattle.stm_wire.specs.Dialogue.{GoesOn}
-use Rattle.stm_wire.specs.Rig.{RigState}
+use Rattle.stm_wire.proofs.Names.{Call, ChipData, Fetch, GoesOn, RigState}
 use Rattle.stm_journal.specs.declared.entry.Entry.{Entry}
-use Rattle.stm_journal.specs.Calls.{AreFetches}
-use Rattle.stm_session.specs.Fault.{Cause, of_file, of_line, of_memory, of_protocol, of_refusal, of_session}
-use Rattle.stm_session.specs.Fresh.{Way}
+use Rattle.stm_journal.proofs.Names.{AreFetches}
+use Rattle.stm_session.proofs.Names.{acts_of, acts_of_steps, Adds, AreCutShort, asking_steps, Begin, Cause, confirm_steps, confirmed_at, confirming, IsAfter, IsAsked, IsAsking, IsConfirmedInPart}
+use Rattle.stm_session.proofs.Names.{IsConfirming, of_file, of_line, of_memory, of_protocol, of_refusal, of_session, ReachesAndDoes, ReachesAndStops, ReachesInPart, Sends, SettlesFirst, SettlesThen}
+use Rattle.stm_session.proofs.Names.{Step, step_in, StepFailsBy, torn_behind, Way}
 use Rattle.stm_session.specs.Kept.{reads}
-use Rattle.stm_session.specs.Order.{Step, Adds, Sends, AreCutShort, Begin, StepFailsBy, IsAfter, acts_of, acts_of_steps, step_in, torn_behind}
-use Rattle.stm_session.specs.Reaching.{IsAsked, IsAsking, IsConfirmedInPart, IsConfirming, ReachesAndDoes, ReachesAndStops, ReachesInPart, SettlesFirst, SettlesThen, asking_steps, confirm_steps, confirmed_at, confirming}
 use Rattle.stm_any_line.specs.Segments.{segments_behind_steps}
 use Rattle.stm_any_line.specs.Tracks.{asks, names, refused, sends, Tracks}
 use Rattle.stm_any_line.specs.Calls.{AllSay, AreBegunOf, DoesBehind, Made}

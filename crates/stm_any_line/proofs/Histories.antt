@@ -2,12 +2,10 @@
 use Rattle.std.proofs.Common.{◌≡◌, ℕ, List, [], ◌∷◌, ◌++◌, length, Option, Some, sym, subst}
 use Rattle.stm_image.specs.Lay.{lay}
 use Rattle.stm_image.specs.Pairs.{Pairs}
-use Rattle.stm_wire.specs.Call.{Call}
-use Rattle.stm_wire.specs.Chip.{ChipData}
-use Rattle.stm_wire.specs.Rig.{RigState}
+use Rattle.stm_wire.proofs.Names.{Call, ChipData, RigState}
 use Rattle.stm_journal.specs.declared.entry.Entry.{Entry}
-use Rattle.stm_journal.specs.Journals.{Loaded}
-use Rattle.stm_session.specs.Order.{Step, Adds, step_in}
+use Rattle.stm_journal.proofs.Names.{Loaded}
+use Rattle.stm_session.proofs.Names.{Adds, Step, step_in}
 use Rattle.stm_any_line.specs.Segments.{segments_behind, segments_behind_steps}
 use Rattle.stm_any_line.specs.Texts.{IsLoadedAs, IsJournalText, lines_of, nothing}
 use Rattle.stm_any_line.specs.Tracks.{MaySayAll, Tracks}

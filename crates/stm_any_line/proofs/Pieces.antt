@@ -1,12 +1,11 @@
 -- Reads, and a page's new bytes, step by step.
 use Rattle.std.proofs.Common.{◌≡◌, ℕ, zero, suc, ◌+◌, ◌-◌, ◌*◌, ◌/◌, ◌≤◌, List, [], ◌∷◌, ◌++◌, length, take, drop, refl, ◌∙◌, subst, arith}
-use Rattle.stm_wire.specs.Chip.{ChipData, erased_byte, page_size}
-use Rattle.stm_wire.specs.Frames.{read_turns, write_turns}
+use Rattle.stm_wire.proofs.Names.{ChipData, erased_byte, page_size, read_turns, write_turns}
 use Rattle.stm_chip.specs.declared.plan.Frame.{Frame}
 use Rattle.stm_chip.specs.Plan.{frames_of}
 use Rattle.stm_session.specs.lemmas.FramesInside.{AreInside, bytes_inside, frames_inside}
 use Rattle.stm_session.specs.Kept.{reads, erases, writes}
-use Rattle.stm_session.specs.Order.{Step, Sends, page_address, read_steps, rewrite_steps, write_steps}
+use Rattle.stm_session.proofs.Names.{page_address, read_steps, rewrite_steps, Sends, Step, write_steps}
 use Rattle.stm_any_line.specs.Segments.{IsNewest, segments_behind_steps}
 use Rattle.stm_any_line.specs.Tracks.{sends, SendReads, Tracks}
 use Rattle.stm_any_line.proofs.Tracking.{Segments, behind-append, reads-then, tracks_then}

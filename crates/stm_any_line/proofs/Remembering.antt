@@ -1,11 +1,10 @@
 -- Of a page that is kept: its bytes were read, and it stays kept until its segment is undone.
 use Rattle.std.proofs.Common.{◌≡◌, ◌⊎◌, inl, inr, ⊎_elim, ℕ, List, [], ◌∷◌, ◌++◌, refl, sym, ap, subst, append_assoc, append-nil}
-use Rattle.stm_wire.specs.Chip.{ChipData}
-use Rattle.stm_wire.specs.Dialogue.{Turn}
+use Rattle.stm_wire.proofs.Names.{ChipData, Turn}
 use Rattle.stm_journal.specs.declared.entry.Entry.{Entry}
 use Rattle.stm_journal.specs.declared.entry.Entry.TheVariants.{Names, Opens, Keeps, Erases, Programs, Ends, Undoes}
-use Rattle.stm_session.specs.Kept.{erases, looks, reads, writes}
-use Rattle.stm_session.specs.Order.{Step, Adds, Sends}
+use Rattle.stm_session.proofs.Names.{Adds, looks, Sends, Step}
+use Rattle.stm_session.specs.Kept.{erases, reads, writes}
 use Rattle.stm_any_line.specs.Segments.{HasPage, SomeKeeps, IsNewest, SavedPage, saved, segments_behind, segments_behind_lines, segments_behind_steps, with_saved_page}
 use Rattle.stm_any_line.specs.Tracks.{IsJustRead, MayPut, asks, names, refused, sends, MaySayAll, Tracks}
 use Rattle.stm_any_line.specs.Remembered.{AreTakenOff, IsOneOf, IsTakenOff, NewestHas, StaysKept, WasRead}

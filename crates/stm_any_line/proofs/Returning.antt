@@ -1,13 +1,12 @@
 -- The steps of an undo change only pages that the newest segment of the lines keeps.
 use Rattle.std.proofs.Common.{◌≡◌, ◌+◌, Contains, ℕ, zero, suc, List, [], ◌∷◌, ◌++◌, length, map, inl, inr, refl, ap, subst, arith}
 use Rattle.std.specs.List.{AllByRecursion}
-use Rattle.stm_wire.specs.Chip.{ChipData}
-use Rattle.stm_wire.specs.Dialogue.{Turn}
+use Rattle.stm_wire.proofs.Names.{ChipData, Turn}
 use Rattle.stm_journal.specs.declared.entry.Entry.{Entry}
 use Rattle.stm_journal.specs.declared.entry.Entry.TheVariants.{Undoes}
 use Rattle.stm_journal.specs.declared.kept.Kept.{Kept}
-use Rattle.stm_session.specs.Kept.{IsOfNewest, MaySend, MayTake, PutsBack, erases, erasing, programming, looks, reads, undoing, writes}
-use Rattle.stm_session.specs.Order.{Step, Adds, Sends}
+use Rattle.stm_session.proofs.Names.{Adds, erasing, IsOfNewest, looks, MaySend, MayTake, programming, PutsBack, Sends, Step, undoing}
+use Rattle.stm_session.specs.Kept.{erases, reads, writes}
 use Rattle.stm_any_line.specs.Calls.{AllSay, UndoSays}
 use Rattle.stm_any_line.specs.Segments.{HasPage, IsNewest, SavedPage, saved, segments_behind_lines}
 use Rattle.stm_any_line.specs.Tracks.{MayPut, MaySayAll, sends, Tracks}

@@ -1,13 +1,11 @@
 -- A journal's text behind the calls of a session: its lines, and a torn tail.
 use Rattle.std.proofs.Common.{◌≡◌, ◌⊎◌, inl, inr, ℕ, zero, suc, Bool, true, false, nat_lt, List, [], ◌∷◌, ◌++◌, length, take, flat_map, Option, Some, None, refl, sym, ◌∙◌, ap, subst, arith, append_assoc, append-nil}
 use Rattle.std.proofs.lemmas.Bool.Decides.{nat_tests}
-use Rattle.stm_wire.specs.Call.{Call}
-use Rattle.stm_wire.specs.Dialogue.{calls_of}
+use Rattle.stm_wire.proofs.Names.{Call, calls_of}
 use Rattle.stm_wire.specs.lemmas.DialogueLaws.{calls_of-are_line}
 use Rattle.stm_journal.specs.declared.entry.Entry.{Entry}
-use Rattle.stm_journal.specs.Entries.{line_of, line_text}
-use Rattle.stm_journal.specs.Journals.{added_bytes, mark}
-use Rattle.stm_session.specs.Order.{Step, Adds, Sends, acts_of_steps, torn_behind}
+use Rattle.stm_journal.proofs.Names.{added_bytes, line_of, line_text, mark}
+use Rattle.stm_session.proofs.Names.{acts_of_steps, Adds, Sends, Step, torn_behind}
 use Rattle.stm_any_line.proofs.Appending.{appended-acts, appended-append, appended-behind, appended-line, broken_line}
 use Rattle.stm_any_line.specs.Calls.{AreBegunOf, AreSteps}
 use Rattle.stm_any_line.specs.History.{TextsGoOn, left_of}

@@ -1,9 +1,9 @@
 -- Steps that may come behind others: how they join.
 use Rattle.std.proofs.Common.{◌≡◌, inl, inr, ⊎_elim, ℕ, List, [], ◌∷◌, ◌++◌, refl, sym, ◌∙◌, ap, subst}
 use Rattle.std.proofs.Common.{append_assoc, append-nil, length}
-use Rattle.stm_wire.specs.Chip.{ChipData, page_size}
+use Rattle.stm_wire.proofs.Names.{ChipData, page_size}
 use Rattle.stm_journal.specs.declared.entry.Entry.{Entry}
-use Rattle.stm_session.specs.Order.{Step, Adds, Sends, page_reads}
+use Rattle.stm_session.proofs.Names.{Adds, page_reads, Sends, Step}
 use Rattle.stm_any_line.specs.Segments.{HasPage, IsNewest, SavedPage, saved}
 use Rattle.stm_any_line.specs.Segments.{segments_behind_lines, segments_behind_steps, with_saved_page}
 use Rattle.stm_any_line.specs.Calls.{AllSay}

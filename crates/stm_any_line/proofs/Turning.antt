@@ -6,23 +6,17 @@ use Rattle.std.proofs.lemmas.Bool.{and_parts, false≢true}
 use Rattle.std.proofs.lemmas.List.{length-replicate}
 use Rattle.stm_image.specs.Lay.{lay}
 use Rattle.stm_image.specs.Pairs.{Pairs}
-use Rattle.stm_wire.specs.Chip.{ChipData, erased_byte, erased_page, page_count, page_offset, page_size}
+use Rattle.stm_wire.proofs.Names.{ChipData, erased_byte, erased_page, page_count, page_offset, page_size}
 use Rattle.stm_journal.specs.declared.entry.Entry.TheVariants.{Names, Opens, Keeps, Ends}
-use Rattle.stm_journal.specs.Journals.{begin_entries, version_for}
-use Rattle.stm_journal.specs.States.{StateData}
+use Rattle.stm_journal.proofs.Names.{begin_entries, StateData, version_for}
 use Rattle.stm_session.specs.declared.change.Change.{Change}
 use Rattle.stm_session.specs.declared.change.Change.TheVariants as change
 use Rattle.stm_session.specs.declared.fault.Fault.{Fault}
-use Rattle.stm_session.specs.ChangeOrder.{AreTurned, none, more, IsChangedUnless, IsSaved, IsSavedWith, IsSegmentBegun, begins, turns, ends, IsTurnOf}
-use Rattle.stm_session.specs.Closing.{IsLookedAgain}
-use Rattle.stm_session.specs.Contents.{content}
-use Rattle.stm_session.specs.Answers.{OutcomeData}
-use Rattle.stm_session.specs.Meaning.{CommandData, is_change}
-use Rattle.stm_session.specs.Order.{Step, Adds, Sends, page_reads, page_address}
-use Rattle.stm_session.specs.Reaching.{confirmed_at}
-use Rattle.stm_session.specs.RunOrder.{AreBegun, AreDoneInOrder, none as nothing_done, more as more_done, IsBegunIf, IsDoneIf, IsReading}
-use Rattle.stm_session.specs.Kept.{looks, reads}
-use Rattle.stm_session.specs.Undoable.{has_companion}
+use Rattle.stm_session.proofs.Names.{Adds, AreBegun, AreDoneInOrder, AreTurned, begins, CommandData, confirmed_at, content, ends, has_companion, is_change, IsBegunIf, IsChangedUnless, IsDoneIf}
+use Rattle.stm_session.proofs.Names.{IsLookedAgain, IsReading, IsSaved, IsSavedWith, IsSegmentBegun, IsTurnOf, looks, none, OutcomeData, page_address, page_reads, Sends, Step, turns}
+use Rattle.stm_session.specs.ChangeOrder.{more}
+use Rattle.stm_session.specs.RunOrder.{none as nothing_done, more as more_done}
+use Rattle.stm_session.specs.Kept.{reads}
 use Rattle.stm_session.specs.lemmas.ClosingLaws.{goes_on, looked_by, segment_is_begun}
 use Rattle.stm_any_line.specs.Segments.{IsNewest, saved, segments_behind_steps, with_saved_page}
 use Rattle.stm_any_line.specs.Tracks.{IsJustRead, sends, SendReads, Tracks}

@@ -7,7 +7,7 @@ use Rattle.std.proofs.lemmas.List.Quantifiers.{all_pairs_push}
 use Rattle.toml.specs.Data.{Data, string, integer, float, boolean, datetime, array, table, Items, Members, as_array, as_table, get_member}
 use Rattle.toml.specs.View.{items_of, items_view, view}
 use Rattle.toml.specs.declared.value.Value.{Value}
-use Rattle.stm_wire.specs.Chip.{ChipData}
+use Rattle.stm_wire.proofs.Names.{ChipData}
 use Rattle.stm_chip.specs.Document.ReadsEntries.{none, more}
 use Rattle.stm_chip.specs.Document.{HasEntries, HaveOwnIds, IsChipWith, IsNewId, IsNextChip, IsFlaw, HasFlaw, ReadsEntries, IsDocument, IsTableFaultOf}
 use Rattle.stm_chip.specs.declared.fault.TableFault.{TableFault}

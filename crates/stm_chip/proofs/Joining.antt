@@ -3,7 +3,7 @@ use Rattle.std.proofs.Common.{◌≡◌, ◌<◌, ℕ, zero, suc, eqb, List, [],
 use Rattle.std.proofs.lemmas.Bool.{cond_both, eq-eqb, eqb-true}
 use Rattle.std.proofs.lemmas.List.Folds.{find-append}
 use Rattle.std.specs.Option.{option_or}
-use Rattle.stm_wire.specs.Chip.{ChipData}
+use Rattle.stm_wire.proofs.Names.{ChipData}
 use Rattle.stm_chip.specs.Over.{chip_by_id}
 
 found_at : (chips : List ChipData) (id i : ℕ) (d : ChipData) → i < length chips → (get_or chips i d).id ≡ id → IsSome (chip_by_id chips id)

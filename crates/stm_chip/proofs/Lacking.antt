@@ -5,7 +5,7 @@ use Rattle.std.proofs.lemmas.List.Elements.{All-map, All-pop, All-push}
 use Rattle.toml.specs.Data.{Data, Members, as_integer, get}
 use Rattle.toml.specs.View.{view}
 use Rattle.toml.specs.declared.value.Value.{Value}
-use Rattle.stm_wire.specs.Chip.{ChipData}
+use Rattle.stm_wire.proofs.Names.{ChipData}
 use Rattle.stm_chip.specs.Entry.{Keys, PlaceKeys, PageRun, keys_from, keys_of}
 use Rattle.stm_chip.specs.Tried.{tried_of}
 use Rattle.stm_chip.specs.Document.ReadsEntries.{none, more}

@@ -3,7 +3,7 @@ use Rattle.std.proofs.Common.{◌≡◌, ◌⊎◌, inl, inr, ℕ, zero, suc, �
 use Rattle.std.proofs.Math.Seq.{drop-append-add, take-add}
 use Rattle.std.proofs.lemmas.List.{append_assoc, append-nil, drop-replicate, replicate-append-replicate, drop_all, drop_at, drop-drop, take_all, take_at, take-append-drop, take-append-le, take_more}
 use Rattle.std.proofs.lemmas.Bool.Decides.{nat_tests}
-use Rattle.stm_wire.specs.Chip.{with_bytes}
+use Rattle.stm_wire.proofs.Names.{with_bytes}
 use Rattle.stm_chip.specs.declared.plan.Frame.{Frame}
 use Rattle.stm_chip.specs.Plan.{used_before, used_length, cut_length, frame_with, frame_of, block_of, frames_of, written}
 

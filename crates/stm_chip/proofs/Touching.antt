@@ -7,7 +7,7 @@ use Rattle.std.proofs.lemmas.List.Elements.{All-contains, Contains-append_left, 
 use Rattle.std.proofs.lemmas.List.Quantifiers.{all_pairs_push}
 use Rattle.std.proofs.lemmas.List.Sums.{AllPass-from_list_all, list_all-from_AllPass, sum_by_more}
 use Rattle.stm_image.specs.Pairs.{Pairs, IsNext, HasNone}
-use Rattle.stm_wire.specs.Chip.{ChipData, is_inside, page_count, page_offset, page_size}
+use Rattle.stm_wire.proofs.Names.{ChipData, is_inside, page_count, page_offset, page_size}
 use Rattle.stm_chip.specs.Touch.{AreTouched, HasBefore, HasFrom, HasOutside, HasWithin, TouchedBelow, Touches}
 
 less_test : (a b : ℕ) → IsTrue (nat_lt a b) → a < b

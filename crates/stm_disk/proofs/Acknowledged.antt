@@ -6,18 +6,13 @@ use Rattle.std.proofs.Common.{inl, inr, arith, Option, None, Some}
 use Rattle.std.proofs.lemmas.Bool.{cases_Bool, true≢false}
 use Rattle.std.proofs.lemmas.List.{length-take-le, take-take, take-append-drop}
 use Rattle.std.proofs.lemmas.List.Sums.{fold-append}
-use Rattle.stm_wire.specs.Chip.{ChipData}
+use Rattle.stm_wire.proofs.Names.{ChipData}
 use Rattle.stm_wire.specs.declared.intent.Intent.TheVariants.{Erase, Program}
 use Rattle.stm_journal.specs.declared.kept.Kept.{Kept}
 use Rattle.stm_journal.specs.declared.entry.Entry.{Entry}
 use Rattle.stm_journal.specs.declared.entry.Entry.TheVariants.{Names, Opens, Keeps, Erases, Programs, Ends, Undoes}
-use Rattle.stm_journal.specs.Fits.{AllFit, AllKeptFit, fits_chip}
-use Rattle.stm_journal.specs.States.{StateData, SegmentData, allows, after_entry, on_newest, keeping, kept_in}
-use Rattle.stm_journal.specs.States.{intending, ended_segment}
-use Rattle.stm_journal.specs.Text.{Text, text_of, in_front, is_void}
-use Rattle.stm_journal.specs.Entries.{entry_of}
-use Rattle.stm_journal.specs.Journals.{JournalData, good, bad, Reading, read_line, reading_of, start, journal_of}
-use Rattle.stm_journal.specs.Journals.{after_line, after_said}
+use Rattle.stm_journal.proofs.Names.{after_entry, after_line, after_said, AllFit, AllKeptFit, allows, bad, ended_segment, entry_of, fits_chip, good, in_front, intending, is_void, journal_of}
+use Rattle.stm_journal.proofs.Names.{JournalData, keeping, kept_in, on_newest, read_line, Reading, reading_of, SegmentData, start, StateData, Text, text_of}
 use Rattle.stm_disk.specs.UnsyncedEnd.{lines_size, lines_before_bad, HasMisfit, KeepsMisfit, CutsKeepAcknowledged}
 use Rattle.stm_disk.proofs.Stopping.{lines_in_front, lines-cons}
 

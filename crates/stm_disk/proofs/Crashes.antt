@@ -4,7 +4,7 @@ use Rattle.std.proofs.Common.{length, take, drop, get_or, refl, sym, ap, ◌∙�
 use Rattle.std.proofs.lemmas.Bool.{cases_Bool, cases_lt, eqb-true}
 use Rattle.std.proofs.lemmas.List.{length-append, length-take, length-drop, take-append-drop, take_at, take_all}
 use Rattle.std.proofs.lemmas.List.{get_or-take, get_or-drop, get_or-append-add, ext_get_or}
-use Rattle.stm_journal.specs.Text.{HasNoLF}
+use Rattle.stm_journal.proofs.Names.{HasNoLF}
 use Rattle.stm_disk.specs.Sectors.{sector, LinesEndWhole}
 use Rattle.stm_disk.specs.Crash.{MayBeLeft}
 use Rattle.stm_disk.specs.Lines.{LeftByAdding}

@@ -6,16 +6,12 @@ use Rattle.std.proofs.Common.{take_all, length-append}
 use Rattle.std.specs.Result.{IsErr}
 use Rattle.std.proofs.Math.Seq.{take-append-add, take-append_seam}
 use Rattle.stm_sim.specs.lemmas.HonestLine.{still}
-use Rattle.stm_wire.specs.Call.{Call, Append, Fetch, Get, Put}
+use Rattle.stm_wire.proofs.Names.{Append, AppendsHonestly, Call, Device, Fetch, FetchesHonestly, Get, HasCause, IsModel, LeftByAppend, LeftByGet, LeftByPut, LosesOwed, Put, PutsAside, PutsHonestly}
+use Rattle.stm_wire.proofs.Names.{Records, RecordsAppend, RigState, TellsBehind, waited}
 use Rattle.stm_wire.specs.declared.fault.RigFault.{RigFault}
 use Rattle.stm_wire.specs.declared.rig.Patience.{Patience}
 use Rattle.stm_wire.specs.declared.rig.Patience.TheVariants.{Brief, Long}
-use Rattle.stm_wire.specs.Device.{Device, LosesOwed}
-use Rattle.stm_wire.specs.Rig.{RigState, IsModel, LeftByPut, LeftByGet, LeftByAppend}
-use Rattle.stm_wire.specs.Rig.{PutsHonestly, AppendsHonestly, FetchesHonestly}
-use Rattle.stm_wire.specs.Rig.{HasCause, PutsAside, Records, RecordsAppend, TellsBehind, waited}
-use Rattle.stm_journal.specs.Text.{text_of}
-use Rattle.stm_journal.specs.Journals.{journal_of}
+use Rattle.stm_journal.proofs.Names.{journal_of, text_of}
 use Rattle.stm_disk.specs.Crash.{MayBeLeft}
 use Rattle.stm_disk.specs.GrowingFile.{FileState, FollowsFileModel as IsFileModel}
 use Rattle.stm_disk.specs.Lines.{LeftByAdding, StaysOnDisk}

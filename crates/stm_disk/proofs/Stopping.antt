@@ -1,9 +1,7 @@
 -- A torn tail counts as nothing, so a crash is a stop.
 use Rattle.std.proofs.Common.{◌≡◌, ℕ, Bool, true, false, ◌==◌, if◌then◌else◌, List, [], ◌∷◌, ◌++◌, take}
 use Rattle.std.proofs.Common.{refl, sym, ap, ◌∙◌, append_assoc}
-use Rattle.stm_journal.specs.Text.{Text, text_of, in_front, HasNoLF}
-use Rattle.stm_journal.specs.Journals.{reading_of}
-use Rattle.stm_journal.specs.Beginnings.{BeginningsAreGood}
+use Rattle.stm_journal.proofs.Names.{BeginningsAreGood, HasNoLF, in_front, reading_of, Text, text_of}
 use Rattle.stm_disk.specs.Stops.{CrashesAreStops, CrashesAreGood}
 
 -- the whole lines, with one byte more in front

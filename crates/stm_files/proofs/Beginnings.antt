@@ -5,7 +5,7 @@ use Rattle.std.specs.Prelude.{IfSome, find, fold, nat_le}
 use Rattle.std.specs.List.{list_all}
 use Rattle.std.specs.Io.KnownBytes.{Consumes, IsAtEnd}
 use Rattle.std.proofs.KnownBytes.{Consumes-trans}
-use Rattle.stm_journal.specs.Text.{Text, text_of, in_front, is_void}
+use Rattle.stm_journal.proofs.Names.{in_front, is_void, Text, text_of}
 use Rattle.stm_files.specs.Beginning.{ReadsTo, ended, read_on, is_said, longer, may_be_torn, no_bytes, unread, is_other_at_end}
 use Rattle.stm_files.specs.NoJournal.{follows_to, has_word, is_filling, is_no_journal, is_other, is_torn, is_torn_from, may_stand, version_at}
 use Rattle.stm_files.specs.declared.beginning.Course.{Course}

@@ -6,16 +6,12 @@ use Rattle.std.specs.Option.{option_map_or}
 use Rattle.std.proofs.Math.Seq.{take-add}
 use Rattle.std.proofs.lemmas.Bool.{cases_lt}
 use Rattle.std.proofs.lemmas.List.{flat_map_more, length-take-le}
-use Rattle.stm_wire.specs.Rig.{RigState, IsModel, StaysHonest}
+use Rattle.stm_wire.proofs.Names.{IsModel, RigState, StaysHonest}
 use Rattle.stm_journal.specs.declared.fault.JournalFault.{JournalFault}
 use Rattle.stm_journal.specs.declared.kept.Kept.{Kept}
 use Rattle.stm_journal.specs.declared.kept.PagePlace.{PagePlace}
-use Rattle.stm_journal.specs.Calls.{Loads}
+use Rattle.stm_journal.proofs.Names.{forget_state, good, journal_of, kept_at, kept_count, kept_entry, kept_place, Loaded, Loads, place_of, StateData}
 use Rattle.stm_journal.specs.lemmas.ForgetLaws.{kept_at-forgets, kept_count-forgets, kept_place-forgets}
-use Rattle.stm_journal.specs.InMemory.{forget_state}
-use Rattle.stm_journal.specs.Journals.{Loaded, good, journal_of}
-use Rattle.stm_journal.specs.KeptPlaces.{kept_count, kept_entry, kept_place, place_of}
-use Rattle.stm_journal.specs.States.{StateData, kept_at}
 use Rattle.stm_files.specs.Checking.{IsCounted, IsTied, ReadsJournal, TellsState, check_text, kept_page_line, page_line, page_text}
 use Rattle.stm_files.specs.PageSum.{page_sum}
 use Rattle.stm_files.specs.Tally.{IsTallyOf}

@@ -6,7 +6,7 @@ use Rattle.std.proofs.lemmas.List.{length-map, length-take-le}
 use Rattle.std.proofs.lemmas.Option.{slice_get-map}
 use Rattle.stm_journal.specs.declared.kept.Kept.{Kept}
 use Rattle.stm_journal.specs.declared.stage.Stage.{Stage}
-use Rattle.stm_journal.specs.States.{SegmentData, StateData, depth, segment_of}
+use Rattle.stm_journal.proofs.Names.{depth, segment_of, SegmentData, StateData}
 use Rattle.stm_files.specs.Cutting.{outline, page_outline}
 
 -- lists of one length whose elements are the same, one by one

@@ -7,14 +7,11 @@ use Rattle.std.proofs.lemmas.Option.{slice_get_within}
 use Rattle.std.proofs.Math.Seq.{take-add}
 use Rattle.std.proofs.lemmas.List.{drop-drop}
 use Rattle.std.proofs.lemmas.Bool.{cases_lt}
-use Rattle.stm_wire.specs.Rig.{RigState, IsModel, StaysHonest}
+use Rattle.stm_wire.proofs.Names.{IsModel, RigState, StaysHonest}
 use Rattle.stm_journal.specs.declared.kept.Kept.{Kept}
 use Rattle.stm_journal.specs.declared.kept.PagePlace.{PagePlace}
-use Rattle.stm_journal.specs.Journals.{Loaded}
-use Rattle.stm_journal.specs.InMemory.{forget_state}
-use Rattle.stm_journal.specs.KeptPlaces.{kept_count, kept_entry, kept_place, place_of}
+use Rattle.stm_journal.proofs.Names.{depth, forget_state, kept_at, kept_count, kept_entry, kept_place, Loaded, place_of, segment_of, SegmentData, StateData}
 use Rattle.stm_journal.specs.lemmas.ForgetLaws.{kept_at-forgets, kept_place-forgets}
-use Rattle.stm_journal.specs.States.{SegmentData, StateData, depth, kept_at, segment_of}
 use Rattle.stm_files.specs.Checking.{IsTied, ReadsJournal}
 use Rattle.stm_files.specs.Damage.{HasItsSum, Differs, FindsIn, TellsWhether, behind_page, is_sum}
 use Rattle.stm_files.specs.declared.damage.Damage.{Damage}

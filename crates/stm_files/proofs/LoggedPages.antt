@@ -6,8 +6,7 @@ use Rattle.std.proofs.lemmas.List.{drop_more, flat_map_more, map-id}
 use Rattle.std.proofs.lemmas.List.FromFn.{map-range_with_len_more}
 use Rattle.std.proofs.lemmas.Option.{slice_get_within, get_or_from_slice_get, slice_get_cases, slice_get-map}
 use Rattle.stm_journal.specs.declared.kept.Kept.{Kept}
-use Rattle.stm_journal.specs.States.{StateData, SegmentData, segment_of, kept_at}
-use Rattle.stm_journal.specs.KeptPlaces.{kept_count}
+use Rattle.stm_journal.proofs.Names.{kept_at, kept_count, segment_of, SegmentData, StateData}
 use Rattle.stm_files.specs.Logging.{numbers_of, logged_pages, range_text}
 
 -- the number and the line of a kept page

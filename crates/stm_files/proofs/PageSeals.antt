@@ -10,8 +10,7 @@ use Rattle.hex.specs.Hex.{decode_of, encode_upper}
 use Rattle.hex.specs.declared.error.FromHexError.{FromHexError}
 use Rattle.stm_journal.specs.declared.entry.Entry.{Entry}
 use Rattle.stm_journal.specs.declared.entry.Entry.TheVariants.{Keeps}
-use Rattle.stm_journal.specs.Entries.{are_upper_digits, behind, decimal_of, entry_of, hex_bytes_of, line_of, page_at, page_of_fields}
-use Rattle.stm_journal.specs.Journals.{IsPrintable, added_bytes, mark}
+use Rattle.stm_journal.proofs.Names.{added_bytes, are_upper_digits, behind, decimal_of, entry_of, hex_bytes_of, IsPrintable, line_of, mark, page_at, page_of_fields}
 use Rattle.stm_files.specs.PageSeal.{AppendsSealed, IsSeal, IsSealIf, digits_at, digits_of, ahead, sum_line, unmarked}
 use Rattle.stm_files.specs.PageSum.{page_sum}
 

@@ -9,8 +9,7 @@ use Rattle.std.proofs.lemmas.List.{get_or_past}
 use Rattle.std.proofs.Math.Seq.{take-append_seam, drop-append_seam}
 use Rattle.hex.specs.Hex.{IsBytes, decode_of, encode_upper, encode_with, upper_digits}
 use Rattle.hex.proofs.HexLemmas.{length-encode_with, decode_of-encode_upper}
-use Rattle.stm_wire.specs.Chip.{ChipData}
-use Rattle.stm_wire.specs.Device.{IsOpenPhase, Phase, Fresh, Connected, Gone}
+use Rattle.stm_wire.proofs.Names.{ChipData, Connected, Fresh, Gone, IsOpenPhase, Phase}
 use Rattle.stm_files.specs.Standing.{are_upper_pairs, before_end, behind_word, is_upper_hex, standing_line, phase_from, rest_of_digits, standing_of}
 
 abbrev all_upper_below : ℕ → Bool

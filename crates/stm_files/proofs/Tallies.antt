@@ -3,7 +3,7 @@ use Rattle.std.proofs.Common.{◌≡◌, ℕ, ◌+◌, ◌-◌, ◌<◌, ◌≤�
 use Rattle.std.proofs.lemmas.Bool.Decides.{nat_tests}
 use Rattle.std.proofs.lemmas.List.Sums.{sum_by_push}
 use Rattle.std.proofs.Math.Seq.{drop-append_seam}
-use Rattle.stm_journal.specs.Text.{Text, text_of, in_front, is_void}
+use Rattle.stm_journal.proofs.Names.{in_front, is_void, Text, text_of}
 use Rattle.stm_files.specs.declared.tally.Tally.{Tally}
 use Rattle.stm_files.specs.Tally.{IsTallyOf}
 

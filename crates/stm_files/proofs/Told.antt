@@ -3,10 +3,7 @@ use Rattle.std.proofs.Common.{◌≡◌, refl, sym, ◌∙◌, ap, ℕ, ◌==◌
 use Rattle.std.proofs.Common.{List, [], ◌∷◌, ◌++◌, replicate, length, Option, Some, None}
 use Rattle.stm_wire.specs.declared.verdict.Verdict.{Verdict}
 use Rattle.stm_wire.specs.declared.verdict.Verdict.TheVariants.{Done, Refused, Loose}
-use Rattle.stm_wire.specs.Chip.{erased_byte}
-use Rattle.stm_wire.specs.Device.{Device, Phase, Fresh, Connected, Gone}
-use Rattle.stm_wire.specs.Exchange.{verdict}
-use Rattle.stm_wire.specs.Reply.{ack, nack}
+use Rattle.stm_wire.proofs.Names.{ack, Connected, Device, erased_byte, Fresh, Gone, nack, Phase, verdict}
 use Rattle.stm_sim.specs.Simulator.{after_byte, after_loose, after_verdict, simulated_device}
 use Rattle.stm_files.specs.Replies.{Telling, telling_begun, drained, tell_one, telling}
 use Rattle.stm_files.specs.Serving.{fed_all}

@@ -2,23 +2,15 @@
 use Rattle.std.proofs.Common.{◌≡◌, ◌⊎◌, ℕ, List, [], ◌∷◌, ◌++◌, Option, Some, None, IsSome, Result, Ok, Err, MatchOption, MatchResult, refl, sym, ◌∙◌, ap, subst, ⊎_elim}
 use Rattle.stm_image.specs.Pairs.{Pairs}
 use Rattle.stm_words.specs.declared.range.Range.{Range}
-use Rattle.stm_wire.specs.Chip.{ChipData}
-use Rattle.stm_wire.specs.Device.{Device}
-use Rattle.stm_wire.specs.Dialogue.{Turn}
-use Rattle.stm_wire.specs.Rig.{RigState}
+use Rattle.stm_wire.proofs.Names.{ChipData, Device, RigState, Turn}
 use Rattle.stm_chip.specs.Document.{IsChipWith, IsNewId}
-use Rattle.stm_journal.specs.Journals.{journal_of}
+use Rattle.stm_journal.proofs.Names.{journal_of}
 use Rattle.stm_session.specs.declared.fault.Fault.{Fault}
 use Rattle.stm_session.specs.declared.information.Info.{Info}
-use Rattle.stm_session.specs.Events.{AllLead, Event, Happening, Knows, Leads, OutcomesAreTheRun, World, end_of, identified, informed, left_refused, lost_owed, lost_power, now_of, ran, told_by, undid, unprotected, was_reset}
-use Rattle.stm_session.specs.Fresh.{IsReset}
-use Rattle.stm_session.specs.Headline.{AllIsUndone, EachCanFollow, Headline, IsStart, oldest_after, oldest_of, oldest_start, starts_after}
-use Rattle.stm_session.specs.Meaning.{CommandData, verifies, writes}
-use Rattle.stm_session.specs.Moments.{SameMake}
-use Rattle.stm_session.specs.Promises.{UndoContract}
-use Rattle.stm_session.specs.Refusal.{open_refusal}
-use Rattle.stm_session.specs.ReturnedBytes.{segments_of}
-use Rattle.stm_session.specs.VerifiedWrite.{written_then}
+use Rattle.stm_session.proofs.Names.{AllIsUndone, AllLead, CommandData, EachCanFollow, end_of, Event, Happening, Headline, identified, informed, IsReset, IsStart, Knows, Leads, left_refused}
+use Rattle.stm_session.proofs.Names.{lost_owed, lost_power, now_of, oldest_after, oldest_of, oldest_start, open_refusal, OutcomesAreTheRun, ran, SameMake, segments_of, starts_after, told_by, undid}
+use Rattle.stm_session.proofs.Names.{UndoContract, unprotected, verifies, was_reset, World, written_then}
+use Rattle.stm_session.specs.Meaning.{writes}
 use Rattle.stm_work.specs.declared.action.Action.{Action}
 use Rattle.stm_work.specs.declared.action.Action.TheVariants as action
 use Rattle.stm_work.specs.declared.answer.Answer.{Answer}

@@ -1,12 +1,9 @@
 -- An action that is stopped, a loss of power and an undo in the next run of the program, together.
 use Rattle.std.proofs.Common.{◌≡◌, ℕ, List, [], Result, Ok, sym, ◌∙◌, ap, ap₂, subst}
 use Rattle.stm_sim.specs.declared.plan.Stop.TheVariants.{After}
-use Rattle.stm_wire.specs.Chip.{ChipData}
-use Rattle.stm_wire.specs.Device.{Device, IsReady, IsReadyPhase, Phase}
+use Rattle.stm_wire.proofs.Names.{ChipData, Device, IsReady, IsReadyPhase, Phase}
 use Rattle.stm_sim.specs.Memory.{MemoryData, rig_state}
-use Rattle.stm_session.specs.Events.{Knows, Leads, World, lost_owed, lost_power, now_of}
-use Rattle.stm_session.specs.Headline.{IsStart, oldest_start}
-use Rattle.stm_session.specs.Moments.{SameMake}
+use Rattle.stm_session.proofs.Names.{IsStart, Knows, Leads, lost_owed, lost_power, now_of, oldest_start, SameMake, World}
 use Rattle.stm_work.specs.declared.action.Action.{Action}
 use Rattle.stm_work.specs.declared.action.Action.TheVariants as action
 use Rattle.stm_work.specs.declared.answer.Answer.{Answer}

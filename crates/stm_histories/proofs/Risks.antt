@@ -4,20 +4,13 @@ use Rattle.std.specs.Prelude.{Contains, is_some, option_map, option_and_then, sl
 use Rattle.std.specs.List.{find}
 use Rattle.std.proofs.lemmas.Bool.{eqb-true}
 use Rattle.std.proofs.lemmas.Bool.Decides.{nat_tests}
-use Rattle.stm_wire.specs.Device.{Device, reset}
-use Rattle.stm_wire.specs.Harmless.{SameOutside}
+use Rattle.stm_wire.proofs.Names.{Device, reset, SameOutside}
 use Rattle.stm_sim.specs.Memory.{MemoryData, begins_anew, rig_state}
 use Rattle.stm_journal.specs.declared.header.JournalHeader.{JournalHeader}
 use Rattle.stm_journal.specs.declared.kept.Kept.{Kept}
 use Rattle.stm_journal.specs.lemmas.ForgetLaws.{is_unfinished-forgets, newest_pages-forgets}
-use Rattle.stm_journal.specs.InMemory.{forget_state}
-use Rattle.stm_journal.specs.Journals.{IsLoaded, Loaded}
-use Rattle.stm_journal.specs.KeptPlaces.{page_place, place_of}
-use Rattle.stm_journal.specs.Newest.{newest_pages}
-use Rattle.stm_journal.specs.States.{SegmentData, StateData, is_unfinished, segment_of}
-use Rattle.stm_session.specs.Events.{Leads, lost_power, now_of}
-use Rattle.stm_session.specs.PowerLoss.{LosesPower}
-use Rattle.stm_session.specs.Undoable.{good_state, risked_pages, state_at}
+use Rattle.stm_journal.proofs.Names.{forget_state, is_unfinished, IsLoaded, Loaded, newest_pages, page_place, place_of, segment_of, SegmentData, StateData}
+use Rattle.stm_session.proofs.Names.{good_state, Leads, LosesPower, lost_power, now_of, risked_pages, state_at}
 use Rattle.stm_histories.specs.Unpowered.{SpoilsOnly}
 
 -- a page that is found is one of them

@@ -1,8 +1,7 @@
 -- A simulator between two runs of the program.
 use Rattle.std.proofs.Common.{◌≡◌, ℕ, List, [], ◌∷◌, length, drop, refl, sym, ◌∙◌, ap, subst, arith}
-use Rattle.stm_wire.specs.Chip.{ChipData}
-use Rattle.stm_wire.specs.Device.{Device, IsDevice, IsReady, IsReadyPhase, Phase}
-use Rattle.stm_session.specs.Undoable.{Undoable}
+use Rattle.stm_wire.proofs.Names.{ChipData, Device, IsDevice, IsReady, IsReadyPhase, Phase}
+use Rattle.stm_session.proofs.Names.{Undoable}
 use Rattle.stm_histories.specs.Histories.{StoredCanBegin, StoredGoesOn}
 use Rattle.stm_files.specs.SimulatorFile.{simulator_at}
 

@@ -8,20 +8,12 @@ use Rattle.std.proofs.lemmas.Bool.Decides.{nat_tests}
 use Rattle.std.proofs.lemmas.List.Folds.{list_any-append}
 use Rattle.stm_wire.specs.declared.intent.Intent.{Intent}
 use Rattle.stm_wire.specs.declared.intent.Intent.TheVariants.{Erase, Program}
-use Rattle.stm_journal.specs.declared.stage.Stage.{Stage}
+use Rattle.stm_journal.proofs.Names.{after_entry, AllEnded, allows, blank, capped, ended_segment, EndedBelow, Entry, forget_entry, fresh_segment, HasAdded, HasBegun, HasEnded, HasIntended, HasKept}
+use Rattle.stm_journal.proofs.Names.{HasUndone, header_board, intending, intent_at, intent_of, is_ended_stage, is_open_stage, is_other_board, IsSound, JournalHeader, keeping, keeps, KeepsSame, Kept}
+use Rattle.stm_journal.proofs.Names.{kept_in, line_of, Loaded, loaded_after, newest_has, newest_keeps, newest_may_keep, on_newest, past_mark, SegmentData, Stage, stage_with, StateData}
 use Rattle.stm_journal.specs.declared.stage.Stage.TheVariants.{Open, Ended, Returning}
-use Rattle.stm_journal.specs.declared.kept.Kept.{Kept}
-use Rattle.stm_journal.specs.declared.header.JournalHeader.{JournalHeader}
-use Rattle.stm_journal.specs.declared.entry.Entry.{Entry}
 use Rattle.stm_journal.specs.declared.entry.Entry.TheVariants.{Names, Opens, Keeps, Erases, Programs, Ends, Undoes}
-use Rattle.stm_journal.specs.Entries.{line_of}
-use Rattle.stm_journal.specs.States.{StateData, SegmentData, newest_has, newest_keeps, newest_may_keep, keeps, is_open_stage, is_ended_stage, intent_of, intent_at, stage_with, on_newest, keeping, kept_in, intending, ended_segment, fresh_segment, allows, after_entry, is_other_board, header_board, AllEnded, EndedBelow, IsSound}
-use Rattle.stm_journal.specs.Newest.{KeepsSame, HasBegun, HasKept, HasIntended, HasEnded, HasUndone}
-use Rattle.stm_journal.specs.Added.{HasAdded}
-use Rattle.stm_journal.specs.Blank.{blank}
-use Rattle.stm_journal.specs.InMemory.{forget_entry}
 use Rattle.stm_journal.specs.lemmas.NewestLaws.{segment_of-newest}
-use Rattle.stm_journal.specs.Journals.{Loaded, loaded_after, past_mark, capped}
 use Rattle.stm_journal.proofs.Ties.{mark-state}
 
 -- an entry's state in memory, where a torn tail changes nothing

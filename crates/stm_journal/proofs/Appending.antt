@@ -1,10 +1,7 @@
 -- From bytes added to entries added.
 use Rattle.std.proofs.Common.{◌≤◌, ℕ, ◌-◌, ◌^◌, List, ◌∷◌, ◌++◌, length, Result, Ok, Err, sym, subst}
-use Rattle.stm_wire.specs.Rig.{RigState, IsModel}
-use Rattle.stm_journal.specs.declared.entry.Entry.{Entry}
-use Rattle.stm_journal.specs.declared.fault.JournalFault.{JournalFault}
-use Rattle.stm_journal.specs.Journals.{Loaded, IsLoaded, added_bytes, past_mark, loaded_after, Prepares}
-use Rattle.stm_journal.specs.Calls.{AddsBytes, Appends}
+use Rattle.stm_wire.proofs.Names.{IsModel, RigState}
+use Rattle.stm_journal.proofs.Names.{added_bytes, AddsBytes, Appends, Entry, IsLoaded, JournalFault, Loaded, loaded_after, past_mark, Prepares}
 use Rattle.stm_journal.proofs.Ties.{AllAllowed, IsLoaded-after}
 
 pub Appends-added : {T : Type 0} (e : Entry) (entries : List Entry) (l l2 : Loaded) (bytes : List ℕ) (a b : RigState) (result : Result T JournalFault) → IsModel b

@@ -6,8 +6,7 @@ use Rattle.std.proofs.lemmas.Bool.Decides.{nat_tests}
 use Rattle.hex.specs.declared.error.FromHexError.{FromHexError}
 use Rattle.hex.specs.Hex.{decode_sized, encode_upper, encode_with, upper_digits}
 use Rattle.hex.proofs.HexLemmas.{decode_sized-ok}
-use Rattle.stm_journal.specs.Entries.{is_upper_digit}
-use Rattle.stm_journal.specs.PageFetching.{Brings}
+use Rattle.stm_journal.proofs.Names.{Brings, is_upper_digit}
 use Rattle.stm_journal.proofs.Upper.{first-true, second-true}
 use Rattle.stm_journal.proofs.Piecing.{digit_of, bytes_of, decode-all, sized}
 

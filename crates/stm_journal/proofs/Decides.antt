@@ -6,13 +6,10 @@ use Rattle.std.proofs.lemmas.Bool.{cases_Bool, cases_lt}
 use Rattle.std.proofs.lemmas.Bool.Decides.{nat_tests}
 use Rattle.std.proofs.lemmas.List.{take-take, drop-take, drop-drop, take-append-drop, length-take-le}
 use Rattle.std.proofs.lemmas.List.Folds.{list_all-append}
-use Rattle.stm_journal.specs.declared.entry.Entry.{Entry}
+use Rattle.stm_journal.proofs.Names.{behind, blank, board_at, board_header_of, board_of_fields, decimal_of, Entry, entry_of, forget_entry, header_of, hex_bytes_of, id_of, is_upper_digit}
+use Rattle.stm_journal.proofs.Names.{kept_entry_of, long_at, long_page, number_of_pair, numbered_entry_of, page_at, page_of_fields, page_with, said_by, summary_of, unique_id_of, worded}
 use Rattle.stm_journal.specs.declared.entry.Entry.TheVariants.{Names, Opens, Keeps, Erases, Programs, Ends, Undoes}
-use Rattle.stm_journal.specs.Entries.{is_upper_digit, decimal_of, number_of_pair, hex_bytes_of, behind, entry_of, worded, kept_entry_of, page_at, page_of_fields, header_of, id_of, unique_id_of, board_at, board_of_fields, board_header_of, numbered_entry_of}
-use Rattle.stm_wire.specs.UniqueId.{is_unique_length}
-use Rattle.stm_journal.specs.Blank.{blank}
-use Rattle.stm_journal.specs.InMemory.{forget_entry}
-use Rattle.stm_journal.specs.Summary.{summary_of, said_by, long_page, long_at, page_with}
+use Rattle.stm_wire.proofs.Names.{is_unique_length}
 use Rattle.stm_journal.proofs.Long.{number_of-long}
 use Rattle.stm_journal.proofs.Upper.{hex_bytes_of-even, hex_bytes_of-odd, hex_bytes_of-lower}
 

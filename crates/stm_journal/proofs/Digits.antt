@@ -9,8 +9,7 @@ use Rattle.std.proofs.lemmas.List.Folds.{list_all-append}
 use Rattle.std.proofs.lemmas.Fmt.{decimal_by_steps}
 use Rattle.hex.specs.Hex.{encode_upper, encode_with, upper_digits, decode_of, IsBytes}
 use Rattle.hex.proofs.HexLemmas.{length-encode_with, decode_of-encode_upper}
-use Rattle.stm_journal.specs.Entries.{is_upper_digit, are_upper_digits, hex_bytes_of}
-use Rattle.stm_journal.specs.Text.{HasNoLF}
+use Rattle.stm_journal.proofs.Names.{are_upper_digits, HasNoLF, hex_bytes_of, is_upper_digit}
 
 both : (a b : Bool) → a ≡ true → b ≡ true → (a && b) ≡ true
 both true b h g = g

@@ -2,19 +2,12 @@
 use Rattle.std.proofs.Common.{◌≡◌, ◌≤◌, ◌<◌, ℕ, zero, suc, ◌+◌, ◌^◌, List, [], ◌∷◌, ◌++◌, length, take, drop, Ok, Err, refl, sym, ◌∙◌, ap, subst, arith, append_assoc, take_all, length-drop, ⊎_elim}
 use Rattle.std.proofs.lemmas.Bool.{cases_lt}
 use Rattle.std.proofs.lemmas.List.{take-append-drop, length-take, length-take-le}
-use Rattle.stm_wire.specs.Device.{Device, LosesOwed}
-use Rattle.stm_wire.specs.Rig.{RigState, IsModel}
-use Rattle.stm_wire.specs.Moments.{LeavesOnly}
+use Rattle.stm_wire.proofs.Names.{Append, Call, Device, Fetch, Get, GoesOn, IsModel, LeavesOnly, LosesOwed, Put, RigState}
 use Rattle.stm_wire.specs.lemmas.MomentLaws.{joined}
-use Rattle.stm_journal.specs.declared.fault.JournalFault.{JournalFault}
+use Rattle.stm_journal.proofs.Names.{AreFetches, Fetches, HasReadJournal, IsFaultOf, IsLoaded, IsLoadFault, IsRead, IsUntouched, journal_of, JournalFault, KeepsDevice, Loaded, LoadingStopsAt, Loads}
+use Rattle.stm_journal.proofs.Names.{Summary}
 use Rattle.stm_journal.specs.declared.fault.JournalFault.TheVariants.{File, Bad, OtherDevice, OtherBoard, Memory}
-use Rattle.stm_journal.specs.Summary.{Summary}
-use Rattle.stm_journal.specs.Journals.{Loaded, IsLoaded, journal_of}
-use Rattle.stm_wire.specs.Call.{Call, Put, Get, Append, Fetch}
-use Rattle.stm_wire.specs.Dialogue.{GoesOn}
 use Rattle.std.proofs.Common.{Option, Some, None}
-use Rattle.stm_journal.specs.Calls.{AreFetches, Loads, IsUntouched, IsFaultOf, KeepsDevice}
-use Rattle.stm_journal.specs.Loading.{IsRead, LoadingStopsAt, IsLoadFault, Fetches, HasReadJournal}
 
 untouched : (a b : RigState) → b.journal ≡ a.journal → b.device ≡ a.device → (d : Device) (j : List ℕ) → IsUntouched b d j → IsUntouched a d j
 untouched a b same still d j u =

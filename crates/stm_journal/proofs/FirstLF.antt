@@ -5,7 +5,7 @@ use Rattle.std.proofs.lemmas.Bool.Decides.{nat_tests}
 use Rattle.std.proofs.lemmas.List.{take_more}
 use Rattle.std.proofs.lemmas.List.Sums.{fails_before_first}
 use Rattle.std.proofs.lemmas.List.Quantifiers.{position-Some}
-use Rattle.stm_journal.specs.Text.{HasNoLF}
+use Rattle.stm_journal.proofs.Names.{HasNoLF}
 
 none-at : (xs : List ℕ) → ((k : ℕ) → k < length xs → (get_or xs k 0 == 10) ≡ false) → HasNoLF xs
 none-at [] never = tt

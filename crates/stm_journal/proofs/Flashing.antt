@@ -1,8 +1,7 @@
 -- The flashes before the segments, by the segments' numbers.
 use Rattle.std.proofs.Common.{◌≡◌, ℕ, zero, suc, ◌+◌, ◌-◌, ◌<◌, List, [], ◌∷◌, length, take, fold, slice_get, Some, refl, ◌∙◌, ap, arith}
-use Rattle.stm_wire.specs.Chip.{ChipData}
-use Rattle.stm_journal.specs.States.{SegmentData}
-use Rattle.stm_journal.specs.Flashes.{with_kept_pages, flashes_before_segments, FlashesAreThose}
+use Rattle.stm_wire.proofs.Names.{ChipData}
+use Rattle.stm_journal.proofs.Names.{flashes_before_segments, FlashesAreThose, SegmentData, with_kept_pages}
 
 flash_at : (chip : ChipData) (stack : List SegmentData) (flash : List ℕ) (i : ℕ) → i < length stack
     → slice_get (flashes_before_segments chip stack flash) i ≡ Some (fold (λ f segment. with_kept_pages chip segment f) flash (take (suc i) stack))

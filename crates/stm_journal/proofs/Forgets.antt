@@ -2,17 +2,9 @@
 use Rattle.std.proofs.Common.{◌≡◌, ℕ, ◌*◌, ◌-◌, Bool, true, false, if◌then◌else◌, List, [], ◌∷◌, length, map, drop, Option, Some, None, option_map, refl, sym, ◌∙◌, ap, ap₂}
 use Rattle.std.proofs.lemmas.List.{map-append, length-replicate}
 use Rattle.stm_wire.specs.declared.intent.Intent.TheVariants.{Erase, Program}
-use Rattle.stm_journal.specs.declared.kept.Kept.{Kept}
-use Rattle.stm_journal.specs.declared.entry.Entry.{Entry}
+use Rattle.stm_journal.proofs.Names.{after_entry, after_line, after_said, after_summary, allows, bad, blank, ended_segment, Entry, entry_of, forget_entry, forget_journal, forget_kept, forget_segment}
+use Rattle.stm_journal.proofs.Names.{forget_state, good, intending, is_void, JournalData, keeping, Kept, kept_in, on_newest, SegmentData, StateData, summary_of}
 use Rattle.stm_journal.specs.declared.entry.Entry.TheVariants.{Names, Opens, Keeps, Erases, Programs, Ends, Undoes}
-use Rattle.stm_journal.specs.States.{StateData, SegmentData, allows, after_entry, on_newest, keeping, intending, ended_segment, kept_in}
-use Rattle.stm_journal.specs.Text.{is_void}
-use Rattle.stm_journal.specs.Entries.{entry_of}
-use Rattle.stm_journal.specs.Journals.{JournalData, good, bad, after_line, after_said}
-use Rattle.stm_journal.specs.Blank.{blank}
-use Rattle.stm_journal.specs.InMemory.{forget_entry, forget_kept, forget_segment, forget_state}
-use Rattle.stm_journal.specs.Summary.{summary_of}
-use Rattle.stm_journal.specs.Forget.{forget_journal, after_summary}
 use Rattle.stm_journal.specs.lemmas.ForgetLaws.{allows-forgets}
 use Rattle.stm_journal.proofs.Decides.{said_by-line}
 use Rattle.stm_journal.proofs.Voids.{void_by-line}

@@ -5,12 +5,7 @@ use Rattle.std.proofs.lemmas.Bool.{true≢false, cases_lt}
 use Rattle.std.proofs.lemmas.List.{take_all, length-take-le}
 use Rattle.std.proofs.lemmas.List.Sums.{fold_push}
 use Rattle.std.proofs.lemmas.Slice.Eq.{bytes_eq-Decides}
-use Rattle.stm_journal.specs.declared.entry.Entry.{Entry}
-use Rattle.stm_journal.specs.Text.{Text, text_of, is_void, HasNoLF}
-use Rattle.stm_journal.specs.Entries.{line_of}
-use Rattle.stm_journal.specs.Greetings.{greeting, ends_greeted, is_greeted}
-use Rattle.stm_journal.specs.Journals.{IsPrintable}
-use Rattle.stm_journal.specs.Summary.{summary_of, greets_by}
+use Rattle.stm_journal.proofs.Names.{ends_greeted, Entry, greeting, greets_by, HasNoLF, is_greeted, is_void, IsPrintable, line_of, summary_of, Text, text_of}
 use Rattle.stm_journal.proofs.Texts.{text-more-lines, text-more-tail}
 use Rattle.stm_journal.proofs.Lines.{is_void-printed}
 

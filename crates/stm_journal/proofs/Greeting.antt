@@ -4,12 +4,8 @@ use Rattle.std.specs.Prelude.{bytes_eq}
 use Rattle.std.proofs.lemmas.Bool.{cases_lt, not-true}
 use Rattle.std.proofs.lemmas.Bool.Decides.{nat_tests}
 use Rattle.std.proofs.lemmas.List.{take_all, take-append-le, length-take-le}
-use Rattle.stm_journal.specs.Text.{Text, text_of, HasNoLF}
-use Rattle.stm_journal.specs.States.{StateData}
-use Rattle.stm_journal.specs.Greetings.{greeting, greeting_line, is_greeted, may_greet}
-use Rattle.stm_journal.specs.Journals.{Loaded, IsLoaded, capped, journal_of, good, after_line, mark}
-use Rattle.stm_journal.specs.GreetingCalls.{loaded_greeted, GreetingsCountAsNothing, EntriesEndGreetings}
-use Rattle.stm_journal.specs.Entries.{line_of, line_text}
+use Rattle.stm_journal.proofs.Names.{after_line, capped, EntriesEndGreetings, good, greeting, greeting_line, GreetingsCountAsNothing, HasNoLF, is_greeted, IsLoaded, journal_of, line_of, line_text}
+use Rattle.stm_journal.proofs.Names.{Loaded, loaded_greeted, mark, may_greet, StateData, Text, text_of}
 use Rattle.stm_journal.proofs.Texts.{text-more-lines, text-more-tail}
 use Rattle.stm_journal.proofs.Readings.{journal-line, journal-tail, lines-within}
 use Rattle.stm_journal.proofs.Lines.{HasNoLF-line}

@@ -1,16 +1,10 @@
 -- What an append made of the state that the text comes to.
 use Rattle.std.proofs.Common.{◌≡◌, ◌≤◌, ℕ, false, Option, Some, None, List, [], ◌∷◌, ◌++◌, refl, sym, ◌∙◌, ap, subst, arith, IsTrue}
 use Rattle.std.specs.Prelude.{option_map, option_and_then}
-use Rattle.stm_wire.specs.UniqueId.{IsUniqueId}
-use Rattle.stm_journal.specs.declared.header.JournalHeader.{JournalHeader}
-use Rattle.stm_journal.specs.declared.entry.Entry.{Entry}
-use Rattle.stm_journal.specs.States.{StateData, SegmentData, empty_state, allows, is_other_board, header_board}
-use Rattle.stm_journal.specs.InMemory.{forget_entry, forget_state}
-use Rattle.stm_journal.specs.Journals.{Loaded, IsLoaded, IsPrintable, journal_of, good, added_bytes, first_entries, version_for}
+use Rattle.stm_wire.proofs.Names.{IsUniqueId}
+use Rattle.stm_journal.proofs.Names.{added_bytes, allows, empty_state, Entry, first_entries, forget_entry, forget_state, good, HasAdded, HasBegun, HasOpenedSegment, header_board, InText}
+use Rattle.stm_journal.proofs.Names.{is_other_board, IsLoaded, IsPrintable, journal_of, JournalHeader, Loaded, SegmentData, StateData, version_for}
 use Rattle.stm_journal.specs.lemmas.CallEntries.{header-for, own-board}
-use Rattle.stm_journal.specs.Newest.{HasBegun}
-use Rattle.stm_journal.specs.Calls.{InText}
-use Rattle.stm_journal.specs.Added.{HasAdded, HasOpenedSegment}
 use Rattle.stm_journal.specs.lemmas.ForgetLaws.{allows-forgets}
 use Rattle.stm_journal.proofs.Sound.{journal-is-sound}
 use Rattle.stm_journal.proofs.AfterCalls.{HasAdded-entry, HasBegun-opened}

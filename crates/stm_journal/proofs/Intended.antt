@@ -3,11 +3,9 @@ use Rattle.std.proofs.Common.{◌≡◌, Bool, true, false, ◌||◌, ◌==◌, 
 use Rattle.std.proofs.lemmas.List.Folds.{list_any-append}
 use Rattle.std.proofs.lemmas.Option.{none-some, same_Some}
 use Rattle.stm_wire.specs.declared.intent.Intent.{Intent}
-use Rattle.stm_journal.specs.declared.kept.Kept.{Kept}
-use Rattle.stm_journal.specs.declared.stage.Stage.{Stage}
+use Rattle.stm_journal.proofs.Names.{AllEnded, ended_segment, intending, intent_at, intent_page, IntentIsKept, JournalHeader, keeping, keeps, Kept, newest_has, on_newest, SegmentData, Stage}
+use Rattle.stm_journal.proofs.Names.{stage_with}
 use Rattle.stm_journal.specs.declared.stage.Stage.TheVariants.{Open, Ended, Returning}
-use Rattle.stm_journal.specs.declared.header.JournalHeader.{JournalHeader}
-use Rattle.stm_journal.specs.States.{SegmentData, AllEnded, IntentIsKept, intent_at, intent_page, newest_has, keeps, on_newest, keeping, intending, ended_segment, stage_with}
 
 intent-with : (i : Intent) (stage : Stage) → intent_at (stage_with i stage) ≡ Some i
 intent-with i (Open old) = refl

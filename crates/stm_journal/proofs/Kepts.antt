@@ -4,10 +4,7 @@ use Rattle.std.specs.Prelude.{option_and_then, slice_get, IfSome, reverse, sum_b
 use Rattle.std.proofs.lemmas.List.Sums.{sum_by-cons, sum_by_push}
 use Rattle.std.proofs.lemmas.Grind.{reverse_onto}
 use Rattle.std.specs.List.{find}
-use Rattle.stm_journal.specs.declared.kept.Kept.{Kept}
-use Rattle.stm_journal.specs.declared.kept.PagePlace.{PagePlace}
-use Rattle.stm_journal.specs.States.{StateData, SegmentData, segment_of}
-use Rattle.stm_journal.specs.KeptPlaces.{place_of, page_place, IsPlaceIn}
+use Rattle.stm_journal.proofs.Names.{IsPlaceIn, Kept, page_place, PagePlace, place_of, segment_of, SegmentData, StateData}
 
 abbrev StandsAt : List Kept → Option Kept → Type 0
 StandsAt pages None = Unit {0}

@@ -4,16 +4,12 @@ use Rattle.std.specs.Prelude.{Contains}
 use Rattle.std.specs.List.{list_any}
 use Rattle.std.proofs.lemmas.Bool.{cases_eq, eq-eqb, ne_eqb, false≢true, not-true}
 use Rattle.std.proofs.lemmas.List.Sums.{fold_push}
-use Rattle.stm_wire.specs.Chip.{ChipData, flash_size, page_count, page_of, with_page}
-use Rattle.stm_wire.specs.Harmless.{SameOutside}
+use Rattle.stm_wire.proofs.Names.{ChipData, flash_size, page_count, page_of, SameOutside, with_page}
 use Rattle.stm_wire.specs.lemmas.PageLaws.{length-with_page, page_put, page_put-other, put_page}
 use Rattle.stm_wire.specs.lemmas.FlashLaws.{same_all}
-use Rattle.stm_journal.specs.declared.kept.Kept.{Kept}
-use Rattle.stm_journal.specs.States.{SegmentData, may_keep, is_open_stage, keeping}
-use Rattle.stm_journal.specs.Flashes.{with_kept_pages, flashes_before_segments}
-use Rattle.stm_journal.specs.Fits.{fits_chip, AllKeptFit, AllHeld}
+use Rattle.stm_journal.proofs.Names.{AllHeld, AllKeptFit, ChangesKeepFlashes, fits_chip, flashes_before_segments, HeldIsBefore, is_open_stage, keeping, KeepingKeepsFlashes, Kept, may_keep}
+use Rattle.stm_journal.proofs.Names.{SegmentData, with_kept_pages}
 use Rattle.stm_journal.specs.lemmas.FitsLaws.{fits-exists, fits-size}
-use Rattle.stm_journal.specs.FlashLaws.{KeepingKeepsFlashes, ChangesKeepFlashes, HeldIsBefore}
 
 -- a kept page, and pages, laid over a flash
 abbrev lay : ChipData → List ℕ → Kept → List ℕ

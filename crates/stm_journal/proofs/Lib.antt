@@ -1,3 +1,4 @@
+pub mod Names
 mod Intended
 mod Pages
 mod Sound

@@ -5,13 +5,11 @@ use Rattle.std.specs.List.{list_all}
 use Rattle.std.proofs.lemmas.Bool.{true≢false}
 use Rattle.std.proofs.lemmas.Bool.Decides.{nat_tests}
 use Rattle.std.proofs.lemmas.List.Folds.{list_all-append}
-use Rattle.stm_wire.specs.UniqueId.{is_unique_length}
+use Rattle.stm_wire.proofs.Names.{is_unique_length}
 use Rattle.hex.specs.Hex.{encode_upper, IsBytes}
-use Rattle.stm_journal.specs.declared.entry.Entry.{Entry}
+use Rattle.stm_journal.proofs.Names.{board_at, board_of_fields, decimal_of, device_text, Entry, entry_of, HasNoLF, header_word, hex_bytes_of, id_digits, id_of, is_void, IsHeaderOf, IsPrintable}
+use Rattle.stm_journal.proofs.Names.{line_of, number_of_pair, page_at, page_of_fields, unique_id_of}
 use Rattle.stm_journal.specs.declared.entry.Entry.TheVariants.{Names, Opens, Keeps, Erases, Programs, Ends, Undoes}
-use Rattle.stm_journal.specs.Text.{is_void, HasNoLF}
-use Rattle.stm_journal.specs.Entries.{entry_of, line_of, header_word, device_text, id_digits, id_of, unique_id_of, board_at, board_of_fields, decimal_of, number_of_pair, hex_bytes_of, page_at, page_of_fields}
-use Rattle.stm_journal.specs.Journals.{IsPrintable, IsHeaderOf}
 use Rattle.stm_journal.proofs.Texts.{HasNoLF-append}
 use Rattle.stm_journal.proofs.Numbers.{number_of-decimal}
 use Rattle.stm_journal.proofs.Digits.{is_plain, is_no_bang, all-weaker, plain-bang, hex_bytes_of-encode, plain-encode, plain-decimal, HasNoLF-plain, no_bang-plain, no_bang-append, position-space}

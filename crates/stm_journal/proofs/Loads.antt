@@ -1,17 +1,10 @@
 -- Reading a journal piece by piece.
 use Rattle.std.proofs.Common.{◌≡◌, ◌≤◌, ◌<◌, ℕ, ◌+◌, ◌^◌, List, [], ◌∷◌, ◌++◌, length, take, drop, Result, Ok, Err, refl, sym, ◌∙◌, ap, ap₂, subst, arith, length-append, append_assoc, append-nil}
 use Rattle.std.proofs.lemmas.List.{take-append-drop}
-use Rattle.stm_journal.specs.declared.fault.JournalFault.{JournalFault}
+use Rattle.stm_journal.proofs.Names.{after_line, after_summary, bad, BadLine, capped, extended, forget_journal, forget_state, good, greeting, greets_by, HasNoLF, IsRead, journal_of, JournalData}
+use Rattle.stm_journal.proofs.Names.{JournalFault, Loaded, LoadingStopsAt, PassesLine, StateData, Summary, summary_of, TakesBytes, Text, text_of}
 use Rattle.stm_journal.specs.declared.fault.JournalFault.TheVariants.{File, Bad, OtherDevice, OtherBoard, Memory}
-use Rattle.stm_journal.specs.Text.{Text, text_of, HasNoLF}
-use Rattle.stm_journal.specs.States.{StateData}
-use Rattle.stm_journal.specs.Journals.{JournalData, Loaded, journal_of, good, bad, after_line, capped}
-use Rattle.stm_journal.specs.InMemory.{forget_state}
 use Rattle.std.specs.Prelude.{bytes_eq}
-use Rattle.stm_journal.specs.Greetings.{greeting}
-use Rattle.stm_journal.specs.Summary.{Summary, summary_of, extended, greets_by}
-use Rattle.stm_journal.specs.Forget.{forget_journal, after_summary}
-use Rattle.stm_journal.specs.Loading.{PassesLine, BadLine, IsRead, LoadingStopsAt, TakesBytes}
 use Rattle.stm_journal.proofs.Texts.{text-more-lines, text-more-tail}
 use Rattle.stm_journal.proofs.Readings.{journal-line, journal-tail, journal-bad, lines-within, reading-size}
 use Rattle.stm_journal.proofs.GoesOn.{goes-on}

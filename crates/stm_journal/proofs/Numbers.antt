@@ -3,7 +3,7 @@ use Rattle.std.proofs.Common.{◌≡◌, ◌≤◌, ◌<◌, ℕ, zero, suc, ◌
 use Rattle.std.proofs.lemmas.Bool.Decides.{nat_tests}
 use Rattle.std.proofs.lemmas.List.Sums.{fold_push}
 use Rattle.std.proofs.lemmas.Fmt.{decimal_by_steps, decimal_digit, first_decimal, decimal_nonempty}
-use Rattle.stm_journal.specs.Entries.{with_digit, decimal_of}
+use Rattle.stm_journal.proofs.Names.{decimal_of, with_digit}
 
 -- a test that holds
 taken : (b : Bool) (x y : Option ℕ) → b ≡ true → (if b then x else y) ≡ x

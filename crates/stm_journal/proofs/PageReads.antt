@@ -4,23 +4,12 @@ use Rattle.std.specs.Prelude.{option_and_then, slice_get}
 use Rattle.std.specs.List.{list_all}
 use Rattle.std.proofs.lemmas.List.{take-append-le, length-take-le, drop-drop, drop-take, take-take}
 use Rattle.hex.specs.Hex.{decode_sized}
-use Rattle.stm_wire.specs.Device.{Device, LosesOwed}
-use Rattle.stm_wire.specs.Rig.{RigState}
-use Rattle.stm_wire.specs.Moments.{LeavesOnly}
+use Rattle.stm_wire.proofs.Names.{Device, LeavesOnly, LosesOwed, RigState}
 use Rattle.stm_wire.specs.lemmas.MomentLaws.{joined}
-use Rattle.stm_journal.specs.declared.kept.Kept.{Kept}
-use Rattle.stm_journal.specs.declared.kept.PagePlace.{PagePlace}
-use Rattle.stm_journal.specs.declared.fault.JournalFault.{JournalFault}
+use Rattle.stm_journal.proofs.Names.{AllPlaced, cut, Fetches, FetchesBytes, FetchesPage, hex_bytes_of, is_upper_digit, IsLoaded, IsPlaced, IsPlaceIn, IsUntouched, JournalFault, Kept, kept_entry}
+use Rattle.stm_journal.proofs.Names.{kept_place, Loaded, Looks, LooksInVain, PagePlace, PagesPlaced, place_of, SaysAt, segment_of, SegmentData, StateData}
 use Rattle.stm_journal.specs.declared.fault.JournalFault.TheVariants.{File, Bad, OtherDevice, OtherBoard, Memory}
-use Rattle.stm_journal.specs.Entries.{is_upper_digit, hex_bytes_of}
-use Rattle.stm_journal.specs.States.{StateData, SegmentData, segment_of}
-use Rattle.stm_journal.specs.KeptPlaces.{kept_entry, kept_place, place_of, IsPlaceIn}
-use Rattle.stm_journal.specs.Places.{cut, IsPlaced, PagesPlaced, AllPlaced}
 use Rattle.stm_journal.specs.lemmas.ForgetLaws.{kept_place-forgets}
-use Rattle.stm_journal.specs.Journals.{Loaded, IsLoaded}
-use Rattle.stm_journal.specs.Calls.{IsUntouched, FetchesPage}
-use Rattle.stm_journal.specs.Loading.{Fetches}
-use Rattle.stm_journal.specs.PageFetching.{Looks, LooksInVain, FetchesBytes, SaysAt}
 use Rattle.stm_journal.proofs.Piecing.{pieces-say}
 use Rattle.stm_journal.proofs.Placing.{pages-are-placed}
 

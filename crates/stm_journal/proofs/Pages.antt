@@ -4,10 +4,8 @@ use Rattle.std.specs.List.{list_any}
 use Rattle.std.proofs.lemmas.Bool.{true≢false, not-true}
 use Rattle.std.proofs.lemmas.List.Folds.{list_any-append}
 use Rattle.std.proofs.lemmas.Bool.Decides.{nat_tests}
-use Rattle.stm_journal.specs.declared.kept.Kept.{Kept}
+use Rattle.stm_journal.proofs.Names.{is_open_stage, IsSound, JournalHeader, keeping, keeps, Kept, LacksPage, may_keep, newest_has, PagesOnce, SegmentData, stack_of, StateData}
 use Rattle.std.specs.declared.alloc.AllocError.{AllocError}
-use Rattle.stm_journal.specs.declared.header.JournalHeader.{JournalHeader}
-use Rattle.stm_journal.specs.States.{StateData, stack_of, SegmentData, LacksPage, PagesOnce, IsSound, may_keep, newest_has, keeps, is_open_stage, keeping}
 use Rattle.stm_journal.proofs.Intended.{intended-keep}
 
 or-first : (a b : Bool) → (a || b) ≡ false → a ≡ false

@@ -6,7 +6,7 @@ use Rattle.std.proofs.lemmas.Bool.{cases_Bool, cases_eq}
 use Rattle.std.proofs.lemmas.Bool.Decides.{nat_tests}
 use Rattle.hex.specs.declared.error.FromHexError.{FromHexError}
 use Rattle.hex.specs.Hex.{decode_sized}
-use Rattle.stm_journal.specs.Entries.{is_upper_digit, number_of_pair, hex_bytes_of}
+use Rattle.stm_journal.proofs.Names.{hex_bytes_of, is_upper_digit, number_of_pair}
 use Rattle.stm_journal.proofs.Upper.{hex_bytes_of-even, hex_bytes_of-odd}
 use Rattle.stm_journal.proofs.Piecing.{pieces-say}
 

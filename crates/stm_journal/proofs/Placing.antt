@@ -11,14 +11,10 @@ use Rattle.hex.specs.declared.error.FromHexError.TheVariants.{OddLength}
 use Rattle.hex.specs.Hex.{decode_pairs}
 use Rattle.hex.proofs.HexLemmas.{decode_pairs-ok}
 use Rattle.stm_wire.specs.declared.intent.Intent.TheVariants.{Erase, Program}
-use Rattle.stm_journal.specs.declared.kept.Kept.{Kept}
-use Rattle.stm_journal.specs.declared.entry.Entry.{Entry}
+use Rattle.stm_journal.proofs.Names.{after_entry, after_line, after_said, allows, AllPlaced, bad, board_at, board_header_of, board_of_fields, cut, decimal_of, ended_segment, Entry, entry_of, good}
+use Rattle.stm_journal.proofs.Names.{header_of, hex_bytes_of, id_of, in_front, intending, is_upper_digit, is_void, IsPlaced, journal_of, JournalData, keeping, Kept, kept_entry_of, kept_in, on_newest}
+use Rattle.stm_journal.proofs.Names.{page_at, page_of_fields, PagesPlaced, read_line, Reading, SegmentData, start, StateData, text_of, unique_id_of, worded}
 use Rattle.stm_journal.specs.declared.entry.Entry.TheVariants.{Names, Opens, Keeps, Erases, Programs, Ends, Undoes}
-use Rattle.stm_journal.specs.Text.{text_of, in_front, is_void}
-use Rattle.stm_journal.specs.Entries.{is_upper_digit, decimal_of, hex_bytes_of, page_of_fields, page_at, kept_entry_of, header_of, id_of, unique_id_of, board_at, board_of_fields, board_header_of, worded, entry_of}
-use Rattle.stm_journal.specs.States.{StateData, SegmentData, allows, after_entry, on_newest, keeping, kept_in, intending, ended_segment}
-use Rattle.stm_journal.specs.Journals.{JournalData, good, bad, Reading, read_line, start, journal_of, after_line, after_said}
-use Rattle.stm_journal.specs.Places.{cut, IsPlaced, PagesPlaced, AllPlaced}
 
 -- bytes behind change no place
 IsPlaced-more : (xs ys : List ℕ) (k : Kept) → IsPlaced xs k → IsPlaced (xs ++ ys) k

@@ -1,10 +1,6 @@
 -- A journal in memory after a line that was prepared.
 use Rattle.std.proofs.Common.{◌≡◌, ℕ, ◌+◌, ◌-◌, List, [], ◌∷◌, ◌++◌, length, false, sym, ◌∙◌, ap, ap₂, arith, length-append}
-use Rattle.stm_journal.specs.declared.entry.Entry.{Entry}
-use Rattle.stm_journal.specs.Entries.{line_of, line_text}
-use Rattle.stm_journal.specs.States.{StateData, after_entry}
-use Rattle.stm_journal.specs.InMemory.{forget_entry}
-use Rattle.stm_journal.specs.Journals.{Loaded, capped, past_mark, past_entry}
+use Rattle.stm_journal.proofs.Names.{after_entry, capped, Entry, forget_entry, line_of, line_text, Loaded, past_entry, past_mark, StateData}
 use Rattle.stm_journal.proofs.Ties.{mark-state}
 
 abbrev pub loaded : StateData → ℕ → ℕ → Loaded

@@ -2,9 +2,7 @@
 use Rattle.std.proofs.Common.{◌≡◌, ◌≤◌, ℕ, suc, ◌+◌, ◌==◌, List, [], ◌∷◌, ◌++◌, length, fold, refl, sym, ◌∙◌, ap, inl, inr, arith, length-append}
 use Rattle.std.proofs.lemmas.Bool.{cases_Bool}
 use Rattle.std.proofs.lemmas.List.Sums.{fold-append, fold_push}
-use Rattle.stm_journal.specs.Text.{Text, text_of, in_front, HasNoLF}
-use Rattle.stm_journal.specs.States.{StateData}
-use Rattle.stm_journal.specs.Journals.{JournalData, good, bad, Reading, read_line, reading_of, start, journal_of, after_line}
+use Rattle.stm_journal.proofs.Names.{after_line, bad, good, HasNoLF, in_front, journal_of, JournalData, read_line, Reading, reading_of, start, StateData, Text, text_of}
 use Rattle.stm_journal.proofs.Texts.{text-more-lines, text-more-tail}
 
 -- the bytes of lines with their LFs

@@ -2,11 +2,9 @@
 use Rattle.std.proofs.Common.{◌≡◌, ◌≤◌, ◌<◌, ℕ, ◌+◌, not, ◌&&◌, ◌==◌, List, [], ◌∷◌, length, Option, Some, None, refl, sym, ◌∙◌, ap, subst, arith, IsTrue, if◌then◌else◌}
 use Rattle.std.specs.Prelude.{is_none, IsSome}
 use Rattle.std.proofs.lemmas.Bool.{false≢true}
-use Rattle.stm_wire.specs.UniqueId.{IsUniqueId}
-use Rattle.stm_journal.specs.declared.header.JournalHeader.{JournalHeader}
+use Rattle.stm_wire.proofs.Names.{IsUniqueId}
+use Rattle.stm_journal.proofs.Names.{allows, begin_entries, empty_state, first_entries, is_unfinished, IsSound, JournalHeader, Loaded, past_mark, SegmentData, StateData, version_for}
 use Rattle.stm_journal.specs.declared.entry.Entry.TheVariants.{Names, Opens}
-use Rattle.stm_journal.specs.States.{StateData, SegmentData, empty_state, allows, is_unfinished, IsSound}
-use Rattle.stm_journal.specs.Journals.{Loaded, past_mark, begin_entries, first_entries, version_for}
 use Rattle.stm_journal.specs.lemmas.CallEntries.{header-for}
 use Rattle.stm_journal.proofs.Ties.{AllAllowed, mark-state}
 

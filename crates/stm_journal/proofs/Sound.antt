@@ -5,16 +5,12 @@ use Rattle.std.proofs.lemmas.Bool.{true≢false, not-true}
 use Rattle.std.proofs.lemmas.Bool.Decides.{nat_tests}
 use Rattle.std.proofs.lemmas.Option.{none-some}
 use Rattle.stm_wire.specs.declared.intent.Intent.TheVariants.{Erase, Program}
-use Rattle.stm_journal.specs.declared.kept.Kept.{Kept}
-use Rattle.stm_journal.specs.declared.stage.Stage.{Stage}
+use Rattle.stm_journal.proofs.Names.{after_entry, after_line, after_said, AllEnded, allows, bad, behind, board_at, board_header_of, board_of_fields, decimal_of, empty_state, EndedBelow, Entry}
+use Rattle.stm_journal.proofs.Names.{entry_of, good, header_of, id_of, IntentIsKept, is_ended_stage, is_unfinished, is_void, IsSound, journal_of, JournalData, JournalHeader, keeping, Kept}
+use Rattle.stm_journal.proofs.Names.{kept_entry_of, kept_in, may_keep, newest_has, newest_keeps, newest_may_keep, on_newest, page_at, page_of_fields, read_line, Reading, SegmentData, Stage}
+use Rattle.stm_journal.proofs.Names.{stage_with, start, StateData, text_of, unique_id_of, with_digit, worded}
 use Rattle.stm_journal.specs.declared.stage.Stage.TheVariants.{Open, Ended, Returning}
-use Rattle.stm_journal.specs.declared.header.JournalHeader.{JournalHeader}
-use Rattle.stm_journal.specs.declared.entry.Entry.{Entry}
 use Rattle.stm_journal.specs.declared.entry.Entry.TheVariants.{Names, Opens, Keeps, Erases, Programs, Ends, Undoes}
-use Rattle.stm_journal.specs.Text.{text_of, is_void}
-use Rattle.stm_journal.specs.Entries.{with_digit, decimal_of, behind, page_of_fields, page_at, kept_entry_of, header_of, id_of, unique_id_of, board_at, board_of_fields, board_header_of, worded, entry_of}
-use Rattle.stm_journal.specs.States.{StateData, SegmentData, empty_state, allows, after_entry, IsSound, IntentIsKept, EndedBelow, AllEnded, on_newest, keeping, kept_in, may_keep, newest_has, newest_keeps, newest_may_keep, is_ended_stage, is_unfinished, stage_with}
-use Rattle.stm_journal.specs.Journals.{JournalData, good, bad, Reading, read_line, start, journal_of, after_line, after_said}
 use Rattle.stm_journal.proofs.Intended.{intended-intend, intended-end, intended-ended}
 use Rattle.stm_journal.proofs.Pages.{IsSound-keep}
 

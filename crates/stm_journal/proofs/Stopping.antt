@@ -2,16 +2,10 @@
 use Rattle.std.proofs.Common.{◌≡◌, ◌⊎◌, ℕ, zero, suc, ◌+◌, ◌-◌, Bool, true, false, not, ◌==◌, Option, Some, None, IsTrue, append-nil, List, [], ◌∷◌, ◌++◌, length, take, flat_map, refl, sym, ◌∙◌, ap, subst, inl, inr, ⊎_elim, arith, length-append, append_assoc}
 use Rattle.std.proofs.lemmas.Bool.{cases_lt}
 use Rattle.std.proofs.lemmas.List.{take-append-le}
-use Rattle.stm_journal.specs.declared.entry.Entry.{Entry}
+use Rattle.stm_journal.proofs.Names.{added_bytes, after_entry, after_line, AllAllowed, allows, AllPrintable, begin_entries, BeginningsAreGood, BeginningsLeaveEither, EntriesLead, EntriesLeaveEither}
+use Rattle.stm_journal.proofs.Names.{Entry, good, HasAdded, HasBegun, HasNoLF, IsLoaded, IsSound, journal_of, JournalHeader, line_of, line_text, Loaded, mark, names_other, names_other_board}
+use Rattle.stm_journal.proofs.Names.{NamesThis, SegmentData, StateData, Text, text_of, version_for}
 use Rattle.std.proofs.lemmas.Bool.Decides.{nat_tests}
-use Rattle.stm_journal.specs.declared.header.JournalHeader.{JournalHeader}
-use Rattle.stm_journal.specs.Text.{Text, text_of, HasNoLF}
-use Rattle.stm_journal.specs.Entries.{line_of, line_text}
-use Rattle.stm_journal.specs.States.{StateData, SegmentData, allows, after_entry, names_other, names_other_board, IsSound}
-use Rattle.stm_journal.specs.Journals.{IsLoaded, Loaded, journal_of, good, after_line, mark, added_bytes, begin_entries, version_for, NamesThis}
-use Rattle.stm_journal.specs.Beginnings.{EntriesLead, AllAllowed, AllPrintable, BeginningsAreGood}
-use Rattle.stm_journal.specs.Added.{HasAdded, EntriesLeaveEither, BeginningsLeaveEither}
-use Rattle.stm_journal.specs.Newest.{HasBegun}
 use Rattle.stm_journal.specs.lemmas.CallEntries.{allowed-begin, printable-begin, own-board}
 use Rattle.stm_journal.proofs.Sound.{journal-is-sound}
 use Rattle.stm_journal.proofs.AfterCalls.{HasAdded-entry, HasBegun-opened}

@@ -1,7 +1,7 @@
 -- A journal's text, when bytes are added to it.
 use Rattle.std.proofs.Common.{◌≡◌, ℕ, Bool, true, false, ◌==◌, if◌then◌else◌, List, [], ◌∷◌, ◌++◌, refl, sym, ◌∙◌, ap, inl, inr, append_assoc, append-nil}
 use Rattle.std.proofs.lemmas.Bool.{cases_Bool}
-use Rattle.stm_journal.specs.Text.{Text, text_of, in_front, HasNoLF}
+use Rattle.stm_journal.proofs.Names.{HasNoLF, in_front, Text, text_of}
 
 pub HasNoLF-append : (xs ys : List ℕ) → HasNoLF xs → HasNoLF ys → HasNoLF (xs ++ ys)
 HasNoLF-append [] ys x y = y

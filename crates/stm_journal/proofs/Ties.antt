@@ -1,15 +1,10 @@
 -- A journal in memory stays tied to the bytes when entries are added to both.
 use Rattle.std.proofs.Common.{◌≡◌, ◌≤◌, ℕ, suc, ◌+◌, ◌-◌, ◌^◌, Bool, true, false, nat_lt, if◌then◌else◌, List, [], ◌∷◌, ◌++◌, length, fold, flat_map, Option, refl, sym, ◌∙◌, ap, ap₂, subst, arith, length-append, append_assoc, append-nil, IsTrue}
 use Rattle.std.proofs.lemmas.Bool.Decides.{nat_tests}
-use Rattle.stm_journal.specs.declared.entry.Entry.{Entry}
-use Rattle.stm_journal.specs.Text.{Text, text_of, is_void, HasNoLF}
-use Rattle.stm_journal.specs.Entries.{entry_of, line_of, line_text}
-use Rattle.stm_journal.specs.States.{StateData, allows, after_entry}
+use Rattle.stm_journal.proofs.Names.{added_bytes, after_entry, after_line, after_said, allows, bad, capped, Entry, entry_of, forget_entry, forget_state, good, greeting, HasNoLF, is_void, IsLoaded}
+use Rattle.stm_journal.proofs.Names.{IsPrintable, journal_of, line_of, line_text, Loaded, loaded_after, mark, past_entry, past_mark, StateData, Text, text_of}
 use Rattle.std.specs.Prelude.{bytes_eq}
-use Rattle.stm_journal.specs.Greetings.{greeting}
-use Rattle.stm_journal.specs.Journals.{journal_of, good, bad, after_line, after_said, Loaded, IsLoaded, capped, mark, added_bytes, past_mark, past_entry, loaded_after, IsPrintable}
 use Rattle.stm_journal.proofs.Texts.{text-more-lines}
-use Rattle.stm_journal.specs.InMemory.{forget_entry, forget_state}
 use Rattle.stm_journal.specs.lemmas.ForgetLaws.{allows-forgets}
 use Rattle.stm_journal.proofs.Forgets.{after-forgets}
 use Rattle.stm_journal.proofs.Readings.{journal-line, lines-within}

@@ -4,8 +4,8 @@ use Rattle.std.specs.Prelude.{option_map, option_and_then, SomeIff}
 use Rattle.std.specs.List.{list_all}
 use Rattle.std.proofs.lemmas.Bool.{true≢false}
 use Rattle.hex.specs.Hex.{decode_sized}
-use Rattle.stm_wire.specs.UniqueId.{is_unique_length}
-use Rattle.stm_journal.specs.Entries.{is_upper_digit, hex_bytes_of, unique_id_of}
+use Rattle.stm_wire.proofs.Names.{is_unique_length}
+use Rattle.stm_journal.proofs.Names.{hex_bytes_of, is_upper_digit, unique_id_of}
 use Rattle.stm_journal.proofs.Piecing.{said, pieces-say}
 
 -- digits are decoded as the bytes that they say

@@ -1,8 +1,7 @@
 -- A summary decides whether its line is void.
 use Rattle.std.proofs.Common.{◌≡◌, ℕ, suc, ◌-◌, Bool, true, false, ◌==◌, ◌&&◌, List, [], ◌∷◌, length, get_or, refl, sym, ◌∙◌, ap, arith}
 use Rattle.std.proofs.lemmas.Bool.Decides.{nat_tests}
-use Rattle.stm_journal.specs.Text.{is_void}
-use Rattle.stm_journal.specs.Summary.{summary_of, void_by}
+use Rattle.stm_journal.proofs.Names.{is_void, summary_of, void_by}
 
 -- the last byte
 abbrev last_of : List ℕ → ℕ

@@ -3,18 +3,12 @@ use Rattle.std.proofs.Common.{◌≡◌, ℕ, ◌+◌, List, [], ◌∷◌, ◌+
 use Rattle.std.specs.List.{AllByRecursion}
 use Rattle.std.proofs.lemmas.Bool.{true≢false}
 use Rattle.stm_image.specs.Pairs.{Pairs, IsNext}
-use Rattle.stm_wire.specs.Frames.{read_turns}
-use Rattle.stm_session.specs.Answers.{first_difference}
-use Rattle.stm_wire.specs.Chip.{ChipData}
-use Rattle.stm_wire.specs.Rig.{RigState}
-use Rattle.stm_journal.specs.States.{StateData}
-use Rattle.stm_session.specs.declared.fault.Fault.{Fault}
+use Rattle.stm_wire.proofs.Names.{ChipData, read_turns, RigState}
+use Rattle.stm_session.proofs.Names.{Adds, AgreeInBlocks, cause_of, ComeInBlocks, CommandData, Fault, FaultEnds, FaultTells, first_difference, is_change, IsBegunBy, IsBegunIf, IsBegunTelling}
+use Rattle.stm_session.proofs.Names.{IsReading, IsRefusal, Sends, Step, StopsBy, StopsTelling, verifies}
+use Rattle.stm_journal.proofs.Names.{StateData}
 use Rattle.stm_session.specs.declared.fault.Fault.TheVariants as fault
-use Rattle.stm_session.specs.Fault.{IsRefusal, cause_of}
-use Rattle.stm_session.specs.Came.{AgreeInBlocks, ComeInBlocks, FaultTells}
-use Rattle.stm_session.specs.Meaning.{CommandData, writes, erases, verifies, reads, is_change}
-use Rattle.stm_session.specs.Order.{Step, Adds, Sends, FaultEnds, StopsBy}
-use Rattle.stm_session.specs.RunOrder.{IsBegunBy, IsBegunIf, IsBegunTelling, IsReading, StopsTelling}
+use Rattle.stm_session.specs.Meaning.{writes, erases, reads}
 use Rattle.stm_session.proofs.CutShort.{stop_as}
 use Rattle.stm_session.proofs.Reaching.{at_fault}
 

@@ -2,18 +2,10 @@
 use Rattle.std.proofs.Common.{◌≡◌, ℕ, List, Result, Ok, Err, IsErrAnd, IfOk, OnOk, refl, sym, ◌∙◌, subst}
 use Rattle.stm_wire.specs.declared.fault.WireFault.{WireFault}
 use Rattle.stm_wire.specs.declared.fault.WireFault.TheVariants.{Line}
-use Rattle.stm_wire.specs.Device.{Device, IsDevice, IsSettled}
-use Rattle.stm_wire.specs.Dialogue.{Turn}
-use Rattle.stm_wire.specs.Frames.{command}
-use Rattle.stm_wire.specs.Moments.{LeftBySending}
+use Rattle.stm_wire.proofs.Names.{AskingChangesNothing, BreaksOff, command, Device, get, IsDevice, IsHeldToEnd, IsModel, IsQuestion, IsSettled, LeftBySending, RigState, Turn}
 use Rattle.stm_wire.specs.lemmas.MomentLaws.{joined, started, weaker}
-use Rattle.stm_wire.specs.Rig.{RigState, IsModel}
-use Rattle.stm_wire.specs.Sending.{IsHeldToEnd, BreaksOff}
-use Rattle.stm_wire.specs.Stopped.{AskingChangesNothing, IsQuestion, get}
-use Rattle.stm_session.specs.declared.fault.Fault.{Fault}
+use Rattle.stm_session.proofs.Names.{Asks, Fault, fault_of, IsOutsideFault, IsStill}
 use Rattle.stm_session.specs.declared.fault.Fault.TheVariants.{Memory}
-use Rattle.stm_session.specs.Fault.{IsOutsideFault, fault_of}
-use Rattle.stm_session.specs.Asking.{Asks, IsStill}
 use Rattle.stm_session.proofs.Standing.{makes_then}
 
 pub line_outside : (e : WireFault) → e ≡ Line → IsOutsideFault (fault_of e)

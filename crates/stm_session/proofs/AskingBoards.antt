@@ -3,44 +3,22 @@ use Rattle.std.proofs.Common.{◌≡◌, ◌⊎◌, ⊎_elim, inl, inr, OnOk, �
 use Rattle.stm_wire.specs.declared.fault.WireFault.{WireFault}
 use Rattle.stm_wire.specs.declared.places.BoardPlaces.{BoardPlaces}
 use Rattle.stm_wire.specs.declared.places.UniquePlace.{UniquePlace}
-use Rattle.stm_wire.specs.Call.{Call}
-use Rattle.stm_wire.specs.Chip.{ChipData}
-use Rattle.stm_wire.specs.Device.{Device, IsDevice, IsSettled}
-use Rattle.stm_wire.specs.Dialogue.{Turn, Adds, GoesOn, IsBrokenOff, calls_of, puts_of}
+use Rattle.stm_wire.proofs.Names.{Adds, AreFew, AsksSafely, at_address, at_code, at_count, Call, calls_of, ChipData, command, Device, get_id_turns, get_turns, GoesOn, IsBrokenOff, IsDevice, IsModel}
+use Rattle.stm_wire.proofs.Names.{IsPart, IsRefusedRead, IsSettled, LeftBySending, LossStaysHarmless, puts_of, read_turns, ReadsOrIsRefused, refusable_frame, RefusableReadsChangeNothing}
+use Rattle.stm_wire.proofs.Names.{refused_turns, RigState, SettlesWithin, Turn}
 use Rattle.stm_wire.specs.lemmas.DialogueLaws.{GoesOn-adds, GoesOn-append, GoesOn-weaker, broken_off_is_cut_short, calls_of-are_line, gets_of-append, length-calls_of, length-read_turns, line_calls_are_few, puts_of-append}
-use Rattle.stm_wire.specs.Frames.{command, get_id_turns, get_turns, read_turns}
-use Rattle.stm_wire.specs.Moments.{LeftBySending}
 use Rattle.stm_wire.specs.lemmas.MomentLaws.{weaker, joined}
-use Rattle.stm_wire.specs.Parts.{AreFew, IsPart}
-use Rattle.stm_wire.specs.Refused.{AsksSafely, IsRefusedRead, ReadsOrIsRefused, RefusableReadsChangeNothing, at_address, at_code, at_count, refusable_frame, refused_turns}
-use Rattle.stm_wire.specs.Rig.{RigState, IsModel}
-use Rattle.stm_session.specs.declared.asking_board.Board.{Board}
-use Rattle.stm_session.specs.declared.fault.Fault.{Fault}
-use Rattle.stm_session.specs.Asking.{Asks, IsStill}
-use Rattle.stm_session.specs.AskingBoard.{AsksBoard, AsksSize, AsksUnique, IsAnswered, came_in, places_in, size_told, unique_told, AsksInPart}
-use Rattle.stm_session.specs.Fault.{Cause, IsOutsideFault, cause_of, fault_of, IsOfTalking, IsOutside, IsUnheard, fault_of_journal, of_protocol, of_refusal, of_session}
-use Rattle.stm_session.specs.Order.{Step, Begin, IsInOrder, Sends, FaultEnds, StopsBy, torn_behind, AreCutShort, acts_of}
-use Rattle.stm_session.specs.Reaching.{AsksInOrder, IsAsked, IsAsking, asking_steps, SettlesThen}
-use Rattle.stm_session.specs.Unwritten.{AppendsNothing}
+use Rattle.stm_session.proofs.Names.{acts_of, AmidUndo, AppendsNothing, AreCutShort, asking_refusal, asking_steps, Asks, AsksBoard, AsksFinished, AsksInOrder, AsksInPart, AsksSize, AsksUnfinished}
+use Rattle.stm_session.proofs.Names.{AsksUnique, Begin, BeginsNothing, Board, byte_of, came_in, Cause, cause_of, EndsWell, Fault, fault_of, fault_of_journal, FaultEnds, Goes, IsAnswered, IsAsked}
+use Rattle.stm_session.proofs.Names.{IsAsking, IsBoardOf, IsInOrder, IsOfTalking, IsOutside, IsOutsideFault, IsSafe, IsSteady, IsStill, IsUnbegun, IsUnheard, limit_of, LoadsUnless, of_protocol}
+use Rattle.stm_session.proofs.Names.{of_refusal, of_session, places_in, Sends, SettlesThen, settling_way, size_of, size_told, Stands, Step, StepLaws, StopsBy, torn_behind, Undoable, unique_of}
+use Rattle.stm_session.proofs.Names.{unique_told, unsent_refusal, Way}
 use Rattle.stm_wire.specs.declared.chip.EraseKind.{EraseKind}
 use Rattle.stm_wire.specs.declared.intent.Intent.{Intent}
-use Rattle.stm_wire.specs.Settling.{SettlesWithin}
-use Rattle.stm_wire.specs.Stopped.{LossStaysHarmless}
 use Rattle.stm_journal.specs.declared.fault.JournalFault.{JournalFault}
-use Rattle.stm_journal.specs.Calls.{AreFetches, IsUntouched, Loads}
-use Rattle.stm_journal.specs.Journals.{Loaded, journal_of}
-use Rattle.stm_session.specs.ToldBoard.{AsksFinished, AsksUnfinished, IsBoardOf, size_of, unique_of}
-use Rattle.stm_session.specs.Fresh.{EndsWell, Way, byte_of, limit_of, settling_way}
+use Rattle.stm_journal.proofs.Names.{AreFetches, IsUntouched, journal_of, Loaded, Loads}
 use Rattle.stm_session.proofs.AskingStops.{asked_puts}
 use Rattle.stm_session.proofs.Freshness.{limit_most}
-use Rattle.stm_session.specs.Moments.{BeginsNothing, IsSafe, IsUnbegun}
-use Rattle.stm_session.specs.Opening.{LoadsUnless}
-use Rattle.stm_session.specs.Refusal.{unsent_refusal}
-use Rattle.stm_session.specs.Unasked.{asking_refusal}
-use Rattle.stm_session.specs.StepLaws.{StepLaws}
-use Rattle.stm_session.specs.Steps.{Goes, IsSteady, Stands}
-use Rattle.stm_session.specs.Undoable.{Undoable}
-use Rattle.stm_session.specs.Undoes.{AmidUndo}
 use Rattle.stm_session.proofs.Asking.{line_outside}
 use Rattle.stm_session.proofs.Going.{asks_fail, asks_go, at_exit}
 use Rattle.stm_session.proofs.Openings.{load_failed, untouched_is_unbegun}

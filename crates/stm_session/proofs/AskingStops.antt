@@ -3,17 +3,10 @@
 use Rattle.std.proofs.Common.{◌≡◌, ℕ, ◌+◌, ◌<◌, Bool, true, false, List, [], ◌∷◌}
 use Rattle.std.proofs.Common.{◌++◌, length, None, Result, Ok, Err, IsErrAnd, refl, arith}
 use Rattle.std.specs.Prelude.{IfOk}
-use Rattle.stm_wire.specs.Dialogue.{GoesOn}
-use Rattle.stm_wire.specs.Frames.{get_id_turns, get_turns}
+use Rattle.stm_wire.proofs.Names.{get_id_turns, get_turns, GoesOn, IsPart, RigState}
 use Rattle.stm_wire.specs.lemmas.DialogueLaws.{get_id_sends, get_sends, length-get_turns}
-use Rattle.stm_wire.specs.Parts.{IsPart}
 use Rattle.stm_wire.specs.SentList.{get as get_sent, get_id as id_sent}
-use Rattle.stm_wire.specs.Rig.{RigState}
-use Rattle.stm_session.specs.declared.fault.Fault.{Fault}
-use Rattle.stm_session.specs.Fault.{Cause, cause_of}
-use Rattle.stm_session.specs.Order.{Step, Begin, IsInOrder, Sends, FaultEnds, StopsBy}
-use Rattle.stm_session.specs.Reaching.{AsksInOrder, IsAsking, IsGet, IsGetId, asking_steps, id_turns}
-use Rattle.stm_session.specs.Sending.{is_whole, is_whole_at}
+use Rattle.stm_session.proofs.Names.{asking_steps, AsksInOrder, Begin, Cause, cause_of, Fault, FaultEnds, id_turns, is_whole, is_whole_at, IsAsking, IsGet, IsGetId, IsInOrder, Sends, Step, StopsBy}
 use Rattle.stm_session.proofs.CutShort.{begin_after, begin_on, by_fault, order_stops, part_stops}
 use Rattle.stm_session.proofs.SentSteps.{PutFew, done_puts, put_as, put_front, put_then, stopped_puts}
 

@@ -6,18 +6,9 @@ use Rattle.stm_wire.specs.declared.chip.EraseKind.{EraseKind}
 use Rattle.stm_wire.specs.declared.chip.EraseKind.TheVariants.{Page, Extended}
 use Rattle.stm_wire.specs.declared.intent.Intent.{Intent}
 use Rattle.stm_wire.specs.declared.intent.Intent.TheVariants.{Erase, Program}
-use Rattle.stm_wire.specs.Awaited.{Awaits, AwaitsIn, most_awaited, most_under}
-use Rattle.stm_wire.specs.Greeting.{AwaitsUnder, most_left}
-use Rattle.stm_wire.specs.Chip.{ChipData}
-use Rattle.stm_wire.specs.Device.{Device, Fresh, IsDevice, LosesOwed}
-use Rattle.stm_wire.specs.Intents.{settling_byte}
-use Rattle.stm_wire.specs.Rig.{RigState}
-use Rattle.stm_journal.specs.Greetings.{is_greeted}
-use Rattle.stm_journal.specs.States.{intent_of}
-use Rattle.stm_session.specs.Fresh.{settling_limit}
-use Rattle.stm_session.specs.StepLaws.{StepLaws}
-use Rattle.stm_session.specs.Undoable.{state_at}
-use Rattle.stm_session.specs.Undoes.{IsWithinLimit}
+use Rattle.stm_wire.proofs.Names.{Awaits, AwaitsIn, AwaitsUnder, ChipData, Device, Fresh, IsDevice, LosesOwed, most_awaited, most_left, most_under, RigState, settling_byte}
+use Rattle.stm_journal.proofs.Names.{intent_of, is_greeted}
+use Rattle.stm_session.proofs.Names.{IsWithinLimit, settling_limit, state_at, StepLaws}
 
 -- a settling byte is one
 byte_small : (n : ℕ) → settling_byte (Some (Erase n)) < 256

@@ -2,32 +2,18 @@
 use Rattle.std.proofs.Common.{◌≡◌, inl, inr, ⊎_elim, ℕ, ◌+◌, ◌<◌, ◌≤◌, Bool, true, false, not, ◌==◌, if◌then◌else◌, List, ◌∷◌, ◌++◌, length, take, Option, Some, None, Result, Ok, Err, IsErrAnd, refl, sym, ap, ◌∙◌, subst, arith}
 use Rattle.std.specs.Prelude.{is_some}
 use Rattle.std.proofs.lemmas.Bool.{false≢true, true≢false}
-use Rattle.stm_wire.specs.Chip.{ChipData}
-use Rattle.stm_wire.specs.UniqueId.{IsUniqueId}
-use Rattle.stm_wire.specs.Device.{Device, IsSettled}
-use Rattle.stm_wire.specs.Moments.{LeavesOnly}
+use Rattle.stm_wire.proofs.Names.{ChipData, Device, IsModel, IsSettled, IsUniqueId, LeavesOnly, LeftByAppend, RigState}
 use Rattle.stm_wire.specs.lemmas.MomentLaws.{weaker}
-use Rattle.stm_wire.specs.Rig.{RigState, IsModel, LeftByAppend}
 use Rattle.stm_journal.specs.declared.entry.Entry.{Entry}
 use Rattle.stm_journal.specs.declared.fault.JournalFault.{JournalFault}
 use Rattle.stm_journal.specs.declared.fault.JournalFault.TheVariants.{Bad, OtherDevice, OtherBoard}
 use Rattle.stm_journal.specs.declared.header.JournalHeader.{JournalHeader}
-use Rattle.stm_journal.specs.Beginnings.{BeginningsAreGood, EntriesLead}
+use Rattle.stm_journal.proofs.Names.{added_bytes, AllFit, Appends, begin_entries, BeginningsAreGood, EntriesLead, flashes_before_segments, fresh_segment, good, HasBegun, is_ended_stage, is_unfinished}
+use Rattle.stm_journal.proofs.Names.{journal_of, LeavesUnbegun, Loaded, loaded_after, names_other, names_other_board, newest_has, SegmentData, StateData, version_for}
 use Rattle.stm_journal.specs.lemmas.CallEntries.{allowed-begin, board-begin, printable-begin, stack-begin, names-begin}
-use Rattle.stm_journal.specs.Calls.{Appends}
-use Rattle.stm_journal.specs.Fits.{AllFit}
-use Rattle.stm_journal.specs.Flashes.{flashes_before_segments}
 use Rattle.stm_journal.specs.lemmas.ForgetLaws.{begin_entries-forgets, names_other-forgets}
-use Rattle.stm_journal.specs.Journals.{Loaded, journal_of, good, added_bytes, begin_entries, loaded_after, version_for, LeavesUnbegun}
-use Rattle.stm_journal.specs.Newest.{HasBegun}
-use Rattle.stm_journal.specs.States.{StateData, SegmentData, fresh_segment, is_ended_stage, is_unfinished, names_other, names_other_board, newest_has}
-use Rattle.stm_session.specs.declared.fault.Fault.{Fault}
-use Rattle.stm_session.specs.Fault.{IsOutsideFault, fault_of_journal}
-use Rattle.stm_session.specs.Lines.{depth_at, is_named_at, is_torn_at, opening_entries, text_added}
-use Rattle.stm_session.specs.Segments.{AmidCommand, Changes}
-use Rattle.stm_session.specs.StepLaws.{StepLaws}
-use Rattle.stm_session.specs.Steps.{AreIntents, KeepsFlashes, IsSteady, torn_after}
-use Rattle.stm_session.specs.Undoable.{AllKeepCompanions, HasVersion, good_state, state_at}
+use Rattle.stm_session.proofs.Names.{AllKeepCompanions, AmidCommand, AreIntents, Changes, depth_at, Fault, fault_of_journal, good_state, HasVersion, is_named_at, is_torn_at, IsOutsideFault, IsSteady}
+use Rattle.stm_session.proofs.Names.{KeepsFlashes, opening_entries, state_at, StepLaws, text_added, torn_after}
 use Rattle.stm_session.proofs.Keeping.{depth_text, good_at, text_is, unfinished_is, unfinished_text}
 use Rattle.stm_session.proofs.Standing.{loses_nothing, same_make, settled_undoable}
 use Rattle.stm_session.proofs.Texts.{whole_part}

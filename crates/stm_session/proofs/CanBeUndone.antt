@@ -1,19 +1,12 @@
 -- What can be undone.
 use Rattle.std.proofs.Common.{◌≡◌, ℕ, Bool, true, false, not, List, [], ◌∷◌, None, refl, sym, ◌∙◌, ap, ap₂, subst, lit≤}
-use Rattle.stm_wire.specs.Chip.{ChipData}
-use Rattle.stm_wire.specs.Device.{Device, Phase, Fresh, Connected, Gone, IsDevice, IsReady, IsReadyPhase, reset}
-use Rattle.stm_wire.specs.Greeting.{AwaitsUnder}
-use Rattle.stm_wire.specs.Harmless.{Harmless}
-use Rattle.stm_wire.specs.Intents.{settling_byte}
-use Rattle.stm_wire.specs.Stopped.{FreshIsHarmless, ResetStaysHarmless, StoppedIsHarmless, in_ready}
+use Rattle.stm_wire.proofs.Names.{AwaitsUnder, ChipData, Connected, Device, Fresh, FreshIsHarmless, Gone, Harmless, in_ready, IsDevice, IsReady, IsReadyPhase, Phase, reset, ResetStaysHarmless}
+use Rattle.stm_wire.proofs.Names.{settling_byte, StoppedIsHarmless}
 use Rattle.stm_journal.specs.declared.stage.Stage.{Stage}
 use Rattle.stm_journal.specs.declared.stage.Stage.TheVariants.{Open, Ended, Returning}
-use Rattle.stm_journal.specs.States.{StateData, SegmentData, intent_of, is_unfinished, is_ended_stage, intent_at, names_other, newest_has, newest_intent}
-use Rattle.stm_journal.specs.Greetings.{is_greeted}
-use Rattle.stm_journal.specs.Flashes.{flashes_before_segments}
-use Rattle.stm_session.specs.Moments.{IsSafe, SameMake}
+use Rattle.stm_journal.proofs.Names.{flashes_before_segments, intent_at, intent_of, is_ended_stage, is_greeted, is_unfinished, names_other, newest_has, newest_intent, SegmentData, StateData}
+use Rattle.stm_session.proofs.Names.{is_unfinished_at, IsJournalOf, IsSafe, risked_pages, SameMake, state_at, Undoable}
 use Rattle.stm_session.proofs.Awaiting.{fresh_under}
-use Rattle.stm_session.specs.Undoable.{IsJournalOf, Undoable, is_unfinished_at, risked_pages, state_at}
 
 -- a ready device is safe
 pub ready_is_safe : StoppedIsHarmless → FreshIsHarmless → (d : Device) → IsDevice d → IsReady d → IsSafe d

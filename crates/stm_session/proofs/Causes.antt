@@ -1,8 +1,7 @@
 -- What a fault comes of, behind calls that answered Ok.
 use Rattle.std.proofs.Common.{◌≡◌, ◌∙◌, Result, Ok, Err, IsErrAnd, arith, subst, sym}
-use Rattle.stm_wire.specs.Rig.{RigState, Rises}
-use Rattle.stm_session.specs.declared.fault.Fault.{Fault}
-use Rattle.stm_session.specs.Fault.{Cause, of_line, of_file, cause_of, HasSessionCause, KeepsFileCountBy, KeepsLineCountBy, RisesBy}
+use Rattle.stm_wire.proofs.Names.{RigState, Rises}
+use Rattle.stm_session.proofs.Names.{Cause, cause_of, Fault, HasSessionCause, KeepsFileCountBy, KeepsLineCountBy, of_file, of_line, RisesBy}
 
 rises_behind : (a b c : RigState) (k : Cause) → b.line_failures ≡ a.line_failures → b.journal_failures ≡ a.journal_failures → RisesBy b c k → RisesBy a c k
 rises_behind a b c of_line line file r = subst (λ n. Rises n c.line_failures) line r

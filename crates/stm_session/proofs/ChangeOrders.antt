@@ -5,14 +5,12 @@ use Rattle.std.proofs.lemmas.Bool.{cases_Bool}
 use Rattle.std.proofs.lemmas.List.{length-replicate}
 use Rattle.std.proofs.lemmas.Slice.Eq.{bytes_eq-Decides}
 use Rattle.stm_journal.specs.declared.entry.Entry.TheVariants.{Keeps}
-use Rattle.stm_wire.specs.Chip.{ChipData, erased_byte, page_size}
+use Rattle.stm_wire.proofs.Names.{ChipData, erased_byte, page_size}
 use Rattle.stm_chip.specs.declared.plan.Frame.{Frame}
 use Rattle.stm_chip.specs.Plan.{frames_of}
-use Rattle.stm_session.specs.declared.change.Change.{Change}
-use Rattle.stm_session.specs.ChangeOrder.{AreTurned, more, AreBothSaved, IsChanged, IsChangedUnless, IsCompanionSaved, IsPageChanged, IsSaved, IsSavedWith, IsPageTurn, IsTurnOf}
-use Rattle.stm_session.specs.Contents.{MayTouch, content}
-use Rattle.stm_session.specs.Order.{Step, Adds, page_reads, rewrite_steps}
-use Rattle.stm_session.specs.Undoable.{has_companion}
+use Rattle.stm_session.proofs.Names.{Adds, AreBothSaved, AreTurned, Change, content, has_companion, IsChanged, IsChangedUnless, IsCompanionSaved, IsPageChanged, IsPageTurn, IsSaved, IsSavedWith}
+use Rattle.stm_session.proofs.Names.{IsTurnOf, MayTouch, page_reads, rewrite_steps, Step}
+use Rattle.stm_session.specs.ChangeOrder.{more}
 use Rattle.stm_session.proofs.Savings.{is_first}
 
 -- which pages are kept

@@ -3,12 +3,9 @@ use Rattle.std.proofs.Common.{Ok, ◌≡◌, ◌≢◌, ◌/◌, ℕ, Bool, fals
 use Rattle.std.specs.Prelude.{bytes_eq, Vec}
 use Rattle.std.proofs.lemmas.Bool.{cases_Bool, true≢false}
 use Rattle.std.proofs.lemmas.Slice.Eq.{bytes_eq-Decides}
-use Rattle.stm_wire.specs.Chip.{ChipData, erased_byte, page_of, with_page}
-use Rattle.stm_wire.specs.Rig.{RigState, IsModel}
-use Rattle.stm_journal.specs.Journals.{Loaded}
-use Rattle.stm_session.specs.ChangeOrder.{IsChanged}
-use Rattle.stm_session.specs.Performs.{Performs}
-use Rattle.stm_session.specs.StepLaws.{StepLaws}
+use Rattle.stm_wire.proofs.Names.{ChipData, erased_byte, IsModel, page_of, RigState, with_page}
+use Rattle.stm_journal.proofs.Names.{Loaded, StateData}
+use Rattle.stm_session.proofs.Names.{change_entries, HasTurned, IsChanged, Performs, program_entries, rewrite_entries, save_entries, StepLaws}
 use Rattle.stm_session.proofs.ChangeOrders.{changed_none}
 use Rattle.stm_session.proofs.Going.{page_held}
 use Rattle.stm_session.proofs.Performing.{performs_none}
@@ -19,9 +16,6 @@ use Rattle.stm_chip.specs.Plan.{IsPlan, frames_of}
 use Rattle.stm_chip.specs.declared.plan.Frame.{Frame}
 use Rattle.stm_journal.specs.declared.entry.Entry.{Entry}
 use Rattle.stm_journal.specs.declared.entry.Entry.TheVariants.{Erases}
-use Rattle.stm_journal.specs.States.{StateData}
-use Rattle.stm_session.specs.Changing.{HasTurned, change_entries, save_entries}
-use Rattle.stm_session.specs.Lines.{program_entries, rewrite_entries}
 
 -- a page that holds its bytes
 pub not_turned : (kept changed : Bool) (chip : ChipData) (n : ℕ) (s : StateData) → changed ≡ false → HasTurned kept changed chip n s s

@@ -1,27 +1,14 @@
 -- The segment of a command ends, behind a question.
 use Rattle.std.proofs.Common.{◌≡◌, ◌⊎◌, inl, inr, ℕ, Bool, List, [], ◌∷◌, ◌++◌, length, take, Result, Ok, Err, IsErrAnd, OnOk, refl, sym, ap, ◌∙◌, subst, IsTrue}
-use Rattle.stm_wire.specs.Device.{Device, IsSettled}
-use Rattle.stm_wire.specs.Moments.{LeavesOnly}
+use Rattle.stm_wire.proofs.Names.{Device, IsModel, IsSettled, LeavesOnly, LeftByAppend, RigState}
 use Rattle.stm_wire.specs.lemmas.MomentLaws.{joined, weaker}
-use Rattle.stm_wire.specs.Rig.{RigState, IsModel, LeftByAppend}
 use Rattle.stm_journal.specs.declared.entry.Entry.{Entry}
 use Rattle.stm_journal.specs.declared.entry.Entry.TheVariants.{Ends}
 use Rattle.stm_journal.specs.declared.fault.JournalFault.{JournalFault}
-use Rattle.stm_journal.specs.Added.{HasAdded}
+use Rattle.stm_journal.proofs.Names.{added_bytes, Appends, good, HasAdded, HasEnded, IsSound, journal_of, LeavesLoaded, Loaded, loaded_after, newest_is_open, StateData}
 use Rattle.stm_journal.specs.lemmas.CallEntries.{allowed-end}
-use Rattle.stm_journal.specs.Calls.{Appends}
 use Rattle.stm_journal.specs.lemmas.ForgetLaws.{newest_is_open-forgets}
-use Rattle.stm_journal.specs.Journals.{Loaded, journal_of, good, added_bytes, loaded_after, LeavesLoaded}
-use Rattle.stm_journal.specs.Newest.{HasEnded}
-use Rattle.stm_journal.specs.States.{StateData, newest_is_open, IsSound}
-use Rattle.stm_session.specs.declared.fault.Fault.{Fault}
-use Rattle.stm_session.specs.Asking.{Asks, IsStill}
-use Rattle.stm_session.specs.Fault.{IsOutsideFault, fault_of_journal}
-use Rattle.stm_session.specs.Lines.{depth_at, is_torn_at, text_added}
-use Rattle.stm_session.specs.Segments.{Closes, IsClosing}
-use Rattle.stm_session.specs.StepLaws.{StepLaws}
-use Rattle.stm_session.specs.Steps.{AddsLines, KeepsFlashes, IsSteady}
-use Rattle.stm_session.specs.Undoable.{state_at}
+use Rattle.stm_session.proofs.Names.{AddsLines, Asks, Closes, depth_at, Fault, fault_of_journal, is_torn_at, IsClosing, IsOutsideFault, IsSteady, IsStill, KeepsFlashes, state_at, StepLaws, text_added}
 use Rattle.stm_session.proofs.Keeping.{depth_text, good_at, keeps_pages, text_is}
 use Rattle.stm_session.proofs.Standing.{journal_outside, loses_nothing, makes_then, same_make, settled_undoable, still_stands}
 

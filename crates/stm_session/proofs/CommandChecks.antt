@@ -4,15 +4,10 @@ use Rattle.std.proofs.lemmas.Bool.Decides.{nat_tests}
 use Rattle.std.proofs.lemmas.List.Folds.{list_all-map}
 use Rattle.std.proofs.lemmas.List.Sums.{length-filter}
 use Rattle.std.specs.List.{list_all, list_any}
-use Rattle.stm_wire.specs.Chip.{ChipData}
-use Rattle.stm_wire.specs.Device.{Device}
-use Rattle.stm_wire.specs.Exchange.{is_listed}
-use Rattle.stm_journal.specs.States.{StateData}
-use Rattle.stm_session.specs.declared.command.Command.{Command}
+use Rattle.stm_wire.proofs.Names.{ChipData, Device, is_listed}
+use Rattle.stm_journal.proofs.Names.{StateData}
+use Rattle.stm_session.proofs.Names.{can_erase, changes_of, Command, command_data, command_refusals, CommandData, erase_code, first_refusal, is_change, is_in_flash, lies_in_flash}
 use Rattle.stm_session.specs.declared.fault.Fault.TheVariants.{OutOfFlash, Full}
-use Rattle.stm_session.specs.Meaning.{CommandData, changes_of, command_data, is_change}
-use Rattle.stm_session.specs.Refusal.{first_refusal}
-use Rattle.stm_session.specs.Refusals.{can_erase, command_refusals, erase_code, is_in_flash, lies_in_flash}
 
 -- one of the commands is such a one
 any_of : (p : CommandData → Bool) (commands : List Command) → list_any p (map command_data commands) ≡ list_any (λ c. p (command_data c)) commands

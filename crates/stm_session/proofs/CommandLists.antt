@@ -4,12 +4,11 @@ use Rattle.std.specs.Prelude.{is_none}
 use Rattle.std.proofs.lemmas.List.{reverse-append, length-append}
 use Rattle.std.proofs.lemmas.List.Elements.{filter-append}
 use Rattle.std.proofs.lemmas.List.Sums.{fold_push}
-use Rattle.stm_wire.specs.Chip.{ChipData}
+use Rattle.stm_wire.proofs.Names.{ChipData}
 use Rattle.stm_journal.specs.declared.entry.Entry.{Entry}
-use Rattle.stm_session.specs.Answers.{OutcomeData, agrees, agreeing, answers_of, first_difference, in_front_of, outcome_of, segments_of_command, verified_or}
-use Rattle.stm_session.specs.OneCommand.{lines_if}
-use Rattle.stm_session.specs.Lines.{run_entries, segment_entries}
-use Rattle.stm_session.specs.Meaning.{CommandData, verifies, reads, before_if, changes_of, flash_after, flash_after_all, flashes_before, is_change}
+use Rattle.stm_session.proofs.Names.{agreeing, agrees, answers_of, before_if, changes_of, CommandData, first_difference, flash_after, flash_after_all, flashes_before, in_front_of, is_change, lines_if}
+use Rattle.stm_session.proofs.Names.{outcome_of, OutcomeData, run_entries, segment_entries, segments_of_command, verified_or, verifies}
+use Rattle.stm_session.specs.Meaning.{reads}
 use Rattle.stm_session.proofs.Whole.{same-after}
 
 -- the commands that begin a segment

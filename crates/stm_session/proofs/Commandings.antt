@@ -1,18 +1,11 @@
 -- A command: its segment begins, its pages are turned, its segment ends.
 use Rattle.std.proofs.Common.{◌≡◌, inl, inr, ℕ, ◌+◌, true, List, ◌∷◌, ◌++◌, length, take, Result, Ok, Err, IsErrAnd, sym, ap, ◌∙◌, subst}
 use Rattle.std.proofs.lemmas.Bool.{true≢false}
-use Rattle.stm_wire.specs.Device.{Device}
+use Rattle.stm_wire.proofs.Names.{Device, IsModel, RigState}
 use Rattle.stm_wire.specs.lemmas.MomentLaws.{joined, weaker}
-use Rattle.stm_wire.specs.Rig.{RigState, IsModel}
 use Rattle.stm_journal.specs.declared.entry.Entry.{Entry}
-use Rattle.stm_journal.specs.Journals.{Loaded}
-use Rattle.stm_session.specs.declared.fault.Fault.{Fault}
-use Rattle.stm_session.specs.Fault.{IsOutsideFault}
-use Rattle.stm_session.specs.Lines.{is_torn_at, text_added}
-use Rattle.stm_session.specs.Moments.{SameMake}
-use Rattle.stm_session.specs.Segments.{AmidCommand, Changes, Closes, IsClosing}
-use Rattle.stm_session.specs.Steps.{Goes, Stands, torn_after}
-use Rattle.stm_session.specs.Undoable.{is_unfinished_at}
+use Rattle.stm_journal.proofs.Names.{Loaded}
+use Rattle.stm_session.proofs.Names.{AmidCommand, Changes, Closes, Fault, Goes, is_torn_at, is_unfinished_at, IsClosing, IsOutsideFault, SameMake, Stands, text_added, torn_after}
 use Rattle.stm_session.proofs.Going.{at_exit, stands_more}
 use Rattle.stm_session.proofs.Standing.{makes_then}
 use Rattle.stm_session.proofs.Texts.{adds_then, front_part, lines_later, text_added-append}

@@ -5,25 +5,11 @@ use Rattle.std.proofs.lemmas.Bool.{true≢false}
 use Rattle.std.proofs.lemmas.List.{drop-drop, length-take}
 use Rattle.stm_image.specs.Lay.{AgreesWith, IsFirstDifference}
 use Rattle.stm_image.specs.Pairs.{Pairs, IsNext, byte_at}
-use Rattle.stm_wire.specs.Chip.{ChipData, flash_size, fits_inside}
-use Rattle.stm_wire.specs.Device.{IsSettled}
-use Rattle.stm_wire.specs.Dialogue.{GoesOn}
-use Rattle.stm_wire.specs.Frames.{read_turns}
-use Rattle.stm_wire.specs.Intents.{InPage}
-use Rattle.stm_wire.specs.Parts.{IsPart}
+use Rattle.stm_wire.proofs.Names.{ChipData, fits_inside, flash_size, GoesOn, InPage, IsPart, IsSettled, read_turns, RigState}
 use Rattle.stm_wire.specs.lemmas.PartLaws.{part_longer, parts_join}
-use Rattle.stm_wire.specs.Rig.{RigState}
-use Rattle.stm_session.specs.declared.fault.Fault.{Fault}
-use Rattle.stm_session.specs.declared.reading.Block.{Block}
-use Rattle.stm_session.specs.Answers.{first_difference, has_byte}
-use Rattle.stm_session.specs.Asking.{Asks}
-use Rattle.stm_session.specs.Reading.{IsNextBlock}
-use Rattle.stm_session.specs.Fault.{Cause}
-use Rattle.stm_session.specs.Order.{Step, Begin, IsReadOf, ReadsBlock, Sends, StopsBy}
-use Rattle.stm_session.specs.Came.{AgreeInBlocks, CameFor, OneDiffers}
-use Rattle.stm_session.specs.RunOrder.{IsReading, OnlyReads}
+use Rattle.stm_session.proofs.Names.{AgreeInBlocks, Asks, Begin, Block, bytes_at, CameFor, Cause, Fault, first_difference, has_byte, IsNextBlock, IsReading, IsReadOf, OneDiffers, OnlyReads}
+use Rattle.stm_session.proofs.Names.{ReadsBlock, Sends, Step, StopsBy}
 use Rattle.stm_session.proofs.Arrivals.{agree_more}
-use Rattle.stm_session.specs.Running.{bytes_at}
 use Rattle.stm_session.proofs.Asking.{asks_then, settled_still}
 use Rattle.stm_session.proofs.Differences.{first-difference-is-first, no-difference-agrees}
 use Rattle.stm_session.proofs.Ranges.{block_read, block_stop, end-fits}

@@ -1,25 +1,12 @@
 -- What follows the question whether a device is still the chip's board, on one that follows the model.
 use Rattle.std.proofs.Common.{◌≡◌, ℕ, ◌≤◌, false, List, [], ◌++◌, take, drop, Result, Ok, Err, IsErrAnd, OnOk, refl, sym, ◌∙◌, ap, ap₂, subst, arith}
 use Rattle.std.proofs.Math.Seq.{take-nil}
-use Rattle.stm_wire.specs.Chip.{ChipData}
-use Rattle.stm_wire.specs.Device.{Device}
+use Rattle.stm_wire.proofs.Names.{ChipData, Device, IsModel, RigState}
 use Rattle.stm_wire.specs.lemmas.MomentLaws.{joined, weaker}
-use Rattle.stm_wire.specs.Rig.{RigState, IsModel}
 use Rattle.stm_journal.specs.declared.entry.Entry.{Entry}
-use Rattle.stm_journal.specs.Journals.{Loaded}
-use Rattle.stm_journal.specs.States.{is_unfinished}
-use Rattle.stm_session.specs.declared.fault.Fault.{Fault}
-use Rattle.stm_session.specs.Answers.{OutcomeData}
-use Rattle.stm_session.specs.Asking.{Asks, IsStill}
-use Rattle.stm_session.specs.Lines.{is_torn_at, text_added, undo_entries}
-use Rattle.stm_session.specs.Meaning.{CommandData}
-use Rattle.stm_session.specs.Moments.{IsUnbegun, SameMake}
-use Rattle.stm_session.specs.Runs.{AmidRun, RunFails, Runs, standing_commands}
-use Rattle.stm_session.specs.SegmentsUndo.{AmidNewestBy, UndoesBy, undo_lines}
-use Rattle.stm_session.specs.StepLaws.{StepLaws}
-use Rattle.stm_session.specs.Steps.{AddsLines, IsSteady, Stands}
-use Rattle.stm_session.specs.Undoable.{Undoable, is_unfinished_at, state_at}
-use Rattle.stm_session.specs.Undoes.{flash_undone}
+use Rattle.stm_journal.proofs.Names.{is_unfinished, Loaded}
+use Rattle.stm_session.proofs.Names.{AddsLines, AmidNewestBy, AmidRun, Asks, CommandData, Fault, flash_undone, is_torn_at, is_unfinished_at, IsSteady, IsStill, IsUnbegun, OutcomeData, RunFails, Runs}
+use Rattle.stm_session.proofs.Names.{SameMake, standing_commands, Stands, state_at, StepLaws, text_added, undo_entries, undo_lines, Undoable, UndoesBy}
 use Rattle.stm_session.proofs.Going.{asks_fail, asks_on}
 use Rattle.stm_session.proofs.GoingAll.{work_failed}
 use Rattle.stm_session.proofs.Keeping.{good_at, unfinished_text}

@@ -1,26 +1,11 @@
 -- Commands behind the question whether a device is still the chip's board, on any line.
 use Rattle.std.proofs.Common.{◌≡◌, ◌≢◌, ◌⊎◌, inl, inr, ◌+◌, ℕ, Bool, false, List, [], ◌++◌, map, Some, Result, Ok, Err, IsErrAnd, IfOk, IfErr, refl, ◌∙◌, arith}
 use Rattle.std.specs.Prelude.{⊤}
-use Rattle.stm_wire.specs.Chip.{ChipData}
-use Rattle.stm_wire.specs.Device.{IsSettled}
-use Rattle.stm_wire.specs.Dialogue.{GoesOn}
-use Rattle.stm_wire.specs.Rig.{RigState, IsModel}
-use Rattle.stm_journal.specs.Journals.{Loaded}
-use Rattle.stm_journal.specs.States.{StateData, is_unfinished}
-use Rattle.stm_session.specs.declared.command.Command.{Command}
-use Rattle.stm_session.specs.declared.fault.Fault.{Fault}
+use Rattle.stm_wire.proofs.Names.{ChipData, GoesOn, IsModel, IsSettled, RigState}
+use Rattle.stm_journal.proofs.Names.{is_unfinished, Loaded, StateData}
+use Rattle.stm_session.proofs.Names.{Asks, Begin, cause_of, Command, commands_in, confirmed_at, confirming, DoesCommands, DoesSteps, Fault, FaultEnds, Follows, HasSessionCause, is_whole, IsAfter}
+use Rattle.stm_session.proofs.Names.{IsConfirmedInPart, IsConfirming, IsInOrder, IsOfLine, most_of_confirming, Outcome, outcome_data, OutcomeData, PutsAtMost, Step, StepLaws, StopsBy, StopsTelling}
 use Rattle.stm_session.specs.declared.fault.Fault.TheVariants as faults
-use Rattle.stm_session.specs.declared.outcome.Outcome.{Outcome}
-use Rattle.stm_session.specs.Answers.{OutcomeData, outcome_data}
-use Rattle.stm_session.specs.Asking.{Asks}
-use Rattle.stm_session.specs.CommandList.{DoesCommands}
-use Rattle.stm_session.specs.Fault.{HasSessionCause, IsOfLine, cause_of}
-use Rattle.stm_session.specs.Meaning.{commands_in}
-use Rattle.stm_session.specs.Order.{Step, Begin, DoesSteps, FaultEnds, Follows, IsAfter, IsInOrder, StopsBy}
-use Rattle.stm_session.specs.Reaching.{IsConfirmedInPart, IsConfirming, confirmed_at, confirming}
-use Rattle.stm_session.specs.RunOrder.{StopsTelling}
-use Rattle.stm_session.specs.Sending.{PutsAtMost, is_whole, most_of_confirming}
-use Rattle.stm_session.specs.StepLaws.{StepLaws}
 use Rattle.stm_session.proofs.Causes.{cause_behind}
 use Rattle.stm_session.proofs.Confirmed.{confirmed_chip, confirmed_steady, run_confirmed, run_unconfirmed}
 use Rattle.stm_session.proofs.Confirmings.{does_confirm, is_finished}

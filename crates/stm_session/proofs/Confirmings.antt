@@ -5,27 +5,14 @@ use Rattle.std.proofs.lemmas.Bool.Decides.{nat_tests}
 use Rattle.std.proofs.lemmas.Slice.Eq.{bytes_eq-Decides}
 use Rattle.stm_wire.specs.declared.fault.WireFault.{WireFault}
 use Rattle.stm_wire.specs.declared.places.UniquePlace.{UniquePlace}
-use Rattle.stm_wire.specs.Call.{Call}
-use Rattle.stm_wire.specs.Chip.{ChipData}
-use Rattle.stm_wire.specs.Device.{Device, IsDevice}
-use Rattle.stm_wire.specs.Dialogue.{Turn, GoesOn, IsBrokenOff, sent_bytes}
+use Rattle.stm_wire.proofs.Names.{at_address, at_code, at_count, Call, ChipData, Device, GoesOn, is_unique_length, IsBrokenOff, IsDevice, IsFrame, IsHeadOfRead, IsPart, IsRefusedRead, IsTold}
+use Rattle.stm_wire.proofs.Names.{read_frame, read_turns, ReadsOrIsRefused, RigState, sent_bytes, tells, Turn}
 use Rattle.stm_wire.specs.lemmas.DialogueLaws.{read_sends}
-use Rattle.stm_wire.specs.Frames.{read_frame, read_turns}
-use Rattle.stm_wire.specs.Parts.{IsPart}
 use Rattle.stm_wire.specs.lemmas.PartLaws.{broken_is_part, held_is_part, part_longer}
-use Rattle.stm_wire.specs.Refused.{IsRefusedRead, at_address, at_code, at_count, IsTold, ReadsOrIsRefused}
-use Rattle.stm_wire.specs.Rig.{RigState}
-use Rattle.stm_wire.specs.SentList.{IsFrame, IsHeadOfRead, tells}
-use Rattle.stm_wire.specs.UniqueId.{is_unique_length}
-use Rattle.stm_journal.specs.Journals.{Loaded}
-use Rattle.stm_session.specs.declared.fault.Fault.{Fault}
+use Rattle.stm_journal.proofs.Names.{Loaded}
+use Rattle.stm_session.proofs.Names.{Begin, came_in, cause_of, confirm_steps, confirmed_at, confirming, DoesSteps, Fault, FaultEnds, HasAgain, IsAsked, IsConfirming, IsInOrder, IsOfLine}
+use Rattle.stm_session.proofs.Names.{most_of_confirming, Sends, Step, StopsBy, TellsAgain, torn_behind}
 use Rattle.stm_session.specs.declared.fault.Fault.TheVariants.{Memory, BoardChanged, Unfinished}
-use Rattle.stm_session.specs.AskingBoard.{came_in}
-use Rattle.stm_session.specs.Confirming.{HasAgain, TellsAgain}
-use Rattle.stm_session.specs.Fault.{IsOfLine, cause_of}
-use Rattle.stm_session.specs.Order.{Step, Begin, DoesSteps, IsInOrder, Sends, FaultEnds, StopsBy, torn_behind}
-use Rattle.stm_session.specs.Reaching.{IsAsked, IsConfirming, confirm_steps, confirming, confirmed_at}
-use Rattle.stm_session.specs.Sending.{most_of_confirming}
 use Rattle.stm_session.specs.lemmas.ClosingLaws.{place_known}
 use Rattle.stm_session.proofs.AskingBoards.{read_broken_length, refused_length}
 use Rattle.stm_session.proofs.CutShort.{begin_as, part_stops}

@@ -4,21 +4,15 @@ use Rattle.std.specs.Prelude.{IfErr}
 use Rattle.std.proofs.lemmas.List.{length-replicate}
 use Rattle.stm_wire.specs.declared.fault.WireFault.{WireFault}
 use Rattle.stm_wire.specs.declared.fault.WireFault.TheVariants.{Line, Nack, Quiet, Garbled}
-use Rattle.stm_wire.specs.Call.{Call}
-use Rattle.stm_wire.specs.Chip.{ChipData, page_size}
-use Rattle.stm_wire.specs.Dialogue.{Turn, GoesOn, IsBrokenOff}
+use Rattle.stm_wire.proofs.Names.{Call, ChipData, GoesOn, IsBrokenOff, page_size, read_turns, RigState, Turn}
 use Rattle.stm_wire.specs.lemmas.DialogueLaws.{GoesOn-append, GoesOn-nothing, GoesOn-weaker, broken_off_is_cut_short}
-use Rattle.stm_wire.specs.Frames.{read_turns}
-use Rattle.stm_wire.specs.Rig.{RigState}
 use Rattle.stm_journal.specs.declared.entry.Entry.{Entry}
 use Rattle.stm_journal.specs.declared.fault.JournalFault.{JournalFault}
 use Rattle.stm_journal.specs.declared.fault.JournalFault.TheVariants.{File, Bad, OtherDevice, OtherBoard, Memory}
-use Rattle.stm_journal.specs.Calls.{AppendsOnce}
-use Rattle.stm_journal.specs.Journals.{Loaded, added_bytes}
-use Rattle.stm_session.specs.declared.fault.Fault.{Fault}
+use Rattle.stm_journal.proofs.Names.{added_bytes, AppendsOnce, Loaded}
+use Rattle.stm_session.proofs.Names.{acts_of, acts_of_steps, Adds, AreCutShort, AreReadsOf, Begin, Cause, cause_of, DoesSteps, Fault, fault_of, fault_of_journal, FaultEnds, IsInOrder, IsReadOf}
+use Rattle.stm_session.proofs.Names.{of_memory, page_address, page_reads, read_steps, Sends, Step, step_in, StepFailsBy, StopsBy, torn_behind}
 use Rattle.stm_session.specs.declared.fault.Fault.TheVariants as faults
-use Rattle.stm_session.specs.Fault.{Cause, of_memory, cause_of, fault_of, fault_of_journal}
-use Rattle.stm_session.specs.Order.{Step, FaultEnds, Adds, Sends, AreCutShort, AreReadsOf, Begin, DoesSteps, StepFailsBy, IsInOrder, IsReadOf, StopsBy, acts_of, acts_of_steps, read_steps, step_in, page_address, page_reads, torn_behind}
 use Rattle.stm_session.proofs.Orders.{acts-append, acts-line, does_reads, reads_next, reads_before, steps-append, torn-append}
 
 -- the fault that is answered

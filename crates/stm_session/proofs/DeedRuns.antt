@@ -6,17 +6,9 @@ use Rattle.std.specs.Prelude.{flat_map, fold}
 use Rattle.std.proofs.lemmas.Grind.{flat_map-append}
 use Rattle.std.proofs.lemmas.List.{map-append, take-append-drop, take_all, take_more}
 use Rattle.std.proofs.lemmas.List.Sums.{fold-append}
-use Rattle.stm_wire.specs.Chip.{ChipData}
-use Rattle.stm_wire.specs.Rig.{RigState, IsModel}
-use Rattle.stm_journal.specs.Journals.{Loaded}
-use Rattle.stm_journal.specs.States.{StateData}
-use Rattle.stm_session.specs.declared.deed.Deed.{Deed}
-use Rattle.stm_session.specs.declared.fault.Fault.{Fault}
-use Rattle.stm_session.specs.Deeds.{AllSuit, DoesDeeds, HasDone, HasDoneAll, MayDo, MayDoAll}
-use Rattle.stm_session.specs.Deeds.{flash_with, lines_of_deed, step_of_deed}
-use Rattle.stm_session.specs.Fault.{HasSessionCause}
-use Rattle.stm_session.specs.Order.{Step}
-use Rattle.stm_session.specs.StepLaws.{StepLaws}
+use Rattle.stm_wire.proofs.Names.{ChipData, IsModel, RigState}
+use Rattle.stm_journal.proofs.Names.{Loaded, StateData}
+use Rattle.stm_session.proofs.Names.{AllSuit, Deed, DoesDeeds, Fault, flash_with, HasDone, HasDoneAll, HasSessionCause, lines_of_deed, MayDo, MayDoAll, Step, step_of_deed, StepLaws}
 use Rattle.stm_session.proofs.Performing.{performs_cut, performs_none, performs_then}
 
 -- how far they are done

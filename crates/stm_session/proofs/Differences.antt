@@ -4,7 +4,7 @@ use Rattle.std.proofs.lemmas.Bool.{cases_lt, true≢false}
 use Rattle.std.proofs.lemmas.Bool.Decides.{nat_tests}
 use Rattle.stm_image.specs.Lay.{DiffersAt}
 use Rattle.stm_image.specs.Pairs.{Pairs, byte_at}
-use Rattle.stm_session.specs.Answers.{has_byte, first_difference, FirstDifferenceIsFirst, NoDifferenceAgrees}
+use Rattle.stm_session.proofs.Names.{first_difference, FirstDifferenceIsFirst, has_byte, NoDifferenceAgrees}
 
 -- place i of the flash has the image's byte, where the image names it
 abbrev agrees_at : Pairs → ℕ → List ℕ → ℕ → Bool

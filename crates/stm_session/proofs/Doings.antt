@@ -1,24 +1,12 @@
 -- One command: a change of the flash, or questions.
 use Rattle.std.proofs.Common.{◌≡◌, inl, inr, ℕ, ◌+◌, Bool, true, false, List, [], Result, Ok, Err, IsErrAnd, refl, sym, ap, ◌∙◌, subst}
-use Rattle.stm_wire.specs.Chip.{ChipData}
-use Rattle.stm_wire.specs.Device.{Device, IsSettled}
+use Rattle.stm_wire.proofs.Names.{ChipData, Device, IsSettled, LeavesOnly, RigState}
 use Rattle.stm_wire.specs.lemmas.MomentLaws.{weaker}
-use Rattle.stm_wire.specs.Moments.{LeavesOnly}
-use Rattle.stm_wire.specs.Rig.{RigState}
 use Rattle.stm_journal.specs.declared.entry.Entry.{Entry}
-use Rattle.stm_journal.specs.Journals.{Loaded, IsLoaded}
-use Rattle.stm_session.specs.declared.fault.Fault.{Fault}
+use Rattle.stm_journal.proofs.Names.{IsLoaded, Loaded}
+use Rattle.stm_session.proofs.Names.{AddsLines, AmidCommand, AmidOne, answer_on, Asks, before_if, Changes, command_lines, CommandData, depth_at, DoesCommand, Fault, flash_after, flash_left, is_change}
+use Rattle.stm_session.proofs.Names.{is_named_at, IsOutsideFault, IsSteady, IsStill, KeepsFlashes, lines_if, OutcomeData, segment_entries, state_at, StepLaws}
 use Rattle.stm_session.specs.declared.fault.Fault.TheVariants as faults
-use Rattle.stm_session.specs.Answers.{OutcomeData}
-use Rattle.stm_session.specs.Asking.{Asks, IsStill}
-use Rattle.stm_session.specs.OneCommand.{AmidOne, DoesCommand, answer_on, command_lines, flash_left, lines_if}
-use Rattle.stm_session.specs.Fault.{IsOutsideFault}
-use Rattle.stm_session.specs.Lines.{depth_at, is_named_at, segment_entries}
-use Rattle.stm_session.specs.Meaning.{CommandData, before_if, flash_after, is_change}
-use Rattle.stm_session.specs.Segments.{AmidCommand, Changes}
-use Rattle.stm_session.specs.StepLaws.{StepLaws}
-use Rattle.stm_session.specs.Steps.{AddsLines, IsSteady, KeepsFlashes}
-use Rattle.stm_session.specs.Undoable.{state_at}
 use Rattle.stm_session.proofs.Commandings.{changes_as}
 use Rattle.stm_session.proofs.Standing.{still_stands}
 use Rattle.stm_session.proofs.Texts.{adds_none}

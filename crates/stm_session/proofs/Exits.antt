@@ -1,16 +1,10 @@
 -- What the exits of a function share: a step's end, at each of the exits of its `?`, and a page
 -- that is read.
 use Rattle.std.proofs.Common.{◌≡◌, ◌<◌, ◌++◌, ◌/◌, ◌%◌, ℕ, Bool, List, [], Result, Err, IsErrAnd, length, append-nil, arith}
-use Rattle.stm_wire.specs.Chip.{ChipData, page_count, page_size}
-use Rattle.stm_wire.specs.Dialogue.{GoesOn}
-use Rattle.stm_wire.specs.Intents.{InPage}
-use Rattle.stm_wire.specs.Rig.{RigState}
+use Rattle.stm_wire.proofs.Names.{ChipData, GoesOn, InPage, page_count, page_size, RigState}
 use Rattle.stm_journal.specs.declared.entry.Entry.{Entry}
-use Rattle.stm_journal.specs.Journals.{Loaded}
-use Rattle.stm_session.specs.declared.fault.Fault.{Fault}
-use Rattle.stm_session.specs.Fault.{Cause, cause_of}
-use Rattle.stm_session.specs.Order.{Step, AreReadsOf, Begin, DoesSteps, IsInOrder, FaultEnds, StopsBy, page_address, page_reads, read_steps}
-use Rattle.stm_session.specs.Steps.{Goes}
+use Rattle.stm_journal.proofs.Names.{Loaded}
+use Rattle.stm_session.proofs.Names.{AreReadsOf, Begin, Cause, cause_of, DoesSteps, Fault, FaultEnds, Goes, IsInOrder, page_address, page_reads, read_steps, Step, StopsBy}
 use Rattle.stm_session.proofs.CutShort.{by_fault, page_stops, page_was_read}
 use Rattle.stm_session.proofs.Going.{goes_as, goes_failed}
 

@@ -1,18 +1,12 @@
 -- A page's bytes are fetched from the journal between two steps.
 use Rattle.std.proofs.Common.{◌≡◌, ℕ, List, [], Result, Ok, Err, IsErrAnd, refl, sym, subst, append-nil}
-use Rattle.stm_wire.specs.Device.{Device, IsSettled}
+use Rattle.stm_wire.proofs.Names.{Device, IsModel, IsSettled, RigState}
 use Rattle.stm_wire.specs.lemmas.MomentLaws.{weaker}
-use Rattle.stm_wire.specs.Rig.{RigState, IsModel}
 use Rattle.stm_journal.specs.declared.entry.Entry.{Entry}
 use Rattle.stm_journal.specs.declared.fault.JournalFault.{JournalFault}
 use Rattle.stm_journal.specs.declared.kept.PagePlace.{PagePlace}
-use Rattle.stm_journal.specs.Calls.{FetchesPage, IsUntouched}
-use Rattle.stm_journal.specs.Journals.{Loaded}
-use Rattle.stm_session.specs.declared.fault.Fault.{Fault}
-use Rattle.stm_session.specs.Fault.{IsOutsideFault, fault_of_journal}
-use Rattle.stm_session.specs.StepLaws.{StepLaws}
-use Rattle.stm_session.specs.Steps.{IsSteady, KeepsFlashes, Stands, Goes}
-use Rattle.stm_session.specs.Undoable.{state_at}
+use Rattle.stm_journal.proofs.Names.{FetchesPage, IsUntouched, Loaded}
+use Rattle.stm_session.proofs.Names.{Fault, fault_of_journal, Goes, IsOutsideFault, IsSteady, KeepsFlashes, Stands, state_at, StepLaws}
 use Rattle.stm_session.proofs.Going.{goes_still}
 use Rattle.stm_session.proofs.Keeping.{good_at}
 use Rattle.stm_session.proofs.Standing.{loses_nothing, same_make, settled_undoable}

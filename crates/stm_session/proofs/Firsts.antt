@@ -8,27 +8,17 @@ use Rattle.std.specs.declared.alloc.Global.{Global}
 use Rattle.std.proofs.lemmas.Bool.{eq-eqb, true≢false}
 use Rattle.std.proofs.lemmas.Bool.Decides.{nat_tests}
 use Rattle.hex.specs.Hex.{IsBytes}
-use Rattle.stm_wire.specs.Chip.{ChipData, erased_byte, page_count, page_of, page_size, with_page}
-use Rattle.stm_wire.specs.Device.{Device}
-use Rattle.stm_wire.specs.Rig.{RigState, IsModel}
+use Rattle.stm_wire.proofs.Names.{ChipData, Device, erased_byte, IsModel, page_count, page_of, page_size, RigState, with_page}
 use Rattle.stm_chip.specs.declared.plan.Frame.{Frame}
 use Rattle.stm_chip.specs.declared.plan.PagePlan.{PagePlan}
 use Rattle.stm_chip.specs.declared.plan.PagePlan.TheVariants.{Erase}
 use Rattle.stm_chip.specs.Plan.{IsPlan, frames_of}
 use Rattle.stm_journal.specs.declared.entry.Entry.{Entry}
 use Rattle.stm_journal.specs.declared.entry.Entry.TheVariants.{Erases, Keeps}
-use Rattle.stm_journal.specs.Journals.{Loaded}
-use Rattle.stm_journal.specs.States.{StateData, newest_may_keep}
-use Rattle.stm_session.specs.declared.deed.Deed.{Deed}
+use Rattle.stm_journal.proofs.Names.{Loaded, newest_may_keep, StateData}
+use Rattle.stm_session.proofs.Names.{Adds, AllSuit, Are, AreReadsIf, change_entries, Deed, Fault, flash_with, has_companion, IsChanged, IsSaved, lines_of_deed, MayDoAll, page_reads, Performs}
+use Rattle.stm_session.proofs.Names.{program_entries, reads_if, ReadsIf, rewrite_steps, save_entries, Step, step_of_deed}
 use Rattle.stm_session.specs.declared.deed.Deed.TheVariants as deed
-use Rattle.stm_session.specs.declared.fault.Fault.{Fault}
-use Rattle.stm_session.specs.ChangeOrder.{IsChanged, IsSaved}
-use Rattle.stm_session.specs.Changing.{AreReadsIf, ReadsIf, change_entries, reads_if, save_entries}
-use Rattle.stm_session.specs.Deeds.{AllSuit, MayDoAll, flash_with, lines_of_deed, step_of_deed}
-use Rattle.stm_session.specs.Lines.{program_entries}
-use Rattle.stm_session.specs.Order.{Step, Adds, Are, page_reads, rewrite_steps}
-use Rattle.stm_session.specs.Performs.{Performs}
-use Rattle.stm_session.specs.Undoable.{has_companion}
 use Rattle.stm_session.proofs.ChangeOrders.{changed_some, saved_both, saved_none, saved_one}
 use Rattle.stm_session.proofs.Changes.{change_lines, planned as plan_is}
 use Rattle.stm_session.proofs.Performing.{performs_are, performs_cut, performs_of, performs_out}

@@ -3,15 +3,13 @@ use Rattle.std.proofs.Common.{◌≡◌, ℕ, ◌≤◌, Bool, true, false, not,
 use Rattle.std.specs.List.{list_any}
 use Rattle.std.proofs.lemmas.Bool.{true≢false}
 use Rattle.std.proofs.lemmas.Bool.Decides.{nat_tests}
-use Rattle.stm_wire.specs.Chip.{ChipData, page_count}
+use Rattle.stm_wire.proofs.Names.{ChipData, page_count}
 use Rattle.stm_journal.specs.declared.header.JournalHeader.{JournalHeader}
 use Rattle.stm_journal.specs.declared.kept.Kept.{Kept}
-use Rattle.stm_journal.specs.States.{StateData, SegmentData, names_other_board}
-use Rattle.stm_session.specs.declared.fault.Fault.{Fault}
+use Rattle.stm_journal.proofs.Names.{AllFit, AllKeptFit, fits_chip, names_other_board, SegmentData, StateData}
+use Rattle.stm_session.proofs.Names.{AllKeepCompanions, Fault, fits_among, has_companion, HasVersion, header_misfits, IsJournalOf, lacks_companion, least, least_with, lesser, line_refusal}
+use Rattle.stm_session.proofs.Names.{misfit_lines, misfit_lines_of, misfit_refusal}
 use Rattle.stm_session.specs.declared.fault.Fault.TheVariants.{BadJournal, OtherBoard}
-use Rattle.stm_session.specs.Refusal.{fits_among, lacks_companion, header_misfits, misfit_lines_of, misfit_lines, lesser, least, least_with, line_refusal, misfit_refusal}
-use Rattle.stm_journal.specs.Fits.{fits_chip, AllKeptFit, AllFit}
-use Rattle.stm_session.specs.Undoable.{AllKeepCompanions, HasVersion, IsJournalOf, has_companion}
 
 same-tested : (a b : ℕ) → (a == b) ≡ true → a ≡ b
 same-tested a b h = grind (arith, nat_tests)

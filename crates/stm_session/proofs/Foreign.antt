@@ -1,20 +1,9 @@
 -- A session that changes something has loaded a journal of its chip's board.
 use Rattle.std.proofs.Common.{◌≡◌, ◌⊎◌, inl, inr, ℕ, Bool, List, sym, ◌∙◌, ap}
 use Rattle.std.proofs.lemmas.Bool.{true≢false}
-use Rattle.stm_wire.specs.Chip.{ChipData}
-use Rattle.stm_wire.specs.Dialogue.{GoesOn}
-use Rattle.stm_wire.specs.Rig.{RigState}
-use Rattle.stm_journal.specs.Calls.{AreFetches}
-use Rattle.stm_journal.specs.Journals.{Loaded}
-use Rattle.stm_journal.specs.States.{StateData, names_other_board}
-use Rattle.stm_session.specs.declared.fault.Fault.{Fault}
-use Rattle.stm_session.specs.declared.returned.Returned.{Returned}
-use Rattle.stm_session.specs.Boards.{IsForeign, IsOfItsBoard, OnlyAsks}
-use Rattle.stm_session.specs.Meaning.{CommandData}
-use Rattle.stm_session.specs.Reaching.{Session}
-use Rattle.stm_session.specs.UndoOrder.{GivesBackInOrder, UndoStopsAs, UndoesInOrder}
-use Rattle.stm_session.specs.RunOrder.{RunStops, RunsInOrder}
-use Rattle.stm_session.specs.Undoable.{good_state}
+use Rattle.stm_wire.proofs.Names.{ChipData, GoesOn, RigState}
+use Rattle.stm_journal.proofs.Names.{AreFetches, Loaded, names_other_board, StateData}
+use Rattle.stm_session.proofs.Names.{CommandData, Fault, GivesBackInOrder, good_state, IsForeign, IsOfItsBoard, OnlyAsks, Returned, RunsInOrder, RunStops, Session, UndoesInOrder, UndoStopsAs}
 
 own_session : (table : List ChipData) (old : RigState) (Does : ChipData → Loaded → Type 0) → Session table old Does → IsOfItsBoard table old
 own_session table old Does x = record { journal = x.journal; loaded = x.loaded; chip = x.chip; listed = x.listed; board = x.board }

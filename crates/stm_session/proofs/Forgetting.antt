@@ -3,18 +3,14 @@ use Rattle.std.proofs.Common.{◌≡◌, ℕ, Bool, not, ◌&&◌, ◌||◌, ◌
 use Rattle.std.specs.List.{list_any}
 use Rattle.std.specs.Prelude.{is_none, is_some}
 use Rattle.std.proofs.lemmas.List.{length-replicate}
-use Rattle.stm_wire.specs.Chip.{ChipData, page_count, page_size}
+use Rattle.stm_wire.proofs.Names.{ChipData, page_count, page_size}
 use Rattle.stm_journal.specs.declared.kept.Kept.{Kept}
-use Rattle.stm_journal.specs.States.{StateData, SegmentData, names_other, names_other_board}
-use Rattle.stm_journal.specs.InMemory.{forget_kept, forget_segment, forget_state}
+use Rattle.stm_journal.proofs.Names.{forget_kept, forget_segment, forget_state, good, names_other, names_other_board, SegmentData, StateData}
 use Rattle.stm_journal.specs.lemmas.ForgetLaws.{depth-forgets, is_unfinished-forgets}
-use Rattle.stm_journal.specs.Journals.{good}
 use Rattle.stm_journal.specs.declared.header.JournalHeader.{JournalHeader}
-use Rattle.stm_session.specs.declared.fault.Fault.{Fault}
+use Rattle.stm_session.proofs.Names.{asking_refusal, begun_refusal, chip_with, device_refusals, Fault, first_of, fits_among, has_companion, header_misfits, lacks_companion, least, line_refusal}
+use Rattle.stm_session.proofs.Names.{misfit_lines, misfit_lines_of, misfit_refusal, names_no_board, open_refusal, refused_unless, table_refusal, unasked_refusal, unlisted_refusal, unsent_refusal}
 use Rattle.stm_session.specs.declared.fault.Fault.TheVariants.{BadJournal, Unfinished, OtherBoard, OtherDevice, InSession}
-use Rattle.stm_session.specs.Undoable.{has_companion}
-use Rattle.stm_session.specs.Refusal.{refused_unless, lacks_companion, fits_among, misfit_lines_of, misfit_lines, header_misfits, least, first_of, line_refusal, misfit_refusal, table_refusal, device_refusals, chip_with, unsent_refusal, open_refusal}
-use Rattle.stm_session.specs.Unasked.{asking_refusal, begun_refusal, names_no_board, unasked_refusal, unlisted_refusal}
 
 any-forgets : (n : ℕ) (pages : List Kept) → list_any (λ kept. kept.page == n) (map forget_kept pages) ≡ list_any (λ kept. kept.page == n) pages
 any-forgets n [] = refl

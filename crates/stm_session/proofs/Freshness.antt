@@ -4,15 +4,8 @@ use Rattle.stm_wire.specs.declared.chip.EraseKind.{EraseKind}
 use Rattle.stm_wire.specs.declared.chip.EraseKind.TheVariants.{Page, Extended}
 use Rattle.stm_wire.specs.declared.intent.Intent.{Intent}
 use Rattle.stm_wire.specs.declared.intent.Intent.TheVariants.{Erase, Program}
-use Rattle.stm_wire.specs.Call.{Call}
-use Rattle.stm_wire.specs.Command.{with_rest}
-use Rattle.stm_wire.specs.Device.{Device, IsSettled}
-use Rattle.stm_wire.specs.Dialogue.{GoesOn}
-use Rattle.stm_wire.specs.Harmless.{Harmless}
-use Rattle.stm_wire.specs.Intents.{settling_byte}
-use Rattle.stm_wire.specs.Settling.{IsSettling, SettlesWithin}
-use Rattle.stm_wire.specs.SettlingCalls.{EndsUnder}
-use Rattle.stm_session.specs.Fresh.{EndsWell, byte_of, limit_of, settling_limit, settling_way}
+use Rattle.stm_wire.proofs.Names.{Call, Device, EndsUnder, GoesOn, Harmless, IsSettled, IsSettling, SettlesWithin, settling_byte, with_rest}
+use Rattle.stm_session.proofs.Names.{byte_of, EndsWell, limit_of, settling_limit, settling_way}
 
 -- what is sent, and how it ends, is said of the way
 pub way_sends : (kind : EraseKind) (g : Bool) (o : Option Intent) (a b : Option (List Call)) → GoesOn (SettlesWithin (settling_byte o) (settling_limit kind g o)) a b

@@ -4,29 +4,16 @@ use Rattle.stm_wire.specs.declared.fault.WireFault.{WireFault}
 use Rattle.stm_wire.specs.declared.fault.WireFault.TheVariants.{Line}
 use Rattle.stm_wire.specs.declared.intent.Intent.{Intent}
 use Rattle.stm_wire.specs.declared.intent.Intent.TheVariants.{Erase, Program}
-use Rattle.stm_wire.specs.Chip.{ChipData, flash_size, page_of, with_page}
-use Rattle.stm_wire.specs.Device.{Device, IsDevice, IsSettled}
-use Rattle.stm_wire.specs.Dialogue.{Turn}
-use Rattle.stm_wire.specs.Moments.{LeavesOnly, LeftBySending}
+use Rattle.stm_wire.proofs.Names.{BreaksOff, ChipData, Device, flash_size, IsDevice, IsFrameUnder, IsHeldToEnd, IsModel, IsSettled, LeavesOnly, LeftByAppend, LeftBySending, page_of, RigState, Turn}
+use Rattle.stm_wire.proofs.Names.{with_page}
 use Rattle.stm_wire.specs.lemmas.MomentLaws.{joined, weaker}
 use Rattle.stm_wire.specs.lemmas.PageLaws.{put_page}
-use Rattle.stm_wire.specs.Rig.{RigState, IsModel, LeftByAppend}
-use Rattle.stm_wire.specs.Sending.{IsHeldToEnd, BreaksOff}
-use Rattle.stm_wire.specs.Stopped.{IsFrameUnder}
 use Rattle.stm_journal.specs.declared.entry.Entry.{Entry}
 use Rattle.stm_journal.specs.declared.fault.JournalFault.{JournalFault}
-use Rattle.stm_journal.specs.States.{StateData, allows, is_unfinished}
-use Rattle.stm_journal.specs.Added.{HasAdded}
-use Rattle.stm_journal.specs.Journals.{Loaded, IsLoaded, IsPrintable, added_bytes, loaded_after, LeavesLoaded}
-use Rattle.stm_journal.specs.Calls.{Appends}
-use Rattle.stm_session.specs.declared.fault.Fault.{Fault}
+use Rattle.stm_journal.proofs.Names.{added_bytes, allows, Appends, HasAdded, is_unfinished, IsLoaded, IsPrintable, LeavesLoaded, Loaded, loaded_after, StateData}
+use Rattle.stm_session.proofs.Names.{AddsLines, Asks, Fault, fault_of, fault_of_journal, Goes, is_torn_at, IsOutsideFault, IsSteady, IsStill, IsUnder, KeepsFlashes, Stands, state_at, StepLaws}
+use Rattle.stm_session.proofs.Names.{text_added, torn_after}
 use Rattle.stm_session.specs.declared.fault.Fault.TheVariants.{Memory}
-use Rattle.stm_session.specs.Asking.{Asks, IsStill}
-use Rattle.stm_session.specs.Fault.{IsOutsideFault, fault_of, fault_of_journal}
-use Rattle.stm_session.specs.Lines.{is_torn_at, text_added}
-use Rattle.stm_session.specs.StepLaws.{StepLaws}
-use Rattle.stm_session.specs.Undoable.{state_at}
-use Rattle.stm_session.specs.Steps.{AddsLines, KeepsFlashes, IsSteady, Stands, Goes, IsUnder, torn_after}
 use Rattle.stm_session.proofs.Standing.{append_stands, frame_stands, journal_outside, makes_then, stands_now, still_stands}
 use Rattle.stm_session.proofs.Texts.{adds_none, adds_then, behind_part, front_part, same_after, text_added-append}
 

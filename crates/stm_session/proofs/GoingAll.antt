@@ -2,28 +2,16 @@
 use Rattle.std.proofs.Common.{◌≡◌, ℕ, zero, suc, ◌+◌, ◌/◌, ◌≤◌, List, [], ◌∷◌, ◌++◌, length, take, drop, Result, Ok, Err, IsErrAnd, refl, sym, ◌∙◌, ap, ap₂, subst, arith}
 use Rattle.std.specs.Prelude.{flat_map}
 use Rattle.std.proofs.lemmas.List.{drop-drop}
-use Rattle.stm_wire.specs.Chip.{ChipData, erased_byte}
-use Rattle.stm_wire.specs.Device.{Device}
-use Rattle.stm_wire.specs.Moments.{LeavesOnly}
+use Rattle.stm_wire.proofs.Names.{ChipData, Device, erased_byte, IsModel, LeavesOnly, RigState}
 use Rattle.stm_wire.specs.lemmas.MomentLaws.{joined, weaker}
-use Rattle.stm_wire.specs.Rig.{RigState, IsModel}
 use Rattle.stm_chip.specs.declared.plan.Frame.{Frame}
 use Rattle.stm_chip.specs.Plan.{frames_of}
 use Rattle.stm_journal.specs.declared.entry.Entry.{Entry}
 use Rattle.stm_journal.specs.declared.entry.Entry.TheVariants.{Undoes}
 use Rattle.stm_journal.specs.declared.kept.Kept.{Kept}
-use Rattle.stm_journal.specs.Flashes.{with_kept_pages}
-use Rattle.stm_journal.specs.Journals.{Loaded}
-use Rattle.stm_journal.specs.Newest.{KeepsSame, pages_of_segments}
-use Rattle.stm_journal.specs.States.{SegmentData}
-use Rattle.stm_session.specs.declared.fault.Fault.{Fault}
-use Rattle.stm_session.specs.Fault.{IsOutsideFault}
-use Rattle.stm_session.specs.SegmentsUndo.{AmidNewest, AmidNewestBy, UndoesNewest, UndoesBy, going_lines, undo_lines}
-use Rattle.stm_session.specs.Lines.{is_torn_at, program_entries, return_entries, taken_entries, text_added, undo_entries, work_entries}
-use Rattle.stm_session.specs.Steps.{AddsLines, AreIntents, Goes, Stands}
-use Rattle.stm_session.specs.Undoable.{state_at}
-use Rattle.stm_session.specs.Undoes.{flash_undone}
-use Rattle.stm_session.specs.Work.{kept_at_work, with_work}
+use Rattle.stm_journal.proofs.Names.{KeepsSame, Loaded, pages_of_segments, SegmentData, with_kept_pages}
+use Rattle.stm_session.proofs.Names.{AddsLines, AmidNewest, AmidNewestBy, AreIntents, Fault, flash_undone, Goes, going_lines, is_torn_at, IsOutsideFault, kept_at_work, program_entries, return_entries}
+use Rattle.stm_session.proofs.Names.{Stands, state_at, taken_entries, text_added, undo_entries, undo_lines, UndoesBy, UndoesNewest, with_work, work_entries}
 use Rattle.stm_session.proofs.Going.{at_exit}
 use Rattle.stm_session.proofs.UndoesOfSegments.{lines_more}
 use Rattle.stm_session.proofs.Standing.{makes_then}

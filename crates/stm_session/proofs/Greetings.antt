@@ -5,42 +5,22 @@ use Rattle.std.proofs.lemmas.Bool.{and_parts, true≢false}
 use Rattle.stm_wire.specs.declared.fault.WireFault.{WireFault}
 use Rattle.stm_wire.specs.declared.fault.WireFault.TheVariants.{Line}
 use Rattle.stm_wire.specs.declared.intent.Intent.{Intent}
-use Rattle.stm_wire.specs.Awaited.{Awaits}
-use Rattle.stm_wire.specs.Call.{Call, Append}
-use Rattle.stm_wire.specs.Chip.{ChipData, page_count}
-use Rattle.stm_wire.specs.Device.{Device, IsDevice, LosesOwed}
-use Rattle.stm_wire.specs.Dialogue.{GoesOn}
-use Rattle.stm_wire.specs.Greeting.{AwaitsUnder, FreshMayBeGreeted, IsGreeting, LossMayBeGreeted, MayBeGreeted, MorePagesMayBeGreeted, SendingMayBeGreeted, most_greeted}
-use Rattle.stm_wire.specs.Harmless.{SameOutside}
-use Rattle.stm_wire.specs.Intents.{intended_pages, settling_byte}
-use Rattle.stm_wire.specs.Moments.{LeavesOnly}
-use Rattle.stm_wire.specs.Rig.{RigState, IsModel, LeftByAppend, Rises}
-use Rattle.stm_wire.specs.Sending.{KeepsCount}
-use Rattle.stm_wire.specs.Settling.{HasLineCause, IsSettling, Keeps, LeftWith, PutsPart, Talks}
-use Rattle.stm_wire.specs.Stopped.{SendingIsHarmless}
+use Rattle.stm_wire.proofs.Names.{Append, Awaits, AwaitsUnder, Call, ChipData, Device, FreshMayBeGreeted, GoesOn, HasLineCause, intended_pages, IsDevice, IsGreeting, IsModel, IsSettling, Keeps}
+use Rattle.stm_wire.proofs.Names.{KeepsCount, LeavesOnly, LeftByAppend, LeftWith, LosesOwed, LossMayBeGreeted, MayBeGreeted, MorePagesMayBeGreeted, most_greeted, page_count, PutsPart, RigState, Rises}
+use Rattle.stm_wire.proofs.Names.{SameOutside, SendingIsHarmless, SendingMayBeGreeted, settling_byte, Talks}
 use Rattle.stm_wire.specs.lemmas.DialogueLaws.{GoesOn-append, GoesOn-weaker}
 use Rattle.stm_wire.specs.lemmas.MomentLaws.{joined, weaker}
 use Rattle.stm_journal.specs.declared.fault.JournalFault.{JournalFault}
 use Rattle.stm_journal.specs.declared.fault.JournalFault.TheVariants.{File, Bad, OtherDevice, OtherBoard, Memory}
-use Rattle.stm_journal.specs.Calls.{AddsBytes, AppendsInPart, AppendsOnce, AreFetches, IsFaultOf, IsUntouched, Loads}
-use Rattle.stm_journal.specs.GreetingCalls.{GreetingsCountAsNothing, allows_greeting}
-use Rattle.stm_journal.specs.Greetings.{greeting_line, is_greeted, may_greet}
-use Rattle.stm_journal.specs.Journals.{Loaded, IsLoaded, journal_of, good}
+use Rattle.stm_journal.proofs.Names.{AddsBytes, allows_greeting, AppendsInPart, AppendsOnce, AreFetches, good, greeting_line, GreetingsCountAsNothing, intent_at, intent_of, is_ended_stage, is_greeted}
+use Rattle.stm_journal.proofs.Names.{is_unfinished, IsFaultOf, IsLoaded, IsSound, IsUntouched, journal_of, Loaded, Loads, may_greet, newest_has, newest_intent, SegmentData, StateData}
 use Rattle.stm_journal.specs.declared.stage.Stage.{Stage}
 use Rattle.stm_journal.specs.declared.stage.Stage.TheVariants.{Open, Ended, Returning}
-use Rattle.stm_journal.specs.States.{IsSound, SegmentData, StateData, intent_at, intent_of, is_ended_stage, is_unfinished, newest_has, newest_intent}
-use Rattle.stm_session.specs.declared.fault.Fault.{Fault}
-use Rattle.stm_session.specs.Fault.{HasSessionCause, IsJournalOrMemory, IsOutsideFault, KeepsFileCount, KeepsLineCount, RisesFor, fault_of, fault_of_journal}
-use Rattle.stm_session.specs.declared.greeting.Greeting.{Greeting}
+use Rattle.stm_session.proofs.Names.{AmidGreeting, asking_refusal, chip_with, Fault, fault_of, fault_of_journal, FreshIsGreetable, good_state, Greeting, greets, greets_loaded, GreetsBy, GreetsInPart}
+use Rattle.stm_session.proofs.Names.{GreetsInPartBy, GreetsOnce, GreetsSafely, HasSessionCause, is_doubtful, is_erase, is_extended, is_long_list, is_wide, IsGreetable, IsGreetableAs}
+use Rattle.stm_session.proofs.Names.{IsJournalOrMemory, IsOutsideFault, KeepsFileCount, KeepsFlashes, KeepsLineCount, lists_wide, LossIsGreetable, ReadsFirst, RisesFor, risked_at, risked_pages}
+use Rattle.stm_session.proofs.Names.{SameMake, state_at, StepLaws, StoppedIsGreetable, Undoable, wants_greeting, wants_loaded, WritesFirst}
 use Rattle.stm_session.specs.declared.greeting.Greeting.TheVariants.{Brief, Fresh, Plain}
-use Rattle.stm_session.specs.Greeting.{AmidGreeting, FreshIsGreetable, GreetsBy, GreetsInPart, GreetsInPartBy, GreetsOnce, GreetsSafely, IsGreetable, IsGreetableAs, LossIsGreetable, ReadsFirst, StoppedIsGreetable, WritesFirst, greets, greets_loaded, is_doubtful, is_erase, is_extended, is_long_list, is_wide, lists_wide, wants_greeting, wants_loaded}
-use Rattle.stm_session.specs.Refusal.{chip_with}
-use Rattle.stm_session.specs.Moments.{SameMake}
-use Rattle.stm_session.specs.Unasked.{asking_refusal}
-use Rattle.stm_session.specs.StepLaws.{StepLaws}
-use Rattle.stm_session.specs.Steps.{KeepsFlashes}
-use Rattle.stm_session.specs.Undoable.{Undoable, good_state, risked_pages, state_at}
-use Rattle.stm_session.specs.Undoes.{risked_at}
 use Rattle.stm_session.proofs.Awaiting.{greeted_under}
 use Rattle.stm_session.proofs.Going.{at_exit}
 use Rattle.stm_session.proofs.Keeping.{keeps_over, risked_is, text_is, undoable_with}

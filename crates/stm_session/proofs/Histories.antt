@@ -1,25 +1,13 @@
 -- The headline follows from the contracts of run, info, identify, undo and unprotect_fresh.
 use Rattle.std.proofs.Common.{◌≡◌, ℕ, true, false, List, [], ◌∷◌, Result, Ok, Err, refl, sym, ◌∙◌, ap, subst, ⊎_elim}
 use Rattle.std.proofs.lemmas.Bool.{cases_Bool}
-use Rattle.stm_wire.specs.Chip.{ChipData}
-use Rattle.stm_wire.specs.Device.{Device, reset}
-use Rattle.stm_wire.specs.Moments.{LeavesOnly}
-use Rattle.stm_wire.specs.Rig.{RigState}
-use Rattle.stm_journal.specs.Calls.{IsUntouched}
-use Rattle.stm_session.specs.declared.contact.Told.{Told}
-use Rattle.stm_session.specs.declared.information.Info.{Info}
-use Rattle.stm_session.specs.declared.fault.Fault.{Fault}
+use Rattle.stm_wire.proofs.Names.{ChipData, Device, LeavesOnly, reset, RigState}
+use Rattle.stm_journal.proofs.Names.{IsUntouched}
+use Rattle.stm_session.proofs.Names.{CommandData, depth_at, EachCanFollow, Event, Fault, FollowsUnprotect, Headline, Holds, identified, identify_stopped, IdentifyContract, Info, info_stopped}
+use Rattle.stm_session.proofs.Names.{InfoContract, informed, is_unfinished_at, IsHonestAfter, IsReset, IsUnbegun, kept, Knows, Leads, LeavesAlone, left_refused, LeftByUnprotecting, lost_owed}
+use Rattle.stm_session.proofs.Names.{lost_power, now_of, OutcomeData, ran, refusal_stopped, run_stopped, RunContract, SameMake, starts_after, Stops, themselves, Told, undid, undo_stopped, Undoable}
+use Rattle.stm_session.proofs.Names.{UndoContract, unprotect_stopped, unprotected, was_reset, World}
 use Rattle.stm_session.specs.declared.fault.Fault.TheVariants as faults
-use Rattle.stm_session.specs.Fresh.{IsReset}
-use Rattle.stm_session.specs.Moments.{IsUnbegun, SameMake}
-use Rattle.stm_session.specs.Undoable.{Undoable, is_unfinished_at}
-use Rattle.stm_session.specs.Meaning.{CommandData}
-use Rattle.stm_session.specs.Answers.{OutcomeData}
-use Rattle.stm_session.specs.Lines.{depth_at}
-use Rattle.stm_session.specs.Promises.{RunContract, IdentifyContract, InfoContract, UndoContract}
-use Rattle.stm_session.specs.Events.{World, now_of, Event, Knows, Leads, Stops, themselves, ran, run_stopped, informed, info_stopped, identified, identify_stopped, undid, undo_stopped, left_refused, refusal_stopped, unprotected, unprotect_stopped, kept, was_reset, lost_owed, lost_power}
-use Rattle.stm_session.specs.Unprotecting.{FollowsUnprotect, LeftByUnprotecting}
-use Rattle.stm_session.specs.Headline.{starts_after, LeavesAlone, Holds, Headline, EachCanFollow, IsHonestAfter}
 use Rattle.stm_session.proofs.RunHistories.{Laws, goes-on, lost-make, run-holds, run-leaves, run-honest, run-left, run-starts, unbegun-keeps, untouched-keeps, waits}
 use Rattle.stm_session.proofs.UndoHistories.{undo-held, undo-honest, undo-leaves, undo-left, undo-starts}
 

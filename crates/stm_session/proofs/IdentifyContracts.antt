@@ -1,18 +1,9 @@
 -- Asking a device who it is, exit by exit.
 use Rattle.std.proofs.Common.{◌≡◌, ◌≢◌, [], Some, Result, Ok, Err, IfErr, IsErrAnd, sym, ◌∙◌, subst, inl, inr, ⊎_elim}
-use Rattle.stm_wire.specs.Dialogue.{GoesOn}
-use Rattle.stm_wire.specs.Rig.{RigState}
-use Rattle.stm_wire.specs.Stopped.{LossStaysHarmless}
-use Rattle.stm_journal.specs.Calls.{AreFetches}
-use Rattle.stm_journal.specs.Journals.{journal_of}
-use Rattle.stm_session.specs.declared.contact.Told.{Told}
-use Rattle.stm_session.specs.declared.fault.Fault.{Fault}
+use Rattle.stm_wire.proofs.Names.{GoesOn, LossStaysHarmless, RigState}
+use Rattle.stm_journal.proofs.Names.{AreFetches, journal_of}
+use Rattle.stm_session.proofs.Names.{BeginsNothing, Fault, IdentifyContract, IsOfLine, IsSafe, LoadsUnless, TellsItself, Told, unsent_refusal}
 use Rattle.stm_session.specs.declared.fault.Fault.TheVariants as fault
-use Rattle.stm_session.specs.Fault.{IsOfLine}
-use Rattle.stm_session.specs.Moments.{BeginsNothing, IsSafe}
-use Rattle.stm_session.specs.Opening.{LoadsUnless, TellsItself}
-use Rattle.stm_session.specs.Promises.{IdentifyContract}
-use Rattle.stm_session.specs.Refusal.{unsent_refusal}
 use Rattle.stm_session.proofs.Openings.{left_by_loading, line_is_no_memory, moments_of_asking, moments_of_loading, refused_nothing, tells_first, unsent_outside, untouched_is_unbegun}
 use Rattle.stm_session.proofs.Reaching.{err_then, told_then}
 use Rattle.stm_session.proofs.Unbegun.{further}

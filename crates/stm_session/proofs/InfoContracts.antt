@@ -1,18 +1,9 @@
 -- Info, exit by exit.
 use Rattle.std.proofs.Common.{◌≡◌, ◌≢◌, List, [], Some, Result, Ok, Err, IsErrAnd, refl, sym, subst}
-use Rattle.stm_wire.specs.Chip.{ChipData}
-use Rattle.stm_wire.specs.Dialogue.{GoesOn}
-use Rattle.stm_wire.specs.Rig.{RigState}
-use Rattle.stm_journal.specs.Calls.{AreFetches, IsUntouched}
-use Rattle.stm_journal.specs.Journals.{journal_of}
-use Rattle.stm_session.specs.declared.fault.Fault.{Fault}
+use Rattle.stm_wire.proofs.Names.{ChipData, GoesOn, RigState}
+use Rattle.stm_journal.proofs.Names.{AreFetches, IsUntouched, journal_of}
+use Rattle.stm_session.proofs.Names.{Fault, Info, InfoContract, IsSafe, Opened, Opens, RefusesUnsent, unsent_refusal}
 use Rattle.stm_session.specs.declared.fault.Fault.TheVariants as fault
-use Rattle.stm_session.specs.declared.information.Info.{Info}
-use Rattle.stm_session.specs.declared.opening.Opened.{Opened}
-use Rattle.stm_session.specs.Moments.{IsSafe}
-use Rattle.stm_session.specs.Opening.{Opens}
-use Rattle.stm_session.specs.Promises.{InfoContract}
-use Rattle.stm_session.specs.Refusal.{RefusesUnsent, unsent_refusal}
 use Rattle.stm_session.proofs.Informing.{informs_all, informs_nothing}
 
 -- the session isn't opened

@@ -1,15 +1,8 @@
 -- What an opened session tells.
 use Rattle.std.proofs.Common.{◌≡◌, ◌⊎◌, List, Some, Result, Ok, Err, IsErrAnd, take, sym, ◌∙◌, ap, subst}
-use Rattle.stm_wire.specs.Chip.{ChipData}
-use Rattle.stm_wire.specs.Rig.{RigState}
-use Rattle.stm_journal.specs.Journals.{journal_of}
-use Rattle.stm_session.specs.declared.opening.Opened.{Opened}
-use Rattle.stm_session.specs.declared.information.Info.{Info}
-use Rattle.stm_session.specs.declared.fault.Fault.{Fault}
-use Rattle.stm_session.specs.Fault.{IsOutsideFault}
-use Rattle.stm_session.specs.Information.{Informs}
-use Rattle.stm_session.specs.Opening.{Opens}
-use Rattle.stm_session.specs.Refusal.{opening_refusal}
+use Rattle.stm_wire.proofs.Names.{ChipData, RigState}
+use Rattle.stm_journal.proofs.Names.{journal_of}
+use Rattle.stm_session.proofs.Names.{Fault, Info, Informs, IsOutsideFault, Opened, opening_refusal, Opens}
 
 -- a session that wasn't opened tells nothing
 pub informs_nothing : (table : List ChipData) (old new : RigState) (e : Fault) (result : Result Info Fault) → Opens table old new (Err e) → IsErrAnd result (λ x. x ≡ e) → Informs table old new result

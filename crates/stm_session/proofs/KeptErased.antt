@@ -3,24 +3,13 @@ use Rattle.std.proofs.Common.{◌≡◌, inl, inr, ℕ, zero, suc, ◌+◌, ◌/
 use Rattle.std.specs.Prelude.{bytes_eq, is_none}
 use Rattle.std.specs.List.{AllByRecursion}
 use Rattle.stm_wire.specs.declared.places.UniquePlace.{UniquePlace}
-use Rattle.stm_wire.specs.Chip.{ChipData, erased_byte, page_size}
-use Rattle.stm_wire.specs.Dialogue.{Turn}
-use Rattle.stm_wire.specs.Frames.{read_turns}
-use Rattle.stm_wire.specs.Rig.{RigState}
+use Rattle.stm_wire.proofs.Names.{ChipData, erased_byte, page_size, read_turns, RigState, Turn}
 use Rattle.stm_chip.specs.declared.plan.Frame.{Frame}
 use Rattle.stm_chip.specs.Plan.{frames_of}
 use Rattle.stm_journal.specs.declared.entry.Entry.TheVariants.{Ends, Keeps, Names, Opens}
-use Rattle.stm_journal.specs.Journals.{Loaded, begin_entries, version_for}
-use Rattle.stm_journal.specs.States.{StateData, newest_keeps}
-use Rattle.stm_session.specs.declared.change.Change.{Change}
-use Rattle.stm_session.specs.declared.fault.Fault.{Fault}
-use Rattle.stm_session.specs.ChangeOrder.{IsChangedUnless, IsSaved, IsSavedWith, IsTurnOf, Keeping, KeepsErased}
-use Rattle.stm_session.specs.Closing.{closing, closing_steps}
-use Rattle.stm_session.specs.Contents.{content}
-use Rattle.stm_session.specs.Order.{Step, Adds, Sends, Follows, page_address, page_reads, program_steps, read_steps, rewrite_steps, write_steps}
-use Rattle.stm_session.specs.Reaching.{confirmed_at}
-use Rattle.stm_session.specs.RunOrder.{IsReading}
-use Rattle.stm_session.specs.Undoable.{has_companion}
+use Rattle.stm_journal.proofs.Names.{begin_entries, Loaded, newest_keeps, StateData, version_for}
+use Rattle.stm_session.proofs.Names.{Adds, Change, closing, closing_steps, confirmed_at, content, Fault, Follows, has_companion, IsChangedUnless, IsReading, IsSaved, IsSavedWith, IsTurnOf, Keeping}
+use Rattle.stm_session.proofs.Names.{KeepsErased, page_address, page_reads, program_steps, read_steps, rewrite_steps, Sends, Step, write_steps}
 
 -- steps that are such are others
 pub follows_as : (P Q : List Step → Type 0) (l l2 : Loaded) (a b : RigState) → ((xs : List Step) → P xs → Q xs) → Follows P l l2 a b → Follows Q l l2 a b

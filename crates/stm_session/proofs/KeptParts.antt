@@ -6,17 +6,12 @@ use Rattle.std.proofs.lemmas.List.Sums.{sum_by_more}
 use Rattle.stm_image.specs.Layout.{IsAmong}
 use Rattle.stm_image.specs.Pairs.{Pairs}
 use Rattle.stm_image.specs.Part.{IsWithPart, StandsIn}
-use Rattle.stm_wire.specs.Chip.{ChipData, is_inside, page_count, page_offset, page_size}
+use Rattle.stm_wire.proofs.Names.{ChipData, is_inside, page_count, page_offset, page_size}
 use Rattle.stm_journal.specs.declared.kept.PagePlace.{PagePlace}
-use Rattle.stm_journal.specs.KeptPlaces.{page_place}
-use Rattle.stm_journal.specs.States.{StateData, newest_keeps}
+use Rattle.stm_journal.proofs.Names.{newest_keeps, page_place, StateData}
 use Rattle.stm_session.specs.declared.command.Command.TheVariants as command
-use Rattle.stm_session.specs.declared.outcome.Outcome.{Outcome}
+use Rattle.stm_session.proofs.Names.{image_fits, IsKindOf, Outcome, outcome_data, page_address, was_verified}
 use Rattle.stm_session.specs.declared.outcome.Outcome.TheVariants as outcome
-use Rattle.stm_session.specs.Answers.{outcome_data, was_verified}
-use Rattle.stm_session.specs.Order.{page_address}
-use Rattle.stm_session.specs.Refusals.{image_fits}
-use Rattle.stm_session.specs.Running.{IsKindOf}
 use Rattle.stm_session.proofs.Work.{no_place_keeps}
 
 -- the pages below one were gone through

@@ -6,28 +6,18 @@ use Rattle.std.proofs.lemmas.Bool.{and_parts, false≢true}
 use Rattle.std.proofs.lemmas.List.{length-replicate}
 use Rattle.stm_image.specs.Lay.{lay}
 use Rattle.stm_image.specs.Pairs.{Pairs}
-use Rattle.stm_wire.specs.Chip.{ChipData, erased_byte, erased_page, page_count, page_offset, page_size}
+use Rattle.stm_wire.proofs.Names.{ChipData, erased_byte, erased_page, GoesOn, page_count, page_offset, page_size, RigState}
 use Rattle.stm_wire.specs.lemmas.DialogueLaws.{GoesOn-weaker}
-use Rattle.stm_wire.specs.Rig.{RigState}
-use Rattle.stm_wire.specs.Dialogue.{GoesOn}
 use Rattle.stm_journal.specs.declared.entry.Entry.TheVariants.{Names, Opens, Keeps, Ends}
-use Rattle.stm_journal.specs.Journals.{Loaded, begin_entries, version_for}
-use Rattle.stm_journal.specs.States.{IsSound, StateData}
-use Rattle.stm_session.specs.declared.change.Change.{Change}
+use Rattle.stm_journal.proofs.Names.{begin_entries, IsSound, Loaded, StateData, version_for}
+use Rattle.stm_session.proofs.Names.{Adds, AreAllTurned, AreBegun, AreCutShort, AreDoneInOrder, AreTurned, asking_steps, begins, Cause, cause_of, Change, closing, CommandData, confirmed_at}
+use Rattle.stm_session.proofs.Names.{contact_way, content, ends, Fault, has_companion, is_change, IsAfter, IsBegunIf, IsChangedUnless, IsConfirmedInPart, IsDoneIf, IsLookedAgain, IsOneSegment}
+use Rattle.stm_session.proofs.Names.{IsReading, IsSaved, IsSavedWith, IsSegmentBegun, IsTurnOf, KeepsFirst, looks, none, OutcomeData, page_address, page_reads, ReachesAndDoes, ReachesAndStops}
+use Rattle.stm_session.proofs.Names.{RunKeeps, RunsInOrder, RunStops, RunStopsKept, Session, SettlesThen, Step, turns, Way}
 use Rattle.stm_session.specs.declared.change.Change.TheVariants as change
-use Rattle.stm_session.specs.declared.fault.Fault.{Fault}
-use Rattle.stm_session.specs.Fault.{Cause, cause_of}
-use Rattle.stm_session.specs.ChangeOrder.{AreAllTurned, AreTurned, none, more, IsChangedUnless, IsOneSegment, IsSaved, IsSavedWith, IsSegmentBegun, begins, turns, ends, IsTurnOf}
-use Rattle.stm_session.specs.Closing.{IsLookedAgain, closing}
-use Rattle.stm_session.specs.Contents.{content}
-use Rattle.stm_session.specs.Fresh.{Way, contact_way}
-use Rattle.stm_session.specs.Answers.{OutcomeData}
-use Rattle.stm_session.specs.Meaning.{CommandData, is_change}
-use Rattle.stm_session.specs.Order.{Step, Adds, AreCutShort, IsAfter, page_reads, page_address}
-use Rattle.stm_session.specs.Reaching.{IsConfirmedInPart, ReachesAndDoes, ReachesAndStops, Session, SettlesThen, asking_steps, confirmed_at}
-use Rattle.stm_session.specs.RunOrder.{AreBegun, AreDoneInOrder, none as nothing_done, more as more_done, IsBegunIf, IsDoneIf, IsReading, RunsInOrder, RunStops}
-use Rattle.stm_session.specs.Kept.{KeepsFirst, RunKeeps, RunStopsKept, looks, reads}
-use Rattle.stm_session.specs.Undoable.{has_companion}
+use Rattle.stm_session.specs.ChangeOrder.{more}
+use Rattle.stm_session.specs.RunOrder.{none as nothing_done, more as more_done}
+use Rattle.stm_session.specs.Kept.{reads}
 use Rattle.stm_session.specs.lemmas.ClosingLaws.{closing_is_looked, goes_on, looked_by}
 use Rattle.stm_session.proofs.KeptSteps.{Leads, here, later as further, keeps_front, keeps_then, leads_nothing, leads_reads, leads_rewrite, leads_then}
 

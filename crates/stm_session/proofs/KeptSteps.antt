@@ -1,12 +1,11 @@
 -- The steps of a run keep each page before they change it.
 use Rattle.std.proofs.Common.{◌≡◌, Contains, ℕ, zero, suc, ◌+◌, ◌-◌, ◌*◌, ◌/◌, ◌≤◌, List, [], ◌∷◌, ◌++◌, length, take, drop, Option, Some, refl, sym, ◌∙◌, ap, subst, arith}
-use Rattle.stm_wire.specs.Chip.{ChipData, erased_byte, page_size}
-use Rattle.stm_wire.specs.Frames.{read_turns}
+use Rattle.stm_wire.proofs.Names.{ChipData, erased_byte, page_size, read_turns}
 use Rattle.stm_chip.specs.declared.plan.Frame.{Frame}
 use Rattle.stm_chip.specs.Plan.{frames_of}
-use Rattle.stm_session.specs.Order.{Step, Adds, Sends, read_steps, rewrite_steps, write_steps}
+use Rattle.stm_session.proofs.Names.{Adds, IsKept, KeepsFirst, kept_behind_lines, kept_behind_steps, read_steps, rewrite_steps, Sends, Step, write_steps}
 use Rattle.stm_session.specs.lemmas.FramesInside.{AreInside, bytes_inside, frames_inside}
-use Rattle.stm_session.specs.Kept.{IsKept, KeepsFirst, kept_behind_lines, kept_behind_steps, reads, erases, writes}
+use Rattle.stm_session.specs.Kept.{reads, erases, writes}
 
 -- the first of a list is in it, and so is each other one
 pub here : (n : ℕ) (pages : List ℕ) → Contains (n ∷ pages) n

@@ -3,26 +3,18 @@ use Rattle.std.proofs.Common.{◌≡◌, Contains, ⊎_elim, inl, inr, ℕ, zero
 use Rattle.std.specs.Prelude.{bytes_eq}
 use Rattle.stm_wire.specs.declared.intent.Intent.{Intent}
 use Rattle.stm_wire.specs.declared.places.UniquePlace.{UniquePlace}
-use Rattle.stm_wire.specs.Chip.{ChipData, erased_byte, page_size}
-use Rattle.stm_wire.specs.Frames.{read_turns}
-use Rattle.stm_wire.specs.Rig.{RigState}
+use Rattle.stm_wire.proofs.Names.{ChipData, erased_byte, page_size, read_turns, RigState}
 use Rattle.stm_chip.specs.declared.plan.Frame.{Frame}
 use Rattle.stm_chip.specs.Plan.{frames_of}
 use Rattle.stm_journal.specs.declared.entry.Entry.TheVariants.{Undoes}
 use Rattle.stm_journal.specs.declared.kept.Kept.{Kept}
-use Rattle.stm_journal.specs.Newest.{pages_of_newest, pages_of_segments}
-use Rattle.stm_journal.specs.States.{IsSound, SegmentData, StateData, intent_of, intent_page, keeps, newest_has, newest_keeps}
-use Rattle.stm_session.specs.declared.fault.Fault.{Fault}
-use Rattle.stm_session.specs.Closing.{IsLookedAgain, closing}
-use Rattle.stm_session.specs.declared.returned.Returned.{Returned}
-use Rattle.stm_session.specs.Fault.{cause_of}
-use Rattle.stm_session.specs.Fresh.{settling_way}
-use Rattle.stm_session.specs.Kept.{IsOfNewest, PutsBack, PutsBackFrom, UndoPutsBack, UndoStopsBack, erases, erasing, looks, programming, reads, undoing, writes}
-use Rattle.stm_session.specs.Order.{Step, Adds, Sends, Tells, AreGivenBack, AreReadsOf, AreRewritten, IsGivenBack, tells_behind, Begin, page_address, page_reads, read_steps, give_back_steps, return_steps, rewrite_steps, untold, write_steps}
-use Rattle.stm_session.specs.UndoOrder.{AreAllUndone, AreSegmentsUndone, AreUndoneInOrder, BeginTaking, EndsOtherwise, GivesBackInOrder, IsSegmentUndone, OrMisread, such, elsewhere, misread, UndoDoes, UndoStopsAs, UndoesInOrder}
+use Rattle.stm_journal.proofs.Names.{intent_of, intent_page, IsSound, keeps, newest_has, newest_keeps, pages_of_newest, pages_of_segments, SegmentData, StateData}
+use Rattle.stm_session.proofs.Names.{Adds, AreAllUndone, AreGivenBack, AreReadsOf, AreRewritten, AreSegmentsUndone, AreUndoneInOrder, Begin, BeginTaking, beside, cause_of, closing, confirmed_at}
+use Rattle.stm_session.proofs.Names.{elsewhere, EndsOtherwise, erasing, Fault, give_back_steps, GivesBackInOrder, IsGivenBack, IsLookedAgain, IsOfNewest, IsSegmentUndone, looks, misread, OrMisread}
+use Rattle.stm_session.proofs.Names.{page_address, page_reads, pages_at_work, pages_of_intent, programming, PutsBack, PutsBackFrom, read_steps, return_steps, Returned, rewrite_steps, Sends}
+use Rattle.stm_session.proofs.Names.{settling_way, Step, StepsOf, such, Tells, tells_behind, UndoDoes, UndoesInOrder, undoing, UndoPutsBack, UndoStopsAs, UndoStopsBack, untold, write_steps}
+use Rattle.stm_session.specs.Kept.{erases, reads, writes}
 use Rattle.stm_session.specs.lemmas.ClosingLaws.{closing_is_looked, looked_by}
-use Rattle.stm_session.specs.Reaching.{StepsOf, confirmed_at}
-use Rattle.stm_session.specs.Work.{beside, pages_at_work, pages_of_intent}
 use Rattle.stm_session.proofs.Keeping.{newest-listed}
 use Rattle.stm_session.proofs.KeptRuns.{after_as, as_session, confirmed_as, does_as, stops_as}
 use Rattle.stm_session.specs.lemmas.FramesInside.{AreInside, bytes_inside, frames_inside}

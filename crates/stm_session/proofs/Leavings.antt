@@ -3,26 +3,13 @@ use Rattle.std.proofs.Common.{◌≡◌, ℕ, ⊎_elim, inl, inr, List, ◌++◌
 use Rattle.std.proofs.Math.Seq.{take-length}
 use Rattle.stm_wire.specs.declared.fault.WireFault.{WireFault}
 use Rattle.stm_wire.specs.declared.fault.WireFault.TheVariants.{Line}
-use Rattle.stm_wire.specs.Call.{Call}
-use Rattle.stm_wire.specs.Chip.{ChipData, is_inside}
-use Rattle.stm_wire.specs.Command.{CanGo, CanProtect}
-use Rattle.stm_wire.specs.Device.{Device}
-use Rattle.stm_wire.specs.Dialogue.{Turn, Adds, GoesOn, calls_of}
-use Rattle.stm_wire.specs.Exchange.{is_listed}
-use Rattle.stm_wire.specs.Moments.{FedAndTaken, LeavesOnly, LeftBySending, PartlyFed}
+use Rattle.stm_wire.proofs.Names.{Adds, BreaksOff, Call, calls_of, CanGo, CanProtect, ChipData, Device, EndsSettled, FedAndTaken, GoesOn, is_inside, is_listed, IsHeldToEnd, LeavesOnly, LeftBySending}
+use Rattle.stm_wire.proofs.Names.{LossStaysHarmless, PartlyFed, RigState, SettlesWithin, Turn}
 use Rattle.stm_wire.specs.lemmas.MomentLaws.{joined, weaker}
-use Rattle.stm_wire.specs.Rig.{RigState}
-use Rattle.stm_wire.specs.Sending.{BreaksOff, IsHeldToEnd}
 use Rattle.stm_wire.specs.lemmas.DialogueLaws.{GoesOn-adds, GoesOn-append}
-use Rattle.stm_wire.specs.Settling.{SettlesWithin}
-use Rattle.stm_wire.specs.SettlingCalls.{EndsSettled}
-use Rattle.stm_wire.specs.Stopped.{LossStaysHarmless}
-use Rattle.stm_journal.specs.Calls.{AreFetches}
-use Rattle.stm_session.specs.declared.fault.Fault.{Fault}
-use Rattle.stm_session.specs.Fault.{Cause, IsOfTalking, IsJournalOrMemory, IsOfLine, IsOutsideFault, IsUnheard, cause_of, fault_of, of_line, of_protocol}
-use Rattle.stm_session.specs.Leaving.{CanLeave, IsSettledSame, IsSettledThen, Leaves, LeftByFrame, LeftByLeaving}
-use Rattle.stm_session.specs.Moments.{BeginsNothing, IsSafe, IsUnbegun}
-use Rattle.stm_session.specs.Opening.{LoadsUnless}
+use Rattle.stm_journal.proofs.Names.{AreFetches}
+use Rattle.stm_session.proofs.Names.{BeginsNothing, CanLeave, Cause, cause_of, Fault, fault_of, IsJournalOrMemory, IsOfLine, IsOfTalking, IsOutsideFault, IsSafe, IsSettledSame, IsSettledThen}
+use Rattle.stm_session.proofs.Names.{IsUnbegun, IsUnheard, Leaves, LeftByFrame, LeftByLeaving, LoadsUnless, of_line, of_protocol}
 use Rattle.stm_session.proofs.Asking.{line_outside}
 use Rattle.stm_session.proofs.Orders.{GoesOn-both}
 use Rattle.stm_session.proofs.Openings.{left_by_loading, moments_of_asking, moments_of_loading, refused_nothing, unsent_outside, untouched_is_unbegun}

@@ -1,3 +1,4 @@
+pub mod Names
 pub mod Asking
 pub mod Unwritings
 pub mod Fitting

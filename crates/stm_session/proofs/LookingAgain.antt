@@ -4,20 +4,12 @@ use Rattle.std.specs.Prelude.{is_some}
 use Rattle.std.proofs.lemmas.Bool.{and_parts, false≢true}
 use Rattle.std.proofs.lemmas.List.{length-replicate}
 use Rattle.stm_wire.specs.declared.places.UniquePlace.{UniquePlace}
-use Rattle.stm_wire.specs.Chip.{ChipData, IsChip, is_outside, is_size_place, is_unique_place}
-use Rattle.stm_wire.specs.Dialogue.{GoesOn}
-use Rattle.stm_wire.specs.Frames.{get_id_turns, read_frame, read_turns}
+use Rattle.stm_wire.proofs.Names.{ChipData, get_id_turns, GoesOn, is_outside, is_size_place, is_unique_length, is_unique_place, IsChip, IsFrame, read_frame, read_turns, RigState, tells}
 use Rattle.stm_wire.specs.lemmas.DialogueLaws.{get_id_sends, read_sends}
-use Rattle.stm_wire.specs.Rig.{RigState}
-use Rattle.stm_wire.specs.SentList.{IsFrame, get_id, tells}
-use Rattle.stm_wire.specs.UniqueId.{is_unique_length}
-use Rattle.stm_journal.specs.Journals.{Loaded}
-use Rattle.stm_session.specs.declared.fault.Fault.{Fault}
-use Rattle.stm_session.specs.Closing.{IsLookedAgain, closing, closing_steps}
-use Rattle.stm_session.specs.Fault.{cause_of, of_refusal}
-use Rattle.stm_session.specs.Order.{Step, Sends, Begin, DoesSteps, FaultEnds, IsInOrder, StopsBy, torn_behind}
-use Rattle.stm_session.specs.Reaching.{IsAsked, IsConfirming, IsGetId, confirm_steps, confirmed_at, id_turns, place_of_bytes}
-use Rattle.stm_session.specs.Sending.{most_of_closing, most_of_confirming}
+use Rattle.stm_wire.specs.SentList.{get_id}
+use Rattle.stm_journal.proofs.Names.{Loaded}
+use Rattle.stm_session.proofs.Names.{Begin, cause_of, closing, closing_steps, confirm_steps, confirmed_at, DoesSteps, Fault, FaultEnds, id_turns, IsAsked, IsConfirming, IsGetId, IsInOrder}
+use Rattle.stm_session.proofs.Names.{IsLookedAgain, most_of_closing, most_of_confirming, of_refusal, place_of_bytes, Sends, Step, StopsBy, torn_behind}
 use Rattle.stm_session.specs.lemmas.ClosingLaws.{place_known}
 use Rattle.stm_session.proofs.AskingBoards.{read_broken_length, refused_length}
 use Rattle.stm_session.proofs.Confirmings.{refused_head, refused_sends, short_enough}

@@ -9,12 +9,11 @@ use Rattle.std.proofs.lemmas.List.{drop_more, get_or-take, length-take, take_all
 use Rattle.std.proofs.lemmas.List.Sums.{fold-append}
 use Rattle.std.proofs.lemmas.Option.{slice_get_within, get_or_from_slice_get, slice_get_cases}
 use Rattle.std.proofs.Math.ListN.{drop_of_length-le}
-use Rattle.stm_wire.specs.Chip.{ChipData, page_count, page_size}
+use Rattle.stm_wire.proofs.Names.{ChipData, page_count, page_size}
 use Rattle.stm_journal.specs.declared.kept.Kept.{Kept}
 use Rattle.stm_journal.specs.declared.kept.PagePlace.{PagePlace}
-use Rattle.stm_journal.specs.KeptPlaces.{place_of, page_place}
-use Rattle.stm_journal.specs.States.{StateData, SegmentData, segment_of, kept_at, LacksPage, PagesOnce, AllOnce, IsSound}
-use Rattle.stm_session.specs.Refusal.{first_of, pages_kept, segment_pages, fits_among, fits_as_kept, lacks_companion, misfit_lines_of, misfit_lines, lesser, least_with}
+use Rattle.stm_journal.proofs.Names.{AllOnce, IsSound, kept_at, LacksPage, page_place, PagesOnce, place_of, segment_of, SegmentData, StateData}
+use Rattle.stm_session.proofs.Names.{first_of, fits_among, fits_as_kept, lacks_companion, least_with, lesser, misfit_lines, misfit_lines_of, pages_kept, segment_pages}
 
 -- a page among the first has the size that it has among all
 pub first_size : (most : ℕ) (chip : ChipData) (n : ℕ) → n < page_count (first_of most chip) → page_size (first_of most chip) n ≡ page_size chip n

@@ -3,13 +3,9 @@ use Rattle.std.proofs.Common.{◌≡◌, Bool, true, false, ◌==◌, List, [], 
 use Rattle.std.proofs.lemmas.Bool.{eq-eqb, true≢false}
 use Rattle.stm_wire.specs.declared.chip.EraseKind.{EraseKind}
 use Rattle.stm_wire.specs.declared.chip.EraseKind.TheVariants.{Page, Extended}
-use Rattle.stm_wire.specs.Chip.{ChipData}
-use Rattle.stm_wire.specs.Device.{Device, IsDevice, ListsKind}
-use Rattle.stm_wire.specs.Exchange.{is_listed}
-use Rattle.stm_session.specs.declared.fault.Fault.{Fault}
+use Rattle.stm_wire.proofs.Names.{ChipData, Device, is_listed, IsDevice, ListsKind}
+use Rattle.stm_session.proofs.Names.{can_erase, erase_code, Fault, first_refusal, refused_unless, undo_misfit}
 use Rattle.stm_session.specs.declared.fault.Fault.TheVariants as fault
-use Rattle.stm_session.specs.Refusal.{first_refusal, refused_unless}
-use Rattle.stm_session.specs.Refusals.{can_erase, erase_code, undo_misfit}
 
 misfit_by : Bool → Bool → Option Fault
 misfit_by can same = first_refusal (refused_unless can fault.NoErase ∷ refused_unless same fault.OtherDevice ∷ [])

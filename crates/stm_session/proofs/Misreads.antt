@@ -1,10 +1,7 @@
 -- Steps whose last question may be answered otherwise: by the board, or by a page that is read again.
 use Rattle.std.proofs.Common.{◌≡◌, ℕ, Bool, true, List, [], ◌++◌, length, refl, sym, ◌∙◌, ap, subst, append_assoc}
-use Rattle.stm_wire.specs.Chip.{ChipData, page_size}
-use Rattle.stm_session.specs.Closing.{IsLookedAgain, closing}
-use Rattle.stm_session.specs.Order.{Step, AreReadsOf, Begin, page_address, page_reads}
-use Rattle.stm_session.specs.Reaching.{confirmed_at}
-use Rattle.stm_session.specs.UndoOrder.{EndsOtherwise, OrMisread, such, elsewhere, misread}
+use Rattle.stm_wire.proofs.Names.{ChipData, page_size}
+use Rattle.stm_session.proofs.Names.{AreReadsOf, Begin, closing, confirmed_at, elsewhere, EndsOtherwise, IsLookedAgain, misread, OrMisread, page_address, page_reads, Step, such}
 
 -- such steps are allowed behind others
 otherwise_after : (P Q : List Step → Type 0) (due : List Step) (Comes : List Step → Type 0) (first : List Step) → ((ys : List Step) → P ys → Q (first ++ ys)) → (ys : List Step) → EndsOtherwise P due Comes ys → EndsOtherwise Q due Comes (first ++ ys)

@@ -1,23 +1,12 @@
 -- What each of the four commands does.
 use Rattle.std.proofs.Common.{◌≡◌, ℕ, ◌+◌, List, Option, Some, None, Result, Ok, Err, IsErrAnd, true, length, refl, sym, ◌∙◌, ap, ap₂}
-use Rattle.stm_wire.specs.Chip.{ChipData}
-use Rattle.stm_wire.specs.Rig.{RigState}
-use Rattle.stm_journal.specs.Journals.{Loaded}
+use Rattle.stm_wire.proofs.Names.{ChipData, RigState}
+use Rattle.stm_journal.proofs.Names.{Loaded}
 use Rattle.stm_image.specs.Pairs.{Pairs}
-use Rattle.stm_session.specs.declared.change.Change.{Change}
-use Rattle.stm_session.specs.declared.fault.Fault.{Fault}
+use Rattle.stm_session.proofs.Names.{answer_on, Asks, Change, Changes, command_of, depth_at, DoesCommand, Fault, first_difference, flash_after, flash_left, is_change, is_named_at, IsMade, IsSteady}
+use Rattle.stm_session.proofs.Names.{Outcome, outcome_data, OutcomeData, pages_that_differ, segment_entries, StepLaws, verified_or, verifies}
 use Rattle.stm_session.specs.declared.fault.Fault.TheVariants as faults
-use Rattle.stm_session.specs.declared.outcome.Outcome.{Outcome}
 use Rattle.stm_session.specs.declared.outcome.Outcome.TheVariants as outcome
-use Rattle.stm_session.specs.Answers.{OutcomeData, first_difference, outcome_data, pages_that_differ, verified_or}
-use Rattle.stm_session.specs.Asking.{Asks}
-use Rattle.stm_session.specs.Contents.{IsMade, command_of}
-use Rattle.stm_session.specs.OneCommand.{DoesCommand, answer_on, flash_left}
-use Rattle.stm_session.specs.Lines.{depth_at, is_named_at, segment_entries}
-use Rattle.stm_session.specs.Meaning.{flash_after, is_change, verifies}
-use Rattle.stm_session.specs.Segments.{Changes}
-use Rattle.stm_session.specs.StepLaws.{StepLaws}
-use Rattle.stm_session.specs.Steps.{IsSteady}
 use Rattle.stm_session.proofs.Doings.{asks_differs, asks_does, change_does, change_fails, change_of_chip}
 use Rattle.stm_session.proofs.Keeping.{depth_text}
 

@@ -2,48 +2,32 @@
 use Rattle.std.proofs.Common.{true, not, ◌≡◌, ◌⊎◌, ◌∙◌, ℕ, ◌+◌, ◌-◌, ◌<◌, ◌≤◌, List, [], ◌∷◌, length, take, drop, replicate, Some, Result, Ok, Err, IsTrue, inl, inr, ap, arith}
 use Rattle.std.proofs.Common.{refl, subst, sym}
 use Rattle.std.proofs.lemmas.Bool.{false≢true}
-use Rattle.stm_wire.specs.Chip.{page_of, page_limit, ChipData, IsErasedAt, erased_byte, erased_page, fits_inside, flash_size, page_count, page_offset, page_size, with_bytes}
-use Rattle.stm_wire.specs.Chip.{with_page}
+use Rattle.stm_wire.proofs.Names.{BreaksOff, CanErase, CanWrite, ChipData, Device, Does, erase_frame, erase_turns, erased_byte, erased_page, erases, fits_inside, flash_size, GoesOn, HasWritten}
+use Rattle.stm_wire.proofs.Names.{InPage, IsErasedAt, IsFrameUnder, IsHeldToEnd, IsModel, IsSettled, page_count, page_limit, page_of, page_offset, page_size, RigState, Turn, with_bytes, with_page}
+use Rattle.stm_wire.proofs.Names.{with_pages_erased, write_frame, write_turns, writes}
 use Rattle.stm_journal.specs.declared.entry.Entry.TheVariants.{Keeps, Erases, Programs}
 use Rattle.stm_journal.specs.lemmas.CallEntries.{allowed-keep_page, allowed-intend_erase, allowed-intend_program}
-use Rattle.stm_journal.specs.States.{StateData, newest_keeps, newest_may_keep, newest_is_open, newest_has, is_ended_stage, is_open_stage, is_unfinished, IsSound, SegmentData}
+use Rattle.stm_journal.proofs.Names.{added_bytes, Appends, AppendsOnce, HasAdded, InText, is_ended_stage, is_open_stage, is_unfinished, IsLoaded, IsSound, LeavesLoaded, Loaded, loaded_after}
+use Rattle.stm_journal.proofs.Names.{newest_has, newest_is_open, newest_keeps, newest_may_keep, SegmentData, StateData}
 use Rattle.stm_journal.specs.declared.stage.Stage.{Stage}
 use Rattle.stm_journal.specs.declared.stage.Stage.TheVariants.{Open, Ended, Returning}
-use Rattle.stm_session.specs.Undoable.{has_companion, state_at}
+use Rattle.stm_session.proofs.Names.{Adds, AllSuit, Are, Begin, Deed, DoesDeeds, Fault, fault_of, fault_of_journal, has_companion, IsSteady, IsUnder, MayDo, of_call, of_command, Performs, Sends}
+use Rattle.stm_session.proofs.Names.{state_at, Step, StepLaws, Suits}
 use Rattle.stm_session.proofs.Keeping.{keeps_keeping, may_keep_text, keeps_pages, good_at, keeps_text, unfinished_text}
 use Rattle.std.specs.Borrow.{Bor}
 use Rattle.std.specs.Prelude.{IfErr, OnOk}
 use Rattle.std.proofs.lemmas.Bool.Decides.{nat_tests}
 use Rattle.stm_wire.specs.declared.chip.EraseKind.{EraseKind}
 use Rattle.stm_wire.specs.declared.chip.EraseKind.TheVariants.{Page, Extended}
-use Rattle.stm_session.specs.Deeds.{AllSuit, Suits, DoesDeeds, MayDo}
 use Rattle.stm_wire.specs.declared.fault.WireFault.{WireFault}
 use Rattle.stm_wire.specs.declared.intent.Intent.{Intent}
 use Rattle.stm_wire.specs.declared.intent.Intent.TheVariants.{Erase, Program}
-use Rattle.stm_wire.specs.Command.{CanErase, CanWrite, Does, HasWritten, with_pages_erased}
-use Rattle.stm_wire.specs.Device.{Device, IsSettled}
-use Rattle.stm_wire.specs.Dialogue.{Turn, GoesOn}
-use Rattle.stm_wire.specs.Frames.{erase_frame, erase_turns, write_frame, write_turns}
-use Rattle.stm_wire.specs.Intents.{InPage}
 use Rattle.stm_wire.specs.lemmas.FlashLaws.{writes_erased}
 use Rattle.stm_wire.specs.lemmas.PageLaws.{page_within}
-use Rattle.stm_wire.specs.Rig.{RigState, IsModel}
-use Rattle.stm_wire.specs.Sending.{BreaksOff, IsHeldToEnd}
-use Rattle.stm_wire.specs.Stopped.{IsFrameUnder, erases, writes}
 use Rattle.stm_chip.specs.declared.plan.Frame.{Frame}
 use Rattle.stm_journal.specs.declared.entry.Entry.{Entry}
 use Rattle.stm_journal.specs.declared.fault.JournalFault.{JournalFault}
-use Rattle.stm_journal.specs.Added.{HasAdded}
-use Rattle.stm_journal.specs.Calls.{Appends, AppendsOnce, InText}
-use Rattle.stm_journal.specs.Journals.{IsLoaded, LeavesLoaded, Loaded, added_bytes, loaded_after}
-use Rattle.stm_session.specs.declared.deed.Deed.{Deed}
 use Rattle.stm_session.specs.declared.deed.Deed.TheVariants as deed
-use Rattle.stm_session.specs.declared.fault.Fault.{Fault}
-use Rattle.stm_session.specs.Fault.{fault_of, fault_of_journal, of_call, of_command}
-use Rattle.stm_session.specs.Order.{Step, Adds, Are, Begin, Sends}
-use Rattle.stm_session.specs.Performs.{Performs}
-use Rattle.stm_session.specs.StepLaws.{StepLaws}
-use Rattle.stm_session.specs.Steps.{IsSteady, IsUnder}
 use Rattle.stm_session.proofs.Frames.{length-part}
 use Rattle.stm_session.proofs.CutShort.{line_stops, sent_stops}
 use Rattle.stm_session.proofs.Going.{IsStep, frame_fails, frame_goes, goes_ok, line_fails, line_goes}

@@ -4,30 +4,19 @@ use Rattle.std.proofs.lemmas.Bool.{cases_eq, eq-eqb, ne_eqb}
 use Rattle.std.proofs.lemmas.Bool.Decides.{nat_tests}
 use Rattle.std.proofs.lemmas.List.{length-drop}
 use Rattle.std.specs.Prelude.{Contains}
-use Rattle.stm_wire.specs.Chip.{ChipData}
-use Rattle.stm_wire.specs.Device.{Device, LosesOwed}
-use Rattle.stm_wire.specs.Moments.{LeavesOnly}
+use Rattle.stm_wire.proofs.Names.{ChipData, Device, LeavesOnly, LosesOwed, LossStaysHarmless, RigState}
 use Rattle.stm_wire.specs.lemmas.MomentLaws.{joined, weaker}
-use Rattle.stm_wire.specs.Rig.{RigState}
-use Rattle.stm_wire.specs.Stopped.{LossStaysHarmless}
-use Rattle.stm_journal.specs.States.{StateData, is_unfinished, names_other}
-use Rattle.stm_journal.specs.InMemory.{forget_state}
+use Rattle.stm_journal.proofs.Names.{bad, forget_state, good, is_unfinished, IsFaultOf, IsLoaded, IsUntouched, journal_of, JournalData, KeepsDevice, Loaded, Loads, names_other, StateData}
 use Rattle.stm_journal.specs.lemmas.ForgetLaws.{is_unfinished-forgets}
 use Rattle.stm_session.proofs.Forgetting.{device-forgets}
-use Rattle.stm_journal.specs.Journals.{JournalData, Loaded, IsLoaded, journal_of, good, bad}
 use Rattle.stm_journal.specs.declared.fault.JournalFault.{JournalFault}
 use Rattle.stm_journal.specs.declared.fault.JournalFault.TheVariants.{File, Bad, OtherDevice as OtherJournal, OtherBoard as OtherJournalBoard, Memory as JournalMemory}
-use Rattle.stm_journal.specs.Calls.{IsFaultOf, IsUntouched, KeepsDevice, Loads}
 use Rattle.stm_chip.specs.Document.{IsChipWith, IsNewId}
 use Rattle.stm_wire.specs.declared.get_command.Commands.{Commands}
-use Rattle.stm_session.specs.declared.contact.Told.{Told}
-use Rattle.stm_session.specs.declared.opening.Opened.{Opened}
-use Rattle.stm_session.specs.declared.fault.Fault.{Fault}
+use Rattle.stm_session.proofs.Names.{AreCommandsOf, BeginsNothing, Cause, cause_of, chip_with, device_refusals, Fault, fault_of_journal, first_refusal, IsJournalOrMemory, IsLaterRefusal, IsOfLine}
+use Rattle.stm_session.proofs.Names.{IsOutside, IsOutsideFault, IsSafe, IsUnbegun, IsUnheard, LoadsUnless, of_protocol, of_refusal, of_session, open_refusal, Opened, opening_refusal, Opens}
+use Rattle.stm_session.proofs.Names.{table_refusal, TellsItself, Told, unsent_refusal}
 use Rattle.stm_session.specs.declared.fault.Fault.TheVariants.{BadJournal, InSession, Memory, Unfinished}
-use Rattle.stm_session.specs.Fault.{Cause, IsJournalOrMemory, IsOfLine, IsOutside, IsOutsideFault, IsLaterRefusal, IsUnheard, cause_of, fault_of_journal, of_protocol, of_refusal, of_session}
-use Rattle.stm_session.specs.Moments.{BeginsNothing, IsSafe, IsUnbegun}
-use Rattle.stm_session.specs.Opening.{AreCommandsOf, LoadsUnless, Opens, TellsItself}
-use Rattle.stm_session.specs.Refusal.{chip_with, device_refusals, first_refusal, table_refusal, unsent_refusal, open_refusal, opening_refusal}
 use Rattle.stm_session.proofs.Unbegun.{further}
 
 -- what a device tells of itself is what it would have told before

@@ -3,24 +3,14 @@ use Rattle.std.proofs.Common.{◌≡◌, ℕ, zero, suc, ◌+◌, ◌*◌, ◌<�
 use Rattle.std.specs.Prelude.{slice_get}
 use Rattle.std.proofs.lemmas.List.{drop-append-le, length-drop, length-map, take-append-le, take_all}
 use Rattle.std.proofs.Math.Seq.{drop-append_seam}
-use Rattle.stm_wire.specs.Call.{Call, Put, Get, Append, Fetch}
-use Rattle.stm_wire.specs.Chip.{ChipData}
-use Rattle.stm_wire.specs.Dialogue.{Turn, Adds as AddsCalls, AreLineCalls, GoesOn, calls_of}
+use Rattle.stm_wire.proofs.Names.{Append, AreLineCalls, Call, calls_of, ChipData, Fetch, Get, GoesOn, Put, read_turns, RigState, SettlesWithin, Turn}
+use Rattle.stm_wire.specs.Dialogue.{Adds as AddsCalls}
 use Rattle.stm_wire.specs.lemmas.DialogueLaws.{GoesOn-adds, GoesOn-append, GoesOn-nothing, GoesOn-weaker, calls_of-are_line}
-use Rattle.stm_wire.specs.Frames.{read_turns}
-use Rattle.stm_wire.specs.Rig.{RigState}
-use Rattle.stm_wire.specs.Settling.{SettlesWithin}
-use Rattle.stm_session.specs.Fresh.{EndsWell, Way, byte_of, limit_of}
+use Rattle.stm_session.proofs.Names.{acts_of, acts_of_steps, Adds, AreGivenBack, AreSegmentsUndone, byte_of, DoesSteps, EndsWell, IsGivenBack, IsInOrder, IsSegmentUndone, limit_of, newest_kept}
+use Rattle.stm_session.proofs.Names.{read_steps, Sends, SettlesFirst, SettlesThen, Step, Tells, tells_behind, torn_behind, Way}
 use Rattle.stm_journal.specs.declared.entry.Entry.{Entry}
 use Rattle.stm_journal.specs.declared.kept.Kept.{Kept}
-use Rattle.stm_journal.specs.Calls.{AppendsOnce, AreFetches}
-use Rattle.stm_journal.specs.Journals.{Loaded, added_bytes}
-use Rattle.stm_journal.specs.Newest.{pages_of_segments}
-use Rattle.stm_journal.specs.States.{SegmentData}
-use Rattle.stm_session.specs.Order.{Step, Adds, Sends, Tells, AreGivenBack, DoesSteps, IsInOrder, IsGivenBack, acts_of, acts_of_steps, tells_behind, read_steps, torn_behind}
-use Rattle.stm_session.specs.UndoOrder.{AreSegmentsUndone, IsSegmentUndone}
-use Rattle.stm_session.specs.Reaching.{SettlesFirst, SettlesThen}
-use Rattle.stm_session.specs.Undoable.{newest_kept}
+use Rattle.stm_journal.proofs.Names.{added_bytes, AppendsOnce, AreFetches, Loaded, pages_of_segments, SegmentData}
 use Rattle.stm_session.proofs.Tellings.{behind_both, returned_as, taken_as}
 
 pub acts-append : (xs ys : List Call) → acts_of (xs ++ ys) ≡ acts_of xs ++ acts_of ys

@@ -1,9 +1,7 @@
 -- One outcome a command, of its kind.
 use Rattle.std.proofs.Common.{◌≡◌, ℕ, ◌+◌, ◌<◌, List, [], ◌∷◌, ◌++◌, length, get_or, take, sym, subst}
 use Rattle.std.proofs.lemmas.List.{take_more}
-use Rattle.stm_session.specs.declared.command.Command.{Command}
-use Rattle.stm_session.specs.declared.outcome.Outcome.{Outcome}
-use Rattle.stm_session.specs.Running.{AreKindsOf, IsKindOf}
+use Rattle.stm_session.proofs.Names.{AreKindsOf, Command, IsKindOf, Outcome}
 
 kinds_append : (commands : List Command) (outcomes : List Outcome) (c : Command) (o : Outcome) → AreKindsOf commands outcomes → IsKindOf c o → AreKindsOf (commands ++ c ∷ []) (outcomes ++ o ∷ [])
 kinds_append [] [] c o kinds kind = (kind, tt)

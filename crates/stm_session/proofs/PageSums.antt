@@ -5,11 +5,10 @@ use Rattle.std.specs.List.{list_any}
 use Rattle.std.proofs.lemmas.Bool.{false≢true, eq-eqb}
 use Rattle.std.proofs.lemmas.List.{length-set, get_or-set_other}
 use Rattle.std.proofs.lemmas.List.Sums.{sum_by-set}
-use Rattle.stm_wire.specs.Chip.{ChipData, flash_size, page_count}
+use Rattle.stm_wire.proofs.Names.{ChipData, flash_size, page_count}
 use Rattle.stm_journal.specs.declared.kept.Kept.{Kept}
-use Rattle.stm_journal.specs.Fits.{AllKeptFit}
+use Rattle.stm_journal.proofs.Names.{AllKeptFit, LacksPage, PagesOnce}
 use Rattle.stm_journal.specs.lemmas.FitsLaws.{fits-exists}
-use Rattle.stm_journal.specs.States.{LacksPage, PagesOnce}
 
 -- how many bytes these pages have together, of a flash whose pages have these sizes
 abbrev sizes_of : List ℕ → List Kept → ℕ

@@ -1,17 +1,11 @@
 -- How what is performed joins, and how it ends.
 use Rattle.std.proofs.Common.{◌≡◌, ◌++◌, ℕ, List, [], Result, Ok, Err, IsErrAnd, append-nil, refl, subst, sym}
 use Rattle.std.specs.Prelude.{OnOk}
-use Rattle.stm_wire.specs.Rig.{RigState, IsModel}
+use Rattle.stm_wire.proofs.Names.{IsModel, RigState}
 use Rattle.stm_journal.specs.declared.entry.Entry.{Entry}
-use Rattle.stm_journal.specs.Journals.{Loaded}
-use Rattle.stm_session.specs.declared.fault.Fault.{Fault}
+use Rattle.stm_journal.proofs.Names.{Loaded}
+use Rattle.stm_session.proofs.Names.{Are, Begin, cause_of, DoesSteps, Fault, FaultEnds, Follows, Goes, IsSteady, of_memory, Performs, SameMake, Step, StepLaws, StopsBy}
 use Rattle.stm_session.specs.declared.fault.Fault.TheVariants.{Memory}
-use Rattle.stm_session.specs.Fault.{cause_of, of_memory}
-use Rattle.stm_session.specs.Moments.{SameMake}
-use Rattle.stm_session.specs.Order.{Step, Are, Begin, DoesSteps, Follows, FaultEnds, StopsBy}
-use Rattle.stm_session.specs.Performs.{Performs}
-use Rattle.stm_session.specs.StepLaws.{StepLaws}
-use Rattle.stm_session.specs.Steps.{Goes, IsSteady}
 use Rattle.stm_session.proofs.CutShort.{begin_after, begin_on, by_fault, halts_first, part_stops, stop_after, stop_as}
 use Rattle.stm_session.proofs.Going.{at_exit, goes_as, goes_failed, goes_nowhere, goes_ok, goes_refused, goes_then}
 use Rattle.stm_session.proofs.Orders.{does_as, does_nothing, does_then}

@@ -4,21 +4,14 @@ use Rattle.std.proofs.lemmas.List.Elements.{All-take, All-append, All-drop}
 use Rattle.std.specs.Prelude.{Contains}
 use Rattle.stm_wire.specs.declared.intent.Intent.{Intent}
 use Rattle.stm_wire.specs.declared.intent.Intent.TheVariants.{Erase, Program}
-use Rattle.stm_wire.specs.Chip.{ChipData, flash_size, page_offset}
-use Rattle.stm_wire.specs.Device.{Device}
-use Rattle.stm_wire.specs.Harmless.{SameOutside}
-use Rattle.stm_wire.specs.Intents.{settling_byte}
+use Rattle.stm_wire.proofs.Names.{ChipData, Device, flash_size, FreshIsHarmless, LossStaysHarmless, page_offset, SameOutside, SameOutsideNoneIsSame, settling_byte}
 use Rattle.stm_wire.specs.lemmas.PageLaws.{length-with_page, page_put-other}
-use Rattle.stm_wire.specs.Stopped.{FreshIsHarmless, LossStaysHarmless, SameOutsideNoneIsSame}
 use Rattle.stm_journal.specs.declared.stage.Stage.{Stage}
 use Rattle.stm_journal.specs.declared.stage.Stage.TheVariants.{Open, Ended, Returning}
-use Rattle.stm_journal.specs.States.{StateData, SegmentData, IsSound, intent_at, intent_of, intent_page, is_ended_stage, names_other, newest_has, newest_intent}
-use Rattle.stm_journal.specs.Greetings.{is_greeted}
-use Rattle.stm_journal.specs.Journals.{journal_of, good}
-use Rattle.stm_journal.specs.FlashLaws.{ChangesKeepFlashes}
-use Rattle.stm_journal.specs.Flashes.{flashes_before_segments}
-use Rattle.stm_session.specs.PowerLoss.{AnyBytesAreLeft, FinishedLosesNothing, IntentIsAtRisk, LosesPower, OwedLossKeepsFlashes, PowerLossKeepsFlashes}
-use Rattle.stm_session.specs.Undoable.{IsJournalOf, Undoable, newest_kept, risked_pages, state_at}
+use Rattle.stm_journal.proofs.Names.{ChangesKeepFlashes, flashes_before_segments, good, intent_at, intent_of, intent_page, is_ended_stage, is_greeted, IsSound, journal_of, names_other, newest_has}
+use Rattle.stm_journal.proofs.Names.{newest_intent, SegmentData, StateData}
+use Rattle.stm_session.proofs.Names.{AnyBytesAreLeft, FinishedLosesNothing, IntentIsAtRisk, IsJournalOf, LosesPower, newest_kept, OwedLossKeepsFlashes, PowerLossKeepsFlashes, risked_pages, state_at}
+use Rattle.stm_session.proofs.Names.{Undoable}
 use Rattle.stm_session.proofs.Awaiting.{fresh_under, lost_under}
 use Rattle.stm_session.proofs.Keeping.{is_risked, risked_is}
 use Rattle.stm_session.proofs.Standing.{intended_kept}

@@ -5,23 +5,11 @@ use Rattle.std.proofs.lemmas.Bool.{cases_order}
 use Rattle.std.proofs.lemmas.Bool.Decides.{nat_tests}
 use Rattle.std.proofs.lemmas.List.{drop-drop}
 use Rattle.std.proofs.Math.Seq.{take-add}
-use Rattle.stm_wire.specs.Chip.{ChipData, flash_size, fits_inside, page_count, page_offset, page_size, IsChip}
-use Rattle.stm_wire.specs.Device.{IsSettled}
-use Rattle.stm_wire.specs.Dialogue.{GoesOn}
-use Rattle.stm_wire.specs.Frames.{read_turns}
-use Rattle.stm_wire.specs.Intents.{InPage}
+use Rattle.stm_wire.proofs.Names.{ChipData, fits_inside, flash_size, GoesOn, InPage, IsChip, IsPart, IsSettled, page_count, page_offset, page_size, read_turns, RigState}
 use Rattle.stm_wire.specs.lemmas.PageLaws.{page_end}
-use Rattle.stm_wire.specs.Parts.{IsPart}
 use Rattle.stm_wire.specs.lemmas.PartLaws.{part_longer, parts_join}
-use Rattle.stm_wire.specs.Rig.{RigState}
-use Rattle.stm_session.specs.declared.fault.Fault.{Fault}
-use Rattle.stm_session.specs.Asking.{Asks}
-use Rattle.stm_session.specs.Reading.{IsBlock, IsPageRest}
-use Rattle.stm_session.specs.Fault.{Cause}
-use Rattle.stm_session.specs.Order.{Step, AreReadsOf, Begin, IsInOrder, IsReadOf, ReadsBlock, Sends, StopsBy, read_steps}
-use Rattle.stm_session.specs.Came.{ComeInBlocks}
-use Rattle.stm_session.specs.RunOrder.{IsReading, OnlyReads}
-use Rattle.stm_session.specs.Running.{bytes_at}
+use Rattle.stm_session.proofs.Names.{AreReadsOf, Asks, Begin, bytes_at, Cause, ComeInBlocks, Fault, IsBlock, IsInOrder, IsPageRest, IsReading, IsReadOf, OnlyReads, read_steps, ReadsBlock, Sends, Step}
+use Rattle.stm_session.proofs.Names.{StopsBy}
 use Rattle.stm_session.proofs.Asking.{asks_then, settled_still}
 use Rattle.stm_session.proofs.CutShort.{order_stops, reads_begun}
 use Rattle.stm_session.proofs.Orders.{blocks_next, torn-reads}

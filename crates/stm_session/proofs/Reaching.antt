@@ -1,17 +1,11 @@
 -- How sessions end that reached no device, or another one.
 use Rattle.std.proofs.Common.{◌≡◌, inl, inr, ⊎_elim, ℕ, Bool, List, [], ◌++◌, None, Result, Ok, Err, IsErrAnd, refl, sym, ◌∙◌, ap, subst, append-nil}
 use Rattle.std.specs.Prelude.{IfErr, IfOk, Option}
-use Rattle.stm_wire.specs.Call.{Call}
-use Rattle.stm_wire.specs.Dialogue.{GoesOn}
+use Rattle.stm_wire.proofs.Names.{Call, GoesOn, RigState, SettlesWithin}
 use Rattle.stm_wire.specs.lemmas.DialogueLaws.{GoesOn-append, GoesOn-weaker}
-use Rattle.stm_wire.specs.Rig.{RigState}
-use Rattle.stm_wire.specs.Settling.{SettlesWithin}
-use Rattle.stm_session.specs.Fresh.{EndsWell, Way, byte_of, limit_of}
-use Rattle.stm_journal.specs.Calls.{AreFetches}
-use Rattle.stm_session.specs.declared.fault.Fault.{Fault}
-use Rattle.stm_session.specs.Fault.{Cause, IsOfTalking, IsRefusedLater, of_refusal}
-use Rattle.stm_session.specs.Order.{Step, AreCutShort, Begin, StepFailsBy, IsAfter, StopsBy, acts_of, acts_of_steps}
-use Rattle.stm_session.specs.Reaching.{IsAsking, ReachesInOrder, ReachesInPart, SettlesFirst, SettlesThen, asking_steps}
+use Rattle.stm_session.proofs.Names.{acts_of, acts_of_steps, AreCutShort, asking_steps, Begin, byte_of, Cause, EndsWell, Fault, IsAfter, IsAsking, IsOfTalking, IsRefusedLater, limit_of, of_refusal}
+use Rattle.stm_session.proofs.Names.{ReachesInOrder, ReachesInPart, SettlesFirst, SettlesThen, Step, StepFailsBy, StopsBy, Way}
+use Rattle.stm_journal.proofs.Names.{AreFetches}
 use Rattle.stm_session.proofs.AskingStops.{asking_is}
 use Rattle.stm_session.proofs.CutShort.{begin_all, cut_after}
 use Rattle.stm_session.proofs.Orders.{acts-append, acts-line, fetches-act, settled_and, settles_and}

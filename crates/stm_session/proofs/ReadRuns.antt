@@ -3,28 +3,17 @@ use Rattle.std.proofs.Common.{◌≡◌, ℕ, zero, suc, ◌+◌, ◌&&◌, Bool
 use Rattle.std.specs.List.{list_all, list_any}
 use Rattle.std.proofs.lemmas.Bool.{true≢false}
 use Rattle.std.proofs.lemmas.Bool.Decides.{nat_tests}
-use Rattle.stm_wire.specs.Chip.{ChipData}
-use Rattle.stm_wire.specs.Device.{Device}
+use Rattle.stm_wire.proofs.Names.{ChipData, Device, RigState}
 use Rattle.stm_wire.specs.lemmas.MomentLaws.{weaker}
-use Rattle.stm_wire.specs.Rig.{RigState}
-use Rattle.stm_journal.specs.Journals.{JournalData, bad, good, journal_of}
-use Rattle.stm_journal.specs.States.{StateData, IsSound}
-use Rattle.stm_session.specs.declared.command.Command.{Command}
+use Rattle.stm_journal.proofs.Names.{bad, good, IsSound, journal_of, JournalData, StateData}
+use Rattle.stm_session.proofs.Names.{agreeing, AmidRun, answers_from, answers_of, AreRead, bytes_of, bytes_read, changes_of, chip_with, Command, CommandData, commands_in, commands_refused, depth_at}
+use Rattle.stm_session.proofs.Names.{Fault, first_refusal, flash_after_all, flashes_with, in_front_of, is_change, is_in_flash, is_named_at, is_reading, is_torn_at, is_unfinished_at, IsOutsideFault}
+use Rattle.stm_session.proofs.Names.{IsUnbegun, lies_in_flash, opening_refusal, Outcome, outcome_data, OutcomeData, run_refusal, run_text, RunFails, Runs, RunsReads, standing_commands, text_added}
+use Rattle.stm_session.proofs.Names.{was_read}
 use Rattle.stm_session.specs.declared.command.Command.TheVariants as command
-use Rattle.stm_session.specs.declared.outcome.Outcome.{Outcome}
 use Rattle.stm_session.specs.declared.outcome.Outcome.TheVariants as outcome
-use Rattle.stm_session.specs.declared.fault.Fault.{Fault}
 use Rattle.stm_session.specs.declared.fault.Fault.TheVariants as fault
-use Rattle.stm_session.specs.Answers.{OutcomeData, was_read, agreeing, answers_of, in_front_of, outcome_data}
-use Rattle.stm_session.specs.Fault.{IsOutsideFault}
-use Rattle.stm_session.specs.Lines.{depth_at, is_named_at, is_torn_at, text_added}
-use Rattle.stm_session.specs.Meaning.{CommandData, reads, changes_of, commands_in, flash_after_all, is_change}
-use Rattle.stm_session.specs.Moments.{IsUnbegun}
-use Rattle.stm_session.specs.Refusal.{chip_with, first_refusal, opening_refusal}
-use Rattle.stm_session.specs.Refusals.{commands_refused, is_in_flash, lies_in_flash, run_refusal}
-use Rattle.stm_session.specs.Running.{AreRead, RunsReads, bytes_of, bytes_read, is_reading}
-use Rattle.stm_session.specs.Runs.{AmidRun, RunFails, Runs, answers_from, flashes_with, run_text, standing_commands}
-use Rattle.stm_session.specs.Undoable.{is_unfinished_at}
+use Rattle.stm_session.specs.Meaning.{reads}
 use Rattle.stm_session.proofs.CommandLists.{entries-none}
 use Rattle.stm_session.proofs.Openings.{alone}
 use Rattle.stm_session.proofs.CanBeUndone.{finished_is_safe}

@@ -1,9 +1,8 @@
 -- A page is read again behind its return.
 use Rattle.std.proofs.Common.{◌≡◌, ℕ, Bool, true, false, List, [], ◌++◌, refl, sym, ◌∙◌, ap, subst, append-nil, append_assoc, length}
-use Rattle.stm_wire.specs.Chip.{ChipData, flash_size, page_of, page_size, with_page}
-use Rattle.stm_wire.specs.Device.{Device, IsDevice}
+use Rattle.stm_wire.proofs.Names.{ChipData, Device, flash_size, IsDevice, page_of, page_size, with_page}
 use Rattle.stm_wire.specs.lemmas.PageLaws.{page_put}
-use Rattle.stm_session.specs.Order.{Step, Are, Begin, page_reads, give_back_steps, return_steps}
+use Rattle.stm_session.proofs.Names.{Are, Begin, give_back_steps, page_reads, return_steps, Step}
 
 -- its return is begun with giving it back
 pub restore_begun : (again : Bool) (chip : ChipData) (n : ℕ) (held page : List ℕ) (xs : List Step) → Begin (Are (give_back_steps chip n held page)) xs → Begin (Are (return_steps again chip n held page)) xs

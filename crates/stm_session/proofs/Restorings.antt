@@ -1,17 +1,12 @@
 -- The steps and lines by which a page is given other bytes, or none where it holds them.
 use Rattle.std.proofs.Common.{◌≡◌, ◌∙◌, ◌+◌, ◌-◌, ◌/◌, ◌++◌, [], List, ℕ, Bool, true, false, if◌then◌else◌, length, take, drop, ap, ap₂, sym, arith}
 use Rattle.std.specs.Prelude.{bytes_eq}
-use Rattle.stm_wire.specs.Chip.{ChipData, erased_byte, page_of, page_offset, page_size}
-use Rattle.stm_wire.specs.Rig.{RigState}
+use Rattle.stm_wire.proofs.Names.{ChipData, erased_byte, page_of, page_offset, page_size, RigState}
 use Rattle.stm_chip.specs.Plan.{frames_of}
 use Rattle.stm_journal.specs.declared.entry.Entry.{Entry}
 use Rattle.stm_journal.specs.declared.kept.Kept.{Kept}
-use Rattle.stm_journal.specs.Journals.{Loaded}
-use Rattle.stm_session.specs.ChangeOrder.{IsChanged, IsChangedUnless}
-use Rattle.stm_session.specs.Changing.{change_entries}
-use Rattle.stm_session.specs.Lines.{rewrite_entries, return_entries}
-use Rattle.stm_session.specs.Order.{Step, Are, Begin, DoesSteps, Follows, give_back_steps, rewrite_steps}
-use Rattle.stm_session.specs.Running.{bytes_at}
+use Rattle.stm_journal.proofs.Names.{Loaded}
+use Rattle.stm_session.proofs.Names.{Are, Begin, bytes_at, change_entries, DoesSteps, Follows, give_back_steps, IsChanged, IsChangedUnless, return_entries, rewrite_entries, rewrite_steps, Step}
 use Rattle.stm_session.proofs.CutShort.{begin_as}
 use Rattle.stm_session.proofs.Orders.{does_as}
 

@@ -1,20 +1,14 @@
 -- How many bytes segments keep, and what an undo answers that tells them.
 use Rattle.std.proofs.Common.{◌≡◌, ℕ, zero, suc, ◌+◌, ◌-◌, ◌<◌, Bool, true, false, if◌then◌else◌, List, [], ◌∷◌, length, take, Option, Some, None, option_map, Result, Ok, Err, IsErrAnd, refl, sym, ◌∙◌, ap, subst, arith}
 use Rattle.std.specs.Prelude.{slice_get, option_and_then, nat_le, ◌&&◌}
-use Rattle.stm_wire.specs.Chip.{ChipData, page_count, page_size}
+use Rattle.stm_wire.proofs.Names.{ChipData, page_count, page_size}
 use Rattle.stm_journal.specs.declared.kept.Kept.{Kept}
-use Rattle.stm_journal.specs.Fits.{AllFit, AllKeptFit}
+use Rattle.stm_journal.proofs.Names.{AllFit, AllKeptFit, kept_at, kept_count, pages_of_segments, segment_of, SegmentData, StateData}
 use Rattle.stm_journal.specs.lemmas.FitsLaws.{fits-exists}
-use Rattle.stm_journal.specs.Newest.{pages_of_segments}
-use Rattle.stm_journal.specs.States.{StateData, SegmentData, kept_at, segment_of}
-use Rattle.stm_session.specs.declared.fault.Fault.{Fault}
-use Rattle.stm_session.specs.declared.returned.Returned.{Returned}
-use Rattle.stm_session.specs.Refusal.{pages_kept, segment_pages}
-use Rattle.stm_session.specs.ReturnedBytes.{bytes_of_pages, kept_bytes, segments_of}
+use Rattle.stm_session.proofs.Names.{bytes_of_pages, Fault, kept_bytes, pages_kept, Returned, segment_pages, segments_of}
 use Rattle.stm_session.proofs.Returns.{fits_line}
 use Rattle.stm_session.proofs.Misfits.{newer-segment}
 use Rattle.std.specs.Option.{option_map_or}
-use Rattle.stm_journal.specs.KeptPlaces.{kept_count}
 
 -- a fault is answered as it is
 pub err_of : (result : Result Returned Fault) (P : Fault → Type 0) → IsErrAnd result P → IsErrAnd (segments_of result) P

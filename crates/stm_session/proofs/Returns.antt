@@ -4,22 +4,17 @@ use Rattle.std.specs.Prelude.{slice_get, option_and_then, flat_map, bytes_eq}
 use Rattle.std.specs.List.{list_any}
 use Rattle.std.specs.Option.{option_map_or}
 use Rattle.std.proofs.lemmas.Bool.{false≢true, eq-eqb}
-use Rattle.stm_wire.specs.Chip.{ChipData, flash_size, page_count, page_of, page_offset, page_size, with_page}
+use Rattle.stm_wire.proofs.Names.{ChipData, flash_size, page_count, page_of, page_offset, page_size, with_page}
 use Rattle.stm_wire.specs.lemmas.PageLaws.{length-with_bytes, other_page, page_within}
 use Rattle.stm_journal.specs.declared.entry.Entry.{Entry}
 use Rattle.stm_journal.specs.declared.kept.Kept.{Kept}
 use Rattle.stm_journal.specs.declared.kept.PagePlace.{PagePlace}
-use Rattle.stm_journal.specs.Fits.{fits_chip, AllKeptFit, AllFit}
+use Rattle.stm_journal.proofs.Names.{AllFit, AllKeptFit, AllOnce, fits_chip, IsLoaded, KeepsSame, kept_at, kept_count, kept_entry, kept_place, Loaded, newest_keeps, PagesOnce, place_of, SegmentData}
+use Rattle.stm_journal.proofs.Names.{StateData}
 use Rattle.stm_journal.specs.lemmas.FitsLaws.{fits-exists, fits-size}
 use Rattle.stm_journal.specs.lemmas.ForgetLaws.{kept_at-forgets, kept_count-forgets, kept_place-forgets}
-use Rattle.stm_journal.specs.Journals.{Loaded, IsLoaded}
-use Rattle.stm_journal.specs.KeptPlaces.{kept_count, kept_entry, kept_place, place_of}
-use Rattle.stm_journal.specs.Newest.{KeepsSame}
 use Rattle.stm_journal.specs.lemmas.NewestLaws.{newest_keeps_kept, segment_of-newest}
-use Rattle.stm_journal.specs.States.{StateData, SegmentData, AllOnce, PagesOnce, kept_at, newest_keeps}
-use Rattle.stm_session.specs.Lines.{return_entries, rewrite_entries}
-use Rattle.stm_session.specs.SegmentUndo.{newest_at, with_pages}
-use Rattle.stm_session.specs.Undoable.{newest_kept, state_at}
+use Rattle.stm_session.proofs.Names.{newest_at, newest_kept, return_entries, rewrite_entries, state_at, with_pages}
 use Rattle.stm_session.proofs.Keeping.{depth_text, fits_pages, text_is}
 
 -- what the readers tell of the newest segment

@@ -8,27 +8,17 @@ use Rattle.std.proofs.lemmas.List.{length-replicate, map-append}
 use Rattle.std.proofs.lemmas.List.Sums.{fold-append}
 use Rattle.stm_wire.specs.declared.intent.Intent.{Intent}
 use Rattle.stm_wire.specs.declared.intent.Intent.TheVariants.{Program}
-use Rattle.stm_wire.specs.Chip.{ChipData, erased_byte, erased_page, flash_size, page_count}
-use Rattle.stm_wire.specs.Chip.{page_offset, page_size, with_page}
+use Rattle.stm_wire.proofs.Names.{ChipData, erased_byte, erased_page, flash_size, IsModel, page_count, page_offset, page_size, RigState, with_page}
 use Rattle.stm_wire.specs.lemmas.PageLaws.{page_within, put_in}
-use Rattle.stm_wire.specs.Rig.{RigState, IsModel}
 use Rattle.stm_chip.specs.declared.plan.Frame.{Frame}
 use Rattle.stm_chip.specs.Plan.{AreFrames, written}
 use Rattle.stm_journal.specs.declared.entry.Entry.{Entry}
 use Rattle.stm_journal.specs.declared.entry.Entry.TheVariants.{Erases, Programs}
-use Rattle.stm_journal.specs.Journals.{Loaded}
+use Rattle.stm_journal.proofs.Names.{HasIntended, KeepsSame, Loaded, newest_is_open, newest_keeps, StateData}
 use Rattle.stm_journal.specs.lemmas.NewestLaws.{KeepsSame-trans}
-use Rattle.stm_journal.specs.Newest.{HasIntended, KeepsSame}
-use Rattle.stm_journal.specs.States.{StateData, newest_is_open, newest_keeps}
-use Rattle.stm_session.specs.declared.deed.Deed.{Deed}
+use Rattle.stm_session.proofs.Names.{Adds, AllSuit, Are, Deed, DoesDeeds, erase_steps, Fault, flash_with, HasDoneAll, IsRewrittenBehind, IsUnder, lines_of_deed, MayDoAll, Performs, program_entries}
+use Rattle.stm_session.proofs.Names.{rewrite_deeds, rewrite_steps, Step, step_of_deed, write_deeds, write_step, write_steps}
 use Rattle.stm_session.specs.declared.deed.Deed.TheVariants as deed
-use Rattle.stm_session.specs.declared.fault.Fault.{Fault}
-use Rattle.stm_session.specs.Deeds.{AllSuit, DoesDeeds, HasDoneAll, IsRewrittenBehind, MayDoAll}
-use Rattle.stm_session.specs.Deeds.{flash_with, lines_of_deed, rewrite_deeds, step_of_deed, write_deeds}
-use Rattle.stm_session.specs.Lines.{program_entries}
-use Rattle.stm_session.specs.Order.{Step, Adds, Are, erase_steps, rewrite_steps, write_step, write_steps}
-use Rattle.stm_session.specs.Performs.{Performs}
-use Rattle.stm_session.specs.Steps.{IsUnder}
 use Rattle.stm_session.proofs.DeedRuns.{done_both, may_both, suit_both}
 use Rattle.stm_session.proofs.Frames.{IsErasedFrom, all_erased, erased_behind, framed, from_zero}
 use Rattle.stm_session.proofs.Frames.{length-framed, length-part, part_erased, part_put}

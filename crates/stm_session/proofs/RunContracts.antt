@@ -2,30 +2,15 @@
 use Rattle.std.proofs.Common.{◌≡◌, ◌≢◌, ⊎_elim, inl, inr, ℕ, ◌+◌, nat_le, not, ◌||◌, false, List, [], ◌∷◌, length, Option, Some, None, Result, Ok, Err, IsErrAnd, IfErr, sym, ap, ◌∙◌, subst}
 use Rattle.std.specs.List.{list_all, list_any}
 use Rattle.std.proofs.lemmas.Bool.{cases_Bool}
-use Rattle.stm_wire.specs.Chip.{ChipData}
-use Rattle.stm_wire.specs.Device.{Device}
-use Rattle.stm_wire.specs.Dialogue.{GoesOn}
+use Rattle.stm_wire.proofs.Names.{ChipData, Device, GoesOn, RigState}
 use Rattle.stm_wire.specs.lemmas.MomentLaws.{weaker}
-use Rattle.stm_wire.specs.Rig.{RigState}
 use Rattle.stm_chip.specs.Document.{IsChipWith}
-use Rattle.stm_journal.specs.Calls.{AreFetches, IsUntouched}
+use Rattle.stm_journal.proofs.Names.{AreFetches, IsUntouched, journal_of, JournalData, StateData}
 use Rattle.stm_journal.specs.lemmas.ForgetLaws.{depth-forgets}
-use Rattle.stm_journal.specs.Journals.{JournalData, journal_of}
-use Rattle.stm_journal.specs.States.{StateData}
-use Rattle.stm_session.specs.declared.opening.Opened.{Opened}
-use Rattle.stm_session.specs.declared.fault.Fault.{Fault}
+use Rattle.stm_session.proofs.Names.{AmidRun, AreCommandsOf, can_erase, changes_of, chip_with, command_refusals, CommandData, commands_refused, Fault, first_refusal, is_change, is_unfinished_at}
+use Rattle.stm_session.proofs.Names.{IsCoherent, IsLaterRefusal, IsSafe, IsSteady, IsUnbegun, lies_in_flash, Opened, opening_refusal, Opens, OutcomeData, refused_unless, RefusesUnsent, run_refusal}
+use Rattle.stm_session.proofs.Names.{RunContract, RunFails, Runs, standing_commands, state_at, Undoable, unsent_refusal}
 use Rattle.stm_session.specs.declared.fault.Fault.TheVariants as fault
-use Rattle.stm_session.specs.Answers.{OutcomeData}
-use Rattle.stm_session.specs.Fault.{IsLaterRefusal}
-use Rattle.stm_session.specs.Meaning.{CommandData, changes_of, is_change}
-use Rattle.stm_session.specs.Moments.{IsSafe, IsUnbegun}
-use Rattle.stm_session.specs.Opening.{AreCommandsOf, IsCoherent, Opens}
-use Rattle.stm_session.specs.Promises.{RunContract}
-use Rattle.stm_session.specs.Refusal.{RefusesUnsent, chip_with, first_refusal, opening_refusal, refused_unless, unsent_refusal}
-use Rattle.stm_session.specs.Refusals.{can_erase, command_refusals, commands_refused, lies_in_flash, run_refusal}
-use Rattle.stm_session.specs.Runs.{AmidRun, RunFails, Runs, standing_commands}
-use Rattle.stm_session.specs.Steps.{IsSteady}
-use Rattle.stm_session.specs.Undoable.{Undoable, is_unfinished_at, state_at}
 use Rattle.stm_session.proofs.Openings.{alone, device_is_no_memory, has_chip, refused_nothing, unfinished_refused, unsent_is_first}
 use Rattle.stm_session.proofs.RunEnds.{outside_fails}
 use Rattle.stm_session.proofs.RunStarts.{enters, runs_from, unbegun_amid}

@@ -1,22 +1,12 @@
 -- How a run ends: with all its commands, or within one.
 use Rattle.std.proofs.Common.{◌≡◌, ◌⊎◌, inl, inr, ℕ, ◌+◌, Bool, true, false, if◌then◌else◌, List, [], ◌∷◌, ◌++◌, Result, Ok, Err, IsErrAnd, sym, ap, ◌∙◌, subst, refl, append_assoc, append-nil}
-use Rattle.stm_wire.specs.Device.{Device, IsSettled}
+use Rattle.stm_wire.proofs.Names.{Device, IsModel, IsSettled, LeavesOnly, RigState}
 use Rattle.stm_wire.specs.lemmas.MomentLaws.{joined, weaker}
-use Rattle.stm_wire.specs.Moments.{LeavesOnly}
-use Rattle.stm_wire.specs.Rig.{RigState, IsModel}
 use Rattle.stm_journal.specs.declared.entry.Entry.{Entry}
-use Rattle.stm_journal.specs.Journals.{Loaded}
-use Rattle.stm_journal.specs.States.{is_unfinished}
-use Rattle.stm_session.specs.declared.fault.Fault.{Fault}
+use Rattle.stm_journal.proofs.Names.{is_unfinished, Loaded}
+use Rattle.stm_session.proofs.Names.{agreeing, AmidOne, AmidRun, AreDone, command_lines, CommandData, depth_at, DoesCommand, Fault, flash_after, flash_left, is_change, is_named_at, IsOutsideFault}
+use Rattle.stm_session.proofs.Names.{IsSteady, lines_if, OutcomeData, RunFails, Runs, segment_entries, standing_commands, Stands, StepLaws, TellsDifference}
 use Rattle.stm_session.specs.declared.fault.Fault.TheVariants as fault
-use Rattle.stm_session.specs.Answers.{OutcomeData, agreeing}
-use Rattle.stm_session.specs.OneCommand.{AmidOne, DoesCommand, TellsDifference, command_lines, flash_left, lines_if}
-use Rattle.stm_session.specs.Fault.{IsOutsideFault}
-use Rattle.stm_session.specs.Lines.{depth_at, is_named_at, segment_entries}
-use Rattle.stm_session.specs.Meaning.{CommandData, flash_after, is_change}
-use Rattle.stm_session.specs.Runs.{AmidRun, AreDone, RunFails, Runs, standing_commands}
-use Rattle.stm_session.specs.StepLaws.{StepLaws}
-use Rattle.stm_session.specs.Steps.{IsSteady, Stands}
 use Rattle.stm_session.proofs.CommandLists.{agreeing-append, answers-differ, change-agrees, difference-disagrees}
 use Rattle.stm_session.proofs.Going.{at_exit}
 use Rattle.stm_session.proofs.Keeping.{good_at, unfinished_text}

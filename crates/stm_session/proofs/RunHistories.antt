@@ -2,29 +2,13 @@
 use Rattle.std.proofs.Common.{◌≡◌, ◌≤◌, ◌+◌, ◌==◌, ◌||◌, ◌⊎◌, nat_lt, ℕ, suc, Bool, true, false, not, List, [], ◌∷◌, ◌++◌, length, take, reverse, Option, Some, None, Result, Ok, refl, sym, ◌∙◌, ap, subst, arith, ⊎_elim, length-append, if◌then◌else◌, length-take}
 use Rattle.std.proofs.lemmas.List.{length-reverse}
 use Rattle.std.proofs.lemmas.Bool.{cases_Bool}
-use Rattle.stm_wire.specs.Chip.{ChipData}
-use Rattle.stm_wire.specs.Device.{Device, LosesOwed, reset}
-use Rattle.stm_wire.specs.Rig.{RigState}
+use Rattle.stm_wire.proofs.Names.{ChipData, Device, LosesOwed, reset, RigState}
 use Rattle.stm_chip.specs.Document.{IsChipWith, IsNewId}
-use Rattle.stm_journal.specs.States.{IsSound, SegmentData, StateData}
-use Rattle.stm_journal.specs.Journals.{JournalData, good, journal_of}
-use Rattle.stm_journal.specs.Flashes.{flashes_before_segments, with_kept_pages}
-use Rattle.stm_journal.specs.Calls.{IsUntouched}
-use Rattle.stm_session.specs.declared.fault.Fault.{Fault}
+use Rattle.stm_journal.proofs.Names.{flashes_before_segments, good, IsSound, IsUntouched, journal_of, JournalData, SegmentData, StateData, with_kept_pages}
+use Rattle.stm_session.proofs.Names.{AmidRun, before_if, changes_of, CommandData, depth_at, Fault, FinishedLosesNothing, flash_after, flash_after_all, flashes_before, grown, is_change}
+use Rattle.stm_session.proofs.Names.{is_unfinished_at, IsSafe, IsUnbegun, Knows, now_of, OutcomeData, PowerLossKeepsFlashes, refused_unless, run_refusal, RunContract, RunHolds, RunLeaves, SameMake}
+use Rattle.stm_session.proofs.Names.{standing_commands, standing_in, starts_of_run, state_at, Stops, taken_count, themselves, Undoable, unsent_refusal, World}
 use Rattle.stm_session.specs.declared.fault.Fault.TheVariants as faults
-use Rattle.stm_session.specs.Moments.{IsSafe, IsUnbegun, SameMake}
-use Rattle.stm_session.specs.PowerLoss.{FinishedLosesNothing, PowerLossKeepsFlashes}
-use Rattle.stm_session.specs.Refusal.{unsent_refusal, refused_unless}
-use Rattle.stm_session.specs.Undoable.{Undoable, is_unfinished_at, state_at}
-use Rattle.stm_session.specs.Meaning.{CommandData, flash_after, flash_after_all, flashes_before, changes_of, is_change, before_if}
-use Rattle.stm_session.specs.Answers.{OutcomeData}
-use Rattle.stm_session.specs.Lines.{depth_at}
-use Rattle.stm_session.specs.Refusals.{run_refusal}
-use Rattle.stm_session.specs.Runs.{AmidRun, standing_commands}
-use Rattle.stm_session.specs.Undoes.{taken_count}
-use Rattle.stm_session.specs.Promises.{RunContract}
-use Rattle.stm_session.specs.Events.{World, now_of, Knows, Stops, themselves}
-use Rattle.stm_session.specs.Headline.{standing_in, grown, starts_of_run, RunHolds, RunLeaves}
 use Rattle.stm_session.proofs.Openings.{lacks_chip}
 
 length-flashes : (chip : ChipData) (stack : List SegmentData) (flash : List ℕ) → length (flashes_before_segments chip stack flash) ≡ length stack

@@ -4,21 +4,10 @@ use Rattle.std.specs.List.{list_all}
 use Rattle.std.proofs.lemmas.Bool.{cases_Bool, true≢false}
 use Rattle.std.proofs.lemmas.List.{length-append, length-map, map-append, take-append-drop, take_more}
 use Rattle.std.proofs.lemmas.List.Folds.{list_all_at}
-use Rattle.stm_wire.specs.Chip.{ChipData}
-use Rattle.stm_wire.specs.Dialogue.{GoesOn}
-use Rattle.stm_wire.specs.Parts.{IsPart}
-use Rattle.stm_wire.specs.Rig.{RigState}
-use Rattle.stm_journal.specs.Journals.{Loaded}
-use Rattle.stm_journal.specs.States.{is_unfinished}
-use Rattle.stm_session.specs.declared.command.Command.{Command}
-use Rattle.stm_session.specs.declared.outcome.Outcome.{Outcome}
-use Rattle.stm_session.specs.Answers.{outcome_data, segments_of_command}
-use Rattle.stm_session.specs.Meaning.{CommandData, changes_of, command_data, commands_in, is_change}
-use Rattle.stm_session.specs.Order.{Follows}
-use Rattle.stm_session.specs.RunOrder.{AreDoneInOrder}
-use Rattle.stm_session.specs.Running.{AreKindsOf}
-use Rattle.stm_session.specs.Sending.{most_of_command}
-use Rattle.stm_session.specs.Steps.{IsSteady}
+use Rattle.stm_wire.proofs.Names.{ChipData, GoesOn, IsPart, RigState}
+use Rattle.stm_journal.proofs.Names.{is_unfinished, Loaded}
+use Rattle.stm_session.proofs.Names.{AreDoneInOrder, AreKindsOf, changes_of, Command, command_data, CommandData, commands_in, Follows, is_change, IsSteady, most_of_command, Outcome, outcome_data}
+use Rattle.stm_session.proofs.Names.{segments_of_command}
 use Rattle.stm_session.proofs.CommandLists.{changes-append, changes-push}
 use Rattle.stm_session.proofs.Runs.{HasRun}
 

@@ -1,16 +1,10 @@
 -- The order of what a run puts and appends.
 use Rattle.std.proofs.Common.{◌≡◌, ℕ, ◌≤◌, Bool, List, [], ◌∷◌, ◌++◌, length, refl, sym, subst}
 use Rattle.std.specs.List.{AllByRecursion}
-use Rattle.stm_wire.specs.Chip.{ChipData}
-use Rattle.stm_wire.specs.Dialogue.{GoesOn}
+use Rattle.stm_wire.proofs.Names.{ChipData, GoesOn, InPage, read_turns, RigState}
 use Rattle.stm_wire.specs.lemmas.DialogueLaws.{GoesOn-nothing}
-use Rattle.stm_wire.specs.Frames.{read_turns}
-use Rattle.stm_wire.specs.Intents.{InPage}
-use Rattle.stm_wire.specs.Rig.{RigState}
-use Rattle.stm_journal.specs.Journals.{Loaded}
-use Rattle.stm_session.specs.Fault.{Cause}
-use Rattle.stm_session.specs.Order.{Step, Sends, Begin, Follows, IsInOrder, IsReadOf, StopsBy, torn_behind}
-use Rattle.stm_session.specs.RunOrder.{IsReading, OnlyReads}
+use Rattle.stm_journal.proofs.Names.{Loaded}
+use Rattle.stm_session.proofs.Names.{Begin, Cause, Follows, IsInOrder, IsReading, IsReadOf, OnlyReads, Sends, Step, StopsBy, torn_behind}
 use Rattle.stm_session.proofs.CutShort.{order_stops}
 use Rattle.stm_session.proofs.Orders.{order_then}
 

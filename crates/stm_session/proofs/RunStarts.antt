@@ -1,20 +1,11 @@
 -- How a run starts: what its opening leaves, and the commands seen from there.
 use Rattle.std.proofs.Common.{◌≡◌, ℕ, false, List, ◌++◌, take, reverse, Result, Ok, Err, IfErr, IfOk, OnOk, sym, ap, ap₂, ◌∙◌, subst, arith, append-nil}
-use Rattle.stm_wire.specs.Chip.{ChipData}
-use Rattle.stm_wire.specs.Device.{Device, IsSettled}
+use Rattle.stm_wire.proofs.Names.{ChipData, Device, IsSettled, LeavesOnly, RigState}
 use Rattle.stm_wire.specs.lemmas.MomentLaws.{joined}
-use Rattle.stm_wire.specs.Moments.{LeavesOnly}
-use Rattle.stm_wire.specs.Rig.{RigState}
-use Rattle.stm_journal.specs.Journals.{Loaded, IsLoaded}
-use Rattle.stm_session.specs.declared.fault.Fault.{Fault}
+use Rattle.stm_journal.proofs.Names.{IsLoaded, Loaded}
+use Rattle.stm_session.proofs.Names.{agreeing, AmidRun, answers_from, answers_of, AreDone, changes_of, CommandData, depth_at, Fault, flash_after_all, flashes_before, is_named_at, is_torn_at}
+use Rattle.stm_session.proofs.Names.{is_unfinished_at, IsSteady, IsUnbegun, KeepsFlashes, OutcomeData, run_entries, run_text, RunFails, Runs, standing_commands, state_at, text_added, Undoable}
 use Rattle.stm_session.specs.declared.fault.Fault.TheVariants as fault
-use Rattle.stm_session.specs.Answers.{OutcomeData, agreeing, answers_of}
-use Rattle.stm_session.specs.Lines.{depth_at, is_named_at, is_torn_at, run_entries, text_added}
-use Rattle.stm_session.specs.Meaning.{CommandData, changes_of, flash_after_all, flashes_before}
-use Rattle.stm_session.specs.Moments.{IsUnbegun}
-use Rattle.stm_session.specs.Runs.{AmidRun, AreDone, RunFails, Runs, answers_from, run_text, standing_commands}
-use Rattle.stm_session.specs.Steps.{IsSteady, KeepsFlashes}
-use Rattle.stm_session.specs.Undoable.{Undoable, is_unfinished_at, state_at}
 use Rattle.stm_session.proofs.Keeping.{keeps_same}
 use Rattle.stm_session.proofs.Standing.{makes_then}
 use Rattle.stm_session.proofs.CanBeUndone.{unbegun_is_undoable}

@@ -1,23 +1,13 @@
 -- Commands, one after another: what some of them have done, and the next.
 use Rattle.std.proofs.Common.{◌≡◌, inl, inr, ℕ, zero, suc, ◌+◌, ◌≤◌, Bool, true, false, List, [], ◌∷◌, ◌++◌, length, take, reverse, Ok, refl, sym, ap, ap₂, ◌∙◌, subst, arith, append-nil}
 use Rattle.std.proofs.lemmas.List.{take_all, take-append-le, length-append, length-reverse}
-use Rattle.stm_wire.specs.Chip.{ChipData}
-use Rattle.stm_wire.specs.Device.{Device}
+use Rattle.stm_wire.proofs.Names.{ChipData, Device, IsModel, LeavesOnly, RigState}
 use Rattle.stm_wire.specs.lemmas.MomentLaws.{joined, weaker}
-use Rattle.stm_wire.specs.Moments.{LeavesOnly}
-use Rattle.stm_wire.specs.Rig.{RigState, IsModel}
 use Rattle.stm_journal.specs.declared.entry.Entry.{Entry}
-use Rattle.stm_journal.specs.Journals.{Loaded}
-use Rattle.stm_session.specs.Answers.{OutcomeData, outcome_of}
-use Rattle.stm_session.specs.OneCommand.{AmidOne, DoesCommand, answer_on, command_lines, flash_left, lines_if}
-use Rattle.stm_session.specs.Lines.{depth_at, is_named_at, is_torn_at, run_entries, segment_entries, text_added}
-use Rattle.stm_session.specs.Meaning.{CommandData, before_if, changes_of, flash_after, flash_after_all, flashes_before, is_change}
-use Rattle.stm_session.specs.Moments.{SameMake}
-use Rattle.stm_session.specs.Runs.{AmidRun, answers_from}
-use Rattle.stm_session.specs.Segments.{HasOpened}
-use Rattle.stm_session.specs.StepLaws.{StepLaws}
-use Rattle.stm_session.specs.Steps.{AddsLines, IsSteady, Stands, torn_after}
-use Rattle.stm_session.specs.Undoable.{Undoable, state_at}
+use Rattle.stm_journal.proofs.Names.{Loaded}
+use Rattle.stm_session.proofs.Names.{AddsLines, AmidOne, AmidRun, answer_on, answers_from, before_if, changes_of, command_lines, CommandData, depth_at, DoesCommand, flash_after, flash_after_all}
+use Rattle.stm_session.proofs.Names.{flash_left, flashes_before, HasOpened, is_change, is_named_at, is_torn_at, IsSteady, lines_if, outcome_of, OutcomeData, run_entries, SameMake, segment_entries}
+use Rattle.stm_session.proofs.Names.{Stands, state_at, StepLaws, text_added, torn_after, Undoable}
 use Rattle.stm_session.proofs.CommandLists.{after-changes, after-push, answers-push, before-append, before-push, changes-append, entries-append, entries-none, entries-one, named-as-before, named-by-changes, named_after}
 use Rattle.stm_session.proofs.Going.{at_exit}
 use Rattle.stm_session.proofs.UndoesOfSegments.{flashes_count}

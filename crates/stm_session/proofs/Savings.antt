@@ -4,25 +4,16 @@ use Rattle.std.proofs.lemmas.Bool.{false≢true}
 use Rattle.std.proofs.Common.{◌/◌, ◌%◌, Result, Ok, Err, append-nil}
 use Rattle.std.specs.Prelude.{IfOk, Vec, vec_len}
 use Rattle.std.specs.declared.alloc.Global.{Global}
-use Rattle.stm_session.specs.Running.{bytes_at}
-use Rattle.stm_wire.specs.Device.{IsSettled}
-use Rattle.stm_wire.specs.Dialogue.{GoesOn}
-use Rattle.stm_wire.specs.Intents.{InPage}
-use Rattle.stm_session.specs.declared.fault.Fault.{Fault}
-use Rattle.stm_session.specs.Asking.{Asks}
-use Rattle.stm_session.specs.Changing.{AreReadsIf, ReadsIf, both_entries, save_entries}
-use Rattle.stm_session.specs.Order.{AreReadsOf, Begin, FaultEnds, IsInOrder, page_address, page_reads, read_steps}
+use Rattle.stm_session.proofs.Names.{AreReadsIf, AreReadsOf, Asks, Begin, both_entries, bytes_at, Fault, FaultEnds, has_companion, IsInOrder, page_address, page_reads, read_steps, ReadsIf}
+use Rattle.stm_session.proofs.Names.{save_entries, StepLaws}
+use Rattle.stm_wire.proofs.Names.{ChipData, GoesOn, InPage, IsModel, IsSettled, page_count, page_of, page_size, RigState}
 use Rattle.stm_session.proofs.Exits.{read_stops, reads_page}
 use Rattle.stm_session.proofs.Going.{asks_fail, asks_go, goes_nowhere}
 use Rattle.stm_session.proofs.Orders.{does_nothing}
 use Rattle.stm_session.proofs.Restorings.{page_read}
-use Rattle.stm_wire.specs.Chip.{ChipData, page_count, page_of, page_size}
-use Rattle.stm_wire.specs.Rig.{RigState, IsModel}
 use Rattle.stm_journal.specs.declared.entry.Entry.{Entry}
 use Rattle.stm_journal.specs.declared.entry.Entry.TheVariants.{Keeps}
-use Rattle.stm_journal.specs.Journals.{Loaded}
-use Rattle.stm_session.specs.StepLaws.{StepLaws}
-use Rattle.stm_session.specs.Undoable.{has_companion}
+use Rattle.stm_journal.proofs.Names.{Loaded}
 
 -- page 1
 and-left : (a b : Bool) → (a && b) ≡ true → a ≡ true

@@ -8,23 +8,16 @@ use Rattle.std.proofs.lemmas.List.{take_all}
 use Rattle.std.proofs.lemmas.List.Sums.{sum_by_more}
 use Rattle.stm_image.specs.Lay.{lay}
 use Rattle.stm_image.specs.Pairs.{Pairs, AddressesRise, byte_at}
-use Rattle.stm_wire.specs.Chip.{ChipData, erased_byte, flash_size, is_inside, page_count, page_offset, page_size}
-use Rattle.stm_wire.specs.Frames.{read_turns}
+use Rattle.stm_wire.proofs.Names.{ChipData, erased_byte, flash_size, is_inside, page_count, page_offset, page_size, read_turns}
 use Rattle.stm_wire.specs.declared.places.UniquePlace.{UniquePlace}
 use Rattle.stm_chip.specs.declared.plan.Frame.{Frame}
 use Rattle.stm_journal.specs.declared.entry.Entry.TheVariants.{Ends}
 use Rattle.stm_chip.specs.Plan.{frames_of}
-use Rattle.stm_session.specs.declared.change.Change.{Change}
+use Rattle.stm_session.proofs.Names.{Adds, AgreeInBlocks, AreTurned, Change, closing, closing_steps, confirmed_at, content, IsReading, IsTurnOf, looks, names, none, page_address, program_steps}
+use Rattle.stm_session.proofs.Names.{read_steps, Sends, SparesPage, Step, write_steps}
 use Rattle.stm_session.specs.declared.change.Change.TheVariants as change
-use Rattle.stm_session.specs.Came.{AgreeInBlocks}
-use Rattle.stm_session.specs.ChangeOrder.{AreTurned, none, more, IsTurnOf}
-use Rattle.stm_session.specs.Closing.{closing, closing_steps, names}
-use Rattle.stm_session.specs.Contents.{content}
-use Rattle.stm_session.specs.Kept.{looks, reads, erases, writes}
-use Rattle.stm_session.specs.Order.{Step, Adds, Sends, page_address, program_steps, read_steps, write_steps}
-use Rattle.stm_session.specs.Reaching.{confirmed_at}
-use Rattle.stm_session.specs.RunOrder.{IsReading}
-use Rattle.stm_session.specs.Seen.{SparesPage}
+use Rattle.stm_session.specs.ChangeOrder.{more}
+use Rattle.stm_session.specs.Kept.{reads, erases, writes}
 use Rattle.stm_session.specs.lemmas.FramesInside.{AreInside, bytes_inside, frames_inside}
 use Rattle.stm_session.proofs.Differences.{no-difference-agrees}
 use Rattle.stm_session.proofs.KeptErased.{each_readings, each_then, each_turn}

@@ -7,23 +7,14 @@ use Rattle.std.proofs.lemmas.List.Elements.{All-get_or}
 use Rattle.std.proofs.lemmas.Slice.Eq.{bytes_eq-Decides}
 use Rattle.stm_image.specs.Lay.{lay, laid_byte}
 use Rattle.stm_image.specs.Pairs.{Pairs, byte_at}
-use Rattle.stm_wire.specs.Chip.{ChipData, IsPageSize, erased_byte, page_count, page_size}
-use Rattle.stm_wire.specs.Frames.{erase_turns, read_turns}
-use Rattle.stm_wire.specs.Intents.{InPage}
+use Rattle.stm_wire.proofs.Names.{ChipData, erase_turns, erased_byte, InPage, IsPageSize, page_count, page_size, read_turns}
 use Rattle.stm_chip.specs.Plan.{frames_of}
 use Rattle.stm_journal.specs.declared.entry.Entry.TheVariants.{Ends, Erases}
-use Rattle.stm_journal.specs.Journals.{begin_entries}
-use Rattle.stm_journal.specs.States.{StateData, newest_keeps}
-use Rattle.stm_session.specs.declared.change.Change.{Change}
+use Rattle.stm_journal.proofs.Names.{begin_entries, newest_keeps, StateData}
+use Rattle.stm_session.proofs.Names.{Adds, Change, closing, command_of, content, IsByteSeen, IsChangedUnless, IsOneSegment, IsTurnOf, IsWrittenAndSeen, KeepsErased, OutcomeData, page_address}
+use Rattle.stm_session.proofs.Names.{page_reads, program_steps, Sends, SparesPage, Step}
 use Rattle.stm_session.specs.declared.change.Change.TheVariants as change
-use Rattle.stm_session.specs.Answers.{OutcomeData}
-use Rattle.stm_session.specs.ChangeOrder.{IsChangedUnless, IsOneSegment, IsTurnOf, KeepsErased}
-use Rattle.stm_session.specs.Closing.{closing}
-use Rattle.stm_session.specs.Contents.{command_of, content}
 use Rattle.stm_session.specs.Meaning.{writes}
-use Rattle.stm_session.specs.Order.{Step, Adds, Sends, page_address, page_reads, program_steps}
-use Rattle.stm_session.specs.Seen.{IsByteSeen, SparesPage}
-use Rattle.stm_session.specs.VerifiedWrite.{IsWrittenAndSeen}
 use Rattle.stm_session.proofs.KeptErased.{each_readings, each_then}
 use Rattle.stm_session.proofs.KeptParts.{place_inside}
 use Rattle.stm_session.proofs.SeenBytes.{HasTurn, alone_end, alone_read, block_at, byte_here, page_here, place_at, turn_at}

@@ -8,24 +8,14 @@ use Rattle.stm_image.specs.Lay.{lay}
 use Rattle.stm_image.specs.Pairs.{Pairs}
 use Rattle.stm_wire.specs.declared.chip.EraseKind.{EraseKind}
 use Rattle.stm_wire.specs.declared.chip.EraseKind.TheVariants.{Page, Extended}
-use Rattle.stm_wire.specs.Chip.{ChipData, erased_byte, flash_size, page_count, page_limit, page_offset, page_size, IsChip}
-use Rattle.stm_wire.specs.Dialogue.{GoesOn}
+use Rattle.stm_wire.proofs.Names.{ChipData, erased_byte, flash_size, GoesOn, IsChip, IsPart, page_count, page_limit, page_offset, page_size, RigState}
 use Rattle.stm_wire.specs.lemmas.PageLaws.{offset_within, page_within}
-use Rattle.stm_wire.specs.Parts.{IsPart}
-use Rattle.stm_wire.specs.Rig.{RigState}
 use Rattle.stm_chip.specs.Plan.{frames_of}
 use Rattle.stm_journal.specs.declared.entry.Entry.TheVariants.{Keeps, Ends}
-use Rattle.stm_journal.specs.Journals.{Loaded, begin_entries}
-use Rattle.stm_journal.specs.States.{StateData}
-use Rattle.stm_session.specs.declared.change.Change.{Change}
-use Rattle.stm_session.specs.declared.fault.Fault.{Fault}
-use Rattle.stm_session.specs.ChangeOrder.{AreTurned, none, more, IsChangedUnless, IsSaved, IsSavedWith, IsSegmentBegun, begins, turns, ends, IsTurnOf}
-use Rattle.stm_session.specs.Contents.{content}
-use Rattle.stm_session.specs.Meaning.{CommandData}
-use Rattle.stm_session.specs.Order.{Step, Adds, Follows, FaultEnds, erase_steps, page_reads, program_steps, rewrite_steps}
-use Rattle.stm_session.specs.RunOrder.{IsBegunIf, IsDoneIf}
-use Rattle.stm_session.specs.Sending.{is_whole, most_of_closing, most_of_command}
-use Rattle.stm_session.specs.Undoable.{has_companion}
+use Rattle.stm_journal.proofs.Names.{begin_entries, Loaded, StateData}
+use Rattle.stm_session.proofs.Names.{Adds, AreTurned, begins, Change, CommandData, content, ends, erase_steps, Fault, FaultEnds, Follows, has_companion, is_whole, IsBegunIf, IsChangedUnless, IsDoneIf}
+use Rattle.stm_session.proofs.Names.{IsSaved, IsSavedWith, IsSegmentBegun, IsTurnOf, most_of_closing, most_of_command, none, page_reads, program_steps, rewrite_steps, Step, turns}
+use Rattle.stm_session.specs.ChangeOrder.{more}
 use Rattle.stm_session.specs.lemmas.ClosingLaws.{goes_on, segment_is_begun}
 use Rattle.stm_session.proofs.KeptRuns.{length-content}
 use Rattle.stm_session.specs.lemmas.FramesInside.{frames-few, frames_inside}

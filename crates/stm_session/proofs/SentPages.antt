@@ -1,13 +1,11 @@
 -- What the steps on a page put: it is read, erased and written.
 use Rattle.std.proofs.Common.{◌≡◌, ℕ, zero, suc, ◌+◌, ◌*◌, ◌/◌, ◌<◌, ◌≤◌, List, [], ◌∷◌, length, take, drop, Some, refl, arith, length-take}
 use Rattle.std.proofs.lemmas.List.{length-drop}
-use Rattle.stm_wire.specs.Chip.{ChipData, page_count, page_size}
+use Rattle.stm_wire.proofs.Names.{ChipData, erase, InPage, page_count, page_size, read_turns, write}
 use Rattle.stm_wire.specs.lemmas.DialogueLaws.{erase_sends, length-erase_turns, length-read_turns, length-write_turns, read_sends, write_sends}
-use Rattle.stm_wire.specs.Frames.{read_turns}
-use Rattle.stm_wire.specs.Intents.{InPage}
-use Rattle.stm_wire.specs.SentList.{erase, read, write}
+use Rattle.stm_wire.specs.SentList.{read}
 use Rattle.stm_chip.specs.declared.plan.Frame.{Frame}
-use Rattle.stm_session.specs.Order.{Sends, erase_steps, page_address, page_reads, program_steps, read_steps, write_steps}
+use Rattle.stm_session.proofs.Names.{erase_steps, page_address, page_reads, program_steps, read_steps, Sends, write_steps}
 use Rattle.stm_session.specs.lemmas.FramesInside.{AreInside, bytes_inside}
 use Rattle.stm_session.proofs.SentSteps.{PutFew, put_as, put_none, put_then}
 

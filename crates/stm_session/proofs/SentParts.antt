@@ -1,12 +1,8 @@
 -- What the steps on pages put on any line: one part after another, with lines of the journal between them.
 use Rattle.std.proofs.Common.{◌≡◌, ℕ, ◌+◌, ◌*◌, ◌≤◌, Bool, true, List, Option, Some, Result, IsErrAnd, arith}
-use Rattle.stm_wire.specs.Call.{Call}
-use Rattle.stm_wire.specs.Chip.{ChipData}
-use Rattle.stm_wire.specs.Dialogue.{GoesOn}
-use Rattle.stm_wire.specs.Parts.{IsPart}
+use Rattle.stm_wire.proofs.Names.{Call, ChipData, GoesOn, IsPart}
 use Rattle.stm_wire.specs.lemmas.PartLaws.{part_longer, parts_join}
-use Rattle.stm_session.specs.declared.fault.Fault.{Fault}
-use Rattle.stm_session.specs.Sending.{is_whole, is_whole_at, most_of_command}
+use Rattle.stm_session.proofs.Names.{Fault, is_whole, is_whole_at, most_of_command}
 use Rattle.stm_session.proofs.Sending.{same_fault}
 
 -- a part after another

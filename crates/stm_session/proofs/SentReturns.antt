@@ -5,23 +5,16 @@ use Rattle.std.proofs.lemmas.List.{length-drop}
 use Rattle.std.proofs.lemmas.List.Elements.{All-get_or}
 use Rattle.stm_wire.specs.declared.intent.Intent.{Intent}
 use Rattle.stm_wire.specs.declared.places.UniquePlace.{UniquePlace}
-use Rattle.stm_wire.specs.Chip.{ChipData, IsChip, IsPageSize, erased_byte, page_count, page_size}
-use Rattle.stm_wire.specs.Frames.{read_frame, read_turns}
+use Rattle.stm_wire.proofs.Names.{ChipData, erased_byte, IsChip, IsFrame, IsPageSize, page_count, page_size, read_frame, read_turns}
 use Rattle.stm_wire.specs.lemmas.DialogueLaws.{length-read_turns, read_sends}
-use Rattle.stm_wire.specs.SentList.{IsFrame}
 use Rattle.stm_chip.specs.Plan.{frames_of}
 use Rattle.stm_journal.specs.declared.entry.Entry.TheVariants.{Undoes}
 use Rattle.stm_journal.specs.declared.kept.Kept.{Kept}
-use Rattle.stm_journal.specs.Fits.{AllFit, AllKeptFit}
+use Rattle.stm_journal.proofs.Names.{AllFit, AllKeptFit, AllOnce, intent_of, intent_page, IsSound, keeps, newest_has, newest_keeps, pages_of_segments, SegmentData, StateData}
 use Rattle.stm_journal.specs.lemmas.FitsLaws.{fits-exists}
-use Rattle.stm_journal.specs.Newest.{pages_of_segments}
-use Rattle.stm_journal.specs.States.{StateData, SegmentData, AllOnce, IsSound, intent_of, intent_page, keeps, newest_has, newest_keeps}
-use Rattle.stm_session.specs.Order.{Step, Adds, Sends, AreGivenBack, AreRewritten, BeginTold, IsGivenBack, IsRewritten, Tells, page_address, page_reads, read_steps, return_steps, rewrite_steps, so_far, tells_behind}
-use Rattle.stm_session.specs.Closing.{IsLookedAgain, closing, closing_steps}
-use Rattle.stm_session.specs.Reaching.{IsAsked, confirmed_at}
-use Rattle.stm_session.specs.UndoOrder.{AreAllUndone, AreSegmentsUndone, EndsOtherwise, OrMisread, such, elsewhere, misread}
-use Rattle.stm_session.specs.Sending.{most_of_command, most_of_undo}
-use Rattle.stm_session.specs.Work.{pages_at_work, pages_of_intent}
+use Rattle.stm_session.proofs.Names.{Adds, AreAllUndone, AreGivenBack, AreRewritten, AreSegmentsUndone, BeginTold, closing, closing_steps, confirmed_at, elsewhere, EndsOtherwise, IsAsked, IsGivenBack}
+use Rattle.stm_session.proofs.Names.{IsLookedAgain, IsRewritten, misread, most_of_command, most_of_undo, OrMisread, page_address, page_reads, pages_at_work, pages_of_intent, read_steps, return_steps}
+use Rattle.stm_session.proofs.Names.{rewrite_steps, Sends, so_far, Step, such, Tells, tells_behind}
 use Rattle.stm_session.specs.lemmas.ClosingLaws.{closing_is_looked, place_known}
 use Rattle.stm_session.proofs.AskingBoards.{refused_length}
 use Rattle.stm_session.proofs.LookingAgain.{put_looked}

@@ -3,19 +3,12 @@ use Rattle.std.proofs.Common.{◌≡◌, ⊎_elim, ℕ, ◌+◌, ◌≤◌, Bool
 use Rattle.std.specs.Prelude.{IfOk}
 use Rattle.stm_wire.specs.declared.fault.WireFault.{WireFault}
 use Rattle.stm_wire.specs.declared.fault.WireFault.TheVariants.{Line}
-use Rattle.stm_wire.specs.Call.{Call, Put, Get, Append}
-use Rattle.stm_wire.specs.Chip.{ChipData}
-use Rattle.stm_wire.specs.Dialogue.{Turn, GoesOn, IsBrokenOff, calls_of, gets_of, puts_of, sent_bytes}
+use Rattle.stm_wire.proofs.Names.{Append, Call, calls_of, ChipData, Get, gets_of, GoesOn, IsBrokenOff, IsFrame, IsPart, Put, puts_of, RigState, sent_bytes, Turn}
 use Rattle.stm_wire.specs.lemmas.DialogueLaws.{GoesOn-weaker}
-use Rattle.stm_wire.specs.Parts.{IsPart}
 use Rattle.stm_wire.specs.lemmas.PartLaws.{broken_is_part, held_is_part, part_longer, parts_join, silent_is_part}
-use Rattle.stm_wire.specs.Rig.{RigState}
-use Rattle.stm_wire.specs.SentList.{IsFrame}
-use Rattle.stm_journal.specs.Journals.{Loaded, added_bytes}
-use Rattle.stm_session.specs.declared.fault.Fault.{Fault}
-use Rattle.stm_session.specs.Fault.{Cause, cause_of, of_line, of_protocol, of_file, of_memory, of_session, of_refusal}
-use Rattle.stm_session.specs.Order.{Step, Adds, Sends, AreCutShort, StepFailsBy, Follows, IsInOrder, FaultEnds, StopsBy, acts_of, acts_of_steps, step_in, torn_behind}
-use Rattle.stm_session.specs.Sending.{is_whole, is_whole_at, leaves_whole}
+use Rattle.stm_journal.proofs.Names.{added_bytes, Loaded}
+use Rattle.stm_session.proofs.Names.{acts_of, acts_of_steps, Adds, AreCutShort, Cause, cause_of, Fault, FaultEnds, Follows, is_whole, is_whole_at, IsInOrder, leaves_whole, of_file, of_line, of_memory}
+use Rattle.stm_session.proofs.Names.{of_protocol, of_refusal, of_session, Sends, Step, step_in, StepFailsBy, StopsBy, torn_behind}
 
 -- how many calls their frames are
 abbrev pub count_of : List Step → ℕ

@@ -2,16 +2,11 @@
 use Rattle.std.proofs.Common.{◌≡◌, ℕ, ◌+◌, ◌<◌, ◌≤◌, Bool, true, false, List, Option, Some, None, Result, Ok, Err, IsErrAnd, refl, sym, ◌∙◌, subst, arith}
 use Rattle.std.specs.Prelude.{IfOk}
 use Rattle.stm_wire.specs.declared.intent.Intent.{Intent}
-use Rattle.stm_wire.specs.Chip.{ChipData}
-use Rattle.stm_wire.specs.Dialogue.{GoesOn}
-use Rattle.stm_wire.specs.Parts.{IsPart, IsSession}
+use Rattle.stm_wire.proofs.Names.{ChipData, GoesOn, IsPart, IsSession, RigState}
 use Rattle.stm_wire.specs.lemmas.PartLaws.{session_joins, session_longer, session_of_any, silent_is_session, silent_then_session}
-use Rattle.stm_wire.specs.Rig.{RigState}
 use Rattle.stm_chip.specs.Document.{IsChipWith}
-use Rattle.stm_journal.specs.Calls.{AreFetches}
-use Rattle.stm_session.specs.declared.fault.Fault.{Fault}
-use Rattle.stm_session.specs.Fresh.{byte_of, limit_of, settling_way}
-use Rattle.stm_session.specs.Sending.{SendsAsUndo, is_whole, most_of_confirming, most_of_reaching, most_of_undo}
+use Rattle.stm_journal.proofs.Names.{AreFetches}
+use Rattle.stm_session.proofs.Names.{byte_of, Fault, is_whole, limit_of, most_of_confirming, most_of_reaching, most_of_undo, SendsAsUndo, settling_way}
 use Rattle.stm_session.proofs.Sending.{fetches_get, fetches_put}
 
 -- a fault that is passed on

@@ -2,27 +2,12 @@
 use Rattle.std.proofs.Common.{◌≡◌, ℕ, Bool, false, if◌then◌else◌, List, [], map, Result, Ok, Err, IsErrAnd, sym, ◌∙◌, ap, ap₂, subst, subst₂, append-nil}
 use Rattle.stm_wire.specs.declared.fault.WireFault.{WireFault}
 use Rattle.stm_wire.specs.declared.fault.WireFault.TheVariants.{Line}
-use Rattle.stm_wire.specs.Chip.{ChipData}
-use Rattle.stm_wire.specs.Device.{Device, IsSettled}
-use Rattle.stm_wire.specs.Harmless.{SameOutside}
-use Rattle.stm_wire.specs.Intents.{settling_byte}
+use Rattle.stm_wire.proofs.Names.{Awaits, AwaitsUnder, ChipData, Device, IsModel, IsSettled, KeepsSettling, LeftBySettling, RigState, SameOutside, settling_byte}
 use Rattle.stm_wire.specs.lemmas.MomentLaws.{weaker}
-use Rattle.stm_wire.specs.Rig.{RigState, IsModel}
-use Rattle.stm_wire.specs.Awaited.{Awaits}
-use Rattle.stm_wire.specs.Greeting.{AwaitsUnder}
-use Rattle.stm_journal.specs.Greetings.{is_greeted}
-use Rattle.stm_wire.specs.Settling.{KeepsSettling, LeftBySettling}
+use Rattle.stm_journal.proofs.Names.{good, intent_of, is_greeted, is_unfinished, IsLoaded, journal_of, Loaded, StateData}
 use Rattle.stm_journal.specs.lemmas.ForgetLaws.{intent_of-forgets}
-use Rattle.stm_journal.specs.Journals.{Loaded, IsLoaded, journal_of, good}
-use Rattle.stm_journal.specs.States.{StateData, is_unfinished, intent_of}
-use Rattle.stm_session.specs.declared.fault.Fault.{Fault}
-use Rattle.stm_session.specs.Fault.{IsOutsideFault, fault_of}
-use Rattle.stm_session.specs.Fresh.{settling_limit}
-use Rattle.stm_session.specs.Moments.{SameMake}
-use Rattle.stm_session.specs.StepLaws.{StepLaws}
-use Rattle.stm_session.specs.Steps.{KeepsFlashes, Stands, Goes}
-use Rattle.stm_session.specs.Undoable.{Undoable, newest_kept, risked_pages, state_at}
-use Rattle.stm_session.specs.Undoes.{IsWithinLimit, byte_at_journal}
+use Rattle.stm_session.proofs.Names.{byte_at_journal, Fault, fault_of, Goes, IsOutsideFault, IsWithinLimit, KeepsFlashes, newest_kept, risked_pages, SameMake, settling_limit, Stands, state_at}
+use Rattle.stm_session.proofs.Names.{StepLaws, Undoable}
 use Rattle.stm_session.proofs.Awaiting.{settling_under}
 use Rattle.stm_session.proofs.Going.{at_exit, goes_still, line_outside}
 use Rattle.stm_session.proofs.Keeping.{good_at, keeps_over, risked_is, text_is, undoable_with, unfinished_is}

@@ -5,31 +5,16 @@ use Rattle.std.proofs.lemmas.Bool.{true≢false}
 use Rattle.std.proofs.lemmas.Bool.Decides.{nat_tests}
 use Rattle.stm_wire.specs.declared.intent.Intent.{Intent}
 use Rattle.stm_wire.specs.declared.intent.Intent.TheVariants.{Erase, Program}
-use Rattle.stm_wire.specs.Chip.{ChipData, page_count}
-use Rattle.stm_wire.specs.Device.{Device, IsDevice, IsSettled, LosesOwed}
-use Rattle.stm_wire.specs.Frames.{command}
-use Rattle.stm_wire.specs.Harmless.{Harmless}
-use Rattle.stm_wire.specs.Awaited.{Awaits, most_under}
-use Rattle.stm_wire.specs.Greeting.{AwaitsUnder}
-use Rattle.stm_wire.specs.Intents.{settling_byte, intended_pages}
+use Rattle.stm_wire.proofs.Names.{Awaits, AwaitsUnder, ChipData, command, Device, get, Harmless, intended_pages, IsDevice, IsFrameUnder, IsModel, IsSettled, LeavesOnly, LeftByAppend, LeftBySending}
+use Rattle.stm_wire.proofs.Names.{LosesOwed, most_under, page_count, RigState, settling_byte}
 use Rattle.stm_session.proofs.Awaiting.{asked_under, sent_under}
-use Rattle.stm_wire.specs.Moments.{LeavesOnly, LeftBySending}
 use Rattle.stm_wire.specs.lemmas.MomentLaws.{started}
-use Rattle.stm_wire.specs.Rig.{RigState, IsModel, LeftByAppend}
-use Rattle.stm_wire.specs.Stopped.{IsFrameUnder, get}
-use Rattle.stm_journal.specs.Greetings.{is_greeted}
+use Rattle.stm_journal.proofs.Names.{added_bytes, allows, good, HasAdded, intent_of, is_greeted, is_unfinished, IsPrintable, journal_of, LeavesLoaded, Loaded, newest_keeps, StateData}
 use Rattle.stm_journal.specs.declared.entry.Entry.{Entry}
 use Rattle.stm_journal.specs.declared.fault.JournalFault.{JournalFault}
 use Rattle.stm_journal.specs.declared.fault.JournalFault.TheVariants.{File, Memory}
-use Rattle.stm_journal.specs.States.{StateData, allows, is_unfinished, intent_of, newest_keeps}
-use Rattle.stm_journal.specs.Added.{HasAdded}
-use Rattle.stm_journal.specs.Journals.{Loaded, IsPrintable, journal_of, good, added_bytes, LeavesLoaded}
-use Rattle.stm_session.specs.Asking.{IsStill}
-use Rattle.stm_session.specs.Fault.{IsOutsideFault, fault_of_journal}
-use Rattle.stm_session.specs.Moments.{SameMake}
-use Rattle.stm_session.specs.StepLaws.{StepLaws}
-use Rattle.stm_session.specs.Undoable.{IsJournalOf, Undoable, has_companion, is_unfinished_at, risked_pages, state_at}
-use Rattle.stm_session.specs.Steps.{KeepsFlashes, IsSteady, Stands, IsUnder}
+use Rattle.stm_session.proofs.Names.{fault_of_journal, has_companion, is_unfinished_at, IsJournalOf, IsOutsideFault, IsSteady, IsStill, IsUnder, KeepsFlashes, risked_pages, SameMake, Stands, state_at}
+use Rattle.stm_session.proofs.Names.{StepLaws, Undoable}
 use Rattle.stm_session.proofs.Keeping.{companion_kept, good_at, is_risked, keeps_over, keeps_same, undoable_with, unfinished_is}
 
 drop-none : (n : ℕ) → drop {A = ℕ} n [] ≡ []

@@ -2,24 +2,11 @@
 use Rattle.std.proofs.Common.{◌≡◌, inl, ℕ, ◌==◌, List, [], ◌∷◌, Result, Ok, Err, IsErrAnd, sym, ◌∙◌, ap, subst, arith}
 use Rattle.stm_wire.specs.declared.fault.WireFault.{WireFault}
 use Rattle.stm_wire.specs.declared.fault.WireFault.TheVariants.{Line}
-use Rattle.stm_wire.specs.Chip.{ChipData}
-use Rattle.stm_wire.specs.Device.{Device, IsSettled}
-use Rattle.stm_wire.specs.Exchange.{is_listed}
-use Rattle.stm_wire.specs.Harmless.{SameOutside}
-use Rattle.stm_wire.specs.Moments.{LeavesOnly}
+use Rattle.stm_wire.proofs.Names.{ChipData, Device, is_listed, IsModel, IsSettled, KeepsSettling, LeavesOnly, LeftBySettling, RigState, SameOutside}
 use Rattle.stm_wire.specs.lemmas.MomentLaws.{joined, weaker}
-use Rattle.stm_wire.specs.Rig.{RigState, IsModel}
-use Rattle.stm_wire.specs.Settling.{KeepsSettling, LeftBySettling}
-use Rattle.stm_session.specs.declared.fault.Fault.{Fault}
+use Rattle.stm_session.proofs.Names.{Asks, byte_at_journal, erase_code, Fault, fault_of, first_refusal, IsElsewhere, IsOutsideFault, IsStill, Meets, refused_unless, risked_at, SameMake, StepLaws}
+use Rattle.stm_session.proofs.Names.{Strays, undo_misfit}
 use Rattle.stm_session.specs.declared.fault.Fault.TheVariants as fault
-use Rattle.stm_session.specs.Asking.{Asks, IsStill}
-use Rattle.stm_session.specs.Fault.{IsOutsideFault, fault_of}
-use Rattle.stm_session.specs.JournalDevice.{Strays, Meets}
-use Rattle.stm_session.specs.Moments.{SameMake}
-use Rattle.stm_session.specs.Refusal.{first_refusal, refused_unless}
-use Rattle.stm_session.specs.Refusals.{erase_code, undo_misfit}
-use Rattle.stm_session.specs.StepLaws.{StepLaws}
-use Rattle.stm_session.specs.Undoes.{IsElsewhere, byte_at_journal, risked_at}
 use Rattle.stm_session.proofs.Going.{at_exit, line_outside}
 use Rattle.stm_session.proofs.Standing.{makes_then}
 

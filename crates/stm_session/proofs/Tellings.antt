@@ -1,9 +1,8 @@
 -- What is said of what the journal told passes from steps to steps.
 use Rattle.std.proofs.Common.{◌≡◌, ℕ, zero, suc, Bool, List, [], ◌∷◌, ◌++◌, ◌∙◌, ap, subst, append_assoc}
-use Rattle.stm_wire.specs.Chip.{ChipData}
+use Rattle.stm_wire.proofs.Names.{ChipData}
 use Rattle.stm_journal.specs.declared.kept.Kept.{Kept}
-use Rattle.stm_session.specs.Order.{Step, Tells, AreGivenBack, AreRewritten, IsGivenBack, IsRewritten, tells_behind, page_reads}
-use Rattle.stm_session.specs.UndoOrder.{AreAllUndone, AreSegmentsUndone, IsSegmentUndone}
+use Rattle.stm_session.proofs.Names.{AreAllUndone, AreGivenBack, AreRewritten, AreSegmentsUndone, IsGivenBack, IsRewritten, IsSegmentUndone, page_reads, Step, Tells, tells_behind}
 
 -- one says at least what the other does
 abbrev pub SaysAlso : Tells → Tells → Type 0

@@ -6,15 +6,9 @@ use Rattle.std.proofs.lemmas.Bool.{cases_lt}
 use Rattle.std.proofs.lemmas.Grind.{flat_map-append}
 use Rattle.stm_journal.specs.declared.entry.Entry.{Entry}
 use Rattle.stm_journal.specs.declared.entry.Entry.TheVariants.{Keeps, Erases, Programs}
-use Rattle.stm_journal.specs.Added.{HasAdded}
-use Rattle.stm_journal.specs.Entries.{line_text}
-use Rattle.stm_journal.specs.Newest.{KeepsSame}
+use Rattle.stm_journal.proofs.Names.{HasAdded, KeepsSame, line_text, mark, StateData}
 use Rattle.stm_journal.specs.lemmas.NewestLaws.{KeepsSame-refl, KeepsSame-trans}
-use Rattle.stm_journal.specs.States.{StateData}
-use Rattle.stm_journal.specs.Journals.{mark}
-use Rattle.stm_session.specs.Lines.{is_torn_at, text_added}
-use Rattle.stm_session.specs.Steps.{AddsLines, AreIntents, torn_after}
-use Rattle.stm_session.specs.Undoable.{state_at}
+use Rattle.stm_session.proofs.Names.{AddsLines, AreIntents, is_torn_at, state_at, text_added, torn_after}
 
 pub torn_after-append : (torn : Bool) (xs ys : List Entry) → torn_after (torn_after torn xs) ys ≡ torn_after torn (xs ++ ys)
 torn_after-append torn [] ys = refl

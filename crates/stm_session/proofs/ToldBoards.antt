@@ -3,14 +3,9 @@ use Rattle.std.proofs.Common.{◌≡◌, ℕ, ◌≤◌, Bool, true, false, ◌&
 use Rattle.std.proofs.lemmas.Bool.{and_parts}
 use Rattle.std.proofs.lemmas.Bool.Decides.{nat_tests}
 use Rattle.stm_wire.specs.declared.places.UniquePlace.{UniquePlace}
-use Rattle.stm_wire.specs.Chip.{ChipData, fits_inside, flash_size, is_outside, is_size_place, is_unique_place}
-use Rattle.stm_wire.specs.Command.{told_bytes}
-use Rattle.stm_wire.specs.Device.{Device, IsDevice}
-use Rattle.stm_wire.specs.Refused.{IsTold}
-use Rattle.stm_wire.specs.Telling.{asks_size, asks_unique, can_read, has_size, has_unique, kib_bytes}
-use Rattle.stm_wire.specs.UniqueId.{is_unique_length}
-use Rattle.stm_session.specs.AskingBoard.{came_in, size_told, unique_told}
-use Rattle.stm_session.specs.ToldBoard.{ToldBoardIsTheDevices, chip_of_board, size_at, size_of, unique_at, unique_of}
+use Rattle.stm_wire.proofs.Names.{asks_size, asks_unique, can_read, ChipData, Device, fits_inside, flash_size, has_size, has_unique, is_outside, is_size_place, is_unique_length, is_unique_place}
+use Rattle.stm_wire.proofs.Names.{IsDevice, IsTold, kib_bytes, told_bytes}
+use Rattle.stm_session.proofs.Names.{came_in, chip_of_board, size_at, size_of, size_told, ToldBoardIsTheDevices, unique_at, unique_of, unique_told}
 
 -- what lies outside the flash isn't read of it
 outside : (chip : ChipData) (address n : ℕ) → 1 ≤ n → IsTrue (is_outside chip address n) → fits_inside chip address n ≡ false

@@ -1,12 +1,9 @@
 -- What was told in a part of a call was told in the call.
 use Rattle.std.proofs.Common.{Bool, List, ◌++◌, ◌∙◌, ap, subst, Option}
-use Rattle.stm_wire.specs.Call.{Call}
-use Rattle.stm_wire.specs.Dialogue.{GoesOn}
+use Rattle.stm_wire.proofs.Names.{Call, GoesOn, RigState}
 use Rattle.stm_wire.specs.lemmas.DialogueLaws.{GoesOn-append, GoesOn-weaker}
-use Rattle.stm_wire.specs.Rig.{RigState}
-use Rattle.stm_journal.specs.Journals.{Loaded}
-use Rattle.stm_session.specs.Order.{Step, DoesSteps, IsInOrder, acts_of, tells_behind}
-use Rattle.stm_session.specs.Told.{AreCalls, EndsWith, ToldBy, ToldIn}
+use Rattle.stm_journal.proofs.Names.{Loaded}
+use Rattle.stm_session.proofs.Names.{acts_of, AreCalls, DoesSteps, EndsWith, IsInOrder, Step, tells_behind, ToldBy, ToldIn}
 use Rattle.stm_session.proofs.Orders.{acts-append, order_then}
 use Rattle.stm_session.proofs.Tellings.{SaysAlso}
 

@@ -1,7 +1,7 @@
 -- A run is known by the outcomes that its answer tells.
 use Rattle.std.proofs.Common.{Ok, Err}
-use Rattle.stm_wire.specs.Rig.{RigState}
-use Rattle.stm_session.specs.Events.{OutcomesAreTheRun}
+use Rattle.stm_wire.proofs.Names.{RigState}
+use Rattle.stm_session.proofs.Names.{OutcomesAreTheRun}
 
 -- what a run promises with whatever answer, it promises of the outcomes which that tells
 pub outcomes-are-the-run : {R T : Type 0} (view : R → RigState) → OutcomesAreTheRun R T view

@@ -6,24 +6,14 @@ use Rattle.std.proofs.lemmas.Bool.{false≢true, cases_eq, eq-eqb, ne_eqb}
 use Rattle.std.proofs.lemmas.Bool.Decides.{nat_tests}
 use Rattle.stm_image.specs.Pairs.{Pairs}
 use Rattle.stm_image.specs.Lay.{lay}
-use Rattle.stm_wire.specs.Chip.{ChipData, flash_size, page_count, page_of, page_offset, page_size, with_page}
+use Rattle.stm_wire.proofs.Names.{ChipData, flash_size, page_count, page_of, page_offset, page_size, RigState, with_page}
 use Rattle.stm_wire.specs.lemmas.FlashLaws.{IsTurned, turned_next, length-erased_pages, page_of_erased}
-use Rattle.stm_wire.specs.Rig.{RigState}
 use Rattle.stm_journal.specs.declared.entry.Entry.{Entry}
 use Rattle.stm_journal.specs.declared.entry.Entry.TheVariants.{Keeps}
-use Rattle.stm_journal.specs.Journals.{Loaded}
-use Rattle.stm_journal.specs.States.{StateData, newest_is_open, newest_keeps, newest_may_keep}
-use Rattle.stm_session.specs.declared.change.Change.{Change}
+use Rattle.stm_journal.proofs.Names.{Loaded, newest_is_open, newest_keeps, newest_may_keep, StateData}
+use Rattle.stm_session.proofs.Names.{AreTurned, both_entries, Change, change_entries, command_of, content, differing_below, differs_in, flash_after, Follows, Goes, has_companion, HasTurned, IsGiven}
+use Rattle.stm_session.proofs.Names.{IsSteady, keep_entries, Keeping, page_entries, page_entries_below, rewrite_entries, save_entries}
 use Rattle.stm_session.specs.declared.change.Change.TheVariants as change
-use Rattle.stm_session.specs.Answers.{differing_below}
-use Rattle.stm_session.specs.Contents.{IsGiven, command_of, content}
-use Rattle.stm_session.specs.Lines.{differs_in, keep_entries, page_entries, page_entries_below, rewrite_entries}
-use Rattle.stm_session.specs.Changing.{HasTurned, both_entries, change_entries, save_entries}
-use Rattle.stm_session.specs.Meaning.{flash_after}
-use Rattle.stm_session.specs.Steps.{Goes, IsSteady}
-use Rattle.stm_session.specs.ChangeOrder.{AreTurned, Keeping}
-use Rattle.stm_session.specs.Order.{Follows}
-use Rattle.stm_session.specs.Undoable.{has_companion}
 
 -- a page was read, its new bytes made, and given to it
 pub given_on : (chip : ChipData) (n : ℕ) (old mid new held page made : List ℕ) (changed : Bool) → mid ≡ old → held ≡ page_of chip old n → page ≡ made

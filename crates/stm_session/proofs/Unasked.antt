@@ -1,18 +1,12 @@
 -- What is refused before the device is asked which board it is.
 use Rattle.std.proofs.Common.{◌≡◌, ℕ, true, false, Bool, if◌then◌else◌, List, ◌++◌, Option, Some, None, option_map, Result, Ok, Err, IsErrAnd, refl, sym, ◌∙◌, ap, subst}
-use Rattle.stm_wire.specs.Chip.{ChipData}
-use Rattle.stm_wire.specs.Rig.{RigState}
+use Rattle.stm_wire.proofs.Names.{ChipData, RigState}
 use Rattle.stm_chip.specs.Document.{IsChipWith}
 use Rattle.stm_journal.specs.declared.header.JournalHeader.{JournalHeader}
-use Rattle.stm_journal.specs.Calls.{IsUntouched, Loads}
-use Rattle.stm_journal.specs.Journals.{Loaded, IsLoaded, good, journal_of}
-use Rattle.stm_journal.specs.States.{StateData, is_unfinished}
-use Rattle.stm_session.specs.declared.fault.Fault.{Fault}
+use Rattle.stm_journal.proofs.Names.{good, is_unfinished, IsLoaded, IsUntouched, journal_of, Loaded, Loads, StateData}
+use Rattle.stm_session.proofs.Names.{asking_refusal, begun_refusal, chip_with, Fault, fits_fewer, header_misfits, IsLaterRefusal, least, LoadsUnless, misfit_lines, names_no_board, RefusesUnsent}
+use Rattle.stm_session.proofs.Names.{unasked_refusal, unlisted_refusal}
 use Rattle.stm_session.specs.declared.fault.Fault.TheVariants.{BadJournal, OtherBoard}
-use Rattle.stm_session.specs.Fault.{IsLaterRefusal}
-use Rattle.stm_session.specs.Opening.{LoadsUnless}
-use Rattle.stm_session.specs.Refusal.{RefusesUnsent, chip_with, header_misfits, least, misfit_lines}
-use Rattle.stm_session.specs.Unasked.{asking_refusal, begun_refusal, fits_fewer, names_no_board, unasked_refusal, unlisted_refusal}
 use Rattle.stm_session.proofs.Forgetting.{asking-forgets}
 use Rattle.stm_session.proofs.Openings.{has_chip, load_refused, loaded_refusal, refused_nothing}
 use Rattle.stm_session.proofs.Unprotections.{answered}

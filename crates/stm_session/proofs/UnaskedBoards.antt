@@ -7,19 +7,13 @@ use Rattle.std.proofs.lemmas.Bool.Decides.{nat_tests}
 use Rattle.std.proofs.lemmas.List.{length-take}
 use Rattle.std.proofs.lemmas.Slice.Eq.{bytes_eq-Decides}
 use Rattle.stm_wire.specs.declared.places.UniquePlace.{UniquePlace}
-use Rattle.stm_wire.specs.Chip.{ChipData, flash_size, of_board, page_count, page_size}
-use Rattle.stm_wire.specs.Cut.{pages_within}
+use Rattle.stm_wire.proofs.Names.{ChipData, flash_size, of_board, page_count, page_size, pages_within}
 use Rattle.stm_journal.specs.declared.header.JournalHeader.{JournalHeader}
 use Rattle.stm_journal.specs.declared.kept.Kept.{Kept}
-use Rattle.stm_journal.specs.Fits.{AllFit, AllKeptFit, fits_chip}
-use Rattle.stm_journal.specs.States.{SegmentData, StateData, board_of, is_other_board, names_other_board}
-use Rattle.stm_session.specs.declared.fault.Fault.{Fault}
+use Rattle.stm_journal.proofs.Names.{AllFit, AllKeptFit, board_of, fits_chip, is_other_board, names_other_board, SegmentData, StateData}
+use Rattle.stm_session.proofs.Names.{AllKeepCompanions, cut_as_told, Fault, first_of, fits_fewer, has_companion, HasVersion, is_never_told, IsJournalOf, IsPartOf, line_refusal, names_no_board}
+use Rattle.stm_session.proofs.Names.{size_at, size_of, told_length, unasked_refusal, unique_at, unique_of, unique_told}
 use Rattle.stm_session.specs.declared.fault.Fault.TheVariants.{OtherBoard}
-use Rattle.stm_session.specs.AskingBoard.{unique_told}
-use Rattle.stm_session.specs.Refusal.{first_of, line_refusal}
-use Rattle.stm_session.specs.ToldBoard.{IsPartOf, cut_as_told, size_at, size_of, unique_at, unique_of}
-use Rattle.stm_session.specs.Unasked.{fits_fewer, is_never_told, names_no_board, told_length, unasked_refusal}
-use Rattle.stm_session.specs.Undoable.{AllKeepCompanions, HasVersion, IsJournalOf, has_companion}
 use Rattle.stm_session.proofs.Fitting.{and-both, both-hold, fits-unrefused, no-board}
 use Rattle.stm_session.proofs.Misfits.{first_all, first_size}
 

@@ -2,16 +2,9 @@
 use Rattle.std.proofs.Common.{◌≡◌, ℕ, List, [], Result, Ok, Err, IsErrAnd, IfOk, OnOk, refl, sym, ◌∙◌, subst}
 use Rattle.stm_wire.specs.declared.fault.WireFault.{WireFault}
 use Rattle.stm_wire.specs.declared.fault.WireFault.TheVariants.{Line}
-use Rattle.stm_wire.specs.Device.{Device, IsDevice, IsSettled}
-use Rattle.stm_wire.specs.Moments.{LeavesOnly}
+use Rattle.stm_wire.proofs.Names.{Device, IsDevice, IsModel, IsSettled, KeepsSettling, LeavesOnly, LeftBySettling, RigState, SameOutsideNoneIsSame}
 use Rattle.stm_wire.specs.lemmas.MomentLaws.{joined, weaker}
-use Rattle.stm_wire.specs.Rig.{RigState, IsModel}
-use Rattle.stm_wire.specs.Settling.{LeftBySettling, KeepsSettling}
-use Rattle.stm_wire.specs.Stopped.{SameOutsideNoneIsSame}
-use Rattle.stm_session.specs.declared.fault.Fault.{Fault}
-use Rattle.stm_session.specs.Fault.{IsOutsideFault, fault_of}
-use Rattle.stm_session.specs.Asking.{Asks, IsStill}
-use Rattle.stm_session.specs.Moments.{BeginsNothing, IsUnbegun}
+use Rattle.stm_session.proofs.Names.{Asks, BeginsNothing, Fault, fault_of, IsOutsideFault, IsStill, IsUnbegun}
 use Rattle.stm_session.proofs.Asking.{line_outside}
 use Rattle.stm_session.proofs.Standing.{makes_then}
 

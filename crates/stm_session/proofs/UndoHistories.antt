@@ -1,25 +1,13 @@
 -- What an undo leaves, wherever it is stopped, follows from its contract.
 use Rattle.std.proofs.Common.{◌≡◌, ◌≤◌, ℕ, zero, suc, false, ◌==◌, List, [], ◌∷◌, length, drop, Option, Some, None, IsSome, Result, Ok, Err, IfOk, sym, refl, ◌∙◌, ap, subst, arith, ⊎_elim, length-drop}
 use Rattle.std.proofs.lemmas.Bool.{eqb-true, ne_eqb, not-false}
-use Rattle.stm_wire.specs.Chip.{ChipData}
-use Rattle.stm_wire.specs.Device.{Device}
-use Rattle.stm_wire.specs.Rig.{RigState}
+use Rattle.stm_wire.proofs.Names.{ChipData, Device, RigState}
 use Rattle.stm_chip.specs.Document.{IsNewId}
-use Rattle.stm_journal.specs.Calls.{IsUntouched}
-use Rattle.stm_journal.specs.Journals.{JournalData, good, journal_of}
-use Rattle.stm_journal.specs.States.{SegmentData, StateData, is_unfinished, names_other}
+use Rattle.stm_journal.proofs.Names.{good, is_unfinished, IsUntouched, journal_of, JournalData, names_other, SegmentData, StateData}
 use Rattle.stm_journal.specs.declared.header.JournalHeader.{JournalHeader}
-use Rattle.stm_session.specs.declared.fault.Fault.{Fault}
+use Rattle.stm_session.proofs.Names.{AmidUndo, depth_at, Fault, flash_undone, grown, is_unfinished_at, Knows, now_of, RefusesUnsent, SameMake, state_at, Stops, taken_count, undo_refusal, Undoable}
+use Rattle.stm_session.proofs.Names.{UndoContract, Undoes, UndoHolds, UndoLeaves, World}
 use Rattle.stm_session.specs.declared.fault.Fault.TheVariants as faults
-use Rattle.stm_session.specs.Moments.{SameMake}
-use Rattle.stm_session.specs.Refusal.{RefusesUnsent}
-use Rattle.stm_session.specs.Refusals.{undo_refusal}
-use Rattle.stm_session.specs.Undoable.{Undoable, is_unfinished_at, state_at}
-use Rattle.stm_session.specs.Lines.{depth_at}
-use Rattle.stm_session.specs.Undoes.{taken_count, flash_undone, AmidUndo, Undoes}
-use Rattle.stm_session.specs.Promises.{UndoContract}
-use Rattle.stm_session.specs.Events.{World, now_of, Knows, Stops}
-use Rattle.stm_session.specs.Headline.{grown, UndoHolds, UndoLeaves}
 use Rattle.stm_session.proofs.Openings.{lacks_chip}
 use Rattle.stm_session.proofs.RunHistories.{Laws, depth-is, lost-make, taken-within, untouched-keeps}
 

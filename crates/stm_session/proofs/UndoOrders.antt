@@ -2,19 +2,15 @@
 use Rattle.std.proofs.Common.{◌≡◌, ℕ, zero, suc, ◌+◌, ◌-◌, ◌/◌, ◌<◌, ◌≤◌, Bool, List, [], ◌∷◌, ◌++◌, length, take, drop, replicate, Some, None, Result, IsErrAnd, refl, sym, ◌∙◌, ap, ap₂, subst, arith, append_assoc, length-append}
 use Rattle.std.specs.Prelude.{slice_get}
 use Rattle.std.proofs.lemmas.List.{length-drop, length-map, length-replicate}
-use Rattle.stm_wire.specs.Chip.{ChipData, erased_byte, page_size}
-use Rattle.stm_wire.specs.Dialogue.{GoesOn}
-use Rattle.stm_wire.specs.Rig.{RigState}
+use Rattle.stm_wire.proofs.Names.{ChipData, erased_byte, GoesOn, page_size, RigState}
 use Rattle.stm_chip.specs.Plan.{frames_of}
 use Rattle.stm_journal.specs.declared.fault.JournalFault.{JournalFault}
 use Rattle.stm_journal.specs.declared.fault.JournalFault.TheVariants.{File}
 use Rattle.stm_journal.specs.declared.kept.Kept.{Kept}
-use Rattle.stm_journal.specs.Newest.{pages_of_segments}
-use Rattle.stm_journal.specs.States.{SegmentData}
-use Rattle.stm_session.specs.declared.fault.Fault.{Fault}
-use Rattle.stm_session.specs.Fault.{Cause, cause_of, fault_of_journal}
-use Rattle.stm_session.specs.Order.{Step, Are, Tells, AreReadsOf, AreGivenBack, AreRewritten, Begin, BeginTold, StepFailsBy, IsInOrder, IsGivenBack, IsRewritten, FaultEnds, StopsBy, tells_behind, page_address, page_reads, read_steps, return_steps, rewrite_steps, so_far, torn_behind}
-use Rattle.stm_session.specs.UndoOrder.{AreAllUndone, AreSegmentsUndone, IsSegmentUndone, ending_steps}
+use Rattle.stm_journal.proofs.Names.{pages_of_segments, SegmentData}
+use Rattle.stm_session.proofs.Names.{Are, AreAllUndone, AreGivenBack, AreReadsOf, AreRewritten, AreSegmentsUndone, Begin, BeginTold, Cause, cause_of, ending_steps, Fault, fault_of_journal, FaultEnds}
+use Rattle.stm_session.proofs.Names.{IsGivenBack, IsInOrder, IsRewritten, IsSegmentUndone, page_address, page_reads, read_steps, return_steps, rewrite_steps, so_far, Step, StepFailsBy, StopsBy, Tells}
+use Rattle.stm_session.proofs.Names.{tells_behind, torn_behind}
 use Rattle.stm_session.proofs.CutShort.{by_fault, halts}
 use Rattle.stm_session.proofs.Orders.{returned_next, taken_next}
 use Rattle.stm_session.proofs.Tellings.{SaysAlso, behind_both, pages_as, returned_as, rewritten_as, segments_as, taken_as, work_as}

@@ -1,11 +1,8 @@
 -- The newest segment is undone: its pages are put back one after another, and then it is gone.
 use Rattle.std.proofs.Common.{◌≡◌, ◌⊎◌, inl, inr, ℕ, suc, ◌+◌, ◌<◌, ◌≤◌, ◌/◌, Bool, true, false, if◌then◌else◌, List, [], ◌∷◌, ◌++◌, length, get_or, take, drop, Some, Result, Ok, Err, IsErrAnd, refl, sym, ◌∙◌, ap, subst, arith, IsTrue}
 use Rattle.std.specs.Prelude.{slice_get, bytes_eq, OnOk}
-use Rattle.stm_wire.specs.Chip.{ChipData, erased_byte, flash_size, page_of, with_page}
-use Rattle.stm_wire.specs.Device.{Device, IsSettled}
+use Rattle.stm_wire.proofs.Names.{ChipData, Device, erased_byte, flash_size, IsModel, IsSettled, LeavesOnly, LeftByAppend, page_of, RigState, with_page}
 use Rattle.stm_wire.specs.lemmas.MomentLaws.{joined, weaker}
-use Rattle.stm_wire.specs.Moments.{LeavesOnly}
-use Rattle.stm_wire.specs.Rig.{RigState, IsModel, LeftByAppend}
 use Rattle.stm_chip.specs.declared.plan.Frame.{Frame}
 use Rattle.stm_chip.specs.Plan.{frames_of}
 use Rattle.stm_journal.specs.declared.entry.Entry.{Entry}
@@ -13,23 +10,11 @@ use Rattle.stm_journal.specs.declared.entry.Entry.TheVariants.{Undoes}
 use Rattle.stm_journal.specs.declared.fault.JournalFault.{JournalFault}
 use Rattle.stm_journal.specs.declared.kept.Kept.{Kept}
 use Rattle.stm_journal.specs.declared.kept.PagePlace.{PagePlace}
-use Rattle.stm_journal.specs.Added.{HasAdded}
+use Rattle.stm_journal.proofs.Names.{added_bytes, AllKeptFit, allows, Appends, flashes_before_segments, good, HasAdded, HasUndone, is_unfinished, journal_of, KeepsSame, kept_at, kept_entry}
+use Rattle.stm_journal.proofs.Names.{kept_place, LeavesLoaded, Loaded, loaded_after, place_of, SegmentData, StateData}
 use Rattle.stm_journal.specs.lemmas.CallEntries.{allowed-undone}
-use Rattle.stm_journal.specs.Calls.{Appends}
-use Rattle.stm_journal.specs.Fits.{AllKeptFit}
-use Rattle.stm_journal.specs.Flashes.{flashes_before_segments}
-use Rattle.stm_journal.specs.Journals.{Loaded, LeavesLoaded, added_bytes, good, journal_of, loaded_after}
-use Rattle.stm_journal.specs.KeptPlaces.{kept_entry, kept_place, place_of}
-use Rattle.stm_journal.specs.Newest.{KeepsSame, HasUndone}
-use Rattle.stm_journal.specs.States.{StateData, SegmentData, allows, is_unfinished, kept_at}
-use Rattle.stm_session.specs.declared.fault.Fault.{Fault}
-use Rattle.stm_session.specs.Fault.{IsOutsideFault, fault_of_journal}
-use Rattle.stm_session.specs.Lines.{is_torn_at, program_entries, return_entries, rewrite_entries, text_added}
-use Rattle.stm_session.specs.Order.{Follows, AreGivenBack, Tells}
-use Rattle.stm_session.specs.StepLaws.{StepLaws}
-use Rattle.stm_session.specs.Steps.{AddsLines, AreIntents, KeepsFlashes, IsSteady, Stands, Goes}
-use Rattle.stm_session.specs.SegmentUndo.{AmidSegmentUndo, UndoesSegment, newest_at, give_back_lines, with_pages}
-use Rattle.stm_session.specs.Undoable.{newest_kept, state_at}
+use Rattle.stm_session.proofs.Names.{AddsLines, AmidSegmentUndo, AreGivenBack, AreIntents, Fault, fault_of_journal, Follows, give_back_lines, Goes, is_torn_at, IsOutsideFault, IsSteady, KeepsFlashes}
+use Rattle.stm_session.proofs.Names.{newest_at, newest_kept, program_entries, return_entries, rewrite_entries, Stands, state_at, StepLaws, Tells, text_added, UndoesSegment, with_pages}
 use Rattle.stm_session.proofs.Going.{at_exit, goes_as, goes_failed, goes_ok, goes_then, stands_later, stands_more}
 use Rattle.stm_session.proofs.Keeping.{depth_text, good_at, keeps_undone, unfinished_is}
 use Rattle.stm_session.proofs.Returns.{entry_newest, kept_in_text, lines_all, lines_by, lines_next, newest_fits, newest_once, page_until, pages_next}

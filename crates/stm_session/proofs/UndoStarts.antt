@@ -2,25 +2,13 @@
 use Rattle.std.proofs.Common.{◌≡◌, ⊎_elim, inl, ℕ, zero, suc, ◌≤◌, Bool, true, false, not, ◌==◌, ◌||◌, nat_lt, if◌then◌else◌, List, [], ◌∷◌, ◌++◌, length, Option, Some, None, option_map, Result, Ok, Err, IsErrAnd, refl, sym, ◌∙◌, ap, subst, arith, append-nil}
 use Rattle.std.proofs.lemmas.Bool.{cases_eq, eq-eqb, ne_eqb, true≢false}
 use Rattle.std.proofs.lemmas.Bool.Decides.{nat_tests}
-use Rattle.stm_wire.specs.Chip.{ChipData}
+use Rattle.stm_wire.proofs.Names.{ChipData, Device, GoesOn, IsModel, RigState}
 use Rattle.stm_journal.specs.declared.entry.Entry.{Entry}
-use Rattle.stm_session.specs.Lines.{is_torn_at, text_added, undo_entries}
-use Rattle.stm_wire.specs.Device.{Device}
-use Rattle.stm_wire.specs.Dialogue.{GoesOn}
+use Rattle.stm_session.proofs.Names.{AmidUndo, chip_with, Fault, good_state, is_torn_at, state_at, StepLaws, table_refusal, taken_count, text_added, undo_entries, undo_refusal, undo_refusal_of}
+use Rattle.stm_session.proofs.Names.{Undoable, UndoContract, Undoes}
 use Rattle.stm_wire.specs.lemmas.MomentLaws.{weaker}
-use Rattle.stm_wire.specs.Rig.{RigState, IsModel}
 use Rattle.stm_journal.specs.declared.header.JournalHeader.{JournalHeader}
-use Rattle.stm_journal.specs.Calls.{AreFetches, IsUntouched, Loads}
-use Rattle.stm_journal.specs.InMemory.{forget_state}
-use Rattle.stm_journal.specs.Journals.{JournalData, Loaded, IsLoaded, journal_of, good}
-use Rattle.stm_journal.specs.States.{StateData, SegmentData, is_unfinished, names_other}
-use Rattle.stm_session.specs.declared.fault.Fault.{Fault}
-use Rattle.stm_session.specs.Promises.{UndoContract}
-use Rattle.stm_session.specs.Refusal.{chip_with, table_refusal}
-use Rattle.stm_session.specs.Refusals.{undo_refusal, undo_refusal_of}
-use Rattle.stm_session.specs.StepLaws.{StepLaws}
-use Rattle.stm_session.specs.Undoable.{Undoable, good_state, state_at}
-use Rattle.stm_session.specs.Undoes.{AmidUndo, Undoes, taken_count}
+use Rattle.stm_journal.proofs.Names.{AreFetches, forget_state, good, is_unfinished, IsLoaded, IsUntouched, journal_of, JournalData, Loaded, Loads, names_other, SegmentData, StateData}
 use Rattle.stm_session.proofs.Fitting.{fits-unrefused}
 use Rattle.stm_session.proofs.Forgetting.{misfit-forgets}
 use Rattle.stm_session.proofs.UndoesOfSegments.{flashes_count}

@@ -1,30 +1,14 @@
 -- Segments are undone, one after another.
 use Rattle.std.proofs.Common.{Bool, ◌≡◌, inl, inr, ℕ, zero, suc, ◌+◌, ◌<◌, ◌≤◌, List, [], ◌∷◌, ◌++◌, length, take, drop, get_or, Result, Ok, Err, IsErrAnd, refl, sym, ◌∙◌, ap, ap₂, subst, arith, append_assoc}
 use Rattle.std.proofs.lemmas.List.{length-map, length-drop, drop-drop}
-use Rattle.stm_wire.specs.Chip.{ChipData}
-use Rattle.stm_wire.specs.Device.{Device}
+use Rattle.stm_wire.proofs.Names.{ChipData, Device, IsModel, LeavesOnly, RigState}
 use Rattle.stm_wire.specs.lemmas.MomentLaws.{joined, weaker}
-use Rattle.stm_wire.specs.Moments.{LeavesOnly}
-use Rattle.stm_wire.specs.Rig.{RigState, IsModel}
 use Rattle.stm_journal.specs.declared.entry.Entry.{Entry}
 use Rattle.stm_journal.specs.declared.entry.Entry.TheVariants.{Undoes}
 use Rattle.stm_journal.specs.declared.kept.Kept.{Kept}
-use Rattle.stm_journal.specs.Fits.{AllKeptFit, AllFit}
-use Rattle.stm_journal.specs.Flashes.{flashes_before_segments, with_kept_pages}
-use Rattle.stm_journal.specs.Journals.{Loaded}
-use Rattle.stm_journal.specs.Newest.{pages_of_segments}
-use Rattle.stm_journal.specs.States.{StateData, SegmentData}
-use Rattle.stm_session.specs.declared.fault.Fault.{Fault}
-use Rattle.stm_session.specs.Fault.{IsOutsideFault}
-use Rattle.stm_session.specs.SegmentsUndo.{AmidNewest, UndoesNewest, going_lines}
-use Rattle.stm_session.specs.Lines.{is_torn_at, text_added, taken_entries}
-use Rattle.stm_session.specs.Order.{Follows, Tells}
-use Rattle.stm_session.specs.UndoOrder.{AreSegmentsUndone}
-use Rattle.stm_session.specs.StepLaws.{StepLaws}
-use Rattle.stm_session.specs.Steps.{IsSteady, Stands, torn_after}
-use Rattle.stm_session.specs.SegmentUndo.{AmidSegmentUndo, UndoesSegment, give_back_lines, taking_lines}
-use Rattle.stm_session.specs.Undoable.{Undoable, newest_kept, state_at}
-use Rattle.stm_session.specs.Undoes.{flash_undone}
+use Rattle.stm_journal.proofs.Names.{AllFit, AllKeptFit, flashes_before_segments, Loaded, pages_of_segments, SegmentData, StateData, with_kept_pages}
+use Rattle.stm_session.proofs.Names.{AmidNewest, AmidSegmentUndo, AreSegmentsUndone, Fault, flash_undone, Follows, give_back_lines, going_lines, is_torn_at, IsOutsideFault, IsSteady, newest_kept}
+use Rattle.stm_session.proofs.Names.{Stands, state_at, StepLaws, taken_entries, taking_lines, Tells, text_added, torn_after, Undoable, UndoesNewest, UndoesSegment}
 use Rattle.stm_session.proofs.Going.{at_exit}
 use Rattle.stm_session.proofs.Keeping.{depth_text}
 use Rattle.stm_session.proofs.Standing.{makes_then, stands_now}

@@ -1,32 +1,13 @@
 -- An undo whose chip is in the table, exit by exit.
 use Rattle.std.proofs.Common.{◌≡◌, ⊎_elim, inl, inr, ℕ, ◌≤◌, List, [], ◌++◌, length, take, drop, Option, Some, None, option_map, Result, Ok, Err, IsErrAnd, sym, ◌∙◌, ap, ap₂, subst, subst₂, arith, append-nil}
 use Rattle.stm_chip.specs.Document.{IsChipWith}
-use Rattle.stm_wire.specs.Chip.{ChipData}
-use Rattle.stm_wire.specs.Device.{Device}
-use Rattle.stm_wire.specs.Harmless.{Harmless, SameOutside}
-use Rattle.stm_wire.specs.Moments.{LeavesOnly}
+use Rattle.stm_wire.proofs.Names.{Awaits, ChipData, Device, Harmless, IsModel, LeavesOnly, RigState, SameOutside}
 use Rattle.stm_wire.specs.lemmas.MomentLaws.{joined}
-use Rattle.stm_wire.specs.Rig.{RigState, IsModel}
-use Rattle.stm_wire.specs.Awaited.{Awaits}
-use Rattle.stm_journal.specs.Greetings.{is_greeted}
+use Rattle.stm_journal.proofs.Names.{intent_of, is_greeted, IsUntouched, journal_of, Loaded, Loads}
 use Rattle.stm_journal.specs.declared.header.JournalHeader.{JournalHeader}
-use Rattle.stm_journal.specs.Calls.{IsUntouched, Loads}
-use Rattle.stm_journal.specs.Journals.{Loaded, journal_of}
-use Rattle.stm_journal.specs.States.{intent_of}
-use Rattle.stm_session.specs.declared.fault.Fault.{Fault}
-use Rattle.stm_session.specs.Fault.{IsOutsideFault}
-use Rattle.stm_session.specs.Fresh.{settling_limit}
-use Rattle.stm_session.specs.SegmentsUndo.{AmidNewestBy, UndoesBy, undo_lines}
-use Rattle.stm_session.specs.Lines.{is_torn_at, text_added}
-use Rattle.stm_session.specs.JournalDevice.{Meets}
-use Rattle.stm_session.specs.Moments.{SameMake}
-use Rattle.stm_session.specs.Promises.{UndoContract}
-use Rattle.stm_session.specs.Refusal.{Refuses, chip_with, table_refusal}
-use Rattle.stm_session.specs.Refusals.{undo_misfit, undo_refusal}
-use Rattle.stm_session.specs.StepLaws.{StepLaws}
-use Rattle.stm_session.specs.Steps.{Stands, Goes}
-use Rattle.stm_session.specs.Undoable.{Undoable, state_at}
-use Rattle.stm_session.specs.Undoes.{AmidUndo, IsElsewhere, IsFlashSettled, IsWithinLimit, Undoes, byte_at_journal, risked_at, taken_count, undo_text}
+use Rattle.stm_session.proofs.Names.{AmidNewestBy, AmidUndo, byte_at_journal, chip_with, Fault, Goes, is_torn_at, IsElsewhere, IsFlashSettled, IsOutsideFault, IsWithinLimit, Meets, Refuses, risked_at}
+use Rattle.stm_session.proofs.Names.{SameMake, settling_limit, Stands, state_at, StepLaws, table_refusal, taken_count, text_added, undo_lines, undo_misfit, undo_refusal, undo_text, Undoable}
+use Rattle.stm_session.proofs.Names.{UndoContract, Undoes, UndoesBy}
 use Rattle.stm_session.proofs.Going.{at_exit}
 use Rattle.stm_session.proofs.GoingAll.{flash_at}
 use Rattle.stm_session.proofs.Keeping.{good_at}

@@ -4,32 +4,14 @@ use Rattle.std.proofs.Math.Seq.{take-nil}
 use Rattle.stm_wire.specs.declared.fault.WireFault.{WireFault}
 use Rattle.stm_wire.specs.declared.fault.WireFault.TheVariants.{Line}
 use Rattle.stm_wire.specs.declared.protection.Protection.TheVariants.{WriteUnprotect}
-use Rattle.stm_wire.specs.Call.{Call}
-use Rattle.stm_wire.specs.Command.{CanProtect}
-use Rattle.stm_wire.specs.Device.{Device, Phase, Receives, IsReady, IsReadyPhase}
-use Rattle.stm_wire.specs.Dialogue.{Adds, GoesOn, calls_of}
+use Rattle.stm_wire.proofs.Names.{Adds, BreaksOff, Call, calls_of, CanProtect, Device, FedAndTaken, GoesOn, is_listed, IsConnected, IsHeldToEnd, IsReady, IsReadyPhase, LossStaysHarmless, Phase}
+use Rattle.stm_wire.proofs.Names.{protection_code, PutsPart, Receives, RigState}
 use Rattle.stm_wire.specs.lemmas.DialogueLaws.{GoesOn-adds, GoesOn-append, GoesOn-weaker, line_calls_are_few}
-use Rattle.stm_wire.specs.Exchange.{is_listed}
-use Rattle.stm_wire.specs.Moments.{FedAndTaken}
 use Rattle.stm_wire.specs.lemmas.MomentLaws.{weaker}
-use Rattle.stm_wire.specs.Protection.{protection_code}
-use Rattle.stm_wire.specs.Rig.{RigState}
-use Rattle.stm_wire.specs.Sending.{BreaksOff, IsHeldToEnd}
-use Rattle.stm_wire.specs.Settling.{PutsPart}
-use Rattle.stm_wire.specs.SettlingCalls.{IsConnected}
-use Rattle.stm_wire.specs.Stopped.{LossStaysHarmless}
-use Rattle.stm_journal.specs.Calls.{AreFetches, IsUntouched}
-use Rattle.stm_journal.specs.Journals.{journal_of}
-use Rattle.stm_session.specs.declared.fault.Fault.{Fault}
+use Rattle.stm_journal.proofs.Names.{AreFetches, IsUntouched, journal_of}
+use Rattle.stm_session.proofs.Names.{bad_refusal, BeginsNothing, CanLeave, Fault, fault_of, IsBegun, IsJournalOrMemory, IsOfLine, IsOutsideFault, IsReset, IsSafe, IsSettledSame, IsUnprotected}
+use Rattle.stm_session.proofs.Names.{IsUnprotecting, Leaves, LeftByLeaving, LeftByUnprotecting, LoadsUnless, RefusesUnsent, unprotect_frame, unprotect_turns, UnprotectContract, WasUnprotected}
 use Rattle.stm_session.specs.declared.fault.Fault.TheVariants as faults
-use Rattle.stm_session.specs.Fault.{IsJournalOrMemory, IsOfLine, IsOutsideFault, fault_of}
-use Rattle.stm_session.specs.Fresh.{IsReset}
-use Rattle.stm_session.specs.Leaving.{CanLeave, IsSettledSame, Leaves, LeftByLeaving}
-use Rattle.stm_session.specs.Moments.{BeginsNothing, IsSafe}
-use Rattle.stm_session.specs.Opening.{LoadsUnless}
-use Rattle.stm_session.specs.Refusal.{RefusesUnsent}
-use Rattle.stm_session.specs.Sending.{IsBegun}
-use Rattle.stm_session.specs.Unprotecting.{IsUnprotected, IsUnprotecting, LeftByUnprotecting, UnprotectContract, WasUnprotected, bad_refusal, unprotect_frame, unprotect_turns}
 use Rattle.stm_session.proofs.Asking.{line_outside}
 use Rattle.stm_session.proofs.Leavings.{can_protect, frame_used, leaves_broken, leaves_fed, leaves_unread, leaves_unsettled, fails_unread}
 use Rattle.stm_session.proofs.Openings.{line_is_no_memory, refused_nothing}

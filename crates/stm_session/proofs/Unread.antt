@@ -2,32 +2,16 @@
 use Rattle.std.proofs.Common.{◌≡◌, ◌⊎◌, inl, inr, ℕ, ◌≤◌, not, List, [], ◌++◌, length, Option, Some, None, Result, Ok, Err, IsErrAnd, refl, sym, ◌∙◌, ap, ap₂, subst, arith, append-nil}
 use Rattle.std.proofs.Math.Seq.{take-nil}
 use Rattle.std.proofs.lemmas.List.{length-drop}
-use Rattle.stm_wire.specs.Chip.{ChipData}
-use Rattle.stm_wire.specs.Device.{Device, LosesOwed}
-use Rattle.stm_wire.specs.Dialogue.{GoesOn}
-use Rattle.stm_wire.specs.Harmless.{Harmless, SameOutside}
-use Rattle.stm_wire.specs.Awaited.{Awaits}
-use Rattle.stm_wire.specs.Intents.{settling_byte}
+use Rattle.stm_wire.proofs.Names.{Awaits, ChipData, Device, GoesOn, Harmless, LosesOwed, RigState, SameOutside, settling_byte}
 use Rattle.stm_session.proofs.Awaiting.{lost_under}
 use Rattle.stm_wire.specs.lemmas.MomentLaws.{weaker}
-use Rattle.stm_wire.specs.Rig.{RigState}
-use Rattle.stm_journal.specs.Greetings.{is_greeted}
+use Rattle.stm_journal.proofs.Names.{AreFetches, bad, flashes_before_segments, good, intent_of, is_greeted, IsFaultOf, IsUntouched, journal_of, JournalData, KeepsDevice, Loaded, Loads, names_other}
+use Rattle.stm_journal.proofs.Names.{StateData}
 use Rattle.stm_journal.specs.declared.fault.JournalFault.{JournalFault}
 use Rattle.stm_journal.specs.declared.fault.JournalFault.TheVariants.{File, Bad, OtherDevice as OtherJournal, OtherBoard as OtherJournalBoard, Memory as JournalMemory}
-use Rattle.stm_journal.specs.Calls.{AreFetches, IsFaultOf, IsUntouched, KeepsDevice, Loads}
-use Rattle.stm_journal.specs.Flashes.{flashes_before_segments}
-use Rattle.stm_journal.specs.Journals.{JournalData, Loaded, journal_of, good, bad}
-use Rattle.stm_journal.specs.States.{StateData, intent_of, names_other}
-use Rattle.stm_session.specs.declared.fault.Fault.{Fault}
+use Rattle.stm_session.proofs.Names.{AmidUndo, byte_at_journal, Fault, fault_of_journal, IsElsewhere, IsFlashSettled, IsJournalOf, IsJournalOrMemory, IsOutsideFault, risked_at, risked_pages, SameMake}
+use Rattle.stm_session.proofs.Names.{Stands, state_at, StepLaws, taken_count, undo_refusal, Undoable, UndoContract}
 use Rattle.stm_session.specs.declared.fault.Fault.TheVariants as fault
-use Rattle.stm_session.specs.Fault.{IsJournalOrMemory, IsOutsideFault, fault_of_journal}
-use Rattle.stm_session.specs.Moments.{SameMake}
-use Rattle.stm_session.specs.Promises.{UndoContract}
-use Rattle.stm_session.specs.Refusals.{undo_refusal}
-use Rattle.stm_session.specs.StepLaws.{StepLaws}
-use Rattle.stm_session.specs.Steps.{Stands}
-use Rattle.stm_session.specs.Undoable.{IsJournalOf, Undoable, state_at, risked_pages}
-use Rattle.stm_session.specs.Undoes.{AmidUndo, IsElsewhere, IsFlashSettled, byte_at_journal, risked_at, taken_count}
 use Rattle.stm_session.proofs.Openings.{unsent_outside}
 
 pub same_flash : (old : RigState) (flash : List ℕ) → flash ≡ old.device.flash → IsFlashSettled old flash

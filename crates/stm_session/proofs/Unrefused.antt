@@ -1,19 +1,11 @@
 -- A journal that isn't refused can be undone.
 use Rattle.std.proofs.Common.{◌≡◌, ℕ, Bool, true, false, not, List, [], ◌∷◌, Option, Some, None, refl, sym, ◌∙◌, ap, subst}
-use Rattle.stm_wire.specs.Chip.{ChipData}
-use Rattle.stm_wire.specs.Device.{Device}
+use Rattle.stm_wire.proofs.Names.{ChipData, Device}
 use Rattle.stm_chip.specs.Document.{IsChipWith}
-use Rattle.stm_journal.specs.Greetings.{is_greeted}
-use Rattle.stm_journal.specs.Flashes.{flashes_before_segments}
-use Rattle.stm_journal.specs.Journals.{JournalData, good, bad, journal_of}
-use Rattle.stm_journal.specs.States.{StateData, is_unfinished, names_other}
-use Rattle.stm_session.specs.declared.fault.Fault.{Fault}
+use Rattle.stm_journal.proofs.Names.{bad, flashes_before_segments, good, is_greeted, is_unfinished, journal_of, JournalData, names_other, StateData}
+use Rattle.stm_session.proofs.Names.{chip_with, CommandData, commands_refused, device_refusals, Fault, first_refusal, IsJournalOf, IsSafe, opening_refusal, refused_unless, run_refusal, state_at}
+use Rattle.stm_session.proofs.Names.{table_refusal, Undoable}
 use Rattle.stm_session.specs.declared.fault.Fault.TheVariants.{OtherDevice, Unfinished}
-use Rattle.stm_session.specs.Meaning.{CommandData}
-use Rattle.stm_session.specs.Moments.{IsSafe}
-use Rattle.stm_session.specs.Refusal.{chip_with, device_refusals, first_refusal, opening_refusal, refused_unless, table_refusal}
-use Rattle.stm_session.specs.Refusals.{commands_refused, run_refusal}
-use Rattle.stm_session.specs.Undoable.{IsJournalOf, Undoable, state_at}
 use Rattle.stm_session.proofs.Fitting.{unrefused-fits}
 use Rattle.stm_session.proofs.Openings.{alone, has_chip}
 use Rattle.stm_session.proofs.CanBeUndone.{finished_awaits, finished_risks_nothing}

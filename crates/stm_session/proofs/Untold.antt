@@ -1,17 +1,9 @@
 -- What an undo did in order, with the bytes that the journal told for its pages, it did in order.
 use Rattle.std.proofs.Common.{ℕ, Bool, inl, inr, ⊎_elim, ◌++◌, List, length}
-use Rattle.stm_wire.specs.Chip.{ChipData}
-use Rattle.stm_wire.specs.Rig.{RigState}
-use Rattle.stm_journal.specs.Newest.{pages_of_segments}
-use Rattle.stm_journal.specs.States.{StateData, intent_of}
-use Rattle.stm_session.specs.declared.fault.Fault.{Fault}
-use Rattle.stm_session.specs.declared.returned.Returned.{Returned}
-use Rattle.stm_session.specs.Fault.{cause_of}
-use Rattle.stm_session.specs.Fresh.{settling_way}
-use Rattle.stm_session.specs.Order.{Step, Tells, Begin, BeginTold, so_far, untold}
-use Rattle.stm_session.specs.Told.{AreGivenBackTold, BeginTakingTold, GivesBackTold, ToldBy, UndoStopsToldAs, behind_confirming}
-use Rattle.stm_session.specs.UndoOrder.{AreTakenAs, AreTakenWhole, AreUndoneInOrder, BeginTaking, GivesBackInOrder, UndoStopsAs}
-use Rattle.stm_session.specs.Work.{pages_at_work}
+use Rattle.stm_wire.proofs.Names.{ChipData, RigState}
+use Rattle.stm_journal.proofs.Names.{intent_of, pages_of_segments, StateData}
+use Rattle.stm_session.proofs.Names.{AreGivenBackTold, AreTakenAs, AreTakenWhole, AreUndoneInOrder, Begin, BeginTaking, BeginTakingTold, BeginTold, behind_confirming, cause_of, Fault}
+use Rattle.stm_session.proofs.Names.{GivesBackInOrder, GivesBackTold, pages_at_work, Returned, settling_way, so_far, Step, Tells, ToldBy, UndoStopsAs, UndoStopsToldAs, untold}
 use Rattle.stm_session.proofs.KeptRuns.{as_session, confirmed_as, stops_as}
 use Rattle.stm_session.proofs.KeptUndoes.{undo_does_as}
 use Rattle.stm_session.proofs.Misreads.{may_as}

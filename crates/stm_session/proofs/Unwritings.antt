@@ -1,12 +1,10 @@
 -- Which calls append nothing, and how they join.
 use Rattle.std.proofs.Common.{ℕ, List, [], ◌∷◌, ◌++◌, Option}
 use Rattle.stm_wire.specs.declared.fault.WireFault.{WireFault}
-use Rattle.stm_wire.specs.Call.{Call, Append, Fetch}
-use Rattle.stm_wire.specs.Dialogue.{Turn, Adds, GoesOn, AreLineCalls, IsBrokenOff, calls_of}
+use Rattle.stm_wire.proofs.Names.{Adds, Append, AreLineCalls, Call, calls_of, Fetch, GoesOn, IsBrokenOff, SettlesWithin, Turn}
 use Rattle.stm_wire.specs.lemmas.DialogueLaws.{GoesOn-adds, GoesOn-append, GoesOn-weaker, broken_off_is_cut_short, held_is_cut_short}
-use Rattle.stm_wire.specs.Settling.{SettlesWithin}
-use Rattle.stm_journal.specs.Calls.{AreFetches}
-use Rattle.stm_session.specs.Unwritten.{AppendsNothing}
+use Rattle.stm_journal.proofs.Names.{AreFetches}
+use Rattle.stm_session.proofs.Names.{AppendsNothing}
 
 line_appends_nothing : (calls : List Call) → AreLineCalls calls → AppendsNothing calls
 line_appends_nothing [] is = tt

@@ -1,26 +1,15 @@
 -- A session in which a write is verified, exit by exit.
-use Rattle.stm_session.specs.Fresh.{contact_way}
+use Rattle.stm_session.proofs.Names.{AreDoneInOrder, asking_steps, can_erase, cause_of, command_refusals, confirming, contact_way, Fault, Follows, image_fits, IsAfter, IsCoherent, IsConfirmedInPart}
+use Rattle.stm_session.proofs.Names.{IsWrittenAndSeen, Opened, OutcomeData, ReachesInOrder, refused_unless, RunDoes, RunDoesInPart, RunsInOrder, Session, Step, StepsOf, StopsBy, verifies}
+use Rattle.stm_session.proofs.Names.{was_verified, WritesAndSees, written_then}
 use Rattle.std.proofs.Common.{◌≡◌, inr, ◌+◌, ◌&&◌, ◌||◌, nat_le, Bool, true, false, List, [], ◌∷◌, ◌++◌, length, Option, Result, Ok, Err, IfOk, IfErr, OnOk, refl, sym, ap, ◌∙◌, subst, arith}
 use Rattle.stm_image.specs.Layout.{IsAmong}
 use Rattle.stm_image.specs.Pairs.{Pairs}
-use Rattle.stm_wire.specs.Chip.{ChipData}
-use Rattle.stm_wire.specs.Device.{Device}
-use Rattle.stm_wire.specs.Rig.{RigState}
-use Rattle.stm_journal.specs.Journals.{Loaded, IsLoaded}
-use Rattle.stm_journal.specs.States.{IsSound, StateData}
-use Rattle.stm_session.specs.declared.fault.Fault.{Fault}
+use Rattle.stm_wire.proofs.Names.{ChipData, Device, RigState}
+use Rattle.stm_journal.proofs.Names.{IsLoaded, IsSound, Loaded, StateData}
 use Rattle.stm_session.specs.declared.fault.Fault.TheVariants as faults
-use Rattle.stm_session.specs.declared.opening.Opened.{Opened}
-use Rattle.stm_session.specs.Answers.{OutcomeData, was_verified}
-use Rattle.stm_session.specs.Fault.{cause_of}
-use Rattle.stm_session.specs.Meaning.{verifies, writes}
-use Rattle.stm_session.specs.Opening.{IsCoherent}
-use Rattle.stm_session.specs.Order.{Step, Follows, IsAfter, StopsBy}
-use Rattle.stm_session.specs.Reaching.{IsConfirmedInPart, ReachesInOrder, Session, StepsOf, asking_steps, confirming}
-use Rattle.stm_session.specs.Refusal.{refused_unless}
-use Rattle.stm_session.specs.Refusals.{can_erase, command_refusals, image_fits}
-use Rattle.stm_session.specs.RunOrder.{AreDoneInOrder, none as none_done, more, RunDoes, RunDoesInPart, RunsInOrder}
-use Rattle.stm_session.specs.VerifiedWrite.{IsWrittenAndSeen, WritesAndSees, written_then}
+use Rattle.stm_session.specs.Meaning.{writes}
+use Rattle.stm_session.specs.RunOrder.{none as none_done, more}
 use Rattle.stm_session.proofs.Fitting.{unrefused-fits}
 use Rattle.stm_session.proofs.KeptParts.{part_fits}
 use Rattle.stm_session.proofs.KeptRuns.{after_as, as_session, does_as}

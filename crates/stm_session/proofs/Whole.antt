@@ -1,13 +1,12 @@
 -- What a whole session leaves, by the flash at the start of the oldest segment on the stack.
 use Rattle.std.proofs.Common.{◌≡◌, ◌≤◌, ℕ, zero, suc, Bool, true, false, List, [], ◌∷◌, ◌++◌, length, take, drop, reverse, Ok, refl, sym, ◌∙◌, ap, ap₂, subst, arith, get_or, length-drop}
 use Rattle.std.proofs.lemmas.List.{reverse-append}
-use Rattle.stm_wire.specs.Chip.{ChipData}
-use Rattle.stm_wire.specs.Rig.{RigState}
-use Rattle.stm_session.specs.Undoable.{Undoable}
-use Rattle.stm_session.specs.Meaning.{CommandData, writes, verifies, reads, flash_after, flash_after_all, flashes_before, changes_of, is_change, before_if}
-use Rattle.stm_session.specs.Undoes.{flash_undone}
-use Rattle.stm_session.specs.Events.{World, now_of, Event, Happening, AllLead, Knows, Leads, end_of, ran, run_stopped, informed, info_stopped, identified, identify_stopped, undid, undo_stopped, left_refused, refusal_stopped, unprotected, unprotect_stopped, kept, was_reset, lost_owed, lost_power}
-use Rattle.stm_session.specs.Headline.{standing_in, grown, starts_of_run, starts_after, oldest_after, oldest_of, oldest_start, AllIsUndone, WritesWhole}
+use Rattle.stm_wire.proofs.Names.{ChipData, RigState}
+use Rattle.stm_session.proofs.Names.{AllIsUndone, AllLead, before_if, changes_of, CommandData, end_of, Event, flash_after, flash_after_all, flash_undone, flashes_before, grown, Happening, identified}
+use Rattle.stm_session.proofs.Names.{identify_stopped, info_stopped, informed, is_change, kept, Knows, Leads, left_refused, lost_owed, lost_power, now_of, oldest_after, oldest_of, oldest_start, ran}
+use Rattle.stm_session.proofs.Names.{refusal_stopped, run_stopped, standing_in, starts_after, starts_of_run, undid, undo_stopped, Undoable, unprotect_stopped, unprotected, verifies, was_reset, World}
+use Rattle.stm_session.proofs.Names.{WritesWhole}
+use Rattle.stm_session.specs.Meaning.{writes, reads}
 use Rattle.stm_session.proofs.RunHistories.{Laws, RunLeft, depth-is, length-before, run-left, run-begun}
 use Rattle.stm_session.proofs.UndoHistories.{UndoLeft, none-finished, undo-left, undo-undone}
 use Rattle.stm_session.proofs.Histories.{gives}

@@ -9,21 +9,17 @@ use Rattle.std.proofs.lemmas.List.Concat.{flat_map-append}
 use Rattle.std.proofs.lemmas.List.Elements.{filter_map-append}
 use Rattle.std.proofs.lemmas.List.Sums.{fold-append}
 use Rattle.stm_wire.specs.declared.intent.Intent.{Intent}
-use Rattle.stm_wire.specs.Chip.{ChipData, flash_size, page_count, page_size, with_page}
+use Rattle.stm_wire.proofs.Names.{ChipData, flash_size, page_count, page_size, with_page}
 use Rattle.stm_wire.specs.lemmas.PageLaws.{page_end, page_within}
 use Rattle.stm_journal.specs.declared.header.JournalHeader.{JournalHeader}
 use Rattle.stm_journal.specs.declared.kept.Kept.{Kept}
 use Rattle.stm_journal.specs.declared.kept.PagePlace.{PagePlace}
-use Rattle.stm_journal.specs.Fits.{AllFit}
+use Rattle.stm_journal.proofs.Names.{AllFit, AllOnce, intent_of, intent_page, IsSound, keeps, kept_at, kept_count, kept_entry, kept_place, newest_has, newest_intent, newest_keeps, page_place}
+use Rattle.stm_journal.proofs.Names.{pages_of_segments, PagesOnce, place_of, segment_of, SegmentData, StateData}
 use Rattle.stm_journal.specs.lemmas.FitsLaws.{fits-exists}
-use Rattle.stm_journal.specs.KeptPlaces.{kept_count, kept_entry, kept_place, page_place, place_of}
-use Rattle.stm_journal.specs.Newest.{pages_of_segments}
 use Rattle.stm_journal.specs.lemmas.NewestLaws.{segment_of-newest}
-use Rattle.stm_journal.specs.States.{StateData, SegmentData, AllOnce, IsSound, PagesOnce, intent_of, intent_page, keeps, kept_at, newest_has, newest_intent, newest_keeps, segment_of}
-use Rattle.stm_session.specs.Lines.{rewrite_entries, work_entries}
-use Rattle.stm_session.specs.Refusal.{pages_kept, segment_pages}
-use Rattle.stm_session.specs.Undoable.{IsJournalOf, has_companion, newest_kept}
-use Rattle.stm_session.specs.Work.{beside, kept_at_work, kept_of, pages_at_work, pages_of_intent, with_work}
+use Rattle.stm_session.proofs.Names.{beside, has_companion, IsJournalOf, kept_at_work, kept_of, newest_kept, pages_at_work, pages_kept, pages_of_intent, rewrite_entries, segment_pages, with_work}
+use Rattle.stm_session.proofs.Names.{work_entries}
 use Rattle.stm_session.proofs.Keeping.{companion_kept}
 use Rattle.stm_session.proofs.Misfits.{companion-kept}
 use Rattle.stm_session.proofs.Returns.{any_at, count_newest, entry_newest, fits_line, newest_once}

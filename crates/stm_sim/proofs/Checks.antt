@@ -4,10 +4,9 @@ use Rattle.std.specs.Int.Bits.{xor_assoc, xor_self, xor_zero_r}
 use Rattle.std.proofs.lemmas.Bool.{and_parts, cases_eq, eq-eqb, eqb-true, lt-leb, ne_eqb}
 use Rattle.std.proofs.lemmas.List.{take_all, take_more, take-take}
 use Rattle.std.proofs.lemmas.List.Sums.{fold_push}
-use Rattle.stm_wire.specs.Chip.{ChipData, fits_inside, is_inside}
+use Rattle.stm_wire.proofs.Names.{all_exist, ChipData, complement, done_if, fits_inside, is_inside, is_listed, IsOpen, number_of, pair_of, two_byte_numbers, verdict, xor}
 use Rattle.stm_wire.specs.declared.verdict.Verdict.{Verdict}
 use Rattle.stm_wire.specs.declared.verdict.Verdict.TheVariants.{Refused}
-use Rattle.stm_wire.specs.Exchange.{IsOpen, all_exist, complement, done_if, is_listed, number_of, pair_of, two_byte_numbers, verdict, xor}
 use Rattle.stm_sim.specs.Rest.{named_pages}
 
 xor_from : (s : ℕ) (xs : List ℕ) → fold bit_xor s xs ≡ bit_xor s (xor xs)

@@ -2,8 +2,7 @@
 use Rattle.std.proofs.Common.{◌≡◌, ℕ, suc, ◌-◌, ◌%◌, true, ◌&&◌, nat_lt, List, [], ◌∷◌, ◌++◌, length, get_or, refl, sym, ap, ◌∙◌, arith}
 use Rattle.std.proofs.Math.Bool.{and-true}
 use Rattle.std.proofs.lemmas.List.Folds.{list_all-append}
-use Rattle.stm_wire.specs.Chip.{ChipData, page_count}
-use Rattle.stm_wire.specs.Exchange.{all_exist, pair_of, two_byte_numbers}
+use Rattle.stm_wire.proofs.Names.{all_exist, ChipData, page_count, pair_of, two_byte_numbers}
 
 -- the numbers of two bytes: a first byte names nothing yet
 first_byte : (bytes : List ℕ) (low : ℕ) → length bytes % 2 ≡ 0 → two_byte_numbers (bytes ++ low ∷ []) ≡ two_byte_numbers bytes

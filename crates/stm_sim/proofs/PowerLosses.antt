@@ -1,10 +1,7 @@
 -- A device whose power was lost inside an erase or a write of a page.
 use Rattle.std.proofs.Common.{◌≡◌, ℕ, ◌<◌, List, [], ◌∷◌, length, sym, ◌∙◌, arith}
-use Rattle.stm_wire.specs.Chip.{page_size}
-use Rattle.stm_wire.specs.Device.{Device, IsDevice}
-use Rattle.stm_wire.specs.Harmless.{SameOutside}
+use Rattle.stm_wire.proofs.Names.{Device, IsDevice, page_size, powered_again, SameOutside}
 use Rattle.stm_wire.specs.lemmas.PageLaws.{length-with_page, page_put-other}
-use Rattle.stm_wire.specs.PowerLoss.{powered_again}
 
 abbrev IsByte : ℕ → Type 0
 IsByte b = b < 256

@@ -9,12 +9,8 @@ use Rattle.stm_watch.specs.declared.sight.Sight.{Sight}
 use Rattle.stm_watch.specs.declared.sight.Sight.TheVariants.{Follows, Left, Lost}
 use Rattle.stm_wire.specs.declared.verdict.Verdict.{Verdict}
 use Rattle.stm_wire.specs.declared.verdict.Verdict.TheVariants.{Done, Refused, Loose}
-use Rattle.stm_wire.specs.Chip.{ChipData, IsChip, flash_size}
-use Rattle.stm_wire.specs.Exchange.{verdict}
-use Rattle.stm_wire.specs.Effect.{change_of}
-use Rattle.stm_wire.specs.Reply.{ack, nack, step_reply, reply}
+use Rattle.stm_wire.proofs.Names.{ack, change_of, ChipData, Connected, Device, Feeds, flash_size, Gone, IsChip, IsDevice, nack, Phase, phase_after, reply, step_reply, verdict}
 use Rattle.stm_sim.specs.lemmas.SimulatedChange.{done-change-fits}
-use Rattle.stm_wire.specs.Device.{Device, Phase, Connected, Gone, Feeds, phase_after, IsDevice}
 use Rattle.stm_sim.specs.lemmas.Simulated.{open-nothing}
 use Rattle.stm_watch.specs.Known.{Known, count_read, place_read, told, lost, sight_after, judged}
 use Rattle.stm_watch.specs.Known.{fed_to, fed, may_hold, is_due_of, is_due_in, heard_of}

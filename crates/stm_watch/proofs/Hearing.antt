@@ -6,8 +6,7 @@ use Rattle.std.proofs.lemmas.List.{drop_more, get_or_default}
 use Rattle.std.proofs.lemmas.Bool.{eq-eqb, ne_eqb}
 use Rattle.stm_watch.specs.declared.sight.Sight.{Sight}
 use Rattle.stm_watch.specs.declared.sight.Sight.TheVariants.{Follows, Left, Lost}
-use Rattle.stm_wire.specs.Chip.{flash_size}
-use Rattle.stm_wire.specs.Device.{Device, Phase, Connected, Gone, IsDevice, IsSettled}
+use Rattle.stm_wire.proofs.Names.{Connected, Device, flash_size, Gone, IsDevice, IsSettled, Phase}
 use Rattle.stm_watch.specs.Known.{Known, may_hold, is_due_of, is_due_in, is_due, heard_of}
 use Rattle.stm_watch.specs.Known.{heard_by_sight, heard, IsWhole, known_at_first}
 use Rattle.stm_watch.specs.Seen.{MayHold, Agrees, device_known, IsIn, IsSeenAs, IsSeen}

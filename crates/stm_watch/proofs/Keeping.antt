@@ -9,10 +9,7 @@ use Rattle.stm_watch.specs.declared.sight.Sight.{Sight}
 use Rattle.stm_watch.specs.declared.sight.Sight.TheVariants.{Follows, Left, Lost}
 use Rattle.stm_wire.specs.declared.verdict.Verdict.{Verdict}
 use Rattle.stm_wire.specs.declared.verdict.Verdict.TheVariants.{Done, Refused, Loose}
-use Rattle.stm_wire.specs.Chip.{ChipData, IsChip, erased_byte, fits_inside, flash_size}
-use Rattle.stm_wire.specs.Chip.{page_offset, page_size}
-use Rattle.stm_wire.specs.Exchange.{number_of, verdict}
-use Rattle.stm_wire.specs.Effect.{Change, Nothing, ErasePages, EraseAll, Write, change_of}
+use Rattle.stm_wire.proofs.Names.{Change, change_of, ChipData, EraseAll, erased_byte, ErasePages, fits_inside, flash_size, IsChip, Nothing, number_of, page_offset, page_size, verdict, Write}
 use Rattle.stm_wire.specs.lemmas.PageLaws.{fits_page, fits-end}
 use Rattle.stm_sim.specs.lemmas.Simulated.{small-change}
 use Rattle.stm_sim.specs.lemmas.SimulatedChange.{done-change-fits, Small as SmallChange}

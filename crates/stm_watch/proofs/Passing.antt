@@ -5,10 +5,7 @@ use Rattle.std.proofs.Common.{sym, ◌∙◌, ap}
 use Rattle.stm_watch.specs.declared.sight.Sight.TheVariants.{Lost}
 use Rattle.stm_wire.specs.declared.fault.RigFault.{RigFault}
 use Rattle.stm_wire.specs.declared.fault.RigFault.TheVariants.{Line}
-use Rattle.stm_wire.specs.Call.{Call, Get}
-use Rattle.stm_wire.specs.Device.{Device, Feeds}
-use Rattle.stm_wire.specs.Rig.{RigState, Records, entry_of_get, PutsHonestly, GetsHonestly}
-use Rattle.stm_wire.specs.Rig.{GetsFirst, AppendsHonestly, FetchesHonestly}
+use Rattle.stm_wire.proofs.Names.{AppendsHonestly, Call, Device, entry_of_get, Feeds, FetchesHonestly, Get, GetsFirst, GetsHonestly, PutsHonestly, Records, RigState}
 use Rattle.stm_watch.specs.Known.{Known, IsFed, IsWhole, fed, is_due}
 use Rattle.stm_watch.specs.Seen.{IsSeen}
 use Rattle.stm_watch.specs.Watching.{quieted, quieted_record, watched, IsHeard}

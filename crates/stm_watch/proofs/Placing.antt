@@ -3,8 +3,7 @@ use Rattle.std.proofs.Common.{◌≡◌, ℕ, zero, suc, ◌+◌, ◌<◌, Bool,
 use Rattle.std.proofs.Common.{List, [], ◌∷◌, ◌++◌, length, take, drop, replicate, get_or, Option}
 use Rattle.std.proofs.Common.{Some, None, refl, sym, ◌∙◌, ap, arith, append-nil, eqb-true}
 use Rattle.std.proofs.Math.ListN.{set}
-use Rattle.stm_wire.specs.Chip.{ChipData, erased_byte, page_offset, page_size}
-use Rattle.stm_wire.specs.Effect.{Stores, erased_pages}
+use Rattle.stm_wire.proofs.Names.{ChipData, erased_byte, erased_pages, page_offset, page_size, Stores}
 use Rattle.stm_watch.specs.Known.{with_items, stored, stored_all, erased_known}
 use Rattle.stm_watch.specs.Seen.{MayHold, Agrees}
 

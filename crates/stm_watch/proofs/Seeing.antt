@@ -7,12 +7,8 @@ use Rattle.stm_watch.specs.declared.sight.Sight.{Sight}
 use Rattle.stm_watch.specs.declared.sight.Sight.TheVariants.{Follows, Left, Lost}
 use Rattle.stm_wire.specs.declared.verdict.Verdict.{Verdict}
 use Rattle.stm_wire.specs.declared.verdict.Verdict.TheVariants.{Done, Refused, Loose}
-use Rattle.stm_wire.specs.Chip.{ChipData, erased_byte, fits_inside}
-use Rattle.stm_wire.specs.Exchange.{number_of, verdict}
-use Rattle.stm_wire.specs.Effect.{Change, Nothing, ErasePages, EraseAll, Write, Effect, change_of}
-use Rattle.stm_wire.specs.Reply.{ack, nack, step_reply, reply_to, reply, answer, read_answer}
-use Rattle.stm_wire.specs.Reply.{commands_answer, id_answer}
-use Rattle.stm_wire.specs.Device.{Device, Connected, Gone, Feeds, Takes, phase_after}
+use Rattle.stm_wire.proofs.Names.{ack, answer, Change, change_of, ChipData, commands_answer, Connected, Device, Effect, EraseAll, erased_byte, ErasePages, Feeds, fits_inside, Gone, id_answer, nack}
+use Rattle.stm_wire.proofs.Names.{Nothing, number_of, phase_after, read_answer, reply, reply_to, step_reply, Takes, verdict, Write}
 use Rattle.stm_watch.specs.Known.{Known, stored_all, changed_known}
 use Rattle.stm_watch.specs.Known.{count_of_read, place_of_read, told_of_read, count_read}
 use Rattle.stm_watch.specs.Known.{place_read, told, lost, sight_after, judged, fed_to, fed}

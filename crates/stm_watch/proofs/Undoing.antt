@@ -4,10 +4,7 @@ use Rattle.std.proofs.Common.{◌≡◌, inl, inr, ℕ, zero, suc, ◌+◌, ◌-
 use Rattle.std.proofs.Common.{◌==◌, if◌then◌else◌, All, List, [], ◌∷◌, length, take, drop}
 use Rattle.std.proofs.Common.{replicate, Option, Some, None, refl, sym, ◌∙◌, ap, ap₂, arith}
 use Rattle.std.proofs.lemmas.Bool.{eq-eqb}
-use Rattle.stm_wire.specs.Chip.{ChipData, IsErasedByte, erased_byte, flash_size}
-use Rattle.stm_wire.specs.Chip.{page_offset, page_size}
-use Rattle.stm_wire.specs.Effect.{Change, Nothing, ErasePages, EraseAll, Write, Effect, Stores}
-use Rattle.stm_wire.specs.Effect.{erased_pages}
+use Rattle.stm_wire.proofs.Names.{Change, ChipData, Effect, EraseAll, erased_byte, erased_pages, ErasePages, flash_size, IsErasedByte, Nothing, page_offset, page_size, Stores, Write}
 use Rattle.stm_wire.specs.lemmas.PageLaws.{length-with_page, fits-end}
 use Rattle.stm_sim.specs.Simulator.{Fits}
 use Rattle.std.proofs.lemmas.List.{length-replicate}

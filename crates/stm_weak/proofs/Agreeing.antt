@@ -5,9 +5,7 @@ use Rattle.std.proofs.Common.{◌∙◌, ap, subst, arith, IsTrue, Contains}
 use Rattle.std.proofs.lemmas.Bool.{cases_lt}
 use Rattle.std.proofs.lemmas.List.{places, same_lists, get_or_default, take-append-drop}
 use Rattle.std.proofs.lemmas.List.{get_or_past}
-use Rattle.stm_wire.specs.Chip.{ChipData, erased_page, flash_size, page_count, page_offset}
-use Rattle.stm_wire.specs.Chip.{page_size, with_bytes, with_page}
-use Rattle.stm_wire.specs.Effect.{erased_pages}
+use Rattle.stm_wire.proofs.Names.{ChipData, erased_page, erased_pages, flash_size, page_count, page_offset, page_size, with_bytes, with_page}
 use Rattle.stm_wire.specs.lemmas.PageLaws.{length-erased_page, length-with_page, fits_page}
 use Rattle.stm_weak.specs.WeakDevice.{AgreesOutside, IsWeakAt}
 

@@ -6,12 +6,8 @@ use Rattle.std.proofs.lemmas.Bool.{eqb-true}
 use Rattle.std.proofs.lemmas.List.{get_or-take, get_or-drop, length-take, length-drop, same_lists}
 use Rattle.std.proofs.lemmas.List.{get_or_default}
 use Rattle.std.proofs.lemmas.List.Elements.{All-drop, All-tail, All-take}
-use Rattle.stm_wire.specs.Chip.{ChipData, fits_inside, flash_size}
-use Rattle.stm_wire.specs.Exchange.{number_of, pair_of, two_byte_numbers}
-use Rattle.stm_wire.specs.Effect.{Nothing, ErasePages, EraseAll, change_of, erase_change}
-use Rattle.stm_wire.specs.Effect.{extended_change, write_change}
-use Rattle.stm_wire.specs.Telling.{readable_bytes, asks_unique, kib_bytes}
-use Rattle.stm_wire.specs.Reply.{answer, commands_answer, id_answer, read_answer}
+use Rattle.stm_wire.proofs.Names.{answer, asks_unique, change_of, ChipData, commands_answer, erase_change, EraseAll, ErasePages, extended_change, fits_inside, flash_size, id_answer, kib_bytes}
+use Rattle.stm_wire.proofs.Names.{Nothing, number_of, pair_of, read_answer, readable_bytes, two_byte_numbers, write_change}
 use Rattle.stm_wire.specs.lemmas.PageLaws.{fits-end}
 use Rattle.stm_weak.specs.WeakDevice.{IsInRead, ReadsPlace}
 use Rattle.stm_weak.proofs.Effects.{AreBytes, IsByte}

@@ -2,12 +2,8 @@
 use Rattle.std.proofs.Common.{◌≡◌, ◌⊎◌, inl, inr, ⊎_elim, ℕ, zero, suc, ◌-◌, ◌<◌, ◌≤◌, Bool, true}
 use Rattle.std.proofs.Common.{false, ◌||◌, if◌then◌else◌, min, nat_le, nat_lt, List, [], ◌∷◌, ◌++◌}
 use Rattle.std.proofs.Common.{replicate, Some, None, refl, sym, ◌∙◌, ap, subst, arith}
-use Rattle.stm_wire.specs.Call.{Append, Call, Fetch, Get, Put}
-use Rattle.stm_wire.specs.Device.{Connected, Device, IsSettled, Phase}
-use Rattle.stm_wire.specs.Reply.{ack, nack}
-use Rattle.stm_wire.specs.SettlingCalls.{AreBatches, EndsSingly, IsBatched, IsDrained, IsUnrefused}
-use Rattle.stm_wire.specs.SettlingCalls.{answered, batch_size, ending, more, none, reconnected}
-use Rattle.stm_wire.specs.SettlingCalls.{refused, taken, used_up}
+use Rattle.stm_wire.proofs.Names.{ack, answered, Append, AreBatches, batch_size, Call, Connected, Device, ending, EndsSingly, Fetch, Get, IsBatched, IsDrained, IsSettled, IsUnrefused, more, nack}
+use Rattle.stm_wire.proofs.Names.{none, Phase, Put, reconnected, refused, taken, used_up}
 use Rattle.stm_weak.specs.SettledBatches.{AnswersAlone, BatchesLeaveItWaiting, IsTameFor}
 use Rattle.stm_weak.specs.WeakDevice.{WeakDevice}
 use Rattle.stm_weak.proofs.FedSteadily.{IsTameDevice, Steady, fed_little, fed_steady}

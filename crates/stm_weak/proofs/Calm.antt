@@ -6,9 +6,7 @@ use Rattle.std.proofs.Common.{◌∙◌, ap, subst, arith, ne_eqb, append_assoc}
 use Rattle.std.proofs.lemmas.Bool.{eqb-true, eqb-false}
 use Rattle.stm_wire.specs.declared.verdict.Verdict.{Verdict}
 use Rattle.stm_wire.specs.declared.verdict.Verdict.TheVariants.{Done, Refused, Loose}
-use Rattle.stm_wire.specs.Chip.{ChipData, flash_size}
-use Rattle.stm_wire.specs.Exchange.{at_end, command_verdict, complement, done_if, is_listed}
-use Rattle.stm_wire.specs.Exchange.{verdict}
+use Rattle.stm_wire.proofs.Names.{at_end, ChipData, command_verdict, complement, done_if, flash_size, is_listed, verdict}
 use Rattle.stm_weak.specs.WeakDevice.{IsInRead}
 use Rattle.stm_weak.proofs.Openness.{verdict_listed}
 use Rattle.stm_weak.proofs.Unread.{IsSilent}

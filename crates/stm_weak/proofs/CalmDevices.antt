@@ -4,11 +4,7 @@ use Rattle.std.proofs.Common.{◌≡◌, ℕ, ◌<◌, Bool, true, false, ◌==�
 use Rattle.std.proofs.Common.{◌++◌, Option, Some, None, refl, sym, ◌∙◌, ap, subst, arith}
 use Rattle.stm_wire.specs.declared.verdict.Verdict.{Verdict}
 use Rattle.stm_wire.specs.declared.verdict.Verdict.TheVariants.{Done, Refused, Loose}
-use Rattle.stm_wire.specs.Chip.{ChipData, flash_size}
-use Rattle.stm_wire.specs.Device.{Device, Phase, Fresh, Connected, Gone, Receives, Takes}
-use Rattle.stm_wire.specs.Device.{phase_after}
-use Rattle.stm_wire.specs.Exchange.{verdict}
-use Rattle.stm_wire.specs.Reply.{ack}
+use Rattle.stm_wire.proofs.Names.{ack, ChipData, Connected, Device, flash_size, Fresh, Gone, Phase, phase_after, Receives, Takes, verdict}
 use Rattle.stm_wire.specs.lemmas.PageLaws.{page_within}
 use Rattle.stm_weak.specs.WeakDevice.{NoneIsWeak, ReadsPlace, ReadsWeak, WeakDevice, WeakFeeds}
 use Rattle.stm_weak.proofs.Agreeing.{weak_exists}

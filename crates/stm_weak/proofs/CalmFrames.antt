@@ -11,13 +11,9 @@ use Rattle.stm_wire.specs.declared.chip.EraseKind.TheVariants.{Page, Extended}
 use Rattle.stm_wire.specs.declared.places.UniquePlace.{UniquePlace}
 use Rattle.stm_wire.specs.declared.verdict.Verdict.{Verdict}
 use Rattle.stm_wire.specs.declared.verdict.Verdict.TheVariants.{Done, Refused}
-use Rattle.stm_wire.specs.Chip.{ChipData, fits_inside, flash_size, is_inside}
-use Rattle.stm_wire.specs.Device.{Connected, Device, IsDevice, ListsKind, phase_after}
-use Rattle.stm_wire.specs.Exchange.{all_exist, complement, done_if, is_listed}
-use Rattle.stm_wire.specs.Exchange.{two_byte_numbers, read_verdict, verdict, write_verdict, xor}
-use Rattle.stm_wire.specs.Frames.{address_bytes, command, erase_frame, read_frame, with_checksum}
-use Rattle.stm_wire.specs.Frames.{write_frame}
-use Rattle.stm_wire.specs.Telling.{asks_unique, can_read, has_size, has_unique, is_readable}
+use Rattle.stm_wire.proofs.Names.{address_bytes, all_exist, asks_unique, can_read, ChipData, command, complement, Connected, Device, done_if, erase_frame, fits_inside, flash_size, has_size}
+use Rattle.stm_wire.proofs.Names.{has_unique, is_inside, is_listed, is_readable, IsDevice, ListsKind, phase_after, read_frame, read_verdict, two_byte_numbers, verdict, with_checksum, write_frame}
+use Rattle.stm_wire.proofs.Names.{write_verdict, xor}
 use Rattle.stm_weak.proofs.Calm.{IsCalmRest, IsCalmTail, calm_nothing, rest_one, rest_two}
 use Rattle.stm_weak.proofs.Openness.{after_right, inside_if_fits, open_erase, open_write}
 use Rattle.stm_weak.proofs.Openness.{verdict_listed}

@@ -3,9 +3,7 @@ use Rattle.std.proofs.Common.{◌≡◌, inl, inr, ℕ, ◌<◌, List, [], ◌�
 use Rattle.std.proofs.Common.{sym, ◌∙◌, ap, subst, append_assoc}
 use Rattle.stm_wire.specs.declared.verdict.Verdict.{Verdict}
 use Rattle.stm_wire.specs.declared.verdict.Verdict.TheVariants.{Done, Refused}
-use Rattle.stm_wire.specs.Chip.{ChipData}
-use Rattle.stm_wire.specs.Device.{Device, Phase, Connected, Receives, Takes}
-use Rattle.stm_wire.specs.Exchange.{verdict}
+use Rattle.stm_wire.proofs.Names.{ChipData, Connected, Device, Phase, Receives, Takes, verdict}
 use Rattle.stm_weak.specs.WeakDevice.{WeakDevice, WeakFeeds}
 use Rattle.stm_weak.specs.WeakRuns.{Feed, HasNoReset, IsNow, IsUnread, Reset, Take, WeakBefall}
 use Rattle.stm_weak.specs.WeakRuns.{AreFedBytes, WeakHappening, fed_bytes}

@@ -1,8 +1,7 @@
 -- A device is settled: no byte of that reads a weak page.
 use Rattle.std.proofs.Common.{◌≡◌, ◌⊎◌, inl, inr, ⊎_elim, ℕ, ◌<◌, List, [], ◌∷◌, drop, IsTrue}
 use Rattle.std.proofs.Common.{Contains, sym, ap, subst}
-use Rattle.stm_wire.specs.Chip.{ChipData, page_count}
-use Rattle.stm_wire.specs.Device.{Device, Fresh, reset}
+use Rattle.stm_wire.proofs.Names.{ChipData, Device, Fresh, page_count, reset}
 use Rattle.stm_weak.specs.WeakDevice.{NoneIsWeak, ReadsWeak, WeakDevice, WeakFeeds}
 use Rattle.stm_weak.specs.WeakEvents.{NoneBecomesWeak}
 use Rattle.stm_weak.specs.WeakRuns.{Feed, HasNoReset, IsNow, IsUnread, Reset, Take, WeakBefall}

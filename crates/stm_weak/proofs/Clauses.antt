@@ -1,22 +1,13 @@
 -- What an undo did, by its clauses: it believes no page at work.
 use Rattle.std.proofs.Common.{◌⊎◌, inl, inr, ℕ, Bool, true, false, List, [], ◌∷◌, Contains, Option}
 use Rattle.stm_wire.specs.declared.intent.Intent.{Intent}
-use Rattle.stm_wire.specs.Chip.{ChipData}
-use Rattle.stm_wire.specs.Dialogue.{GoesOn}
+use Rattle.stm_wire.proofs.Names.{ChipData, GoesOn, RigState}
 use Rattle.stm_wire.specs.lemmas.DialogueLaws.{GoesOn-weaker}
-use Rattle.stm_wire.specs.Rig.{RigState}
-use Rattle.stm_journal.specs.Newest.{pages_of_segments}
-use Rattle.stm_journal.specs.States.{StateData, intent_of, keeps, newest_has}
+use Rattle.stm_journal.proofs.Names.{intent_of, keeps, newest_has, pages_of_segments, StateData}
 use Rattle.stm_session.specs.declared.fault.Fault.{Fault}
 use Rattle.stm_session.specs.declared.returned.Returned.{Returned}
-use Rattle.stm_session.specs.Fault.{Cause, cause_of}
-use Rattle.stm_session.specs.Fresh.{Way, settling_way}
-use Rattle.stm_session.specs.Order.{Step, Adds, Sends, AreCutShort, IsAfter, untold}
-use Rattle.stm_session.specs.Reaching.{IsConfirmedInPart, ReachesAndStops, ReachesInPart}
-use Rattle.stm_session.specs.Reaching.{SettlesThen, StepsOf, asking_steps}
-use Rattle.stm_session.specs.UndoOrder.{AreUndoneInOrder, BeginTaking, GivesBackInOrder, UndoDoes}
-use Rattle.stm_session.specs.UndoOrder.{UndoDoesInPart, UndoStopsAs, UndoesInOrder}
-use Rattle.stm_session.specs.Work.{pages_at_work}
+use Rattle.stm_session.proofs.Names.{Adds, AreCutShort, AreUndoneInOrder, asking_steps, BeginTaking, Cause, cause_of, GivesBackInOrder, IsAfter, IsConfirmedInPart, pages_at_work, ReachesAndStops}
+use Rattle.stm_session.proofs.Names.{ReachesInPart, Sends, SettlesThen, settling_way, Step, StepsOf, UndoDoes, UndoDoesInPart, UndoesInOrder, UndoStopsAs, untold, Way}
 use Rattle.stm_weak.specs.Weak.{does, intent_with_lines, weak_after}
 use Rattle.stm_weak.specs.Believed.{AreAtWork, BelievesNone, HealsAll, NoneBelieved, UndoHeals}
 use Rattle.stm_weak.specs.Believed.{UndoStopsHealing}

@@ -2,10 +2,8 @@
 use Rattle.std.proofs.Common.{◌≡◌, ℕ, ◌<◌, IsTrue, List, [], ◌∷◌, Option, None, refl, sym, ◌∙◌}
 use Rattle.std.proofs.Common.{subst}
 use Rattle.stm_wire.specs.declared.intent.Intent.{Intent}
-use Rattle.stm_wire.specs.Chip.{ChipData, page_count}
-use Rattle.stm_wire.specs.Device.{Device, IsDevice}
-use Rattle.stm_wire.specs.Rig.{RigState}
-use Rattle.stm_session.specs.Undoable.{has_companion}
+use Rattle.stm_wire.proofs.Names.{ChipData, Device, IsDevice, page_count, RigState}
+use Rattle.stm_session.proofs.Names.{has_companion}
 use Rattle.stm_weak.specs.Weak.{NoneIs, intent_behind, weak_behind}
 use Rattle.stm_weak.specs.History.{AllHeal, AtOk, WeakDeed, HistoriesHeal, events_in}
 use Rattle.stm_weak.specs.History.{ran, undid, undid_verified}

@@ -7,10 +7,8 @@ use Rattle.std.proofs.lemmas.List.{get_or-take, get_or-drop, length-replicate, l
 use Rattle.std.proofs.lemmas.List.{length-drop}
 use Rattle.std.proofs.lemmas.List.Elements.{All-append, All-cons, All-drop, All-head, All-nil}
 use Rattle.std.proofs.lemmas.List.Elements.{All-replicate, All-tail, All-take}
-use Rattle.stm_wire.specs.Chip.{ChipData, IsErasedByte, erased_byte, erased_page, flash_size}
-use Rattle.stm_wire.specs.Chip.{page_offset, page_size, with_bytes, with_page}
-use Rattle.stm_wire.specs.Effect.{Change, Nothing, ErasePages, EraseAll, Write, Effect, Stores}
-use Rattle.stm_wire.specs.Effect.{erased_pages}
+use Rattle.stm_wire.proofs.Names.{Change, ChipData, Effect, EraseAll, erased_byte, erased_page, erased_pages, ErasePages, flash_size, IsErasedByte, Nothing, page_offset, page_size, Stores, with_bytes}
+use Rattle.stm_wire.proofs.Names.{with_page, Write}
 use Rattle.stm_wire.specs.lemmas.FlashLaws.{length-erased_pages}
 use Rattle.stm_wire.specs.lemmas.PageLaws.{length-with_bytes}
 use Rattle.stm_weak.specs.WeakDevice.{AgreesOutside, ErasesPage, IsWeakAt}

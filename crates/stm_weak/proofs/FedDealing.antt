@@ -2,18 +2,9 @@
 use Rattle.std.proofs.Common.{◌≡◌, ◌⊎◌, ⊎_elim, inl, inr, ℕ, ◌<◌, Bool, List, [], ◌∷◌, Option, None}
 use Rattle.std.proofs.Common.{refl, sym, ◌∙◌, ap, subst}
 use Rattle.stm_wire.specs.declared.intent.Intent.{Intent}
-use Rattle.stm_wire.specs.Chip.{ChipData, page_count}
-use Rattle.stm_wire.specs.Device.{Device, IsDevice}
-use Rattle.stm_wire.specs.Dialogue.{GoesOn}
-use Rattle.stm_wire.specs.Intents.{settling_byte}
-use Rattle.stm_wire.specs.Rig.{RigState}
-use Rattle.stm_journal.specs.States.{intent_of}
-use Rattle.stm_session.specs.Fault.{Cause, cause_of}
-use Rattle.stm_session.specs.Fresh.{Way, settling_way}
-use Rattle.stm_session.specs.Order.{Step}
-use Rattle.stm_session.specs.Reaching.{IsConfirmedInPart, ReachesAndStops, ReachesInPart}
-use Rattle.stm_session.specs.UndoOrder.{BeginTaking}
-use Rattle.stm_session.specs.Undoable.{has_companion}
+use Rattle.stm_wire.proofs.Names.{ChipData, Device, GoesOn, IsDevice, page_count, RigState, settling_byte}
+use Rattle.stm_journal.proofs.Names.{intent_of}
+use Rattle.stm_session.proofs.Names.{BeginTaking, Cause, cause_of, has_companion, IsConfirmedInPart, ReachesAndStops, ReachesInPart, settling_way, Step, Way}
 use Rattle.stm_weak.specs.Weak.{NoneIs, WeakEvent, intent_behind, settles, weak_after, weak_behind}
 use Rattle.stm_weak.specs.Believed.{NoneBelieved}
 use Rattle.stm_weak.specs.FedEvents.{AreFedAsOrdinary}

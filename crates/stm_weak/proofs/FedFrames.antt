@@ -5,15 +5,11 @@ use Rattle.std.proofs.Common.{None, refl, sym, ◌∙◌, ap, subst, append-nil,
 use Rattle.std.proofs.lemmas.Bool.{eqb-true}
 use Rattle.stm_wire.specs.declared.intent.Intent.{Intent}
 use Rattle.stm_wire.specs.declared.places.UniquePlace.{UniquePlace}
-use Rattle.stm_wire.specs.Chip.{ChipData, page_count}
-use Rattle.stm_wire.specs.Device.{Connected, Device, IsDevice, Phase}
+use Rattle.stm_wire.proofs.Names.{ChipData, command, Connected, Device, erase_frame, erase_turns, IsDevice, page_count, Phase, read_frame, sent_bytes, Turn, write_frame}
 use Rattle.stm_weak.specs.SettledBatches.{IsTameIn}
-use Rattle.stm_wire.specs.Dialogue.{Turn, sent_bytes}
-use Rattle.stm_wire.specs.Frames.{command, erase_frame, erase_turns, read_frame, write_frame}
 use Rattle.stm_wire.specs.lemmas.DialogueLaws.{erase_sends, get_id_sends, get_sends, read_sends}
 use Rattle.stm_wire.specs.lemmas.DialogueLaws.{write_sends}
-use Rattle.stm_session.specs.Order.{page_address}
-use Rattle.stm_session.specs.Reaching.{place_of_bytes}
+use Rattle.stm_session.proofs.Names.{page_address, place_of_bytes}
 use Rattle.stm_weak.specs.Weak.{NoneIs}
 use Rattle.stm_weak.specs.Believed.{MayPutBelieving, confirms, reads, refused, asks as put_asks}
 use Rattle.stm_weak.specs.Believed.{names as put_names, erases as put_erases, writes as put_writes}

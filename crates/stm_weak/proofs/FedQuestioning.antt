@@ -2,9 +2,7 @@
 use Rattle.std.proofs.Common.{◌≡◌, inl, inr, ⊎_elim, ℕ, ◌<◌, IsTrue, List, [], ◌∷◌, Option, refl}
 use Rattle.std.proofs.Common.{append-nil, sym, ◌∙◌, subst}
 use Rattle.stm_wire.specs.declared.intent.Intent.{Intent}
-use Rattle.stm_wire.specs.Chip.{ChipData}
-use Rattle.stm_wire.specs.Device.{Device, IsDevice}
-use Rattle.stm_wire.specs.Intents.{intended_pages, settling_byte}
+use Rattle.stm_wire.proofs.Names.{ChipData, Device, intended_pages, IsDevice, settling_byte}
 use Rattle.stm_weak.specs.Weak.{settles, weak_after}
 use Rattle.stm_weak.specs.FedAsking.{AreQuestionsAsOrdinary, FedQuestions, IsAskedAlone}
 use Rattle.stm_weak.specs.FedAsking.{IsAskedAsOrdinary, IsBoardQuestion, WaitsForQuestions}

@@ -4,11 +4,7 @@ use Rattle.std.proofs.Common.{List, [], ◌∷◌, ◌++◌, replicate, Option, 
 use Rattle.std.proofs.Common.{subst, append_assoc}
 use Rattle.stm_wire.specs.declared.verdict.Verdict.{Verdict}
 use Rattle.stm_wire.specs.declared.verdict.Verdict.TheVariants.{Done, Refused, Loose}
-use Rattle.stm_wire.specs.Chip.{ChipData}
-use Rattle.stm_wire.specs.Device.{Device, Phase, Fresh, Connected, Gone, Receives, Takes}
-use Rattle.stm_wire.specs.Device.{phase_after}
-use Rattle.stm_wire.specs.Exchange.{verdict}
-use Rattle.stm_wire.specs.Reply.{ack}
+use Rattle.stm_wire.proofs.Names.{ack, ChipData, Connected, Device, Fresh, Gone, Phase, phase_after, Receives, Takes, verdict}
 use Rattle.stm_weak.specs.SettledBatches.{IsTameFor, IsTameIn}
 use Rattle.stm_weak.specs.WeakDevice.{WeakDevice, WeakFeeds}
 use Rattle.stm_weak.proofs.Calm.{calm_nothing}

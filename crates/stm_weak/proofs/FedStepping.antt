@@ -6,13 +6,8 @@ use Rattle.std.proofs.Common.{refl, sym, ◌∙◌, ap, subst, arith}
 use Rattle.std.proofs.lemmas.Bool.{ltb-true}
 use Rattle.stm_wire.specs.declared.intent.Intent.{Intent}
 use Rattle.stm_wire.specs.declared.intent.Intent.TheVariants.{Erase}
-use Rattle.stm_wire.specs.Chip.{ChipData, page_count}
-use Rattle.stm_wire.specs.Device.{Connected, Device, IsDevice}
-use Rattle.stm_wire.specs.Dialogue.{Turn}
-use Rattle.stm_wire.specs.Frames.{erase_turns}
-use Rattle.stm_wire.specs.Intents.{intended_pages, settling_byte}
-use Rattle.stm_session.specs.Order.{Adds, Sends}
-use Rattle.stm_session.specs.Work.{pages_of_intent}
+use Rattle.stm_wire.proofs.Names.{ChipData, Connected, Device, erase_turns, intended_pages, IsDevice, page_count, settling_byte, Turn}
+use Rattle.stm_session.proofs.Names.{Adds, pages_of_intent, Sends}
 use Rattle.stm_weak.specs.Weak.{WeakEvent, breaks, does, settles, intent_after, intent_behind}
 use Rattle.stm_weak.specs.Weak.{weak_after, weak_behind}
 use Rattle.stm_weak.specs.Believed.{AreAtWork, NoneBelieved}

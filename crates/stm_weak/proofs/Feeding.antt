@@ -5,12 +5,8 @@ use Rattle.std.proofs.Common.{None, refl, sym, ◌∙◌, ap, subst, IsTrue, All
 use Rattle.std.proofs.lemmas.List.Elements.{All-append, All-cons, All-nil}
 use Rattle.stm_wire.specs.declared.verdict.Verdict.{Verdict}
 use Rattle.stm_wire.specs.declared.verdict.Verdict.TheVariants.{Done, Refused, Loose}
-use Rattle.stm_wire.specs.Chip.{ChipData, flash_size}
-use Rattle.stm_wire.specs.Exchange.{IsOpen, verdict}
-use Rattle.stm_wire.specs.Effect.{Effect, change_of}
-use Rattle.stm_wire.specs.Reply.{ack, reply_to}
-use Rattle.stm_wire.specs.Device.{Device, Phase, Fresh, Connected, Gone, Receives, Takes}
-use Rattle.stm_wire.specs.Device.{IsDevice, IsLoose, IsOpenPhase, phase_after, reply_of}
+use Rattle.stm_wire.proofs.Names.{ack, change_of, ChipData, Connected, Device, Effect, flash_size, Fresh, Gone, IsDevice, IsLoose, IsOpen, IsOpenPhase, Phase, phase_after, Receives, reply_of}
+use Rattle.stm_wire.proofs.Names.{reply_to, Takes, verdict}
 use Rattle.stm_weak.specs.WeakDevice.{AgreesOutside, ErasesPage, IsWeakAt, ReadsPlace}
 use Rattle.stm_weak.proofs.Agreeing.{agrees_same, agrees_weaker}
 use Rattle.stm_weak.proofs.Effects.{IsByte, does_alike, effect_length, erased_is_byte}

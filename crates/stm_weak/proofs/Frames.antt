@@ -8,13 +8,9 @@ use Rattle.stm_wire.specs.declared.chip.EraseKind.{EraseKind}
 use Rattle.stm_wire.specs.declared.chip.EraseKind.TheVariants.{Page, Extended}
 use Rattle.stm_wire.specs.declared.intent.Intent.{Intent}
 use Rattle.stm_wire.specs.declared.intent.Intent.TheVariants.{Erase, Program}
-use Rattle.stm_wire.specs.Chip.{ChipData, page_size}
-use Rattle.stm_wire.specs.Dialogue.{Turn, sent_bytes}
-use Rattle.stm_wire.specs.Frames.{erase_turns, read_turns, write_turns}
+use Rattle.stm_wire.proofs.Names.{at_address, at_code, at_count, ChipData, erase_turns, IsRefusedRead, page_size, read_turns, sent_bytes, Turn, write_turns}
 use Rattle.stm_wire.specs.lemmas.PageLaws.{page_end}
-use Rattle.stm_wire.specs.Refused.{IsRefusedRead, at_address, at_code, at_count}
-use Rattle.stm_session.specs.Order.{page_address}
-use Rattle.stm_session.specs.Work.{pages_of_intent}
+use Rattle.stm_session.proofs.Names.{page_address, pages_of_intent}
 use Rattle.stm_weak.specs.Weak.{ChangesPage, erases, writes}
 use Rattle.stm_weak.specs.Believed.{MayPutBelieving, asks, confirms, names, reads, refused}
 use Rattle.stm_weak.specs.Believed.{erases as may_erase, writes as may_write}

@@ -2,16 +2,8 @@
 use Rattle.std.proofs.Common.{◌≡◌, inl, inr, ℕ, List, [], ◌∷◌, ◌++◌, Option, None, Ok}
 use Rattle.std.proofs.Common.{refl, sym, ◌∙◌, ap, subst}
 use Rattle.stm_wire.specs.declared.intent.Intent.{Intent}
-use Rattle.stm_wire.specs.Chip.{ChipData}
-use Rattle.stm_wire.specs.Device.{Device, IsDevice}
-use Rattle.stm_wire.specs.Intents.{settling_byte}
-use Rattle.stm_wire.specs.Rig.{RigState}
-use Rattle.stm_session.specs.Events.{AllLead, Event, Happening, Leads, World, end_of}
-use Rattle.stm_session.specs.Events.{run_stopped}
-use Rattle.stm_session.specs.Events.{undid, undo_stopped}
-use Rattle.stm_session.specs.Events.{kept}
-use Rattle.stm_session.specs.Headline.{AllIsUndone, oldest_after, oldest_of}
-use Rattle.stm_session.specs.Order.{Adds, Sends}
+use Rattle.stm_wire.proofs.Names.{ChipData, Device, IsDevice, RigState, settling_byte}
+use Rattle.stm_session.proofs.Names.{Adds, AllIsUndone, AllLead, end_of, Event, Happening, kept, Leads, oldest_after, oldest_of, run_stopped, Sends, undid, undo_stopped, World}
 use Rattle.stm_weak.specs.Weak.{NoneIs, WeakEvent, breaks, does, intent_behind, settles}
 use Rattle.stm_weak.specs.Weak.{weak_behind}
 use Rattle.stm_weak.specs.FedAsking.{AreQuestionsAsOrdinary, FedQuestions, IsAskedAlone}

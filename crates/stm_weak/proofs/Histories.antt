@@ -4,24 +4,12 @@ use Rattle.std.proofs.Common.{Option, None, refl, sym, ◌∙◌, subst}
 use Rattle.stm_image.specs.Lay.{lay}
 use Rattle.stm_image.specs.Pairs.{Pairs}
 use Rattle.stm_wire.specs.declared.intent.Intent.{Intent}
-use Rattle.stm_wire.specs.Chip.{ChipData}
-use Rattle.stm_wire.specs.Dialogue.{GoesOn}
-use Rattle.stm_wire.specs.Rig.{RigState}
-use Rattle.stm_journal.specs.Journals.{Loaded}
-use Rattle.stm_journal.specs.Newest.{pages_of_segments}
-use Rattle.stm_journal.specs.States.{IsSound, StateData, intent_of}
+use Rattle.stm_wire.proofs.Names.{ChipData, GoesOn, RigState}
+use Rattle.stm_journal.proofs.Names.{intent_of, IsSound, Loaded, pages_of_segments, StateData}
 use Rattle.stm_session.specs.declared.fault.Fault.{Fault}
-use Rattle.stm_session.specs.Fault.{cause_of}
-use Rattle.stm_session.specs.Fresh.{contact_way, settling_way}
-use Rattle.stm_session.specs.Meaning.{CommandData}
-use Rattle.stm_session.specs.Order.{Step, Begin, IsAfter, untold}
-use Rattle.stm_session.specs.Reaching.{IsConfirmedInPart, ReachesAndStops, ReachesInPart, StepsOf}
-use Rattle.stm_session.specs.Reaching.{confirming}
-use Rattle.stm_session.specs.RunOrder.{AreBegun, AreDoneSomehow, RunsInOrder}
-use Rattle.stm_session.specs.Undoable.{IsJournalOf, has_companion}
-use Rattle.stm_session.specs.UndoOrder.{AreAllUndone, AreTakenWhole, AreUndoneInOrder}
-use Rattle.stm_session.specs.UndoOrder.{BeginTaking, OrMisread, UndoDoes}
-use Rattle.stm_session.specs.Work.{pages_at_work, pages_of_intent}
+use Rattle.stm_session.proofs.Names.{AreAllUndone, AreBegun, AreDoneSomehow, AreTakenWhole, AreUndoneInOrder, Begin, BeginTaking, cause_of, CommandData, confirming, contact_way, has_companion}
+use Rattle.stm_session.proofs.Names.{IsAfter, IsConfirmedInPart, IsJournalOf, OrMisread, pages_at_work, pages_of_intent, ReachesAndStops, ReachesInPart, RunsInOrder, settling_way, Step, StepsOf}
+use Rattle.stm_session.proofs.Names.{UndoDoes, untold}
 use Rattle.stm_weak.specs.Weak.{NoneIs, intent_behind, weak_behind}
 use Rattle.stm_weak.specs.Believed.{AreAtWork, NoneBelieved}
 use Rattle.stm_weak.specs.History.{AllFind, AllHeal, AtOk, WeakDeed, asked, asking_stopped, Finds}

@@ -1,7 +1,6 @@
 -- All that befalls a device with weak pages, and an ordinary one beside it.
 use Rattle.std.proofs.Common.{◌≡◌, ℕ, List, [], ◌∷◌, drop, refl, sym, ◌∙◌, ap, subst}
-use Rattle.stm_wire.specs.Chip.{ChipData}
-use Rattle.stm_wire.specs.Device.{Device, Phase, Fresh, Feeds, IsDevice, IsOpenPhase, reset}
+use Rattle.stm_wire.proofs.Names.{ChipData, Device, Feeds, Fresh, IsDevice, IsOpenPhase, Phase, reset}
 use Rattle.stm_weak.specs.WeakDevice.{AgreesOutside, CanBe, WeakDevice}
 use Rattle.stm_weak.specs.WeakRuns.{Feed, Reset, Take, IsNow, StayWeak}
 use Rattle.stm_weak.specs.WeakLaws.{LedAsOrdinary, OneIsLeft, SoundIsOrdinary}

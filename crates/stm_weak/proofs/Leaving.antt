@@ -6,22 +6,11 @@ use Rattle.std.proofs.lemmas.Bool.{false≢true}
 use Rattle.std.proofs.lemmas.Bool.Decides.{nat_tests}
 use Rattle.stm_wire.specs.declared.intent.Intent.{Intent}
 use Rattle.stm_wire.specs.declared.intent.Intent.TheVariants.{Erase, Program}
-use Rattle.stm_wire.specs.Call.{Call}
-use Rattle.stm_wire.specs.Chip.{ChipData, page_count}
-use Rattle.stm_wire.specs.Dialogue.{GoesOn}
-use Rattle.stm_wire.specs.Intents.{intended_pages}
-use Rattle.stm_wire.specs.Rig.{RigState}
+use Rattle.stm_wire.proofs.Names.{Call, ChipData, GoesOn, intended_pages, page_count, RigState}
 use Rattle.stm_journal.specs.declared.stage.Stage.{Stage}
 use Rattle.stm_journal.specs.declared.stage.Stage.TheVariants.{Open, Ended, Returning}
-use Rattle.stm_journal.specs.States.{SegmentData, StateData, intent_at, intent_of, is_ended_stage}
-use Rattle.stm_journal.specs.States.{is_unfinished}
-use Rattle.stm_session.specs.Fault.{Cause}
-use Rattle.stm_session.specs.Fresh.{Way}
-use Rattle.stm_session.specs.Order.{Step, AreCutShort, IsAfter}
-use Rattle.stm_session.specs.Reaching.{IsConfirmedInPart, ReachesAndStops, SettlesThen}
-use Rattle.stm_session.specs.Reaching.{asking_steps, confirming}
-use Rattle.stm_session.specs.Undoable.{has_companion}
-use Rattle.stm_session.specs.Work.{beside, pages_of_intent}
+use Rattle.stm_journal.proofs.Names.{intent_at, intent_of, is_ended_stage, is_unfinished, SegmentData, StateData}
+use Rattle.stm_session.proofs.Names.{AreCutShort, asking_steps, beside, Cause, confirming, has_companion, IsAfter, IsConfirmedInPart, pages_of_intent, ReachesAndStops, SettlesThen, Step, Way}
 use Rattle.stm_weak.specs.Weak.{WeakEvent, settles, NoneIs, intent_after, intent_behind, weak_after}
 use Rattle.stm_weak.specs.Weak.{weak_behind}
 use Rattle.stm_weak.specs.Believed.{AreAtWork, NoneBelieved}

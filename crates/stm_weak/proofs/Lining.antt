@@ -2,7 +2,7 @@
 use Rattle.std.proofs.Common.{◌≡◌, inr, ℕ, true, false, Option, Some, None, IsTrue, refl, sym}
 use Rattle.std.proofs.Common.{ap, subst}
 use Rattle.std.proofs.lemmas.Bool.{eqb-true}
-use Rattle.stm_wire.specs.Device.{Device, Feeds}
+use Rattle.stm_wire.proofs.Names.{Device, Feeds}
 use Rattle.stm_sim.specs.Memory.{MemoryData, IsMemory}
 use Rattle.stm_weak.specs.WeakDevice.{Heals, WeakFeeds}
 use Rattle.stm_weak.specs.WeakLine.{is_the_page}

@@ -7,16 +7,10 @@ use Rattle.stm_wire.specs.declared.chip.EraseKind.{EraseKind}
 use Rattle.stm_wire.specs.declared.chip.EraseKind.TheVariants.{Page, Extended}
 use Rattle.stm_wire.specs.declared.verdict.Verdict.{Verdict}
 use Rattle.stm_wire.specs.declared.verdict.Verdict.TheVariants.{Done}
-use Rattle.stm_wire.specs.Chip.{ChipData, fits_inside, is_inside, page_count, with_bytes}
-use Rattle.stm_wire.specs.Effect.{Effect, change_of}
-use Rattle.stm_wire.specs.Exchange.{complement, done_if, is_listed, pair_of, read_verdict, verdict}
-use Rattle.stm_wire.specs.Exchange.{xor}
-use Rattle.stm_wire.specs.Frames.{address_bytes, erase_frame, read_frame, with_checksum}
+use Rattle.stm_wire.proofs.Names.{ack, address_bytes, answer, can_read, change_of, ChipData, complement, Connected, Device, done_if, Effect, erase_frame, Feeds, fits_inside, is_inside, is_listed}
+use Rattle.stm_wire.proofs.Names.{is_readable, IsDevice, ListsKind, page_count, pair_of, Phase, phase_after, read_frame, read_verdict, readable_bytes, Receives, reply_of, reply_to, Takes, verdict}
+use Rattle.stm_wire.proofs.Names.{with_bytes, with_checksum, xor}
 use Rattle.stm_wire.specs.lemmas.PageLaws.{fits-end, length-with_bytes, put_here}
-use Rattle.stm_wire.specs.Reply.{ack, answer, reply_to}
-use Rattle.stm_wire.specs.Telling.{can_read, is_readable, readable_bytes}
-use Rattle.stm_wire.specs.Device.{Device, Phase, Connected, Feeds, IsDevice, ListsKind, Receives}
-use Rattle.stm_wire.specs.Device.{Takes, phase_after, reply_of}
 use Rattle.stm_weak.specs.WeakDevice.{AgreesOutside, CanBe, ErasesPage, Heals, IsWeakAt, WeakDevice}
 use Rattle.stm_weak.specs.WeakDevice.{WeakFeeds}
 use Rattle.stm_weak.specs.WeakMeaning.{EraseHeals, ReadsAnything}

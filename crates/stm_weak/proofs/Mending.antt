@@ -5,17 +5,13 @@ use Rattle.std.proofs.Common.{true, false, if◌then◌else◌, List, [], ◌∷
 use Rattle.std.proofs.Common.{Option, Some, None, refl, sym, ◌∙◌, ap, subst, arith, append-nil}
 use Rattle.stm_wire.specs.declared.intent.Intent.{Intent}
 use Rattle.stm_wire.specs.declared.intent.Intent.TheVariants.{Erase}
-use Rattle.stm_wire.specs.Chip.{ChipData, erased_byte}
+use Rattle.stm_wire.proofs.Names.{ChipData, erased_byte}
 use Rattle.stm_chip.specs.Plan.{frames_of}
 use Rattle.stm_journal.specs.declared.entry.Entry.TheVariants.{Undoes}
 use Rattle.stm_journal.specs.declared.kept.Kept.{Kept}
-use Rattle.stm_journal.specs.States.{intent_page}
-use Rattle.stm_session.specs.Closing.{closing}
-use Rattle.stm_session.specs.Order.{Step, Adds, AreGivenBack, AreRewritten, IsGivenBack}
-use Rattle.stm_session.specs.Order.{IsRewritten, Tells, tells_behind, page_reads, return_steps}
-use Rattle.stm_session.specs.UndoOrder.{AreAllUndone, AreSegmentsUndone, IsSegmentUndone}
-use Rattle.stm_session.specs.Reaching.{confirmed_at}
-use Rattle.stm_session.specs.Work.{beside, pages_of_intent}
+use Rattle.stm_journal.proofs.Names.{intent_page}
+use Rattle.stm_session.proofs.Names.{Adds, AreAllUndone, AreGivenBack, AreRewritten, AreSegmentsUndone, beside, closing, confirmed_at, IsGivenBack, IsRewritten, IsSegmentUndone, page_reads}
+use Rattle.stm_session.proofs.Names.{pages_of_intent, return_steps, Step, Tells, tells_behind}
 use Rattle.stm_session.specs.lemmas.ClosingLaws.{closing_is_looked}
 use Rattle.stm_weak.specs.Weak.{NoneIs}
 use Rattle.stm_weak.specs.Believed.{AreAtWork}

@@ -2,19 +2,12 @@
 use Rattle.std.proofs.Common.{◌≡◌, ◌⊎◌, inl, inr, ℕ, zero, suc, ◌+◌, ◌*◌, ◌/◌, Bool, List, [], ◌∷◌}
 use Rattle.std.proofs.Common.{◌++◌, length, take, drop, Option, refl, sym, subst, arith}
 use Rattle.stm_wire.specs.declared.intent.Intent.{Intent}
-use Rattle.stm_wire.specs.Chip.{ChipData, erased_byte, page_size}
-use Rattle.stm_wire.specs.Frames.{erase_turns, read_turns}
+use Rattle.stm_wire.proofs.Names.{ChipData, erase_turns, erased_byte, page_size, read_turns}
 use Rattle.stm_chip.specs.declared.plan.Frame.{Frame}
 use Rattle.stm_chip.specs.Plan.{frames_of}
 use Rattle.stm_journal.specs.declared.kept.Kept.{Kept}
-use Rattle.stm_session.specs.Closing.{IsLookedAgain, closing}
-use Rattle.stm_session.specs.Order.{Step, Adds, Sends, AreReadsOf, AreRewritten, Begin}
-use Rattle.stm_session.specs.Order.{Tells, tells_behind, page_address, page_reads, read_steps}
-use Rattle.stm_session.specs.Order.{rewrite_steps, write_step, write_steps}
-use Rattle.stm_session.specs.UndoOrder.{AreAllUndone, EndsOtherwise, OrMisread}
-use Rattle.stm_session.specs.UndoOrder.{such, elsewhere, misread}
-use Rattle.stm_session.specs.Reaching.{confirmed_at}
-use Rattle.stm_session.specs.Work.{pages_of_intent}
+use Rattle.stm_session.proofs.Names.{Adds, AreAllUndone, AreReadsOf, AreRewritten, Begin, closing, confirmed_at, elsewhere, EndsOtherwise, IsLookedAgain, misread, OrMisread, page_address, page_reads}
+use Rattle.stm_session.proofs.Names.{pages_of_intent, read_steps, rewrite_steps, Sends, Step, such, Tells, tells_behind, write_step, write_steps}
 use Rattle.stm_weak.specs.Weak.{does, NoneIs, weak_after}
 use Rattle.stm_weak.specs.Believed.{AreAtWork}
 use Rattle.stm_weak.proofs.Frames.{byte_at, first_of_erase, no_erase_reads}

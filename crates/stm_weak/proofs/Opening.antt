@@ -5,10 +5,7 @@ use Rattle.std.proofs.Common.{arith, All, take_all, length-append}
 use Rattle.std.proofs.lemmas.Bool.{cases_lt}
 use Rattle.std.proofs.lemmas.List.{take-append-le}
 use Rattle.std.proofs.lemmas.List.Elements.{All-nil}
-use Rattle.stm_wire.specs.Chip.{ChipData}
-use Rattle.stm_wire.specs.Exchange.{IsOpen, verdict}
-use Rattle.stm_wire.specs.Device.{Device, Phase, Connected, Gone}
-use Rattle.stm_wire.specs.Device.{IsDevice, IsOpenPhase, phase_after}
+use Rattle.stm_wire.proofs.Names.{ChipData, Connected, Device, Gone, IsDevice, IsOpen, IsOpenPhase, Phase, phase_after, verdict}
 use Rattle.stm_weak.proofs.Effects.{IsByte}
 
 pub with_parts : (d : Device) (flash owed : List ℕ) (phase : Phase) → IsDevice d

@@ -8,12 +8,9 @@ use Rattle.stm_wire.specs.declared.chip.EraseKind.{EraseKind}
 use Rattle.stm_wire.specs.declared.chip.EraseKind.TheVariants.{Page, Extended}
 use Rattle.stm_wire.specs.declared.verdict.Verdict.{Verdict}
 use Rattle.stm_wire.specs.declared.verdict.Verdict.TheVariants.{Refused}
-use Rattle.stm_wire.specs.Chip.{ChipData, fits_inside, flash_size, is_inside}
-use Rattle.stm_wire.specs.Exchange.{verdict, command_verdict, after_address, at_end, complement}
-use Rattle.stm_wire.specs.Exchange.{done_if, is_listed, number_of, write_verdict, xor}
+use Rattle.stm_wire.proofs.Names.{address_bytes, after_address, at_end, ChipData, command, command_verdict, complement, done_if, erase_frame, fits_inside, flash_size, is_inside, is_listed, ListsKind}
+use Rattle.stm_wire.proofs.Names.{number_of, verdict, with_checksum, write_verdict, xor}
 use Rattle.stm_wire.specs.lemmas.PageLaws.{fits-end}
-use Rattle.stm_wire.specs.Frames.{address_bytes, command, erase_frame, with_checksum}
-use Rattle.stm_wire.specs.Device.{ListsKind}
 use Rattle.stm_weak.proofs.Unread.{IsOpenTo}
 
 pub verdict_listed : (chip : ChipData) (codes : List ℕ) (code : ℕ) (rest : List ℕ)

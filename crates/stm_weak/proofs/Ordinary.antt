@@ -3,10 +3,7 @@ use Rattle.std.proofs.Common.{◌≡◌, ◌⊎◌, ⊎_elim, inl, inr, ℕ, Boo
 use Rattle.std.proofs.Common.{Some, None, refl, sym, ◌∙◌, ap, subst, IsTrue}
 use Rattle.stm_wire.specs.declared.verdict.Verdict.{Verdict}
 use Rattle.stm_wire.specs.declared.verdict.Verdict.TheVariants.{Done, Refused, Loose}
-use Rattle.stm_wire.specs.Chip.{ChipData}
-use Rattle.stm_wire.specs.Exchange.{verdict}
-use Rattle.stm_wire.specs.Effect.{change_of}
-use Rattle.stm_wire.specs.Device.{Device, Phase, Connected, Feeds, IsDevice}
+use Rattle.stm_wire.proofs.Names.{change_of, ChipData, Connected, Device, Feeds, IsDevice, Phase, verdict}
 use Rattle.stm_weak.specs.WeakDevice.{AgreesOutside, CanBe, Completes, ErasesPage, Heals}
 use Rattle.stm_weak.specs.WeakDevice.{WeakDevice}
 use Rattle.stm_weak.specs.WeakLaws.{FedAsOrdinary}

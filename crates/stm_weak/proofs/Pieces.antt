@@ -5,13 +5,11 @@ use Rattle.std.proofs.Common.{refl, sym, subst, arith}
 use Rattle.std.specs.Prelude.{bytes_eq}
 use Rattle.stm_wire.specs.declared.intent.Intent.{Intent}
 use Rattle.stm_wire.specs.declared.intent.Intent.TheVariants.{Erase, Program}
-use Rattle.stm_wire.specs.Chip.{ChipData, erased_byte, page_size}
-use Rattle.stm_wire.specs.Frames.{erase_turns, read_turns, write_turns}
+use Rattle.stm_wire.proofs.Names.{ChipData, erase_turns, erased_byte, page_size, read_turns, write_turns}
 use Rattle.stm_chip.specs.declared.plan.Frame.{Frame}
 use Rattle.stm_chip.specs.Plan.{frames_of}
 use Rattle.stm_session.specs.lemmas.FramesInside.{AreInside, bytes_inside, frames_inside}
-use Rattle.stm_session.specs.Order.{Sends, page_address, page_reads, read_steps, give_back_steps}
-use Rattle.stm_session.specs.Order.{return_steps, rewrite_steps, write_steps}
+use Rattle.stm_session.proofs.Names.{give_back_steps, page_address, page_reads, read_steps, return_steps, rewrite_steps, Sends, write_steps}
 use Rattle.stm_weak.specs.Weak.{does, weak_after}
 use Rattle.stm_weak.specs.Believed.{AreAtWork, reads, erases, writes}
 use Rattle.stm_weak.proofs.Walking.{Goes, Free, free_nothing, free_then, past, still}

@@ -5,16 +5,12 @@ use Rattle.std.proofs.Common.{arith, le-leb, append_assoc, append-nil, ◌++◌}
 use Rattle.std.proofs.lemmas.Bool.{and_from}
 use Rattle.stm_wire.specs.declared.places.UniquePlace.{UniquePlace}
 use Rattle.stm_wire.specs.declared.intent.Intent.{Intent}
-use Rattle.stm_wire.specs.Chip.{ChipData, fits_inside, flash_size, page_size}
-use Rattle.stm_wire.specs.Device.{Device, Connected, IsDevice}
-use Rattle.stm_wire.specs.Dialogue.{Turn, sent_bytes}
+use Rattle.stm_wire.proofs.Names.{address_bytes, at_address, at_code, at_count, ChipData, command, Connected, Device, fits_inside, flash_size, IsDevice, IsRefusedRead, page_size, read_frame}
+use Rattle.stm_wire.proofs.Names.{sent_bytes, Turn, with_checksum}
 use Rattle.stm_wire.specs.lemmas.DialogueLaws.{erase_sends, get_id_sends, get_sends, read_sends}
 use Rattle.stm_wire.specs.lemmas.DialogueLaws.{write_sends}
-use Rattle.stm_wire.specs.Frames.{address_bytes, command, read_frame, with_checksum}
 use Rattle.stm_wire.specs.lemmas.PageLaws.{page_within}
-use Rattle.stm_wire.specs.Refused.{IsRefusedRead, at_code, at_address, at_count}
-use Rattle.stm_session.specs.Order.{page_address}
-use Rattle.stm_session.specs.Reaching.{place_of_bytes}
+use Rattle.stm_session.proofs.Names.{page_address, place_of_bytes}
 use Rattle.stm_weak.specs.Weak.{NoneIs}
 use Rattle.stm_weak.specs.Believed.{MayPutBelieving, asks as put_asks, names as put_names, confirms}
 use Rattle.stm_weak.specs.Believed.{refused, reads, erases as put_erases, writes as put_writes}

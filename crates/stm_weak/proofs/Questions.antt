@@ -6,15 +6,8 @@ use Rattle.std.proofs.lemmas.Bool.{and_parts, eqb-true, false≢true, leb-true, 
 use Rattle.stm_wire.specs.declared.places.UniquePlace.{UniquePlace}
 use Rattle.stm_wire.specs.declared.verdict.Verdict.{Verdict}
 use Rattle.stm_wire.specs.declared.verdict.Verdict.TheVariants.{Refused}
-use Rattle.stm_wire.specs.Chip.{ChipData, IsChip, fits_inside, flash_size, is_outside}
-use Rattle.stm_wire.specs.Chip.{is_size_place, is_unique_place}
-use Rattle.stm_wire.specs.Device.{Device, IsDevice}
-use Rattle.stm_wire.specs.Exchange.{after_address, at_end, is_listed, read_verdict, xor}
-use Rattle.stm_wire.specs.Frames.{address_bytes, with_checksum}
-use Rattle.stm_wire.specs.Refused.{read_head}
-use Rattle.stm_wire.specs.Telling.{asks_size, asks_unique, can_read, has_size, has_unique}
-use Rattle.stm_wire.specs.Telling.{is_readable}
-use Rattle.stm_wire.specs.UniqueId.{is_unique_length}
+use Rattle.stm_wire.proofs.Names.{address_bytes, after_address, asks_size, asks_unique, at_end, can_read, ChipData, Device, fits_inside, flash_size, has_size, has_unique, is_listed, is_outside}
+use Rattle.stm_wire.proofs.Names.{is_readable, is_size_place, is_unique_length, is_unique_place, IsChip, IsDevice, read_head, read_verdict, with_checksum, xor}
 use Rattle.stm_wire.specs.lemmas.PageLaws.{fits-end}
 use Rattle.stm_weak.specs.FedAsking.{IsBoardQuestion, IsToldAt, at_size, at_unique, up_to_refused}
 use Rattle.stm_weak.specs.FedAsking.{which_board, which_chip, which_commands}

@@ -6,26 +6,17 @@ use Rattle.std.specs.List.{AllByRecursion, list_any}
 use Rattle.std.proofs.lemmas.List.{length-replicate}
 use Rattle.stm_image.specs.Lay.{lay}
 use Rattle.stm_image.specs.Pairs.{Pairs}
-use Rattle.stm_wire.specs.Chip.{ChipData, erased_byte, erased_page, page_count, page_offset}
-use Rattle.stm_wire.specs.Chip.{page_size}
+use Rattle.stm_wire.proofs.Names.{ChipData, erased_byte, erased_page, page_count, page_offset, page_size}
 use Rattle.stm_chip.specs.Plan.{frames_of}
 use Rattle.stm_journal.specs.declared.entry.Entry.TheVariants.{Keeps, Ends}
-use Rattle.stm_journal.specs.Journals.{begin_entries}
-use Rattle.stm_journal.specs.States.{StateData}
+use Rattle.stm_journal.proofs.Names.{begin_entries, StateData}
 use Rattle.stm_session.specs.declared.change.Change.{Change}
 use Rattle.stm_session.specs.declared.change.Change.TheVariants as change
 use Rattle.stm_session.specs.declared.fault.Fault.{Fault}
-use Rattle.stm_session.specs.ChangeOrder.{AreTurned, none, more, IsChangedUnless}
-use Rattle.stm_session.specs.ChangeOrder.{IsSaved, IsSavedWith, IsSegmentBegun, begins, turns, ends}
-use Rattle.stm_session.specs.ChangeOrder.{IsTurnOf}
-use Rattle.stm_session.specs.Contents.{content}
-use Rattle.stm_session.specs.Answers.{OutcomeData}
-use Rattle.stm_session.specs.Meaning.{CommandData, is_change}
-use Rattle.stm_session.specs.Order.{Step, Adds, page_reads, rewrite_steps}
-use Rattle.stm_session.specs.Reaching.{confirmed_at}
-use Rattle.stm_session.specs.RunOrder.{AreBegun, AreDoneInOrder, none as nothing_done, more as more_done}
-use Rattle.stm_session.specs.RunOrder.{IsBegunIf, IsDoneIf, IsReading}
-use Rattle.stm_session.specs.Undoable.{has_companion}
+use Rattle.stm_session.proofs.Names.{Adds, AreBegun, AreDoneInOrder, AreTurned, begins, CommandData, confirmed_at, content, ends, has_companion, is_change, IsBegunIf, IsChangedUnless, IsDoneIf}
+use Rattle.stm_session.proofs.Names.{IsReading, IsSaved, IsSavedWith, IsSegmentBegun, IsTurnOf, none, OutcomeData, page_reads, rewrite_steps, Step, turns}
+use Rattle.stm_session.specs.ChangeOrder.{more}
+use Rattle.stm_session.specs.RunOrder.{none as nothing_done, more as more_done}
 use Rattle.stm_session.specs.lemmas.ClosingLaws.{goes_on, segment_is_begun}
 use Rattle.stm_weak.specs.Believed.{reads}
 use Rattle.stm_weak.proofs.Pieces.{free_page, free_rewrite}

@@ -3,9 +3,7 @@ use Rattle.std.proofs.Common.{Bool, true, false, ◌==◌, if◌then◌else◌, 
 use Rattle.std.proofs.Common.{Option, Some, ◌∙◌, ap}
 use Rattle.stm_wire.specs.declared.verdict.Verdict.{Verdict}
 use Rattle.stm_wire.specs.declared.verdict.Verdict.TheVariants.{Done, Loose}
-use Rattle.stm_wire.specs.Device.{Device, Phase, Fresh, Connected, Gone, Receives, Takes}
-use Rattle.stm_wire.specs.Exchange.{verdict}
-use Rattle.stm_wire.specs.Reply.{ack}
+use Rattle.stm_wire.proofs.Names.{ack, Connected, Device, Fresh, Gone, Phase, Receives, Takes, verdict}
 use Rattle.stm_weak.specs.WeakDevice.{WeakDevice, WeakFeeds}
 use Rattle.stm_weak.specs.WeakRuns.{Feed, Reset, Take, WeakBefall, WeakHappening}
 

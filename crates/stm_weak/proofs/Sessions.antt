@@ -3,11 +3,8 @@ use Rattle.std.proofs.Common.{◌≡◌, inl, inr, ℕ, ◌/◌, ◌%◌, Bool, 
 use Rattle.std.proofs.Common.{refl, sym, subst}
 use Rattle.stm_wire.specs.declared.intent.Intent.{Intent}
 use Rattle.stm_wire.specs.declared.places.UniquePlace.{UniquePlace}
-use Rattle.stm_wire.specs.Chip.{ChipData}
-use Rattle.stm_session.specs.Closing.{IsLookedAgain}
-use Rattle.stm_session.specs.Order.{Step}
-use Rattle.stm_session.specs.Reaching.{IsAsked, IsConfirmedInPart, IsConfirming, asking_steps}
-use Rattle.stm_session.specs.Reaching.{confirm_steps, confirmed_at, confirming}
+use Rattle.stm_wire.proofs.Names.{ChipData}
+use Rattle.stm_session.proofs.Names.{asking_steps, confirm_steps, confirmed_at, confirming, IsAsked, IsConfirmedInPart, IsConfirming, IsLookedAgain, Step}
 use Rattle.stm_weak.specs.Weak.{NoneIs}
 use Rattle.stm_weak.specs.Believed.{AreAtWork, asks, confirms, names, refused}
 use Rattle.stm_weak.proofs.Walking.{Goes, goes_as, goes_front, goes_then, intended, past, past_then}

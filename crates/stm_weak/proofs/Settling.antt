@@ -2,10 +2,7 @@
 use Rattle.std.proofs.Common.{◌≡◌, ◌⊎◌, ⊎_elim, inl, inr, ℕ, zero, suc, Bool, true, false, ◌==◌}
 use Rattle.std.proofs.Common.{if◌then◌else◌, List, [], ◌∷◌, ◌++◌, refl, sym, ◌∙◌, ap, subst}
 use Rattle.std.proofs.lemmas.Bool.{eqb-false, eqb-true}
-use Rattle.stm_wire.specs.Chip.{ChipData}
-use Rattle.stm_wire.specs.Device.{Device, Phase, Fresh, Connected, Receives}
-use Rattle.stm_wire.specs.Reply.{ack}
-use Rattle.stm_wire.specs.SentList.{settling_run}
+use Rattle.stm_wire.proofs.Names.{ack, ChipData, Connected, Device, Fresh, Phase, Receives, settling_run}
 use Rattle.stm_weak.specs.WeakDevice.{ReadsWeak, WeakDevice, WeakFeeds}
 use Rattle.stm_weak.specs.WeakFrames.{FreshSettlingIsUnread}
 use Rattle.stm_weak.specs.WeakRuns.{Feed, WeakHappening, HasNoReset, IsUnread, Reset, Take}

@@ -7,11 +7,8 @@ use Rattle.std.proofs.lemmas.Bool.{eqb-true}
 use Rattle.std.proofs.lemmas.List.{get_or-append_right}
 use Rattle.stm_wire.specs.declared.verdict.Verdict.{Verdict}
 use Rattle.stm_wire.specs.declared.verdict.Verdict.TheVariants.{Done, Refused, Loose}
-use Rattle.stm_wire.specs.Chip.{ChipData}
-use Rattle.stm_wire.specs.Device.{Device, Phase, Fresh, Connected, Gone, Receives, Takes, reply_of}
-use Rattle.stm_wire.specs.Exchange.{at_end, command_verdict, complement, is_listed, verdict}
-use Rattle.stm_wire.specs.Reply.{ack, answer, commands_answer, id_answer, nack, read_answer}
-use Rattle.stm_wire.specs.Reply.{reply_to, step_reply}
+use Rattle.stm_wire.proofs.Names.{ack, answer, at_end, ChipData, command_verdict, commands_answer, complement, Connected, Device, Fresh, Gone, id_answer, is_listed, nack, Phase, read_answer, Receives}
+use Rattle.stm_wire.proofs.Names.{reply_of, reply_to, step_reply, Takes, verdict}
 use Rattle.stm_weak.specs.SettledBatches.{IsTameIn}
 use Rattle.stm_weak.proofs.Calm.{at_end_is, no_verdict, refused_not_done, refused_pair, unlike}
 use Rattle.stm_weak.proofs.Tails.{five_open, in_read_done, six_open}

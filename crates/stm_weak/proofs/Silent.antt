@@ -3,9 +3,7 @@ use Rattle.std.proofs.Common.{◌≡◌, ℕ, ◌+◌, ◌-◌, List, [], ◌∷
 use Rattle.std.proofs.Common.{arith, length-append}
 use Rattle.stm_wire.specs.declared.chip.EraseKind.{EraseKind}
 use Rattle.stm_wire.specs.declared.chip.EraseKind.TheVariants.{Page, Extended}
-use Rattle.stm_wire.specs.Exchange.{xor}
-use Rattle.stm_wire.specs.Frames.{command, erase_frame, write_frame}
-use Rattle.stm_wire.specs.Device.{Device, IsDevice}
+use Rattle.stm_wire.proofs.Names.{command, Device, erase_frame, IsDevice, write_frame, xor}
 use Rattle.stm_weak.specs.WeakFrames.{ReadsNoFlash, asks, erases, names, tells, writes}
 use Rattle.stm_weak.specs.WeakFrames.{FramesAreUnread}
 use Rattle.stm_weak.proofs.Unread.{IsNoRead, IsSilentAlong, has_at_first, silent_along, unread_from}

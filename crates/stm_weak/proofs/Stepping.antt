@@ -4,12 +4,9 @@ use Rattle.std.proofs.Common.{Option, refl, sym, ◌∙◌, ap, subst, append_as
 use Rattle.stm_wire.specs.declared.chip.EraseKind.{EraseKind}
 use Rattle.stm_wire.specs.declared.chip.EraseKind.TheVariants.{Page, Extended}
 use Rattle.stm_wire.specs.declared.intent.Intent.{Intent}
-use Rattle.stm_wire.specs.Chip.{ChipData, page_count}
-use Rattle.stm_wire.specs.Device.{Device, IsDevice, ListsKind}
-use Rattle.stm_wire.specs.Dialogue.{Turn, sent_bytes}
+use Rattle.stm_wire.proofs.Names.{ChipData, Device, erase_frame, erase_turns, IsDevice, ListsKind, page_count, sent_bytes, Turn}
 use Rattle.stm_wire.specs.lemmas.DialogueLaws.{erase_sends}
-use Rattle.stm_wire.specs.Frames.{erase_frame, erase_turns}
-use Rattle.stm_session.specs.Order.{Adds, Sends}
+use Rattle.stm_session.proofs.Names.{Adds, Sends}
 use Rattle.stm_weak.specs.Weak.{WeakEvent, breaks, does, settles, intent_after, weak_after, weak_behind}
 use Rattle.stm_weak.specs.Believed.{MayPutBelieving, NoneBelieved}
 use Rattle.stm_weak.specs.WeakDevice.{CanBe, WeakDevice}

@@ -8,13 +8,8 @@ use Rattle.std.proofs.lemmas.Bool.{and_parts, eqb-true, eqb-false, leb-true}
 use Rattle.std.proofs.lemmas.List.{get_or-append_right, get_or-replicate, length-replicate}
 use Rattle.stm_wire.specs.declared.verdict.Verdict.{Verdict}
 use Rattle.stm_wire.specs.declared.verdict.Verdict.TheVariants.{Done, Refused, Loose}
-use Rattle.stm_wire.specs.Chip.{ChipData, flash_size, fits_inside, is_inside}
-use Rattle.stm_wire.specs.Exchange.{after_address, all_exist, all_verdict, at_end, command_verdict}
-use Rattle.stm_wire.specs.Exchange.{complement, done_if, erase_verdict, extended_verdict}
-use Rattle.stm_wire.specs.Exchange.{number_of, pair_of, pages_verdict, two_byte_numbers, read_verdict}
-use Rattle.stm_wire.specs.Exchange.{write_verdict, xor}
-use Rattle.stm_wire.specs.Frames.{address_bytes, with_checksum}
-use Rattle.stm_wire.specs.Telling.{can_read, is_readable}
+use Rattle.stm_wire.proofs.Names.{address_bytes, after_address, all_exist, all_verdict, at_end, can_read, ChipData, command_verdict, complement, done_if, erase_verdict, extended_verdict, fits_inside}
+use Rattle.stm_wire.proofs.Names.{flash_size, is_inside, is_readable, number_of, pages_verdict, pair_of, read_verdict, two_byte_numbers, with_checksum, write_verdict, xor}
 use Rattle.stm_weak.specs.WeakDevice.{IsInRead}
 use Rattle.stm_weak.proofs.Openness.{same_number}
 use Rattle.stm_weak.proofs.Calm.{IsCalmTail, at_end_is, no_verdict, refused_not_done}

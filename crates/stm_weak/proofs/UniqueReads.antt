@@ -6,16 +6,10 @@ use Rattle.std.proofs.Common.{◌∙◌, ap₂, subst, arith, eq-eqb}
 use Rattle.std.proofs.lemmas.Bool.{and_parts, eqb-true, false≢true, leb-true, or_cases}
 use Rattle.stm_wire.specs.declared.verdict.Verdict.{Verdict}
 use Rattle.stm_wire.specs.declared.verdict.Verdict.TheVariants.{Done, Refused}
-use Rattle.stm_wire.specs.Chip.{ChipData, IsChip, fits_inside, flash_size, is_outside}
-use Rattle.stm_wire.specs.Chip.{is_size_place, is_unique_place}
-use Rattle.stm_wire.specs.Exchange.{verdict, after_address, at_end, complement}
-use Rattle.stm_wire.specs.Exchange.{done_if, is_listed, read_verdict, xor}
+use Rattle.stm_wire.proofs.Names.{address_bytes, after_address, asks_size, asks_unique, at_end, can_read, ChipData, command, complement, done_if, fits_inside, flash_size, has_size, has_unique}
+use Rattle.stm_wire.proofs.Names.{is_listed, is_outside, is_readable, is_size_place, is_unique_length, is_unique_place, IsChip, read_verdict, verdict, with_checksum, xor}
 use Rattle.stm_wire.specs.lemmas.PageLaws.{fits-end}
 use Rattle.stm_wire.specs.declared.places.UniquePlace.{UniquePlace}
-use Rattle.stm_wire.specs.Telling.{asks_size, asks_unique, can_read, has_size, has_unique}
-use Rattle.stm_wire.specs.Telling.{is_readable}
-use Rattle.stm_wire.specs.UniqueId.{is_unique_length}
-use Rattle.stm_wire.specs.Frames.{address_bytes, command, with_checksum}
 use Rattle.stm_weak.proofs.Unread.{IsSilentAlong, LeavesRest}
 use Rattle.stm_weak.proofs.Openness.{after_right, same_number, verdict_listed}
 

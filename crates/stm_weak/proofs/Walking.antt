@@ -2,9 +2,9 @@
 use Rattle.std.proofs.Common.{◌≡◌, ⊎_elim, ℕ, zero, suc, Bool, List, [], ◌∷◌, ◌++◌, map, take}
 use Rattle.std.proofs.Common.{Option, Some, None, sym, subst}
 use Rattle.stm_wire.specs.declared.intent.Intent.{Intent}
-use Rattle.stm_wire.specs.Chip.{ChipData}
+use Rattle.stm_wire.proofs.Names.{ChipData}
 use Rattle.stm_journal.specs.declared.entry.Entry.{Entry}
-use Rattle.stm_session.specs.Order.{Step, Adds, Sends, step_in}
+use Rattle.stm_session.proofs.Names.{Adds, Sends, Step, step_in}
 use Rattle.stm_weak.specs.Weak.{WeakEvent, does, NoneIs, intent_behind, intent_with, intent_with_lines}
 use Rattle.stm_weak.specs.Weak.{weak_after, weak_behind}
 use Rattle.stm_weak.specs.Believed.{AreAtWork, MayPutBelieving, NoneBelieved}

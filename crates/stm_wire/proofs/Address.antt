@@ -1,14 +1,8 @@
 -- The code and the address of a command that reads or writes.
 use Rattle.std.proofs.Common.{◌≡◌, ◌⊎◌, inl, inr, ℕ, ◌/◌, ◌%◌, Bool, ◌&&◌, ◌==◌, List, [], ◌∷◌, ◌++◌, Option, None, IsTrue, refl, sym, ◌∙◌, ap₂, subst, arith, if◌then◌else◌, eq-eqb}
-use Rattle.stm_wire.specs.Chip.{ChipData}
-use Rattle.stm_wire.specs.Telling.{takes_at}
-use Rattle.stm_wire.specs.declared.verdict.Verdict.{Verdict}
+use Rattle.stm_wire.proofs.Names.{ack, address_bytes, after_address, at_end, ChipData, command, command_verdict, complement, Device, Fed, is_listed, IsDevice, IsSettled, LeavesFirst, number_of, owing}
+use Rattle.stm_wire.proofs.Names.{Phase, read_verdict, takes_at, TakesAddress, Verdict, verdict, with_checksum, with_rest, write_verdict, xor}
 use Rattle.stm_wire.specs.declared.verdict.Verdict.TheVariants.{Refused}
-use Rattle.stm_wire.specs.Exchange.{verdict, command_verdict, after_address, at_end, is_listed, complement, number_of, xor, read_verdict, write_verdict}
-use Rattle.stm_wire.specs.Frames.{command, with_checksum, address_bytes}
-use Rattle.stm_wire.specs.Reply.{ack}
-use Rattle.stm_wire.specs.Device.{Device, Phase, Fed, IsSettled, IsDevice}
-use Rattle.stm_wire.specs.Command.{owing, LeavesFirst, with_rest, TakesAddress}
 use Rattle.stm_wire.proofs.Steps.{OpenAlong, replies_along, acknowledged-step, acknowledged-first}
 
 pub number_of-address_bytes : (address : ℕ) → number_of (address / 16777216) (address / 65536 % 256) (address / 256 % 256) (address % 256) ≡ address

@@ -1,8 +1,7 @@
 -- How a command's answer follows from its steps'.
 use Rattle.std.proofs.Common.{◌≡◌, Result, Ok, Err, IsErrAnd, IfOk, OnOk, subst, sym}
-use Rattle.stm_wire.specs.declared.fault.WireFault.{WireFault}
+use Rattle.stm_wire.proofs.Names.{Does, IsOkOrLine, WireFault}
 use Rattle.stm_wire.specs.declared.fault.WireFault.TheVariants.{Line}
-use Rattle.stm_wire.specs.Command.{IsOkOrLine, Does}
 
 -- the fault that ends it is the line's
 pub does_line : {T : Type 0} (P : T → Type 0) (r : Result T WireFault) (e : WireFault) → IsErrAnd r (λ x. x ≡ e) → e ≡ Line → Does r P

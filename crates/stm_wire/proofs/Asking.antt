@@ -2,12 +2,8 @@
 use Rattle.std.proofs.Common.{◌≡◌, ℕ, ◌/◌, ◌%◌, List, [], ◌∷◌, ◌++◌, length, drop, Some, IsTrue, refl, sym, ◌∙◌, ap, ap₂, subst, arith, length-append, append_assoc}
 use Rattle.std.proofs.lemmas.List.{append_cancel_right}
 use Rattle.stm_wire.specs.declared.verdict.Verdict.TheVariants.{Done}
-use Rattle.stm_wire.specs.Exchange.{command_verdict, is_listed, complement}
-use Rattle.stm_wire.specs.Effect.{Effect, Change, Nothing, change_of}
-use Rattle.stm_wire.specs.Frames.{command}
-use Rattle.stm_wire.specs.Reply.{ack, answer}
-use Rattle.stm_wire.specs.Device.{Device, Phase, Connected, Fed, IsSettled, phase_after}
-use Rattle.stm_wire.specs.Command.{owing, OwesFirst, LeavesFirst}
+use Rattle.stm_wire.proofs.Names.{ack, answer, Change, change_of, command, command_verdict, complement, Connected, Device, Effect, Fed, is_listed, IsSettled, LeavesFirst, Nothing, OwesFirst, owing}
+use Rattle.stm_wire.proofs.Names.{Phase, phase_after}
 use Rattle.stm_wire.proofs.Steps.{fed-done}
 use Rattle.stm_wire.proofs.Address.{verdict-listed, settled-is}
 use Rattle.stm_wire.proofs.Receiving.{answered}

@@ -3,14 +3,9 @@ use Rattle.std.proofs.Common.{lit≤, ◌≡◌, ℕ, suc, ◌+◌, ◌*◌, ◌
 use Rattle.std.proofs.lemmas.Bool.{cond_both, eq-eqb, ne_eqb, cases_eq}
 use Rattle.std.proofs.lemmas.List.{append-nil, length-append}
 use Rattle.stm_wire.proofs.Tellings.{readable-few}
-use Rattle.stm_wire.specs.Chip.{ChipData}
-use Rattle.stm_wire.specs.declared.verdict.Verdict.{Verdict}
+use Rattle.stm_wire.proofs.Names.{ack, answer, ChipData, commands_answer, Connected, Device, Feed, Feeds, Gone, Harmless, id_answer, IsDevice, IsListening, IsOpenPhase, IsRefusedIn, nack, number_of}
+use Rattle.stm_wire.proofs.Names.{Phase, phase_after, read_answer, Receives, reply_of, reply_to, step_reply, Takes, Verdict, verdict}
 use Rattle.stm_wire.specs.declared.verdict.Verdict.TheVariants.{Done, Refused, Loose}
-use Rattle.stm_wire.specs.Exchange.{verdict, number_of}
-use Rattle.stm_wire.specs.Reply.{ack, nack, reply_to, step_reply, answer, commands_answer, id_answer, read_answer}
-use Rattle.stm_wire.specs.Device.{Device, Phase, Connected, Gone, Takes, Receives, Feeds, IsDevice, IsOpenPhase, phase_after, reply_of}
-use Rattle.stm_wire.specs.Awaited.{IsRefusedIn}
-use Rattle.stm_wire.specs.Harmless.{IsListening, Feed, Harmless}
 use Rattle.stm_wire.proofs.Bound.{IsBytes, by_recursion}
 use Rattle.stm_wire.proofs.Ending.{refused_pair, bytes_more, nearer_open, nearer_done}
 

@@ -4,11 +4,9 @@ use Rattle.std.specs.List.{All, AllByRecursion}
 use Rattle.std.proofs.lemmas.List.Elements.{All-tail}
 use Rattle.std.proofs.lemmas.Bool.{and_parts, cond_both, eq-eqb, eqb-true, leb-false, cases_lt}
 use Rattle.std.proofs.lemmas.List.{length-take-le}
-use Rattle.stm_wire.specs.Chip.{ChipData, is_inside, fits_inside}
-use Rattle.stm_wire.specs.Telling.{can_read, is_readable}
-use Rattle.stm_wire.specs.declared.verdict.Verdict.{Verdict}
+use Rattle.stm_wire.proofs.Names.{after_address, all_exist, all_verdict, at_end, can_read, ChipData, command_verdict, complement, done_if, erase_verdict, extended_verdict, fits_inside, is_inside}
+use Rattle.stm_wire.proofs.Names.{is_listed, is_readable, IsOpen, number_of, pages_verdict, pair_of, read_verdict, two_byte_numbers, Verdict, write_verdict, xor}
 use Rattle.stm_wire.specs.declared.verdict.Verdict.TheVariants.{Done, Refused, Loose}
-use Rattle.stm_wire.specs.Exchange.{IsOpen, complement, at_end, done_if, after_address, read_verdict, write_verdict, all_verdict, erase_verdict, pages_verdict, extended_verdict, command_verdict, is_listed, all_exist, xor, number_of, pair_of, two_byte_numbers}
 
 -- how many bytes a list that begins with this code has at most, of a device with these codes, before the byte that brings its verdict
 abbrev pub longest_list : List ℕ → ℕ → ℕ

@@ -1,14 +1,9 @@
 -- A harmless device stays so: when the byte is fed, when it is reset, and whatever it owes.
 use Rattle.std.proofs.Common.{◌≡◌, ℕ, suc, ◌≤◌, Bool, true, false, cond, eqb, List, [], ◌∷◌, ◌++◌, refl, sym, ◌∙◌, subst, arith, Option, Some, None}
 use Rattle.std.proofs.lemmas.Bool.{cond_both, eq-eqb}
-use Rattle.stm_wire.specs.Chip.{ChipData}
-use Rattle.stm_wire.specs.declared.verdict.Verdict.{Verdict}
+use Rattle.stm_wire.proofs.Names.{ack, Awaits, AwaitsIn, ChipData, Connected, Device, Disturbance, FedAwaitsNoMore, Feed, Feeds, Fresh, Gone, Harmless, IsListening, IsLoose, IsRefusedIn, LosesOwed}
+use Rattle.stm_wire.proofs.Names.{Phase, phase_after, Reaches, Receives, reply_of, Reset, reset, SameOutside, Takes, Verdict, verdict}
 use Rattle.stm_wire.specs.declared.verdict.Verdict.TheVariants.{Done, Refused, Loose}
-use Rattle.stm_wire.specs.Exchange.{verdict}
-use Rattle.stm_wire.specs.Reply.{ack}
-use Rattle.stm_wire.specs.Device.{Device, Phase, Fresh, Connected, Gone, Takes, Receives, Feeds, IsLoose, LosesOwed, reset, phase_after, reply_of}
-use Rattle.stm_wire.specs.Awaited.{Awaits, AwaitsIn, FedAwaitsNoMore, IsRefusedIn}
-use Rattle.stm_wire.specs.Harmless.{SameOutside, IsListening, Disturbance, Feed, Reset, Reaches, Harmless}
 use Rattle.stm_wire.proofs.Ending.{awaits_at, more_suffice, nearer_open, refused_empty}
 
 -- of the same chip, with the same version and codes

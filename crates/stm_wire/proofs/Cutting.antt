@@ -6,10 +6,8 @@ use Rattle.std.proofs.lemmas.Bool.{cases_lt}
 use Rattle.std.proofs.lemmas.Bool.Decides.{nat_tests}
 use Rattle.std.proofs.lemmas.List.{drop_more, drop_all, length-take}
 use Rattle.std.proofs.lemmas.List.Elements.{All-take}
-use Rattle.stm_wire.specs.Chip.{ChipData, IsChip, IsPageSize, are_places}
-use Rattle.stm_wire.specs.Cut.{pages_within, first_pages, cut_to, EndInside}
+use Rattle.stm_wire.proofs.Names.{are_places, BoardPlaces, ChipData, cut_to, EndInside, first_pages, IsChip, IsPageSize, pages_within}
 use Rattle.stm_wire.specs.lemmas.PageLaws.{offset_within, sum-cons}
-use Rattle.stm_wire.specs.declared.places.BoardPlaces.{BoardPlaces}
 
 more : (size : ℕ) (sizes : List ℕ) (bytes : ℕ) → size ≤ bytes
     → pages_within (size ∷ sizes) bytes ≡ suc (pages_within sizes (bytes - size))

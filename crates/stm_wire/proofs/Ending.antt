@@ -5,15 +5,10 @@ use Rattle.std.proofs.Common.{replicate, refl, sym, ap, ◌∙◌, subst, append
 use Rattle.std.proofs.Common.{Option, Some, None}
 use Rattle.std.proofs.lemmas.Bool.{cond_both, cases_lt}
 use Rattle.std.proofs.lemmas.List.{length_push, take-append-le, take_all}
-use Rattle.stm_wire.specs.Chip.{ChipData}
-use Rattle.stm_wire.specs.declared.verdict.Verdict.{Verdict}
+use Rattle.stm_wire.proofs.Names.{AwaitedIsLimited, Awaits, AwaitsIn, ChipData, complement, Connected, Device, EraseKind, Fresh, Gone, is_listed, IsEnough, IsOpen, IsOpenPhase, IsRefusedIn, ListsKind}
+use Rattle.stm_wire.proofs.Names.{MoreSuffice, most_awaited, most_for, Phase, Verdict, verdict}
 use Rattle.stm_wire.specs.declared.verdict.Verdict.TheVariants.{Done, Refused, Loose}
-use Rattle.stm_wire.specs.Exchange.{IsOpen, complement, is_listed, verdict}
-use Rattle.stm_wire.specs.declared.chip.EraseKind.{EraseKind}
 use Rattle.stm_wire.specs.declared.chip.EraseKind.TheVariants.{Page, Extended}
-use Rattle.stm_wire.specs.Device.{Device, Phase, Fresh, Connected, Gone, ListsKind, IsOpenPhase}
-use Rattle.stm_wire.specs.Awaited.{AwaitedIsLimited, Awaits, AwaitsIn, IsEnough, IsRefusedIn}
-use Rattle.stm_wire.specs.Awaited.{MoreSuffice, most_awaited, most_for}
 use Rattle.stm_wire.proofs.Mild.{no_pair}
 use Rattle.stm_wire.proofs.Bound.{CanCount, IsBytes, IsCounted, by_recursion, counted, counted_more}
 use Rattle.stm_wire.proofs.Bound.{list_least, list_most, list_short, longest_list, open_short}

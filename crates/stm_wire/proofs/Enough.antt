@@ -6,19 +6,11 @@ use Rattle.std.proofs.Common.{append_assoc, arith, Option, Some, None, min, max,
 use Rattle.std.proofs.lemmas.Bool.{eq-eqb, ne_eqb, cases_eq, cases_lt, false≢true}
 use Rattle.std.proofs.lemmas.Bool.Decides.{nat_tests}
 use Rattle.std.proofs.lemmas.List.{append-nil, length-replicate}
-use Rattle.stm_wire.specs.Chip.{ChipData}
-use Rattle.stm_wire.specs.declared.chip.EraseKind.{EraseKind}
+use Rattle.stm_wire.proofs.Names.{all_exist, all_verdict, Awaits, ChipData, Connected, Device, done_if, erase_frame, EraseKind, Intent, is_listed, IsOpen, IsRefusedIn, ListsKind, most_for, pair_of}
+use Rattle.stm_wire.proofs.Names.{settling_byte, two_byte_numbers, Verdict, verdict, xor}
 use Rattle.stm_wire.specs.declared.chip.EraseKind.TheVariants.{Page, Extended}
-use Rattle.stm_wire.specs.declared.intent.Intent.{Intent}
 use Rattle.stm_wire.specs.declared.intent.Intent.TheVariants.{Erase, Program}
-use Rattle.stm_wire.specs.declared.verdict.Verdict.{Verdict}
 use Rattle.stm_wire.specs.declared.verdict.Verdict.TheVariants.{Refused, Loose}
-use Rattle.stm_wire.specs.Exchange.{IsOpen, all_exist, all_verdict, done_if, is_listed, pair_of}
-use Rattle.stm_wire.specs.Exchange.{two_byte_numbers, verdict, xor}
-use Rattle.stm_wire.specs.Device.{Device, Connected, ListsKind}
-use Rattle.stm_wire.specs.Awaited.{Awaits, IsRefusedIn, most_for}
-use Rattle.stm_wire.specs.Frames.{erase_frame}
-use Rattle.stm_wire.specs.Intents.{settling_byte}
 use Rattle.stm_wire.proofs.Address.{verdict-listed}
 use Rattle.stm_wire.proofs.Bound.{CanCount, IsCounted}
 use Rattle.stm_wire.proofs.Ending.{at_least, awaits_at, ends_any, ends_behind, ends_short}

@@ -2,10 +2,8 @@
 use Rattle.std.proofs.Common.{◌≡◌, ℕ, zero, suc, ◌+◌, true, false, ◌&&◌, eqb, List, [], ◌∷◌, length, get_or, take, replicate, refl, arith, Option, None}
 use Rattle.std.specs.List.{Contains}
 use Rattle.std.proofs.lemmas.Bool.{cond_both, eqb-true, false≢true}
-use Rattle.stm_wire.specs.Chip.{ChipData}
-use Rattle.stm_wire.specs.declared.verdict.Verdict.{Verdict}
+use Rattle.stm_wire.proofs.Names.{all_exist, all_verdict, ChipData, erase_verdict, Verdict, xor}
 use Rattle.stm_wire.specs.declared.verdict.Verdict.TheVariants.{Refused}
-use Rattle.stm_wire.specs.Exchange.{all_verdict, erase_verdict, all_exist, xor}
 use Rattle.stm_wire.proofs.Flash.{Every}
 use Rattle.stm_wire.proofs.Mild.{Fits, Mild, fits_end, after_pair, mild_empty}
 use Rattle.stm_wire.proofs.Plain.{fits_done_if}

@@ -2,9 +2,7 @@
 use Rattle.std.proofs.Common.{lit<, ◌≡◌, ℕ, zero, suc, ◌+◌, ◌*◌, ◌<◌, ◌≤◌, ◌⊎◌, inl, inr, true, false, ◌&&◌, eqb, leb, List, [], ◌∷◌, length, get_or, take, replicate, refl, sym, ◌∙◌, arith, Option, None}
 use Rattle.std.specs.List.{Contains}
 use Rattle.std.proofs.lemmas.Bool.{cond_both, eq-eqb, ne_eqb, lt-leb, cases_lt, false≢true}
-use Rattle.stm_wire.specs.Chip.{ChipData}
-use Rattle.stm_wire.specs.declared.verdict.Verdict.{Verdict}
-use Rattle.stm_wire.specs.Exchange.{all_verdict, pages_verdict, extended_verdict, all_exist, xor, pair_of, two_byte_numbers}
+use Rattle.stm_wire.proofs.Names.{all_exist, all_verdict, ChipData, extended_verdict, pages_verdict, pair_of, two_byte_numbers, Verdict, xor}
 use Rattle.stm_wire.proofs.Flash.{Every}
 use Rattle.stm_wire.proofs.Mild.{Fits, Mild, after_pair, mild_empty}
 use Rattle.stm_wire.proofs.Plain.{fits_done_if}

@@ -1,16 +1,9 @@
 -- The erase of one page, by each of the two commands.
 use Rattle.std.proofs.Common.{◌≡◌, ℕ, ◌/◌, ◌%◌, Bool, true, ◌&&◌, List, [], ◌∷◌, ◌++◌, drop, Option, Some, IsTrue, nat_lt, refl, sym, ◌∙◌, ap, ap₂, subst, arith, eq-eqb, lt-ltb}
-use Rattle.stm_wire.specs.declared.chip.EraseKind.{EraseKind}
+use Rattle.stm_wire.proofs.Names.{ack, CanErase, command, Connected, Device, done_if, erased_pages, EraseKind, Fed, is_listed, IsDevice, LeavesFirst, ListsKind, owing, page_count, pair_of, Verdict}
+use Rattle.stm_wire.proofs.Names.{verdict, with_checksum, with_pages_erased, with_rest, xor}
 use Rattle.stm_wire.specs.declared.chip.EraseKind.TheVariants.{Page, Extended}
-use Rattle.stm_wire.specs.declared.verdict.Verdict.{Verdict}
 use Rattle.stm_wire.specs.declared.verdict.Verdict.TheVariants.{Done}
-use Rattle.stm_wire.specs.Chip.{page_count}
-use Rattle.stm_wire.specs.Exchange.{verdict, done_if, is_listed, pair_of, xor}
-use Rattle.stm_wire.specs.Effect.{erased_pages}
-use Rattle.stm_wire.specs.Frames.{command, with_checksum}
-use Rattle.stm_wire.specs.Reply.{ack}
-use Rattle.stm_wire.specs.Device.{Device, Connected, Fed, IsDevice, ListsKind}
-use Rattle.stm_wire.specs.Command.{owing, LeavesFirst, with_rest, CanErase, with_pages_erased}
 use Rattle.stm_wire.proofs.Steps.{OpenAlong, fed-done}
 use Rattle.stm_wire.proofs.Address.{verdict-listed, command-waits}
 

@@ -1,11 +1,8 @@
 -- Bytes fed one after another, and owed bytes that are lost meanwhile.
 use Rattle.std.proofs.Common.{if◌then◌else◌, true≢false, ◌≡◌, ℕ, zero, suc, Bool, true, false, ◌==◌, List, [], ◌∷◌, ◌++◌, drop, Option, Some, None, refl, sym, ◌∙◌, ap, subst}
-use Rattle.stm_wire.specs.declared.verdict.Verdict.{Verdict}
+use Rattle.stm_wire.proofs.Names.{ack, Connected, Device, Fed, Feeds, Fresh, Gone, is_protection, IsLoose, LosesOwed, Phase, phase_after, Receives, reply_of, Takes, Verdict, verdict}
 use Rattle.stm_wire.specs.declared.verdict.Verdict.TheVariants.{Done, Refused, Loose}
-use Rattle.stm_wire.specs.Exchange.{verdict}
-use Rattle.stm_wire.specs.Reply.{ack}
 use Rattle.stm_wire.specs.lemmas.MomentLaws.{LosesOwed-trans}
-use Rattle.stm_wire.specs.Device.{Device, Phase, Fresh, Connected, Gone, Feeds, Fed, Receives, Takes, IsLoose, LosesOwed, is_protection, reply_of, phase_after}
 
 -- what was lost at the front can be lost after bytes came at the end
 pub drop-append : (n : ℕ) (xs ys : List ℕ) → (m : ℕ) × (drop n xs ++ ys ≡ drop m (xs ++ ys))

@@ -3,10 +3,9 @@ use Rattle.std.proofs.Common.{◌≡◌, ℕ, suc, ◌+◌, ◌-◌, ◌≤◌, 
 use Rattle.std.specs.Prelude.{⊤}
 use Rattle.std.specs.List.{Contains}
 use Rattle.std.proofs.lemmas.List.{length-replicate}
-use Rattle.stm_wire.specs.Chip.{ChipData, flash_size, page_size, page_offset, page_of, with_bytes, erased_byte}
+use Rattle.stm_wire.proofs.Names.{Change, ChipData, Effect, EraseAll, erased_byte, erased_pages, ErasePages, flash_size, Nothing, page_of, page_offset, page_size, SameOutside, Stores, with_bytes}
+use Rattle.stm_wire.proofs.Names.{Write}
 use Rattle.stm_wire.specs.lemmas.PageLaws.{page_within, length-with_bytes, other_page}
-use Rattle.stm_wire.specs.Effect.{Change, Nothing, ErasePages, EraseAll, Write, Effect, Stores, erased_pages}
-use Rattle.stm_wire.specs.Harmless.{SameOutside}
 
 -- each of these
 abbrev pub Every : (ℕ → Type 0) → List ℕ → Type 0

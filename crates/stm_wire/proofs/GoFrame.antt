@@ -1,12 +1,7 @@
 -- Go: the code, and the address at whose checksum it is done.
 use Rattle.std.proofs.Common.{◌≡◌, ℕ, ◌/◌, ◌%◌, List, [], ◌∷◌, ◌++◌, Some, refl, sym, ◌∙◌, ap, subst}
-use Rattle.stm_wire.specs.Chip.{is_inside}
+use Rattle.stm_wire.proofs.Names.{ack, address_bytes, at_end, CanGo, command, Device, Fed, Gone, is_inside, LeavesFirst, owing, verdict, with_checksum, with_rest, xor}
 use Rattle.stm_wire.specs.declared.verdict.Verdict.TheVariants.{Done}
-use Rattle.stm_wire.specs.Exchange.{verdict, at_end, xor}
-use Rattle.stm_wire.specs.Frames.{command, with_checksum, address_bytes}
-use Rattle.stm_wire.specs.Reply.{ack}
-use Rattle.stm_wire.specs.Device.{Device, Gone, Fed}
-use Rattle.stm_wire.specs.Command.{owing, LeavesFirst, with_rest, CanGo}
 use Rattle.stm_wire.proofs.Steps.{OpenAlong, fed-done}
 use Rattle.stm_wire.proofs.Address.{verdict-listed, after_address-right, command-waits}
 

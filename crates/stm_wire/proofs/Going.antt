@@ -2,14 +2,9 @@
 use Rattle.std.proofs.Common.{lit≤, ◌≡◌, ℕ, suc, ◌+◌, ◌*◌, ◌<◌, ◌≤◌, ◌⊎◌, inl, inr, ⊎_elim, Bool, true, false, cond, eqb, List, [], ◌∷◌, ◌++◌, length, drop, refl, sym, ap, ◌∙◌, subst, subst₂, arith, Some}
 use Rattle.std.proofs.lemmas.Bool.{eq-eqb, eqb-true}
 use Rattle.std.proofs.lemmas.List.{length-drop, length-append, drop_all}
-use Rattle.stm_wire.specs.Chip.{ChipData}
+use Rattle.stm_wire.proofs.Names.{ack, Awaits, AwaitsIn, ChipData, Connected, Device, Feeds, Fresh, Gone, Harmless, IsDevice, IsGoing, IsListening, IsRefusedIn, IsSettled, IsSettling, LosesOwed, nack}
+use Rattle.stm_wire.proofs.Names.{Phase, Receives, reply_to, SameOutside, Takes, verdict, with_nothing_owed}
 use Rattle.stm_wire.specs.declared.verdict.Verdict.TheVariants.{Refused}
-use Rattle.stm_wire.specs.Exchange.{verdict}
-use Rattle.stm_wire.specs.Reply.{ack, nack, reply_to}
-use Rattle.stm_wire.specs.Device.{Device, Phase, Fresh, Connected, Gone, Takes, Receives, Feeds, LosesOwed, IsDevice, IsSettled}
-use Rattle.stm_wire.specs.Harmless.{SameOutside, IsListening, Harmless}
-use Rattle.stm_wire.specs.Awaited.{Awaits, AwaitsIn, IsRefusedIn}
-use Rattle.stm_wire.specs.Settling.{IsSettling, IsGoing, with_nothing_owed}
 use Rattle.stm_wire.proofs.Flash.{same_flash, then_same}
 use Rattle.stm_wire.proofs.Mild.{harmless, mild_empty, no_pair}
 use Rattle.stm_wire.proofs.Awaited.{due, due_most, fed, Refuses, Advances}

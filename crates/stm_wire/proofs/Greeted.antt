@@ -3,24 +3,13 @@ use Rattle.std.proofs.Common.{lit≤, lit<, ◌≡◌, ℕ, zero, suc, ◌+◌, 
 use Rattle.std.specs.List.{Contains}
 use Rattle.std.proofs.lemmas.Bool.{cond_both, cases_lt, and_parts}
 use Rattle.std.proofs.lemmas.List.{append-nil, length-replicate}
-use Rattle.stm_wire.specs.declared.chip.EraseKind.{EraseKind}
+use Rattle.stm_wire.proofs.Names.{ack, address_bytes, Awaits, change_of, ChipData, command, command_verdict, complement, Connected, Device, erase_frame, EraseKind, Feeds, flash_size, Fresh}
+use Rattle.stm_wire.proofs.Names.{FreshMayBeGreeted, Harmless, HarmlessWithin, in_erase, in_get, in_get_id, in_read, in_ready, in_write, InPage, intended_pages, Intent, is_listed, IsDevice}
+use Rattle.stm_wire.proofs.Names.{IsGreetedSafely, IsOpen, IsOpenPhase, IsRefusedIn, IsStopped, ListsKind, MorePagesMayBeGreeted, most_greeted, most_under, page_count, page_limit, pair_of, Phase}
+use Rattle.stm_wire.proofs.Names.{Receives, reply_of, reset, ResetMayBeGreeted, SameOutside, settling_byte, StoppedMayBeGreeted, Takes, Verdict, verdict, with_checksum, write_frame, xor}
 use Rattle.stm_wire.specs.declared.chip.EraseKind.TheVariants.{Page, Extended}
-use Rattle.stm_wire.specs.declared.intent.Intent.{Intent}
 use Rattle.stm_wire.specs.declared.intent.Intent.TheVariants.{Erase, Program}
-use Rattle.stm_wire.specs.declared.verdict.Verdict.{Verdict}
 use Rattle.stm_wire.specs.declared.verdict.Verdict.TheVariants.{Done, Refused, Loose}
-use Rattle.stm_wire.specs.Chip.{ChipData, flash_size, page_count, page_limit}
-use Rattle.stm_wire.specs.Exchange.{IsOpen, complement, command_verdict, is_listed, pair_of, verdict, xor}
-use Rattle.stm_wire.specs.Effect.{change_of}
-use Rattle.stm_wire.specs.Reply.{ack}
-use Rattle.stm_wire.specs.Device.{Device, Phase, Fresh, Connected, IsDevice, IsOpenPhase, ListsKind, Feeds, Receives, Takes, reply_of, reset}
-use Rattle.stm_wire.specs.Awaited.{Awaits, IsRefusedIn, most_under}
-use Rattle.stm_wire.specs.Harmless.{SameOutside, Harmless}
-use Rattle.stm_wire.specs.Frames.{command, write_frame, erase_frame, address_bytes, with_checksum}
-use Rattle.stm_wire.specs.Intents.{settling_byte, intended_pages, InPage}
-use Rattle.stm_wire.specs.Stopped.{IsStopped, in_get, in_get_id, in_read, in_ready, in_erase, in_write}
-use Rattle.stm_wire.specs.Greeting.{most_greeted, HarmlessWithin, IsGreetedSafely}
-use Rattle.stm_wire.specs.Greeting.{StoppedMayBeGreeted, FreshMayBeGreeted, ResetMayBeGreeted, MorePagesMayBeGreeted}
 use Rattle.stm_wire.proofs.Flash.{same_flash, effect_within}
 use Rattle.stm_wire.proofs.Mild.{Fits, FitsAll, Mild, harmless, mild_empty}
 use Rattle.stm_wire.proofs.Bound.{CanCount, IsBytes, IsCounted, by_recursion, counted}

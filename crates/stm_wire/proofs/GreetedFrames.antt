@@ -3,21 +3,12 @@ use Rattle.std.proofs.Common.{lit≤, lit<, ◌≡◌, ⊎_elim, ℕ, zero, suc,
 use Rattle.std.specs.List.{Contains}
 use Rattle.std.proofs.lemmas.Bool.{cases_lt}
 use Rattle.std.proofs.lemmas.List.{length-append, take-append-le, take_all}
-use Rattle.stm_wire.specs.declared.chip.EraseKind.{EraseKind}
+use Rattle.stm_wire.proofs.Names.{ack, address_bytes, answer, asks, Awaits, change_of, ChipData, command, complement, Connected, Device, erase_frame, EraseKind, erases, Fed, Feeds, get}
+use Rattle.stm_wire.proofs.Names.{HarmlessWithin, InPage, intended_pages, Intent, IsDevice, IsFrameUnder, IsGreetedSafely, IsOpen, IsQuestion, IsRefusedIn, IsSettled, LosesOwed, LossMayBeGreeted}
+use Rattle.stm_wire.proofs.Names.{MayBeGreeted, most_greeted, most_under, page_count, page_limit, PartlyFed, phase_after, SendingMayBeGreeted, settling_byte, with_checksum, write_frame, writes, xor}
 use Rattle.stm_wire.specs.declared.chip.EraseKind.TheVariants.{Page, Extended}
-use Rattle.stm_wire.specs.declared.intent.Intent.{Intent}
 use Rattle.stm_wire.specs.declared.intent.Intent.TheVariants.{Erase, Program}
-use Rattle.stm_wire.specs.Chip.{ChipData, page_count, page_limit}
-use Rattle.stm_wire.specs.Exchange.{IsOpen, complement, xor}
-use Rattle.stm_wire.specs.Effect.{change_of}
-use Rattle.stm_wire.specs.Reply.{ack, answer}
-use Rattle.stm_wire.specs.Device.{Device, Connected, Fed, Feeds, IsDevice, IsSettled, LosesOwed, phase_after}
-use Rattle.stm_wire.specs.Awaited.{Awaits, IsRefusedIn, most_under}
-use Rattle.stm_wire.specs.Frames.{command, write_frame, erase_frame, address_bytes, with_checksum}
-use Rattle.stm_wire.specs.Intents.{settling_byte, intended_pages, InPage}
-use Rattle.stm_wire.specs.Moments.{PartlyFed}
-use Rattle.stm_wire.specs.Stopped.{IsQuestion, IsFrameUnder, get, get_id, read, asks, erases, writes}
-use Rattle.stm_wire.specs.Greeting.{most_greeted, HarmlessWithin, IsGreetedSafely, MayBeGreeted, LossMayBeGreeted, SendingMayBeGreeted}
+use Rattle.stm_wire.specs.Stopped.{get_id, read}
 use Rattle.stm_wire.proofs.Flash.{effect_within}
 use Rattle.stm_wire.proofs.Mild.{Mild}
 use Rattle.stm_wire.proofs.Bound.{CanCount, IsCounted, counted_more}

@@ -4,10 +4,9 @@ use Rattle.std.specs.Prelude.{IsTrue}
 use Rattle.std.specs.List.{Contains}
 use Rattle.std.proofs.lemmas.Bool.{cond_both, eqb-true, and_parts, false≢true}
 use Rattle.std.proofs.lemmas.List.{length-replicate}
-use Rattle.stm_wire.specs.Chip.{ChipData, fits_inside, is_inside}
+use Rattle.stm_wire.proofs.Names.{all_exist, at_end, ChipData, command_verdict, complement, done_if, erase_verdict, extended_verdict, fits_inside, is_inside, is_listed, number_of, pair_of}
+use Rattle.stm_wire.proofs.Names.{two_byte_numbers, Write, write_verdict, xor}
 use Rattle.stm_wire.specs.declared.verdict.Verdict.TheVariants.{Done, Refused}
-use Rattle.stm_wire.specs.Exchange.{complement, at_end, done_if, command_verdict, erase_verdict, extended_verdict, write_verdict, all_exist, is_listed, xor, number_of, pair_of, two_byte_numbers}
-use Rattle.stm_wire.specs.Effect.{Write}
 use Rattle.stm_wire.proofs.Flash.{Every, IsConfined}
 use Rattle.stm_wire.proofs.Mild.{Fits, FitsAll, Mild, fits_end, after_pair}
 use Rattle.stm_wire.proofs.Plain.{fits_done_if, fits_get, fits_id, fits_read}

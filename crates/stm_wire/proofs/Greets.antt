@@ -1,19 +1,10 @@
 -- One 7F from a device that may be greeted, between two drainings.
 use Rattle.std.proofs.Common.{lit<, ◌≡◌, ℕ, ◌+◌, ◌≤◌, List, [], ◌∷◌, ◌++◌, length, drop, Option, Some, None, Result, refl, sym, ap, ◌∙◌, subst, arith}
 use Rattle.std.proofs.lemmas.List.{drop_all, length-append, length-drop}
-use Rattle.stm_wire.specs.declared.fault.RigFault.{RigFault}
-use Rattle.stm_wire.specs.declared.intent.Intent.{Intent}
-use Rattle.stm_wire.specs.declared.verdict.Verdict.{Verdict}
+use Rattle.stm_wire.proofs.Names.{ack, answer, ChipData, Connected, Device, Feeds, Fresh, GetsHonestly, Gone, HarmlessWithin, Intent, IsDevice, IsGreeting, IsListening, IsModel, IsOpenPhase}
+use Rattle.stm_wire.proofs.Names.{IsSettling, Keeps, KeepsSettling, LosesOwed, MayBeGreeted, most_greeted, nack, Phase, PutsHonestly, Receives, reply_of, reply_to, RigFault, RigState, SameOutside}
+use Rattle.stm_wire.proofs.Names.{settling_byte, step_reply, Takes, Verdict, verdict, with_nothing_owed}
 use Rattle.stm_wire.specs.declared.verdict.Verdict.TheVariants.{Done, Refused, Loose}
-use Rattle.stm_wire.specs.Chip.{ChipData}
-use Rattle.stm_wire.specs.Exchange.{verdict}
-use Rattle.stm_wire.specs.Reply.{ack, nack, answer, reply_to, step_reply}
-use Rattle.stm_wire.specs.Device.{Device, Phase, Fresh, Connected, Gone, IsDevice, IsOpenPhase, Feeds, LosesOwed, Receives, Takes, reply_of}
-use Rattle.stm_wire.specs.Rig.{RigState, IsModel, PutsHonestly, GetsHonestly}
-use Rattle.stm_wire.specs.Harmless.{SameOutside, IsListening}
-use Rattle.stm_wire.specs.Intents.{settling_byte}
-use Rattle.stm_wire.specs.Settling.{IsSettling, Keeps, KeepsSettling, with_nothing_owed}
-use Rattle.stm_wire.specs.Greeting.{most_greeted, HarmlessWithin, IsGreeting, MayBeGreeted}
 use Rattle.stm_wire.proofs.Awaited.{answer_small, step_small}
 use Rattle.stm_wire.proofs.Bound.{by_recursion}
 use Rattle.stm_wire.proofs.Closed.{same_make}

@@ -1,14 +1,9 @@
 -- How runs of calls that hold a dialogue join.
 use Rattle.std.proofs.Common.{IfErr, IsErrAnd, ◌≡◌, ℕ, List, [], ◌∷◌, ◌++◌, Option, Some, None, Result, Ok, Err, refl, sym, ◌∙◌, ap, subst, inl, arith, append-nil}
-use Rattle.stm_wire.specs.Call.{Call}
-use Rattle.stm_wire.specs.declared.fault.WireFault.{WireFault}
+use Rattle.stm_wire.proofs.Names.{Adds, BreaksOff, Call, calls_of, Device, FailsBy, IsBrokenOff, IsHeldToEnd, IsModel, KeepsCount, LeftBySending, LosesOwed, RigState, Rises, says, SentHonestly}
+use Rattle.stm_wire.proofs.Names.{step_turns, Turn, WireFault}
 use Rattle.stm_wire.specs.declared.fault.WireFault.TheVariants.{Line, Nack, Quiet, Garbled}
-use Rattle.stm_wire.specs.Device.{Device, LosesOwed}
-use Rattle.stm_wire.specs.Rig.{RigState, Rises, IsModel}
-use Rattle.stm_wire.specs.Moments.{LeftBySending}
 use Rattle.stm_wire.specs.lemmas.MomentLaws.{started, joined, weaker, LosesOwed-refl}
-use Rattle.stm_wire.specs.Dialogue.{Turn, says, step_turns, calls_of, FailsBy, IsBrokenOff, Adds}
-use Rattle.stm_wire.specs.Sending.{KeepsCount, SentHonestly, IsHeldToEnd, BreaksOff}
 use Rattle.stm_wire.proofs.Turns.{FedAndTaken-append, PartlyFed-first, PartlyFed-second, PartlyFed-all, calls_of-append, says-step, broken-first, broken-second, Adds-append, GoesOn-append, GoesOn-weaker, Adds-GoesOn}
 
 LeftBySending-second : (xs ys : List ℕ) (a b : RigState) → SentHonestly xs a b → (d : Device) (journal : List ℕ) → LeftBySending ys b d journal → LeftBySending (xs ++ ys) a d journal

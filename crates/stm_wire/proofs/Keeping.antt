@@ -1,19 +1,12 @@
 -- What settling keeps, from call to call.
 use Rattle.std.proofs.Common.{eqb, inl, inr, ◌≡◌, ⊎_elim, ℕ, suc, ◌+◌, ◌-◌, ◌<◌, ◌≤◌, List, [], ◌∷◌, ◌++◌, length, drop, Option, Some, None, Result, Ok, Err, refl, sym, ◌∙◌, ap, subst, arith}
 use Rattle.std.proofs.lemmas.List.{drop-drop, length-drop}
-use Rattle.stm_wire.specs.declared.fault.RigFault.{RigFault}
-use Rattle.stm_wire.specs.Device.{Device, IsDevice, Feeds, LosesOwed, IsSettled, Fresh, Connected}
+use Rattle.stm_wire.proofs.Names.{ack, Awaits, Connected, Device, EraseKind, Feeds, Fresh, GetsFirst, GetsHonestly, Harmless, IsDevice, IsGoing, IsModel, IsSettled, IsSettling, Keeps, KeepsSettling}
+use Rattle.stm_wire.proofs.Names.{LeftByGet, LeftByPut, LeftBySettling, LeftWith, LosesOwed, most_awaited, nack, PutsHonestly, RigFault, RigState, with_nothing_owed, with_rest}
 use Rattle.std.specs.Prelude.{MatchBool}
-use Rattle.stm_wire.specs.Rig.{RigState, IsModel, LeftByPut, LeftByGet, PutsHonestly, GetsHonestly, GetsFirst}
-use Rattle.stm_wire.specs.Harmless.{Harmless}
 use Rattle.stm_wire.proofs.Flash.{same_flash}
-use Rattle.stm_wire.specs.declared.chip.EraseKind.{EraseKind}
 use Rattle.stm_wire.specs.declared.chip.EraseKind.TheVariants.{Page, Extended}
-use Rattle.stm_wire.specs.Awaited.{Awaits, most_awaited}
-use Rattle.stm_wire.specs.Settling.{IsSettling, IsGoing, LeftBySettling, LeftWith, Keeps, KeepsSettling, with_nothing_owed}
-use Rattle.stm_wire.specs.Command.{with_rest}
 use Rattle.stm_wire.specs.lemmas.MomentLaws.{started, joined, elapsed}
-use Rattle.stm_wire.specs.Reply.{ack, nack}
 use Rattle.stm_wire.proofs.Ending.{awaited_limited, more_suffice}
 use Rattle.stm_wire.proofs.Going.{going, settling_loses, settling_fed, connects, waits, refuses, step, Steps, IsOver, IsNoRefusal, InBatch, batch_step, batch_begins, batch_ends}
 

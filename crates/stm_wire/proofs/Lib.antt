@@ -1,3 +1,4 @@
+pub mod Names
 mod Address
 mod Answering
 mod Asking

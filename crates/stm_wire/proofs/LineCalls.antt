@@ -1,15 +1,9 @@
 -- A put and a get as turns of a dialogue.
 use Rattle.std.proofs.Common.{◌≡◌, ⊎_elim, ℕ, List, [], ◌∷◌, ◌++◌, drop, Option, Some, None, Ok, Err, refl, sym, ◌∙◌, ap, subst, inl, append-nil}
-use Rattle.stm_wire.specs.Call.{Call, Put, Get}
-use Rattle.stm_wire.specs.declared.fault.RigFault.{RigFault}
-use Rattle.stm_wire.specs.declared.fault.WireFault.{WireFault}
+use Rattle.stm_wire.proofs.Names.{Acknowledged, Adds, BreaksOff, Call, call_of, Device, Expects, FailsBy, Get, GetsFirst, GetsHonestly, GoesOn, HasCause, IsBrokenOff, IsHeldToEnd, IsModel, Learns}
+use Rattle.stm_wire.proofs.Names.{learns, LeftByGet, LeftByPut, LeftBySending, LosesOwed, Put, PutsHonestly, Records, RigFault, RigState, Says, says, SentHonestly, Turn, WireFault}
 use Rattle.stm_wire.specs.declared.fault.WireFault.TheVariants.{Line, Nack, Quiet, Garbled}
-use Rattle.stm_wire.specs.Device.{Device, LosesOwed}
-use Rattle.stm_wire.specs.Rig.{RigState, HasCause, IsModel, Records, LeftByPut, LeftByGet, PutsHonestly, GetsHonestly, GetsFirst}
-use Rattle.stm_wire.specs.Moments.{LeftBySending}
 use Rattle.stm_wire.specs.lemmas.MomentLaws.{elapsed, LosesOwed-refl}
-use Rattle.stm_wire.specs.Dialogue.{Turn, Says, Acknowledged, Expects, Learns, says, learns, call_of, FailsBy, IsBrokenOff, Adds, GoesOn}
-use Rattle.stm_wire.specs.Sending.{SentHonestly, IsHeldToEnd, BreaksOff}
 use Rattle.stm_wire.proofs.Turns.{GoesOn-weaker}
 use Rattle.stm_wire.proofs.Holding.{breaks_at, left-here, Holds-none}
 

@@ -3,14 +3,9 @@ use Rattle.std.proofs.Common.{◌≡◌, ℕ, zero, suc, ◌-◌, true, false, �
 use Rattle.std.specs.Prelude.{⊤}
 use Rattle.std.proofs.lemmas.Bool.{cond_both, eqb-true}
 use Rattle.std.proofs.lemmas.List.{append-nil}
-use Rattle.stm_wire.specs.Chip.{ChipData, flash_size}
-use Rattle.stm_wire.specs.declared.verdict.Verdict.{Verdict}
+use Rattle.stm_wire.proofs.Names.{ack, at_end, change_of, ChipData, command_verdict, complement, Connected, Device, Disturbance, Feed, flash_size, Fresh, Gone, Harmless, is_listed, IsListening}
+use Rattle.stm_wire.proofs.Names.{IsUnharmed, Phase, phase_after, Reaches, Receives, Reset, reset, SameOutside, Takes, Verdict, verdict}
 use Rattle.stm_wire.specs.declared.verdict.Verdict.TheVariants.{Done, Refused, Loose}
-use Rattle.stm_wire.specs.Exchange.{verdict, complement, at_end, command_verdict, is_listed}
-use Rattle.stm_wire.specs.Effect.{change_of}
-use Rattle.stm_wire.specs.Device.{Device, Phase, Fresh, Connected, Gone, Takes, Receives, reset, phase_after}
-use Rattle.stm_wire.specs.Reply.{ack}
-use Rattle.stm_wire.specs.Harmless.{SameOutside, IsListening, Disturbance, Feed, Reset, Reaches, IsUnharmed, Harmless}
 use Rattle.stm_wire.proofs.Flash.{IsConfined, same_flash, then_same, effect_within}
 
 -- a device with this verdict on these bytes stays connected, and its flash is the same outside the pages

@@ -1,9 +1,8 @@
 -- What lies in a page lies in the flash.
 use Rattle.std.proofs.Common.{ℕ, IsTrue, arith}
 use Rattle.std.proofs.lemmas.Bool.Decides.{nat_tests}
-use Rattle.stm_wire.specs.Chip.{ChipData, fits_inside}
+use Rattle.stm_wire.proofs.Names.{ChipData, fits_inside, InPage}
 use Rattle.stm_wire.specs.lemmas.PageLaws.{page_within}
-use Rattle.stm_wire.specs.Intents.{InPage}
 
 -- what lies in a page lies in the flash
 pub page_inside : (chip : ChipData) (page address size : ℕ) → InPage chip page address size → IsTrue (fits_inside chip address size)

@@ -2,11 +2,8 @@
 use Rattle.std.proofs.Common.{◌≡◌, ℕ, zero, suc, ◌+◌, ◌-◌, Bool, true, ◌&&◌, eqb, List, [], ◌∷◌, ◌++◌, take, replicate, refl, arith, Option, Some}
 use Rattle.std.specs.Prelude.{IsTrue}
 use Rattle.std.proofs.lemmas.Bool.{cond_both, eqb-true, and_parts}
-use Rattle.stm_wire.specs.Chip.{ChipData}
-use Rattle.stm_wire.specs.Telling.{can_read, is_readable}
-use Rattle.stm_wire.specs.declared.verdict.Verdict.{Verdict}
+use Rattle.stm_wire.proofs.Names.{after_address, at_end, can_read, ChipData, command_verdict, complement, done_if, is_listed, is_readable, number_of, read_verdict, Verdict, xor}
 use Rattle.stm_wire.specs.declared.verdict.Verdict.TheVariants.{Done, Refused}
-use Rattle.stm_wire.specs.Exchange.{complement, at_end, done_if, command_verdict, after_address, read_verdict, is_listed, xor, number_of}
 use Rattle.stm_wire.proofs.Mild.{Fits, FitsAll, Mild, fits_end, after_pair, mild_empty}
 
 pub fits_done_if : (chip : ChipData) (pages bytes : List ℕ) (test : Bool) → Fits chip pages bytes (Some Done) → Fits chip pages bytes (Some (done_if test))

@@ -1,16 +1,9 @@
 -- A protection: the code, which is acknowledged twice, and of which nothing else is promised.
 use Rattle.std.proofs.Common.{◌≡◌, ℕ, List, [], ◌∷◌, ◌++◌, Option, Some, IsTrue, refl, ◌∙◌, ap, subst}
-use Rattle.stm_wire.specs.declared.protection.Protection.{Protection}
+use Rattle.stm_wire.proofs.Names.{ack, CanProtect, ChipData, command, command_verdict, complement, Connected, Device, Fed, Feeds, is_protection, IsLoose, LeavesFirst, OwesFirst, owing, Protection}
+use Rattle.stm_wire.proofs.Names.{protection_code, reply_to, Takes, Verdict, verdict, with_rest}
 use Rattle.stm_wire.specs.declared.protection.Protection.TheVariants.{WriteUnprotect, ReadoutProtect, ReadoutUnprotect}
-use Rattle.stm_wire.specs.declared.verdict.Verdict.{Verdict}
 use Rattle.stm_wire.specs.declared.verdict.Verdict.TheVariants.{Loose}
-use Rattle.stm_wire.specs.Chip.{ChipData}
-use Rattle.stm_wire.specs.Exchange.{verdict, command_verdict, complement}
-use Rattle.stm_wire.specs.Frames.{command}
-use Rattle.stm_wire.specs.Reply.{ack, reply_to}
-use Rattle.stm_wire.specs.Device.{Device, Connected, Feeds, Fed, Takes, IsLoose, is_protection}
-use Rattle.stm_wire.specs.Protection.{protection_code}
-use Rattle.stm_wire.specs.Command.{owing, OwesFirst, LeavesFirst, with_rest, CanProtect}
 use Rattle.stm_wire.proofs.Feeding.{Fed-split}
 use Rattle.stm_wire.proofs.Steps.{fed-along}
 use Rattle.stm_wire.proofs.Address.{verdict-listed, settled-is}

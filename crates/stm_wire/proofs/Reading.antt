@@ -1,21 +1,12 @@
 -- The end of a read: the count, and the bytes.
 use Rattle.std.proofs.Common.{◌≡◌, inl, ℕ, ◌+◌, ◌-◌, ◌/◌, ◌%◌, ◌≤◌, Bool, ◌&&◌, ◌==◌, List, [], ◌∷◌, ◌++◌, length, take, drop, Option, Some, IsTrue, refl, sym, ◌∙◌, ap, ap₂, subst, arith, eq-eqb}
-use Rattle.stm_wire.specs.Telling.{can_read, is_readable, readable_bytes}
+use Rattle.stm_wire.proofs.Names.{ack, address_bytes, address_turns, BreaksOff, can_read, CanRead, CanTell, command, complement, Connected, Device, done_if, Fed, HasRead, is_readable, IsDevice}
+use Rattle.stm_wire.proofs.Names.{IsHeldToEnd, learns, LeavesFirst, number_of, owing, read_frame, read_turns, read_verdict, readable_bytes, RigState, step_turns, TakesAddress, told_bytes, Verdict}
+use Rattle.stm_wire.proofs.Names.{verdict, WireFault, with_checksum, with_rest}
 use Rattle.stm_wire.proofs.Tellings.{flash-readable, flash-told, length-readable, readable-address}
-use Rattle.stm_wire.specs.declared.verdict.Verdict.{Verdict}
 use Rattle.stm_wire.specs.declared.verdict.Verdict.TheVariants.{Done}
-use Rattle.stm_wire.specs.Exchange.{verdict, complement, number_of, done_if, read_verdict}
-use Rattle.stm_wire.specs.Frames.{command, with_checksum, address_bytes}
-use Rattle.stm_wire.specs.Reply.{ack}
-use Rattle.stm_wire.specs.Device.{Device, Connected, Fed, IsDevice}
-use Rattle.stm_wire.specs.Command.{owing, LeavesFirst, with_rest, TakesAddress, CanRead, CanTell, HasRead, told_bytes}
 use Rattle.std.proofs.Common.{replicate, append-nil}
 use Rattle.std.proofs.lemmas.List.{length-replicate}
-use Rattle.stm_wire.specs.declared.fault.WireFault.{WireFault}
-use Rattle.stm_wire.specs.Rig.{RigState}
-use Rattle.stm_wire.specs.Dialogue.{step_turns, learns}
-use Rattle.stm_wire.specs.Sending.{IsHeldToEnd, BreaksOff}
-use Rattle.stm_wire.specs.Frames.{address_turns, read_frame, read_turns}
 use Rattle.stm_wire.proofs.Holding.{Holds-append, Holds-then, BreaksOff-first, BreaksOff-second, BreaksOff-then}
 use Rattle.stm_wire.proofs.Receiving.{answered}
 use Rattle.stm_wire.proofs.Steps.{OpenAlong, fed-done}

@@ -1,14 +1,9 @@
 -- The data that follow an acknowledgement, byte by byte.
 use Rattle.std.proofs.Common.{◌≡◌, ◌<◌, ℕ, List, [], ◌∷◌, ◌++◌, length, replicate, refl, sym, ◌∙◌, ap, subst, arith, length-append}
 use Rattle.std.proofs.lemmas.List.{length-replicate}
-use Rattle.stm_wire.specs.declared.fault.WireFault.{WireFault}
+use Rattle.stm_wire.proofs.Names.{BreaksOff, Connected, Device, IsHeldToEnd, IsSettled, learns, owing, RigState, Turn, WireFault}
 use Rattle.std.proofs.Common.{ap₂, take}
 use Rattle.std.proofs.Math.Seq.{take-append_seam, take-length}
-use Rattle.stm_wire.specs.Device.{Device, Connected, IsSettled}
-use Rattle.stm_wire.specs.Rig.{RigState}
-use Rattle.stm_wire.specs.Dialogue.{Turn, learns}
-use Rattle.stm_wire.specs.Sending.{IsHeldToEnd, BreaksOff}
-use Rattle.stm_wire.specs.Command.{owing}
 use Rattle.stm_wire.proofs.Address.{settled-is}
 use Rattle.stm_wire.proofs.Turns.{learns-append}
 use Rattle.stm_wire.proofs.Holding.{Holds-append, BreaksOff-first, BreaksOff-second}

@@ -1,30 +1,21 @@
 -- A read that may be refused: what each of its steps leaves of a device that follows the model, and what a stop in it does.
 use Rattle.std.proofs.Common.{lit≤, ◌≡◌, ◌⊎◌, inl, inr, ℕ, ◌+◌, ◌-◌, ◌/◌, ◌%◌, ◌≤◌, Bool, true, false, ◌&&◌, ◌==◌, List, [], ◌∷◌, ◌++◌, length, take, drop, get_or, Option, Some, IsTrue, refl, sym, ◌∙◌, ap, ap₂, subst, arith, eq-eqb, if◌then◌else◌, length-append, min, Result, Ok, Err, IsErrAnd}
 use Rattle.std.proofs.lemmas.List.{take_min, take-append-le}
-use Rattle.stm_wire.specs.declared.fault.WireFault.{WireFault}
+use Rattle.stm_wire.proofs.Names.{ack, address_bytes, AsksSafely, at_end, can_read, CanTell, ChipData, command, complement, Connected, Device, done_if, Fed, Feeds, is_readable, IsDevice, IsSettled}
+use Rattle.stm_wire.proofs.Names.{IsStoppedSafely, LeavesAnswer, LeftBySending, nack, OwesFirst, owing, PartlyFed, PartSentHonestly, Phase, read_frame, read_head, read_verdict, Receives}
+use Rattle.stm_wire.proofs.Names.{refusable_frame, RefusableReadsChangeNothing, reply_to, RigState, SentHonestly, Takes, TakesAddress, told_bytes, Verdict, verdict, WireFault, with_checksum}
+use Rattle.stm_wire.proofs.Names.{with_rest, xor}
 use Rattle.stm_wire.specs.declared.fault.WireFault.TheVariants.{Line}
 use Rattle.stm_wire.specs.lemmas.FlashLaws.{same_all}
-use Rattle.stm_wire.specs.Stopped.{IsStoppedSafely, read}
+use Rattle.stm_wire.specs.Stopped.{read}
 use Rattle.stm_wire.proofs.Flash.{same_flash}
 use Rattle.stm_wire.proofs.Mild.{Mild, harmless, mild_empty}
 use Rattle.stm_wire.proofs.Stopped.{mild_read_frame}
 use Rattle.stm_wire.proofs.Enough.{counts_none, empty_enough, enough_short, no_count}
 use Rattle.stm_wire.proofs.StoppedFrames.{asking_changes_nothing, read_suffices}
 use Rattle.stm_wire.proofs.Stops.{Suffices, along-append, before_last, replies-few, stopped_from}
-use Rattle.stm_wire.specs.Chip.{ChipData}
-use Rattle.stm_wire.specs.Telling.{can_read, is_readable}
-use Rattle.stm_wire.specs.declared.verdict.Verdict.{Verdict}
 use Rattle.stm_wire.specs.declared.verdict.Verdict.TheVariants.{Refused}
-use Rattle.stm_wire.specs.Exchange.{verdict, at_end, complement, xor, done_if, read_verdict}
-use Rattle.stm_wire.specs.Frames.{command, with_checksum, address_bytes, read_frame}
-use Rattle.stm_wire.specs.Reply.{ack, nack, reply_to}
-use Rattle.stm_wire.specs.Rig.{RigState}
-use Rattle.stm_wire.specs.Device.{Device, Phase, Connected, Fed, Feeds, Receives, Takes, IsDevice, IsSettled}
-use Rattle.stm_wire.specs.Command.{owing, with_rest, OwesFirst, TakesAddress, CanTell, told_bytes}
-use Rattle.stm_wire.specs.Moments.{LeftBySending, PartlyFed}
 use Rattle.stm_wire.specs.lemmas.MomentLaws.{weaker}
-use Rattle.stm_wire.specs.Sending.{SentHonestly, PartSentHonestly}
-use Rattle.stm_wire.specs.Refused.{AsksSafely, LeavesAnswer, RefusableReadsChangeNothing, read_head, refusable_frame}
 use Rattle.stm_wire.proofs.Address.{address-waits, addressed, verdict-listed, command-waits, after_address-right, address-first, address-step, number_of-address_bytes, settled-is}
 use Rattle.stm_wire.proofs.Feeding.{Fed-split}
 use Rattle.stm_wire.proofs.Reading.{count-first, count-step}

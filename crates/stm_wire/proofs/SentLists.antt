@@ -1,12 +1,7 @@
 -- Bytes sent from a list, or taken into one, turn by turn.
 use Rattle.std.proofs.Common.{set, ◌<◌, get_or, take-append-drop, ◌≡◌, ℕ, ◌+◌, List, [], ◌∷◌, ◌++◌, length, take, drop, refl, sym, ◌∙◌, ap, subst, append_assoc}
 use Rattle.std.proofs.lemmas.List.{take_more_set, take_more}
-use Rattle.stm_wire.specs.declared.fault.WireFault.{WireFault}
-use Rattle.stm_wire.specs.Device.{Device, Fed, Feeds}
-use Rattle.stm_wire.specs.Rig.{RigState}
-use Rattle.stm_wire.specs.Dialogue.{Turn, says, learns}
-use Rattle.stm_wire.specs.Sending.{IsHeldToEnd, BreaksOff}
-use Rattle.stm_wire.specs.Command.{owing}
+use Rattle.stm_wire.proofs.Names.{BreaksOff, Device, Fed, Feeds, IsHeldToEnd, learns, owing, RigState, says, Turn, WireFault}
 use Rattle.stm_wire.proofs.Feeding.{Fed-append}
 use Rattle.stm_wire.proofs.Turns.{says-append, learns-append}
 use Rattle.stm_wire.proofs.Holding.{Holds-append, BreaksOff-second, BreaksOff-first}

@@ -2,11 +2,9 @@
 use Rattle.std.proofs.Common.{◌≡◌, ◌≢◌, ℕ, suc, ◌+◌, ◌-◌, ◌<◌, ◌≤◌, Bool, true, false, ◌||◌, List, [], ◌∷◌, ◌++◌, length, replicate, Option, Some, None, Ok, refl, sym, ◌∙◌, ap, subst, eqb, eqb-true, arith, append_assoc}
 use Rattle.std.proofs.lemmas.Bool.{eqb-false}
 use Rattle.std.specs.Prelude.{MatchBool}
-use Rattle.stm_wire.specs.Call.{Call, Put, Get, Append, Fetch}
-use Rattle.stm_wire.specs.Reply.{nack}
-use Rattle.stm_wire.specs.Rig.{Records}
-use Rattle.stm_wire.specs.Dialogue.{Adds, GoesOn, puts_of}
-use Rattle.stm_wire.specs.SettlingCalls.{taken, has_nack, IsDrained, batch_size, IsBatch, AreBatches, none, more, HearsNoNack, IsUnrefused, AreUnrefused, IsRefused, IsConnected, IsReconnected, EndsSingly, refused, reconnected, IsBatched, answered, used_up, EndsInBatches, EndsByteByByte, EndsSettled, singly}
+use Rattle.stm_wire.proofs.Names.{Adds, answered, Append, AreBatches, AreUnrefused, batch_size, Call, EndsByteByByte, EndsInBatches, EndsSettled, EndsSingly, Fetch, Get, GoesOn, has_nack, HearsNoNack}
+use Rattle.stm_wire.proofs.Names.{IsBatch, IsBatched, IsConnected, IsDrained, IsReconnected, IsRefused, IsUnrefused, more, nack, none, Put, puts_of, reconnected, Records, refused, singly, taken}
+use Rattle.stm_wire.proofs.Names.{used_up}
 use Rattle.stm_wire.proofs.Turns.{Adds-append, Adds-GoesOn, GoesOn-append, GoesOn-weaker}
 use Rattle.stm_wire.proofs.Talking.{puts_of-append, goes_nowhere, replicate-more}
 

@@ -1,11 +1,8 @@
 -- How the calls of settling end at a fault, on any line.
 use Rattle.std.proofs.Common.{◌≡◌, inl, inr, ⊎_elim, ℕ, ◌+◌, List, [], ◌∷◌, ◌++◌, replicate, Bool, Option, None, Result, Ok, Err, IfErr, IsErrAnd, refl, sym, ◌∙◌, ap, subst, append_assoc}
-use Rattle.stm_wire.specs.Call.{Call, Put, Get}
-use Rattle.stm_wire.specs.declared.fault.WireFault.{WireFault}
+use Rattle.stm_wire.proofs.Names.{Adds, answered_once, Call, EndsGarbled, FailsAs, Floods, Get, GoesOn, IsAnswerTo, IsConnected, IsGarbled, IsNoAck, IsPast, IsUnconfirmed, IsUnconnected, IsUnended}
+use Rattle.stm_wire.proofs.Names.{Never, Put, puts_of, PutsAll, taken, unacknowledged, unconfirmed, WireFault}
 use Rattle.stm_wire.specs.declared.fault.WireFault.TheVariants.{Quiet, Garbled}
-use Rattle.stm_wire.specs.Dialogue.{Adds, GoesOn, puts_of}
-use Rattle.stm_wire.specs.Settling.{PutsAll}
-use Rattle.stm_wire.specs.SettlingCalls.{taken, Floods, IsConnected, IsUnconnected, IsAnswerTo, IsNoAck, IsUnconfirmed, IsGarbled, IsUnended, unacknowledged, answered_once, unconfirmed, IsPast, EndsGarbled, Never, FailsAs}
 use Rattle.stm_wire.proofs.Turns.{GoesOn-append, GoesOn-weaker}
 use Rattle.stm_wire.proofs.Holding.{if_err_weaker}
 use Rattle.stm_wire.proofs.Talking.{puts_of-append, replicate-add}

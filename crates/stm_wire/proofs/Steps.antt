@@ -1,15 +1,9 @@
 -- The steps of a command, on a device that waits for them.
 use Rattle.std.proofs.Common.{◌≡◌, ℕ, List, [], ◌∷◌, ◌++◌, drop, Option, Some, None, refl, sym, ◌∙◌, ap, ap₂, subst, append_assoc, append-nil}
-use Rattle.stm_wire.specs.Chip.{ChipData}
-use Rattle.stm_wire.specs.declared.verdict.Verdict.{Verdict}
+use Rattle.stm_wire.proofs.Names.{ack, answer, change_of, ChipData, command, Connected, Device, Effect, Fed, Feeds, LeavesFirst, owing, Phase, phase_after, Receives, reply_to, step_reply, Takes}
+use Rattle.stm_wire.proofs.Names.{Verdict, verdict, with_rest}
 use Rattle.stm_wire.specs.declared.verdict.Verdict.TheVariants.{Done}
-use Rattle.stm_wire.specs.Exchange.{verdict}
-use Rattle.stm_wire.specs.Effect.{Effect, change_of}
-use Rattle.stm_wire.specs.Reply.{ack, answer, reply_to, step_reply}
-use Rattle.stm_wire.specs.Device.{Device, Phase, Connected, Feeds, Fed, Receives, Takes, phase_after}
-use Rattle.stm_wire.specs.Frames.{command}
 use Rattle.stm_wire.proofs.Feeding.{Fed-split}
-use Rattle.stm_wire.specs.Command.{owing, with_rest, LeavesFirst}
 
 -- a done list changed_flash the flash, and left its reply
 abbrev pub IsDone : Device → List ℕ → Device → Type 0

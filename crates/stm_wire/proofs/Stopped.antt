@@ -5,20 +5,12 @@ use Rattle.std.specs.Int.Bits.{xor_zero_l}
 use Rattle.std.proofs.lemmas.Bool.{cases_lt, eqb-true}
 use Rattle.std.proofs.lemmas.Bool.Decides.{nat_tests}
 use Rattle.std.proofs.lemmas.List.{length-take}
-use Rattle.stm_wire.specs.declared.chip.EraseKind.{EraseKind}
+use Rattle.stm_wire.proofs.Names.{address_bytes, Awaits, ChipData, command, Connected, Device, erase_frame, EraseKind, FreshIsHarmless, Harmless, in_erase, in_get, in_get_id, in_read, in_ready}
+use Rattle.stm_wire.proofs.Names.{in_write, InPage, intended_pages, Intent, IsDevice, IsOpen, IsOpenPhase, IsReadyRest, IsRefusedIn, most_for, most_under, number_of, page_count, page_limit}
+use Rattle.stm_wire.proofs.Names.{read_frame, SameOutside, settling_byte, StoppedAwaitsFew, StoppedIsHarmless, with_checksum, Write, write_frame, xor}
 use Rattle.stm_wire.specs.declared.chip.EraseKind.TheVariants.{Page, Extended}
-use Rattle.stm_wire.specs.Chip.{ChipData, page_count, page_limit}
 use Rattle.stm_wire.specs.declared.verdict.Verdict.TheVariants.{Refused}
-use Rattle.stm_wire.specs.Exchange.{IsOpen, number_of, xor}
-use Rattle.stm_wire.specs.Effect.{Write}
-use Rattle.stm_wire.specs.Device.{Device, Connected, IsDevice, IsOpenPhase, IsReadyRest}
-use Rattle.stm_wire.specs.Awaited.{Awaits, IsRefusedIn, most_for, most_under}
-use Rattle.stm_wire.specs.Harmless.{Harmless, SameOutside}
-use Rattle.stm_wire.specs.declared.intent.Intent.{Intent}
 use Rattle.stm_wire.specs.declared.intent.Intent.TheVariants.{Erase, Program}
-use Rattle.stm_wire.specs.Frames.{command, read_frame, write_frame, erase_frame, address_bytes, with_checksum}
-use Rattle.stm_wire.specs.Intents.{settling_byte, intended_pages, InPage}
-use Rattle.stm_wire.specs.Stopped.{in_get, in_get_id, in_read, in_ready, in_erase, in_write, StoppedAwaitsFew, StoppedIsHarmless, FreshIsHarmless}
 use Rattle.stm_wire.proofs.Flash.{IsConfined}
 use Rattle.stm_wire.proofs.Mild.{Mild, Tame, harmless, mild_empty}
 use Rattle.stm_wire.proofs.Bound.{IsCounted, by_recursion, counted}

@@ -2,21 +2,13 @@
 use Rattle.std.proofs.Common.{lit<, ◌≡◌, ℕ, ◌+◌, ◌-◌, ◌/◌, ◌%◌, ◌<◌, ◌≤◌, Bool, true, false, ◌&&◌, ◌==◌, List, [], ◌∷◌, ◌++◌, length, take, get_or, Option, Some, None, IsTrue, lit≤, refl, sym, ap, ap₂, ◌∙◌, subst, arith, eq-eqb, ne_eqb, lt-ltb, inl, inr, if◌then◌else◌, length-append}
 use Rattle.std.proofs.Math.Seq.{take-append_seam, get_or-append_seam}
 use Rattle.std.specs.List.{Contains}
-use Rattle.stm_wire.specs.declared.intent.Intent.{Intent}
+use Rattle.stm_wire.proofs.Names.{address_bytes, AskingChangesNothing, asks, can_read, ChipData, command, complement, Device, done_if, erase_frame, EraseKind, erases, fits_inside, get, intended_pages}
+use Rattle.stm_wire.proofs.Names.{Intent, is_inside, is_readable, IsDevice, IsQuestion, IsSettled, IsStoppedSafely, ListsKind, most_for, most_under, number_of, page_count, page_limit, pair_of}
+use Rattle.stm_wire.proofs.Names.{PartlyFed, read_frame, read_verdict, SendingIsHarmless, settling_byte, Verdict, with_checksum, write_frame, write_verdict, writes, xor}
 use Rattle.stm_wire.specs.declared.intent.Intent.TheVariants.{Erase, Program}
-use Rattle.stm_wire.specs.declared.chip.EraseKind.{EraseKind}
 use Rattle.stm_wire.specs.declared.chip.EraseKind.TheVariants.{Page, Extended}
-use Rattle.stm_wire.specs.declared.verdict.Verdict.{Verdict}
 use Rattle.stm_wire.specs.declared.verdict.Verdict.TheVariants.{Done}
-use Rattle.stm_wire.specs.Telling.{can_read, is_readable}
-use Rattle.stm_wire.specs.Chip.{ChipData, page_count, page_limit, fits_inside, is_inside}
-use Rattle.stm_wire.specs.Exchange.{done_if, read_verdict, write_verdict, complement, number_of, xor, pair_of}
-use Rattle.stm_wire.specs.Awaited.{most_for, most_under}
-use Rattle.stm_wire.specs.Device.{Device, IsDevice, IsSettled, ListsKind}
-use Rattle.stm_wire.specs.Frames.{command, with_checksum, address_bytes, erase_frame, read_frame, write_frame}
-use Rattle.stm_wire.specs.Intents.{settling_byte, intended_pages}
-use Rattle.stm_wire.specs.Moments.{PartlyFed}
-use Rattle.stm_wire.specs.Stopped.{IsQuestion, get, get_id, read, asks, erases, writes, IsStoppedSafely, SendingIsHarmless, AskingChangesNothing}
+use Rattle.stm_wire.specs.Stopped.{get_id, read}
 use Rattle.stm_wire.proofs.Steps.{OpenAlong}
 use Rattle.stm_wire.proofs.Address.{verdict-listed, command-waits, after_address-right, addressed, address-waits}
 use Rattle.stm_wire.proofs.Writing.{data-waits}

@@ -2,17 +2,9 @@
 use Rattle.std.proofs.Common.{◌≡◌, ⊎_elim, ℕ, zero, suc, ◌+◌, ◌<◌, ◌≤◌, List, [], ◌∷◌, ◌++◌, length, take, Some, refl, sym, ap, ap₂, ◌∙◌, subst, arith, append_assoc}
 use Rattle.std.proofs.lemmas.Bool.{cases_lt}
 use Rattle.std.proofs.lemmas.List.{append-nil, take-append-le, take_all, length-append, length-take, length-drop}
-use Rattle.stm_wire.specs.Chip.{ChipData}
+use Rattle.stm_wire.proofs.Names.{ack, answer, change_of, ChipData, Connected, Device, Fed, Feeds, IsDevice, IsOpen, IsRefusedIn, IsSettled, IsStoppedSafely, PartlyFed, Phase, phase_after}
+use Rattle.stm_wire.proofs.Names.{SameOutside, step_reply, verdict, with_rest}
 use Rattle.stm_wire.specs.declared.verdict.Verdict.TheVariants.{Done}
-use Rattle.stm_wire.specs.Exchange.{IsOpen, verdict}
-use Rattle.stm_wire.specs.Effect.{change_of}
-use Rattle.stm_wire.specs.Reply.{ack, answer, step_reply}
-use Rattle.stm_wire.specs.Device.{Device, Phase, Connected, Fed, Feeds, IsDevice, IsSettled, phase_after}
-use Rattle.stm_wire.specs.Awaited.{IsRefusedIn}
-use Rattle.stm_wire.specs.Harmless.{SameOutside}
-use Rattle.stm_wire.specs.Moments.{PartlyFed}
-use Rattle.stm_wire.specs.Command.{with_rest}
-use Rattle.stm_wire.specs.Stopped.{IsStoppedSafely}
 use Rattle.stm_wire.proofs.Flash.{same_flash, effect_within}
 use Rattle.stm_wire.proofs.Mild.{Fits, FitsAll, Mild, Tame, harmless, mild_empty}
 use Rattle.stm_wire.proofs.Closed.{awaits_loses, harmless_loses}

@@ -2,15 +2,9 @@
 use Rattle.std.proofs.Common.{◌≡◌, ◌≢◌, ⊎_elim, ℕ, zero, suc, ◌+◌, ◌*◌, ◌-◌, ◌<◌, ◌≤◌, min, List, [], ◌∷◌, ◌++◌, length, take, replicate, Option, Some, None, Result, Ok, Err, IsErrAnd, refl, sym, ◌∙◌, ap, subst, arith, append_assoc, append-nil, take_all}
 use Rattle.std.proofs.Math.Seq.{take-append-add}
 use Rattle.std.proofs.lemmas.List.{take_min, take-append-le, length-append}
-use Rattle.stm_wire.specs.Call.{Call, Put, Get, Append, Fetch}
-use Rattle.stm_wire.specs.declared.fault.RigFault.{RigFault}
-use Rattle.stm_wire.specs.declared.fault.WireFault.{WireFault}
+use Rattle.stm_wire.proofs.Names.{Append, AreLineCalls, Call, Fetch, Get, GetsHonestly, GoesOn, HasCause, HasLineCause, KeepsCount, Put, puts_of, PutsAll, PutsHonestly, PutsPart, Records, RigFault}
+use Rattle.stm_wire.proofs.Names.{RigState, Rises, settling_run, Speaks, SpeaksBatches, StaysHonest, Talks, WireFault}
 use Rattle.stm_wire.specs.declared.fault.WireFault.TheVariants.{Line}
-use Rattle.stm_wire.specs.Rig.{RigState, Rises, HasCause, Records, StaysHonest, PutsHonestly, GetsHonestly}
-use Rattle.stm_wire.specs.Dialogue.{GoesOn, puts_of, AreLineCalls}
-use Rattle.stm_wire.specs.SentList.{settling_run}
-use Rattle.stm_wire.specs.Sending.{KeepsCount}
-use Rattle.stm_wire.specs.Settling.{Talks, PutsAll, PutsPart, HasLineCause, Speaks, SpeaksBatches}
 use Rattle.stm_wire.proofs.Holding.{count_kept}
 use Rattle.stm_wire.proofs.Turns.{GoesOn-append, GoesOn-weaker}
 

@@ -2,9 +2,8 @@
 use Rattle.std.proofs.Common.{◌≡◌, ℕ, ◌+◌, ◌-◌, ◌≤◌, Bool, true, false, ◌||◌, ◌==◌, List, length, take, drop, IsTrue, refl, sym, ◌∙◌, subst, arith, if◌then◌else◌, length-take, length-drop}
 use Rattle.std.proofs.lemmas.Bool.{and_parts, cond_both, eqb-true}
 use Rattle.std.proofs.lemmas.Bool.Decides.{nat_tests}
-use Rattle.stm_wire.specs.Chip.{ChipData, fits_inside, is_inside, flash_size}
+use Rattle.stm_wire.proofs.Names.{asks_size, asks_unique, can_read, ChipData, fits_inside, flash_size, has_size, has_unique, is_inside, is_readable, kib_bytes, readable_bytes}
 use Rattle.stm_wire.specs.lemmas.PageLaws.{fits-end}
-use Rattle.stm_wire.specs.Telling.{asks_size, asks_unique, can_read, has_size, has_unique, is_readable, kib_bytes, readable_bytes}
 
 -- at most as many bytes as were asked for, and two
 pub readable-few : (chip : ChipData) (flash : List ℕ) (address n : ℕ) → length (readable_bytes chip flash address n) ≤ n + 2

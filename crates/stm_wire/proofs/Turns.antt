@@ -2,12 +2,8 @@
 use Rattle.std.proofs.Common.{◌≡◌, ⊎_elim, ℕ, ◌+◌, ◌≤◌, min, List, [], ◌∷◌, ◌++◌, length, take, Option, Some, None, refl, sym, ◌∙◌, ap, subst, inl, inr, arith, append_assoc, take_all}
 use Rattle.std.proofs.Math.Seq.{take-append-add}
 use Rattle.std.proofs.lemmas.List.{take_min, take-append-le}
-use Rattle.stm_wire.specs.Call.{Call}
-use Rattle.stm_wire.specs.declared.fault.WireFault.{WireFault}
-use Rattle.stm_wire.specs.Device.{Device}
-use Rattle.stm_wire.specs.Moments.{FedAndTaken, PartlyFed}
+use Rattle.stm_wire.proofs.Names.{Acknowledged, Adds, Call, call_of, calls_of, Device, FedAndTaken, GoesOn, IsBrokenOff, Learns, learns, PartlyFed, Says, says, step_turns, Turn, WireFault}
 use Rattle.stm_wire.specs.lemmas.MomentLaws.{LosesOwed-trans}
-use Rattle.stm_wire.specs.Dialogue.{Turn, Says, Acknowledged, Learns, says, learns, step_turns, call_of, calls_of, IsBrokenOff, Adds, GoesOn}
 use Rattle.stm_wire.proofs.Feeding.{fed-lost, Fed-append}
 
 pub FedAndTaken-append : (xs ys : List ℕ) (a b c : Device) → FedAndTaken xs a b → FedAndTaken ys b c → FedAndTaken (xs ++ ys) a c

@@ -7,8 +7,7 @@ use Rattle.std.proofs.lemmas.List.{length-append, drop-replicate}
 use Rattle.std.proofs.Math.Facts.{Fits-lt-pow}
 use Rattle.std.proofs.lemmas.List.Elements.{All-from_get_or}
 use Rattle.std.proofs.Math.Seq.{take-append_seam}
-use Rattle.stm_wire.specs.UniqueId.{IsUniqueId, is_unique_length}
-use Rattle.stm_wire.specs.UniqueIdFields.{filled_up, AreFields}
+use Rattle.stm_wire.proofs.Names.{AreFields, filled_up, is_unique_length, IsUniqueId}
 
 limits : (n : ℕ) → 8 ≤ n → n ≤ 32 → IsTrue (is_unique_length n)
 limits n least most = grind (arith, nat_tests)

@@ -1,10 +1,8 @@
 -- No proper beginning of a list with a verdict has one.
 use Rattle.std.proofs.Common.{◌≡◌, ℕ, ◌+◌, ◌*◌, Bool, true, false, ◌&&◌, ◌==◌, nat_le, List, [], ◌∷◌, ◌++◌, length, Option, Some, None, refl, sym, subst, arith, if◌then◌else◌, eqb-true, ne_eqb, length-append}
-use Rattle.stm_wire.specs.declared.verdict.Verdict.{Verdict}
+use Rattle.stm_wire.proofs.Names.{after_address, all_verdict, at_end, can_read, ChipData, command_verdict, complement, done_if, erase_verdict, extended_verdict, is_inside, is_listed, is_readable}
+use Rattle.stm_wire.proofs.Names.{number_of, pair_of, read_verdict, Verdict, verdict, write_verdict, xor}
 use Rattle.stm_wire.specs.declared.verdict.Verdict.TheVariants.{Done, Refused, Loose}
-use Rattle.stm_wire.specs.Chip.{ChipData, is_inside}
-use Rattle.stm_wire.specs.Telling.{can_read, is_readable}
-use Rattle.stm_wire.specs.Exchange.{verdict, command_verdict, after_address, read_verdict, write_verdict, all_verdict, erase_verdict, extended_verdict, at_end, done_if, complement, is_listed, number_of, pair_of, xor}
 
 -- where the first has a verdict the second has none
 abbrev pub Ends : Option Verdict → Option Verdict → Type 0

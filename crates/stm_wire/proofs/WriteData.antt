@@ -1,11 +1,8 @@
 -- Rests that begin a write, settled by 02.
 use Rattle.std.proofs.Common.{◌≡◌, ℕ, zero, suc, ◌+◌, ◌&&◌, eqb, List, [], ◌∷◌, ◌++◌, length, get_or, take, replicate, refl, Option, Some, None}
 use Rattle.std.proofs.lemmas.Bool.{cond_both}
-use Rattle.stm_wire.specs.Chip.{ChipData, fits_inside, is_inside}
-use Rattle.stm_wire.specs.declared.verdict.Verdict.{Verdict}
+use Rattle.stm_wire.proofs.Names.{after_address, at_end, ChipData, fits_inside, is_inside, number_of, Verdict, Write, write_verdict, xor}
 use Rattle.stm_wire.specs.declared.verdict.Verdict.TheVariants.{Refused}
-use Rattle.stm_wire.specs.Exchange.{at_end, after_address, write_verdict, xor, number_of}
-use Rattle.stm_wire.specs.Effect.{Write}
 use Rattle.stm_wire.proofs.Flash.{IsConfined}
 use Rattle.stm_wire.proofs.Mild.{Fits, FitsAll, Mild, fits_end, after_pair, mild_empty, mild_less}
 use Rattle.stm_wire.proofs.Plain.{fits_done_if}

@@ -1,17 +1,10 @@
 -- The data of a write: no verdict before the checksum, done at it.
 use Rattle.std.proofs.Common.{◌≡◌, ℕ, ◌+◌, ◌-◌, ◌≤◌, ◌<◌, Bool, true, ◌&&◌, ◌==◌, List, [], ◌∷◌, ◌++◌, length, take, drop, get_or, ◌/◌, ◌%◌, Option, Some, None, IsTrue, refl, sym, ◌∙◌, ap, ap₂, subst, arith, if◌then◌else◌, eq-eqb, ne_eqb, length-append}
-use Rattle.stm_wire.specs.declared.verdict.Verdict.{Verdict}
+use Rattle.stm_wire.proofs.Names.{ack, address_bytes, CanWrite, ChipData, command, Connected, Device, done_if, Effect, Fed, fits_inside, HasWritten, is_inside, is_listed, IsDevice, LeavesFirst}
+use Rattle.stm_wire.proofs.Names.{number_of, owing, TakesAddress, Verdict, verdict, with_checksum, with_rest, Write, write_verdict, xor}
 use Rattle.stm_wire.specs.declared.verdict.Verdict.TheVariants.{Done}
-use Rattle.stm_wire.specs.Chip.{ChipData, fits_inside, is_inside}
-use Rattle.stm_wire.specs.Exchange.{verdict, write_verdict, done_if, xor, is_listed}
-use Rattle.stm_wire.specs.Frames.{command, with_checksum, address_bytes}
 use Rattle.std.proofs.Common.{inr}
 use Rattle.std.proofs.Math.Seq.{take-append_seam, get_or-append_seam}
-use Rattle.stm_wire.specs.Exchange.{number_of}
-use Rattle.stm_wire.specs.Effect.{Effect, Write}
-use Rattle.stm_wire.specs.Reply.{ack}
-use Rattle.stm_wire.specs.Device.{Device, Connected, Fed, IsDevice}
-use Rattle.stm_wire.specs.Command.{owing, LeavesFirst, with_rest, TakesAddress, CanWrite, HasWritten}
 use Rattle.stm_wire.proofs.Steps.{OpenAlong, replies_along, fed-done}
 use Rattle.stm_wire.proofs.Address.{verdict-listed, after_address-right, number_of-address_bytes, settled-is}
 use Rattle.stm_wire.proofs.Tellings.{fits-inside}

@@ -1,8 +1,7 @@
 -- A journal that was loaded, none of whose writes and erases is unfinished.
 use Rattle.std.proofs.Common.{◌≡◌, ℕ, List, false, sym, ◌∙◌, ap}
 use Rattle.stm_journal.specs.lemmas.ForgetLaws.{depth-forgets, is_unfinished-forgets}
-use Rattle.stm_journal.specs.Journals.{IsLoaded, Loaded}
-use Rattle.stm_journal.specs.States.{StateData, depth, is_unfinished}
+use Rattle.stm_journal.proofs.Names.{depth, is_unfinished, IsLoaded, Loaded, StateData}
 use Rattle.stm_work.specs.Keeping.{IsFinished}
 
 pub finished : (l : Loaded) (journal : List ℕ) (count : ℕ) → IsLoaded l journal

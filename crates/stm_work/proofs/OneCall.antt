@@ -4,21 +4,12 @@ use Rattle.std.proofs.Common.{IsTrue, Result, Ok, Err, MatchResult, refl, sym, �
 use Rattle.std.proofs.Common.{◌+◌, ◌-◌, ◌<◌, arith, slice_index}
 use Rattle.stm_image.specs.Lay.{AgreesWith, laid_byte, lay}
 use Rattle.stm_image.specs.Pairs.{Pairs, byte_at, raw_pairs}
-use Rattle.stm_wire.specs.Chip.{ChipData}
-use Rattle.stm_wire.specs.Device.{Device, IsDevice, IsReady, IsReadyPhase, IsSettled, Phase}
-use Rattle.stm_wire.specs.Rig.{IsModel, RigState}
+use Rattle.stm_wire.proofs.Names.{ChipData, Device, IsDevice, IsModel, IsReady, IsReadyPhase, IsSettled, Phase, RigState}
 use Rattle.stm_chip.specs.Document.{IsChipWith}
-use Rattle.stm_journal.specs.Flashes.{flashes_before_segments}
-use Rattle.stm_journal.specs.Journals.{journal_of}
+use Rattle.stm_journal.proofs.Names.{flashes_before_segments, journal_of}
 use Rattle.stm_session.specs.declared.fault.Fault.{Fault}
 use Rattle.stm_session.specs.declared.information.Info.{Info}
-use Rattle.stm_session.specs.Meaning.{CommandData}
-use Rattle.stm_session.specs.Moments.{IsSafe, IsUnbegun}
-use Rattle.stm_session.specs.Refusal.{open_refusal}
-use Rattle.stm_session.specs.Refusals.{run_refusal}
-use Rattle.stm_session.specs.Runs.{Runs}
-use Rattle.stm_session.specs.Undoable.{Undoable, state_at}
-use Rattle.stm_session.specs.VerifiedWrite.{written_then}
+use Rattle.stm_session.proofs.Names.{CommandData, IsSafe, IsUnbegun, open_refusal, run_refusal, Runs, state_at, Undoable, written_then}
 use Rattle.stm_words.specs.declared.sequel.Sequel.{Sequel}
 use Rattle.stm_files.specs.Ending.{EndsJournal}
 use Rattle.stm_work.specs.declared.action.Action.TheVariants as action

@@ -1,7 +1,7 @@
 -- Tables of which one more is read over the others.
 use Rattle.std.proofs.Common.{◌≡◌, ◌∙◌, ℕ, ◌+◌, ◌<◌, List, [], ◌∷◌, ◌++◌, length, get_or, map, take, ap, subst, sym}
 use Rattle.std.proofs.lemmas.List.{map-append, take_more}
-use Rattle.stm_wire.specs.Chip.{ChipData}
+use Rattle.stm_wire.proofs.Names.{ChipData}
 use Rattle.stm_chip.specs.Document.{IsTableOf}
 use Rattle.stm_chip.specs.Over.{IsOver}
 use Rattle.stm_work.specs.declared.chip_tables.TableText.{TableText}

@@ -2,17 +2,13 @@
 use Rattle.std.proofs.Common.{◌≡◌, ℕ, zero, suc, ◌+◌, List, [], ◌∷◌, ◌++◌, Result, Ok, Err, IsErrAnd, refl, sym, ◌∙◌, ap, subst, arith, add-one, zero-add}
 use Rattle.std.specs.List.{range_with_len}
 use Rattle.stm_image.specs.Pairs.{Pairs}
-use Rattle.stm_wire.specs.Chip.{ChipData}
-use Rattle.stm_wire.specs.Rig.{RigState}
+use Rattle.stm_wire.proofs.Names.{ChipData, RigState}
 use Rattle.stm_session.specs.declared.fault.Fault.{Fault}
 use Rattle.stm_session.specs.declared.command.Command.{Command}
 use Rattle.stm_session.specs.declared.command.Command.TheVariants.{Verify}
 use Rattle.stm_session.specs.declared.outcome.Outcome.{Outcome}
 use Rattle.stm_session.specs.declared.outcome.Outcome.TheVariants.{Written, Erased, Verified, Read}
-use Rattle.stm_session.specs.Answers.{OutcomeData}
-use Rattle.stm_session.specs.Meaning.{CommandData}
-use Rattle.stm_session.specs.Promises.{RunContract}
-use Rattle.stm_session.specs.Running.{AreKindsOf}
+use Rattle.stm_session.proofs.Names.{AreKindsOf, CommandData, OutcomeData, RunContract}
 use Rattle.stm_work.specs.Conduct.{RunsJust}
 
 module _ {T U : Type 0} (table : List ChipData) (commands : List CommandData) (old new : RigState) (one : T → List OutcomeData) (two : U → List OutcomeData) where

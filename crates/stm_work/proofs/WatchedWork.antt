@@ -2,9 +2,7 @@
 use Rattle.std.proofs.Common.{◌≡◌, ℕ}
 use Rattle.std.proofs.Common.{sym, ◌∙◌, ap, subst, List, take}
 use Rattle.stm_wire.specs.declared.get_command.Commands.{Commands}
-use Rattle.stm_wire.specs.Chip.{ChipData}
-use Rattle.stm_wire.specs.Device.{Device, IsSettled}
-use Rattle.stm_wire.specs.Rig.{RigState}
+use Rattle.stm_wire.proofs.Names.{ChipData, Device, IsSettled, RigState}
 use Rattle.stm_chip.specs.Document.{IsChipWith}
 use Rattle.stm_watch.specs.Known.{Known, known_at_first}
 use Rattle.stm_watch.specs.Laws.{SettledIsSeen}

@@ -5,22 +5,14 @@ use Rattle.std.proofs.Common.{⊎_elim}
 use Rattle.std.specs.Borrow.{Bor}
 use Rattle.std.specs.declared.alloc.AllocError.{AllocError}
 use Rattle.std.proofs.lemmas.List.Elements.{All-contains}
-use Rattle.stm_wire.specs.Chip.{ChipData}
-use Rattle.stm_wire.specs.Device.{Device}
-use Rattle.stm_wire.specs.Rig.{RigState}
+use Rattle.stm_wire.proofs.Names.{ChipData, Device, RigState}
 use Rattle.stm_chip.specs.Document.{IsChipWith, IsNewId}
 use Rattle.stm_journal.specs.declared.fault.JournalFault.{JournalFault}
-use Rattle.stm_journal.specs.Calls.{Loads}
-use Rattle.stm_journal.specs.Journals.{Loaded}
-use Rattle.stm_journal.specs.States.{is_unfinished}
-use Rattle.stm_session.specs.AskedBoard.{AsksWhich}
+use Rattle.stm_journal.proofs.Names.{is_unfinished, Loaded, Loads}
+use Rattle.stm_session.proofs.Names.{AsksWhich, chip_of_board, fault_of_journal, is_unfinished_at, IsBoardOf, IsSafe, ToldBoardIsTheDevices}
 use Rattle.stm_session.specs.declared.asking_board.Board.{Board}
 use Rattle.stm_session.specs.declared.fault.Fault.{Fault}
 use Rattle.stm_session.specs.declared.fault.Fault.TheVariants.{Unfinished}
-use Rattle.stm_session.specs.Fault.{fault_of_journal}
-use Rattle.stm_session.specs.Moments.{IsSafe}
-use Rattle.stm_session.specs.ToldBoard.{IsBoardOf, ToldBoardIsTheDevices, chip_of_board}
-use Rattle.stm_session.specs.Undoable.{is_unfinished_at}
 use Rattle.stm_words.specs.declared.sequel.Sequel.{Sequel}
 use Rattle.stm_work.specs.declared.action.Action.TheVariants as action
 use Rattle.stm_work.specs.declared.board.Asking.{Asking}

@@ -1,7 +1,7 @@
 -- What is told of a session by a plan, from the session on.
 use Rattle.std.specs.Borrow.{Bor}
 use Rattle.std.proofs.Common.{◌≡◌, ◌∙◌, ℕ, List, Bool, Result, Ok, Err, Option, None, IfOk, refl, subst, sym}
-use Rattle.stm_wire.specs.Rig.{RigState}
+use Rattle.stm_wire.proofs.Names.{RigState}
 use Rattle.stm_words.specs.declared.device.Device.{Device}
 use Rattle.stm_words.specs.declared.device.Device.TheVariants.{Simulator, Socket}
 use Rattle.stm_words.specs.declared.options.Options.{Options}

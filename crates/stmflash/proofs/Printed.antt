@@ -3,7 +3,7 @@ use Rattle.std.proofs.Common.{◌≡◌, ◌⊎◌, ◌&&◌, ℕ, List, Bool, t
 use Rattle.std.proofs.Common.{Option, None, Some, MatchOption, Result, Ok, Err, IfOk, OnErr, OnOk}
 use Rattle.std.proofs.Common.{codes, inl, inr, refl, subst, sym}
 use Rattle.std.specs.Io.KnownBytes.{Appends}
-use Rattle.stm_wire.specs.Rig.{RigState}
+use Rattle.stm_wire.proofs.Names.{RigState}
 use Rattle.stm_words.specs.declared.request.Request.{Request}
 use Rattle.stm_work.specs.declared.hint.Hint.{Hint}
 use Rattle.stm_work.specs.declared.steps.Steps.{Steps}

@@ -4,10 +4,9 @@ use Rattle.std.proofs.Math.Seq.{take-append_seam, get_or-append_seam}
 use Rattle.std.proofs.lemmas.List.{take-append-le}
 use Rattle.stm_wire.specs.declared.verdict.Verdict.{Verdict}
 use Rattle.stm_wire.specs.declared.verdict.Verdict.TheVariants.{Done, Refused, Loose}
-use Rattle.stm_wire.specs.Chip.{ChipData, fits_inside, is_inside}
-use Rattle.stm_wire.specs.Effect.{Change, Nothing, ErasePages, EraseAll, Write, change_of, erase_change, extended_change, write_change}
-use Rattle.stm_wire.specs.Exchange.{after_address, all_exist, all_verdict, at_end, command_verdict, complement, done_if, erase_verdict, extended_verdict, is_listed, number_of, pair_of, two_byte_numbers, pages_verdict, verdict, write_verdict, xor}
-use Rattle.stm_wire.specs.Device.{Device, Phase, Fresh, Connected, Gone}
+use Rattle.stm_wire.proofs.Names.{after_address, all_exist, all_verdict, at_end, Change, change_of, ChipData, command_verdict, complement, Connected, Device, done_if, erase_change, erase_verdict}
+use Rattle.stm_wire.proofs.Names.{EraseAll, ErasePages, extended_change, extended_verdict, fits_inside, Fresh, Gone, is_inside, is_listed, Nothing, number_of, pages_verdict, pair_of, Phase}
+use Rattle.stm_wire.proofs.Names.{two_byte_numbers, verdict, Write, write_change, write_verdict, xor}
 use Rattle.stmflash.specs.Protections.{Bars, Protected, Spares, all_check, changes_any, check_due, completes_change, erase_check, extended_check, fed_behind, fed_in, fed_unreadable, fed_while_protected, is_check, write_check}
 
 -- of two tests, the first passes where the verdict is done

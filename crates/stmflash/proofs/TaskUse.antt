@@ -1,7 +1,7 @@
 -- From a work that was done to the steps that are told of it, and to the task that asked for it.
 use Rattle.std.proofs.Common.{◌≡◌, ◌==◌, ◌&&◌, Bool, true, false, List, ℕ, Result, Ok, Err, IfOk}
 use Rattle.std.proofs.Common.{IsErrAnd, refl, subst, sym, ⊎_elim}
-use Rattle.stm_wire.specs.Rig.{RigState}
+use Rattle.stm_wire.proofs.Names.{RigState}
 use Rattle.stm_words.specs.declared.options.Options.{Options}
 use Rattle.stm_words.specs.declared.sequel.Sequel.{Sequel}
 use Rattle.stm_words.specs.declared.task.Task.{Task}

@@ -1,6 +1,6 @@
 -- What a write that was done again where its line failed comes to: one use, whose steps are told.
 use Rattle.std.proofs.Common.{◌≡◌, ◌++◌, ◌∷◌, [], ℕ, List, false, Some, Result, Ok, Err, IfOk, inl, inr, refl, subst}
-use Rattle.stm_wire.specs.Rig.{RigState}
+use Rattle.stm_wire.proofs.Names.{RigState}
 use Rattle.stm_work.specs.declared.failure.Failure.{Failure}
 use Rattle.stm_work.specs.declared.left_standing.Standing.{Standing}
 use Rattle.stm_work.specs.declared.steps.Steps.{Steps}

@@ -1,5 +1,4 @@
-use Rattle.stm_session.specs.Meaning.{commands_in}
-use Rattle.stm_session.specs.RunOrder.{RunStops, RunsInOrder}
+use Rattle.stm_session.proofs.Names.{commands_in, RunsInOrder, RunStops}
 use Rattle.stm_any_line.specs.Calls.{RunTracks}
 use Rattle.stm_any_line.proofs.Answering.{either_way, own_of}
 use Rattle.stm_any_line.proofs.changing.change.Goals as goal

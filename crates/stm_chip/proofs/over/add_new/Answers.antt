@@ -2,7 +2,7 @@
 use Rattle.std.proofs.Common.{◌≡◌, ◌∙◌, ◌∷◌, [], ℕ, ap, not, List, Option, Some, None, MatchOption, Contains, true, is_some}
 use Rattle.std.specs.Borrow.{Bor}
 use Rattle.std.specs.Option.{option_or}
-use Rattle.stm_wire.specs.Chip.{ChipData}
+use Rattle.stm_wire.proofs.Names.{ChipData}
 use Rattle.stm_chip.specs.Document.{IsNewId}
 use Rattle.stm_chip.specs.Over.{chip_by_id}
 use Rattle.stm_chip.proofs.Joining.{is_last, is_there}

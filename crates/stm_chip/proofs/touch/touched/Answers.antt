@@ -1,6 +1,6 @@
 -- Each page is touched or not.
 use Rattle.std.proofs.Common.{◌≡◌, ◌↔◌, ◌+◌, ◌<◌, true, arith}
-use Rattle.stm_wire.specs.Chip.{page_count, page_offset}
+use Rattle.stm_wire.proofs.Names.{page_count, page_offset}
 use Rattle.stm_chip.specs.Touch.{HasWithin, Touches}
 use Rattle.stm_chip.proofs.Touching.{next_offset, touched_all, touched_more, touched_same, touches_page}
 use Rattle.stm_chip.proofs.touch.touched.Goals as goal

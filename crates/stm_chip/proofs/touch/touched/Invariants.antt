@@ -1,6 +1,6 @@
 -- The pages so far are those touched among the pages so far, and the offset is that of the next page.
 use Rattle.std.proofs.Common.{◌≡◌}
-use Rattle.stm_wire.specs.Chip.{page_offset}
+use Rattle.stm_wire.proofs.Names.{page_offset}
 use Rattle.stm_chip.specs.Touch.{TouchedBelow}
 use Rattle.stm_chip.proofs.touch.touched.Given as goal
 

@@ -1,6 +1,6 @@
 use Rattle.std.proofs.Common.{◌≡◌, ◌++◌, ◌∙◌, List, ℕ, ap, arith}
 use Rattle.std.specs.List.{flat_map, range_with_len}
-use Rattle.stm_journal.specs.KeptPlaces.{kept_count}
+use Rattle.stm_journal.proofs.Names.{kept_count}
 use Rattle.stm_files.specs.Checking.{page_text}
 use Rattle.stm_files.proofs.Checks.{count-is, text-more}
 use Rattle.stm_files.proofs.checking.add_pages.Goals as goal

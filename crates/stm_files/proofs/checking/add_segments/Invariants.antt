@@ -1,6 +1,6 @@
 use Rattle.std.proofs.Common.{◌≡◌, ◌++◌, List, ℕ}
 use Rattle.std.specs.List.{flat_map, range_with_len}
-use Rattle.stm_journal.specs.States.{StateData}
+use Rattle.stm_journal.proofs.Names.{StateData}
 use Rattle.stm_files.specs.Checking.{IsTied, checked_segment}
 use Rattle.stm_files.proofs.checking.add_segments.Given as goal
 

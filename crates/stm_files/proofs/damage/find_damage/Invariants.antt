@@ -1,6 +1,5 @@
 use Rattle.std.proofs.Common.{◌≡◌, ◌<◌, ◌-◌, List, ℕ, None}
-use Rattle.stm_journal.specs.InMemory.{forget_state}
-use Rattle.stm_journal.specs.States.{StateData, depth}
+use Rattle.stm_journal.proofs.Names.{depth, forget_state, StateData}
 use Rattle.stm_files.specs.Checking.{IsTied}
 use Rattle.stm_files.specs.Damage.{FindsIn}
 use Rattle.stm_files.proofs.damage.find_damage.Given as goal

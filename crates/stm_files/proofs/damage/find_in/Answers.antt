@@ -1,5 +1,5 @@
 use Rattle.std.proofs.Common.{◌<◌, arith, refl, sym, ap, ◌∙◌}
-use Rattle.stm_journal.specs.KeptPlaces.{kept_count}
+use Rattle.stm_journal.proofs.Names.{kept_count}
 use Rattle.stm_journal.specs.declared.kept.Kept.{Kept}
 use Rattle.stm_files.proofs.Checks.{count-is}
 use Rattle.stm_files.proofs.Damages.{agrees-more, damaged, kept-within}

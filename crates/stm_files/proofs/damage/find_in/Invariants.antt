@@ -1,7 +1,6 @@
 use Rattle.std.proofs.Common.{◌≡◌, ◌<◌, List, ℕ, Some}
 use Rattle.stm_journal.specs.declared.kept.Kept.{Kept}
-use Rattle.stm_journal.specs.KeptPlaces.{kept_entry}
-use Rattle.stm_journal.specs.States.{StateData}
+use Rattle.stm_journal.proofs.Names.{kept_entry, StateData}
 use Rattle.stm_files.specs.Checking.{IsTied}
 use Rattle.stm_files.specs.Damage.{HasItsSum}
 use Rattle.stm_files.proofs.damage.find_in.Given as goal

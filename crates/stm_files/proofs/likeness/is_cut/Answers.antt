@@ -1,5 +1,5 @@
 use Rattle.std.proofs.Common.{◌≡◌, ℕ, ◌<◌, ◌≤◌, ◌-◌, rules, arith}
-use Rattle.stm_journal.specs.States.{StateData, depth}
+use Rattle.stm_journal.proofs.Names.{depth, StateData}
 use Rattle.stm_files.proofs.Cuts.{same-stack}
 use Rattle.stm_files.proofs.likeness.is_cut.Goals as goal
 

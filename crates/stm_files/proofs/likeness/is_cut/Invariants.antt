@@ -1,5 +1,5 @@
 use Rattle.std.proofs.Common.{◌≡◌, ℕ, ◌+◌, ◌<◌, option_map}
-use Rattle.stm_journal.specs.States.{segment_of}
+use Rattle.stm_journal.proofs.Names.{segment_of}
 use Rattle.stm_files.specs.Cutting.{outline}
 use Rattle.stm_files.proofs.likeness.is_cut.Given as goal
 

@@ -1,5 +1,5 @@
 use Rattle.std.proofs.Common.{◌≡◌, ℕ, ◌<◌, Option, rules, arith}
-use Rattle.stm_journal.specs.States.{SegmentData, StateData, segment_of}
+use Rattle.stm_journal.proofs.Names.{segment_of, SegmentData, StateData}
 use Rattle.stm_files.proofs.Cuts.{count_of, same-segment}
 use Rattle.stm_files.proofs.likeness.is_same_segment.Goals as goal
 

@@ -1,5 +1,5 @@
 use Rattle.std.proofs.Common.{◌≡◌, ℕ, ◌<◌, option_map}
-use Rattle.stm_journal.specs.KeptPlaces.{kept_entry}
+use Rattle.stm_journal.proofs.Names.{kept_entry}
 use Rattle.stm_files.specs.Cutting.{page_outline}
 use Rattle.stm_files.proofs.likeness.is_same_segment.Given as goal
 

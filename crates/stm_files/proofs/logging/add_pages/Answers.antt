@@ -1,5 +1,5 @@
 use Rattle.std.proofs.Common.{ℕ, ◌++◌, ◌+◌, ◌<◌, ◌∷◌, [], List, true, false, ap, sym, ◌∙◌, append_assoc, drop, subst}
-use Rattle.stm_journal.specs.States.{StateData}
+use Rattle.stm_journal.proofs.Names.{StateData}
 use Rattle.stm_files.specs.Logging.{kept_pages_text, numbers_of, logged_pages}
 use Rattle.stm_files.proofs.LoggedPages.{counted, number-at, step}
 use Rattle.stm_files.proofs.logging.add_pages.Goals as goal

@@ -1,5 +1,5 @@
 use Rattle.std.proofs.Common.{◌≡◌, ◌++◌, Some, drop}
-use Rattle.stm_journal.specs.States.{segment_of}
+use Rattle.stm_journal.proofs.Names.{segment_of}
 use Rattle.stm_files.specs.Logging.{kept_pages_text, numbers_of, logged_pages}
 use Rattle.stm_files.proofs.logging.add_pages.Given as goal
 

@@ -1,5 +1,5 @@
 use Rattle.std.proofs.Common.{ℕ, ◌++◌, ◌+◌, List, ap, ◌∙◌}
-use Rattle.stm_journal.specs.States.{StateData}
+use Rattle.stm_journal.proofs.Names.{StateData}
 use Rattle.stm_files.specs.Logging.{logged_device, noted_line}
 use Rattle.stm_files.specs.declared.begun.Note.{Note}
 use Rattle.stm_files.proofs.LoggedPages.{line-more}

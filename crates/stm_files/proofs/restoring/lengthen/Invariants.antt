@@ -1,5 +1,5 @@
 use Rattle.std.proofs.Common.{◌≡◌, take}
-use Rattle.stm_wire.specs.Device.{Connected}
+use Rattle.stm_wire.proofs.Names.{Connected}
 use Rattle.stm_files.specs.SimulatorFile.{Becomes, standing_at}
 use Rattle.stm_files.proofs.restoring.lengthen.Given as goal
 

@@ -1,6 +1,6 @@
 use Rattle.std.proofs.Common.{◌∙◌, ap, refl, sym}
 use Rattle.std.proofs.lemmas.Result.{IfOk-weaker}
-use Rattle.stm_wire.specs.Device.{Connected, Gone}
+use Rattle.stm_wire.proofs.Names.{Connected, Gone}
 use Rattle.stm_files.specs.lemmas.SimulatorFileLaws.{connected, settles, from_there}
 use Rattle.stm_files.specs.Standing.{standing_phase}
 use Rattle.stm_files.proofs.restoring.stand.Goals as goal

@@ -1,7 +1,6 @@
 use Rattle.std.proofs.Common.{◌≡◌, ℕ, length, true, sym, ◌∙◌, ap}
 use Rattle.std.specs.Prelude.{is_some}
-use Rattle.stm_journal.specs.KeptPlaces.{page_place}
-use Rattle.stm_journal.specs.States.{StateData}
+use Rattle.stm_journal.proofs.Names.{page_place, StateData}
 use Rattle.stm_histories.proofs.Risks.{at-risk}
 use Rattle.stm_histories.proofs.unpowered.is_at_risk.Goals as goal
 

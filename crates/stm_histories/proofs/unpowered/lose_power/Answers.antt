@@ -1,7 +1,6 @@
 use Rattle.std.proofs.Common.{◌≡◌, List, ℕ, sym, ◌∙◌, ap, subst}
 use Rattle.stm_sim.specs.Memory.{MemoryData, rig_state}
-use Rattle.stm_session.specs.Events.{Leads, World, lost_power, now_of}
-use Rattle.stm_session.specs.Undoable.{risked_pages, state_at}
+use Rattle.stm_session.proofs.Names.{Leads, lost_power, now_of, risked_pages, state_at, World}
 use Rattle.stm_histories.proofs.Risks.{powerless, risked-loaded, same-world}
 use Rattle.stm_histories.proofs.unpowered.lose_power.Goals as goal
 

@@ -1,4 +1,4 @@
-use Rattle.stm_session.specs.Undoable.{risked_pages}
+use Rattle.stm_session.proofs.Names.{risked_pages}
 use Rattle.stm_histories.specs.Unpowered.{SpoilsOnly}
 use Rattle.stm_histories.proofs.unpowered.spoil.Given as goal
 

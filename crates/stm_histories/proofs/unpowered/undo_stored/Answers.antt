@@ -1,9 +1,7 @@
 use Rattle.std.proofs.Common.{◌≡◌, ℕ, List, [], Result, ap, subst}
-use Rattle.stm_wire.specs.Chip.{ChipData}
-use Rattle.stm_wire.specs.Device.{Phase}
+use Rattle.stm_wire.proofs.Names.{ChipData, Phase}
 use Rattle.stm_sim.specs.Memory.{MemoryData}
-use Rattle.stm_session.specs.Events.{World}
-use Rattle.stm_session.specs.Headline.{IsStart, oldest_start}
+use Rattle.stm_session.proofs.Names.{IsStart, oldest_start, World}
 use Rattle.stm_work.specs.declared.action.Action.{Action}
 use Rattle.stm_work.specs.declared.action.Action.TheVariants as action
 use Rattle.stm_work.specs.declared.answer.Answer.{Answer}

@@ -3,7 +3,7 @@ use borrow.Rule.Slice.PartMut.{post_of, same_len_mid}
 use Rattle.std.proofs.lemmas.List.{length-take-le}
 use Rattle.std.proofs.lemmas.Result.{err_from_is_err_and}
 use Rattle.hex.specs.Hex.{encode_upper}
-use Rattle.stm_journal.specs.PageFetching.{SaysAt}
+use Rattle.stm_journal.proofs.Names.{SaysAt}
 use Rattle.stm_journal.proofs.Fetching.{GoesOn-fetches}
 use Rattle.stm_journal.proofs.PageReads.{looks-more, looks-vain, filled-behind, filled-further, says-piece}
 use Rattle.stm_journal.proofs.Bringing.{brings-more, brings-none, brings-same, encode-append, encode-none}

@@ -1,10 +1,7 @@
 use Rattle.std.proofs.Common.{◌≡◌, ◌+◌, ◌-◌, ◌*◌, ◌≤◌, List, ℕ, length, take, Some, Ok}
 use Rattle.hex.specs.Hex.{encode_upper}
-use Rattle.stm_wire.specs.Dialogue.{GoesOn}
-use Rattle.stm_journal.specs.Entries.{hex_bytes_of}
-use Rattle.stm_journal.specs.Places.{cut}
-use Rattle.stm_journal.specs.Calls.{HasJournalCause, AreFetches}
-use Rattle.stm_journal.specs.PageFetching.{Brings, Looks}
+use Rattle.stm_wire.proofs.Names.{GoesOn}
+use Rattle.stm_journal.proofs.Names.{AreFetches, Brings, cut, HasJournalCause, hex_bytes_of, Looks}
 use Rattle.stm_journal.proofs.fetch_page.fetch_digits.Given as goal
 
 abbrev pub invariant-loop-done : goal.invariant-loop-done

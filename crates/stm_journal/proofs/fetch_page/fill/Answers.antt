@@ -1,7 +1,7 @@
 use Rattle.std.proofs.Common.{◌≡◌, ◌+◌, ◌-◌, ◌≤◌, ◌∙◌, ◌++◌, ℕ, List, length, take, drop, ap, subst, sym, arith, Ok, length-drop}
 use borrow.Rule.Slice.PartMut.{post_of, same_len_mid}
 use Rattle.std.proofs.lemmas.List.{drop-drop, length-take-le}
-use Rattle.stm_journal.specs.Loading.{Fetches}
+use Rattle.stm_journal.proofs.Names.{Fetches}
 use Rattle.stm_journal.proofs.Fetching.{GoesOn-fetches}
 use Rattle.stm_journal.proofs.PageReads.{looks-more, fetched-looks, filled-behind, filled-further}
 use Rattle.stm_journal.proofs.Bringing.{brings-more}

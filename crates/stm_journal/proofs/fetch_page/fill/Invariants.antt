@@ -1,7 +1,6 @@
 use Rattle.std.proofs.Common.{◌≡◌, ◌+◌, ◌-◌, ◌≤◌, length, take, drop, Ok}
-use Rattle.stm_wire.specs.Dialogue.{GoesOn}
-use Rattle.stm_journal.specs.Calls.{HasJournalCause, AreFetches}
-use Rattle.stm_journal.specs.PageFetching.{Brings, Looks}
+use Rattle.stm_wire.proofs.Names.{GoesOn}
+use Rattle.stm_journal.proofs.Names.{AreFetches, Brings, HasJournalCause, Looks}
 use Rattle.stm_journal.proofs.fetch_page.fill.Given as goal
 
 abbrev pub invariant-loop-done : goal.invariant-loop-done

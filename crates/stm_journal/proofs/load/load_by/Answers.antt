@@ -1,6 +1,6 @@
 use Rattle.std.proofs.Common.{◌≡◌, ◌<◌, ◌≤◌, ℕ, ◌∙◌, subst, arith, length, take, Ok, refl}
 use Rattle.std.proofs.lemmas.Result.{err_from_is_err_and}
-use Rattle.stm_journal.specs.Loading.{Fetches}
+use Rattle.stm_journal.proofs.Names.{Fetches}
 use Rattle.stm_journal.proofs.Fetching.{GoesOn-fetches, HasRead-more, Loads-done, Loads-stopped, short-read}
 use Rattle.stm_journal.proofs.load.load_by.Goals as goal
 

@@ -1,7 +1,6 @@
 use Rattle.std.proofs.Common.{◌-◌, ◌^◌, ◌≤◌, ◌<◌, length, Ok}
-use Rattle.stm_wire.specs.Dialogue.{GoesOn}
-use Rattle.stm_journal.specs.Calls.{HasJournalCause, AreFetches}
-use Rattle.stm_journal.specs.Loading.{HasReadJournal}
+use Rattle.stm_wire.proofs.Names.{GoesOn}
+use Rattle.stm_journal.proofs.Names.{AreFetches, HasJournalCause, HasReadJournal}
 use Rattle.stm_journal.proofs.load.load_by.Given as goal
 
 abbrev pub invariant-loop-loader : goal.invariant-loop-loader

@@ -1,6 +1,6 @@
 use Rattle.std.proofs.Common.{◌++◌, List, ℕ, ◌∙◌, ap, append_assoc}
 use Rattle.std.proofs.lemmas.Result.{on_ok_weaker}
-use Rattle.stm_journal.specs.Entries.{header_word, device_text}
+use Rattle.stm_journal.proofs.Names.{device_text, header_word}
 use Rattle.stm_journal.proofs.print.print_words.Goals as goal
 
 pub returns-in_ok-print_header_word-in-Names : goal.returns-in_ok-print_header_word-in-Names

@@ -1,5 +1,5 @@
 use Rattle.std.proofs.Common.{take}
-use Rattle.stm_journal.specs.Marks.{AreMarked}
+use Rattle.stm_journal.proofs.Names.{AreMarked}
 use Rattle.stm_journal.proofs.segment.marks_of.Given as goal
 
 abbrev pub invariant-loop-kept : goal.invariant-loop-kept

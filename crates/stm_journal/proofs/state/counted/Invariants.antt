@@ -1,5 +1,5 @@
 use Rattle.std.proofs.Common.{◌≡◌, ◌+◌, length, take, sum_by}
-use Rattle.stm_journal.specs.Journals.{capped}
+use Rattle.stm_journal.proofs.Names.{capped}
 use Rattle.stm_journal.proofs.state.counted.Given as goal
 
 abbrev pub invariant-loop-segment : goal.invariant-loop-segment

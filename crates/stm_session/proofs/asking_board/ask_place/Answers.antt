@@ -1,9 +1,6 @@
 use Rattle.std.proofs.Common.{◌≡◌, ◌∷◌, ◌+◌, [], ℕ, Bool, List, Option, Some, length, rules, refl}
-use Rattle.stm_wire.specs.Frames.{read_turns}
-use Rattle.stm_wire.specs.Dialogue.{GoesOn}
-use Rattle.stm_wire.specs.Parts.{IsPart}
-use Rattle.stm_session.specs.Order.{Step, Begin, Sends}
-use Rattle.stm_session.specs.Reaching.{IsAsked}
+use Rattle.stm_wire.proofs.Names.{GoesOn, IsPart, read_turns}
+use Rattle.stm_session.proofs.Names.{Begin, IsAsked, Sends, Step}
 use Rattle.stm_session.proofs.AskingBoards.{few_broken, place_asked, place_failed, read_broken_length, read_few, read_ordered, read_unwritten}
 use Rattle.stm_session.proofs.Confirmings.{place_broken, place_held}
 use Rattle.stm_session.proofs.CutShort.{begin_all, command_stops}

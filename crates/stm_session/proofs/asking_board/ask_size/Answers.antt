@@ -1,6 +1,6 @@
 use Rattle.std.proofs.Common.{rules, ◌∙◌, ℕ, Option, ap, sym}
-use Rattle.stm_wire.specs.Chip.{flash_size}
-use Rattle.stm_session.specs.ToldBoard.{size_at}
+use Rattle.stm_wire.proofs.Names.{flash_size}
+use Rattle.stm_session.proofs.Names.{size_at}
 use Rattle.stm_session.proofs.Asking.{asks_ok, nothing_asked}
 use Rattle.stm_session.proofs.AskingBoards.{size_asked, size_unasked}
 use Rattle.stm_session.proofs.ToldBoards.{size_read}

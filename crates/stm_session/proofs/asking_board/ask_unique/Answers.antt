@@ -1,6 +1,6 @@
 use Rattle.std.proofs.Common.{◌∙◌, Option, ap, rules, sym}
 use Rattle.stm_wire.specs.declared.places.UniquePlace.{UniquePlace}
-use Rattle.stm_session.specs.ToldBoard.{unique_at}
+use Rattle.stm_session.proofs.Names.{unique_at}
 use Rattle.stm_session.proofs.Asking.{asks_ok, nothing_asked}
 use Rattle.stm_session.proofs.AskingBoards.{unique_asked, unique_unasked}
 use Rattle.stm_session.proofs.ToldBoards.{unique_read}

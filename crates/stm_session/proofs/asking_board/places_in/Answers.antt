@@ -1,5 +1,5 @@
 use Rattle.std.proofs.Common.{sym, ◌∙◌, ap}
-use Rattle.stm_session.specs.AskingBoard.{places_of}
+use Rattle.stm_session.proofs.Names.{places_of}
 use Rattle.stm_session.proofs.Openings.{has_chip, lacks_chip}
 use Rattle.stm_session.proofs.asking_board.places_in.Goals as goal
 

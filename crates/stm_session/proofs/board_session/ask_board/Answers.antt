@@ -1,14 +1,7 @@
 use Rattle.std.proofs.Common.{◌≡◌, ◌∙◌, ℕ, Some, None, Err, true, false, true≢false, rules, refl, sym, ap, subst, arith, inr, option_map}
-use Rattle.stm_wire.specs.Dialogue.{GoesOn}
-use Rattle.stm_wire.specs.Device.{Device}
-use Rattle.stm_wire.specs.Chip.{ChipData}
-use Rattle.stm_journal.specs.States.{intent_of, is_unfinished}
-use Rattle.stm_session.specs.declared.asking_board.Board.{Board}
-use Rattle.stm_session.specs.Unasked.{asking_refusal}
-use Rattle.stm_session.specs.AskingBoard.{AskingStops, AsksInPart, finished, unfinished}
-use Rattle.stm_session.specs.Fault.{cause_of, fault_of_journal}
-use Rattle.stm_session.specs.Fresh.{contact_way, settling_way}
-use Rattle.stm_session.specs.Moments.{IsSafe}
+use Rattle.stm_wire.proofs.Names.{ChipData, Device, GoesOn}
+use Rattle.stm_journal.proofs.Names.{intent_of, is_unfinished}
+use Rattle.stm_session.proofs.Names.{asking_refusal, AskingStops, AsksInPart, Board, cause_of, contact_way, fault_of_journal, finished, IsSafe, settling_way, unfinished}
 use Rattle.stm_session.proofs.AskingBoards.{fetch_few, few_more, few_then, finished_asked, finished_unread, part_fetched, unfinished_asked, unfinished_unasked}
 use Rattle.stm_session.proofs.Keeping.{unfinished_text}
 use Rattle.stm_session.proofs.Openings.{load_failed, refused_nothing}

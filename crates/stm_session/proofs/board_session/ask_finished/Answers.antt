@@ -1,12 +1,6 @@
 use Rattle.std.proofs.Common.{arith, subst}
-use Rattle.stm_wire.specs.Chip.{ChipData}
-use Rattle.stm_wire.specs.Dialogue.{GoesOn}
-use Rattle.stm_session.specs.AskingBoard.{AsksBoard, AsksInPart}
-use Rattle.stm_session.specs.Fault.{Cause, cause_of}
-use Rattle.stm_session.specs.Fresh.{contact_way}
-use Rattle.stm_session.specs.Moments.{BeginsNothing}
-use Rattle.stm_session.specs.Order.{Begin, StopsBy}
-use Rattle.stm_session.specs.ToldBoard.{IsBoardOf}
+use Rattle.stm_wire.proofs.Names.{ChipData, GoesOn}
+use Rattle.stm_session.proofs.Names.{AsksBoard, AsksInPart, Begin, BeginsNothing, Cause, cause_of, contact_way, IsBoardOf, StopsBy}
 use Rattle.stm_session.proofs.AskingBoards.{few_more, few_then, part_asked, part_settled, settle_few}
 use Rattle.stm_session.proofs.CutShort.{by_fault}
 use Rattle.stm_session.proofs.Orders.{settles_then}

@@ -1,12 +1,7 @@
 use Rattle.std.proofs.Common.{◌≡◌, [], arith, subst}
-use Rattle.stm_wire.specs.Dialogue.{GoesOn}
-use Rattle.stm_wire.specs.Chip.{ChipData}
-use Rattle.stm_journal.specs.States.{intent_of}
-use Rattle.stm_session.specs.AskingBoard.{AsksBoard, AsksInPart}
-use Rattle.stm_session.specs.Fault.{Cause, cause_of}
-use Rattle.stm_session.specs.Fresh.{byte_of, limit_of, settling_way}
-use Rattle.stm_session.specs.Order.{Begin, StopsBy}
-use Rattle.stm_session.specs.ToldBoard.{IsBoardOf}
+use Rattle.stm_wire.proofs.Names.{ChipData, GoesOn}
+use Rattle.stm_journal.proofs.Names.{intent_of}
+use Rattle.stm_session.proofs.Names.{AsksBoard, AsksInPart, Begin, byte_of, Cause, cause_of, IsBoardOf, limit_of, settling_way, StopsBy}
 use Rattle.stm_session.proofs.AskingBoards.{few_more, few_then, goes_asked, limit_small, part_asked, part_settled, settle_few}
 use Rattle.stm_session.proofs.CutShort.{by_fault}
 use Rattle.stm_session.proofs.Going.{at_exit, goes_failed, goes_then}

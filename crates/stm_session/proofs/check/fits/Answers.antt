@@ -1,7 +1,7 @@
 use Rattle.std.proofs.Common.{◌≡◌, ◌<◌, ◌==◌, true, false, not, ◌&&◌, sym, ◌∙◌, ap, arith}
 use Rattle.std.proofs.lemmas.Bool.Decides.{nat_tests}
-use Rattle.stm_wire.specs.Chip.{page_count, page_size}
-use Rattle.stm_session.specs.Refusal.{segment_pages, first_of, lacks_companion}
+use Rattle.stm_wire.proofs.Names.{page_count, page_size}
+use Rattle.stm_session.proofs.Names.{first_of, lacks_companion, segment_pages}
 use Rattle.stm_session.proofs.Misfits.{first_size, fits-beyond, fits-place, fits-none}
 use Rattle.stm_session.proofs.check.fits.Goals as goal
 

@@ -2,12 +2,10 @@ use Rattle.std.proofs.Common.{◌≡◌, ◌<◌, ◌==◌, ℕ, Bool, true, not
 use Rattle.std.proofs.lemmas.Bool.Decides.{nat_tests}
 use Rattle.std.specs.Prelude.{is_none}
 use Rattle.std.specs.List.{list_any}
-use Rattle.stm_wire.specs.Chip.{ChipData, page_count}
+use Rattle.stm_wire.proofs.Names.{ChipData, page_count}
 use Rattle.stm_journal.specs.declared.kept.PagePlace.{PagePlace}
-use Rattle.stm_journal.specs.States.{StateData}
-use Rattle.stm_journal.specs.KeptPlaces.{page_place}
-use Rattle.stm_session.specs.Refusal.{segment_pages, first_of, lacks_companion}
-use Rattle.stm_session.specs.Undoable.{has_companion}
+use Rattle.stm_journal.proofs.Names.{page_place, StateData}
+use Rattle.stm_session.proofs.Names.{first_of, has_companion, lacks_companion, segment_pages}
 use Rattle.stm_session.proofs.Misfits.{companion-kept}
 use Rattle.stm_session.proofs.check.lacks_companion.Goals as goal
 

@@ -1,6 +1,6 @@
 use Rattle.std.proofs.Common.{◌+◌, ◌-◌, ◌<◌, length, drop, sym, ◌∙◌, ap, arith}
-use Rattle.stm_journal.specs.States.{StateData}
-use Rattle.stm_session.specs.Refusal.{segment_pages, first_of, least_with, misfit_lines, misfit_lines_of}
+use Rattle.stm_journal.proofs.Names.{StateData}
+use Rattle.stm_session.proofs.Names.{first_of, least_with, misfit_lines, misfit_lines_of, segment_pages}
 use Rattle.stm_session.proofs.Misfits.{stack-step}
 use Rattle.stm_session.proofs.check.misfit_line.Goals as goal
 

@@ -1,5 +1,5 @@
 use Rattle.std.proofs.Common.{◌≡◌, ◌++◌, drop}
-use Rattle.stm_session.specs.Refusal.{first_of, header_misfits, least, least_with, misfit_lines}
+use Rattle.stm_session.proofs.Names.{first_of, header_misfits, least, least_with, misfit_lines}
 use Rattle.stm_session.proofs.check.misfit_line.Given as goal
 
 -- the least line of all is that of the segments that are left and the least so far

@@ -1,7 +1,7 @@
 use Rattle.std.proofs.Common.{◌≡◌, ◌+◌, Some, if◌then◌else◌, Bool, List, Option, ℕ, refl, sym, ◌∙◌, ap, arith, drop}
-use Rattle.stm_journal.specs.States.{StateData}
+use Rattle.stm_journal.proofs.Names.{StateData}
 use Rattle.stm_journal.specs.declared.kept.Kept.{Kept}
-use Rattle.stm_session.specs.Refusal.{segment_pages, first_of, least_with, misfit_lines_of, lesser}
+use Rattle.stm_session.proofs.Names.{first_of, least_with, lesser, misfit_lines_of, segment_pages}
 use Rattle.stm_session.proofs.Misfits.{below-limit, below-step, kept-within, sound-pages, misfit-step, misfit-end}
 use Rattle.stm_session.proofs.check.misfit_line_of.Goals as goal
 use Rattle.stm_session.proofs.check.misfit_line_of.Goals.{then-not-fits, else-not-fits}

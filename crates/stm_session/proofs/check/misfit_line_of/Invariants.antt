@@ -1,5 +1,5 @@
 use Rattle.std.proofs.Common.{◌≡◌, ◌+◌, ◌-◌, ◌≤◌, length, drop}
-use Rattle.stm_session.specs.Refusal.{segment_pages, first_of, least_with, misfit_lines_of}
+use Rattle.stm_session.proofs.Names.{first_of, least_with, misfit_lines_of, segment_pages}
 use Rattle.stm_session.proofs.Misfits.{below}
 use Rattle.stm_session.proofs.check.misfit_line_of.Given as goal
 

@@ -1,9 +1,7 @@
 use Rattle.std.proofs.Common.{rules, ◌≡◌, ◌∷◌, [], ℕ, true, List, ap, ◌∙◌, subst, OnOk}
 use Rattle.std.specs.Prelude.{is_some}
-use Rattle.stm_wire.specs.Device.{Device}
-use Rattle.stm_wire.specs.Dialogue.{GoesOn}
-use Rattle.stm_session.specs.Order.{Step, Sends, IsInOrder}
-use Rattle.stm_session.specs.Reaching.{confirmed_at, id_turns}
+use Rattle.stm_wire.proofs.Names.{Device, GoesOn}
+use Rattle.stm_session.proofs.Names.{confirmed_at, id_turns, IsInOrder, Sends, Step}
 use Rattle.stm_session.proofs.Asking.{asks_then, nothing_asked, settled_still}
 use Rattle.stm_session.proofs.LookingAgain.{closing_some, id_halts, id_stops, looked_order, looked_stops}
 use Rattle.stm_session.proofs.closing.look_again.Goals as goal

@@ -1,8 +1,7 @@
 use Rattle.std.proofs.Common.{rules, ◌≡◌, ◌+◌, true, false, not, ◌||◌, nat_le, length, map, ◌∙◌}
 use Rattle.std.proofs.lemmas.List.Folds.{list_all-map}
 use Rattle.std.specs.List.{list_all, list_any}
-use Rattle.stm_session.specs.Meaning.{changes_of, command_data, is_change}
-use Rattle.stm_session.specs.Refusals.{can_erase, is_in_flash, lies_in_flash}
+use Rattle.stm_session.proofs.Names.{can_erase, changes_of, command_data, is_change, is_in_flash, lies_in_flash}
 use Rattle.stm_session.proofs.CommandChecks.{full, nothing, outside}
 use Rattle.stm_session.proofs.command_check.check_commands.Goals as goal
 

@@ -1,28 +1,15 @@
 use Rattle.std.proofs.Common.{◌≡◌, ◌∙◌, ◌+◌, ◌++◌, ◌∷◌, [], List, ℕ, Result, Ok, Err, true, ap, append_assoc, subst, sym, length, refl}
-use Rattle.stm_wire.specs.Chip.{ChipData, page_count}
-use Rattle.stm_wire.specs.Device.{Device}
+use Rattle.stm_wire.proofs.Names.{ChipData, Device, page_count, RigState}
 use Rattle.stm_journal.specs.declared.entry.Entry.{Entry}
 use Rattle.stm_journal.specs.declared.entry.Entry.TheVariants.{Ends}
-use Rattle.stm_session.specs.Contents.{IsMade, command_of}
-use Rattle.stm_session.specs.Lines.{depth_at, is_named_at, opening_entries, page_entries_below}
-use Rattle.stm_session.specs.Meaning.{flash_after}
-use Rattle.stm_session.specs.Steps.{Goes, IsSteady}
-use Rattle.stm_session.specs.Undoable.{is_unfinished_at}
+use Rattle.stm_session.proofs.Names.{Adds, Are, AreBegunTurns, Begin, begins, cause_of, Change, Changes, closing, command_of, depth_at, DoesSteps, ends, Fault, flash_after, Goes, is_named_at}
+use Rattle.stm_session.proofs.Names.{is_unfinished_at, IsClosedInPart, IsMade, IsOneSegment, IsSegmentBegun, IsSteady, KeepsErased, opening_entries, page_entries_below, SameMake, Step, StopsBy, turns}
 use Rattle.stm_session.proofs.Commandings.{begin_fails, changes_as, end_fails, end_goes, pages_fail, pages_go, turned_make}
 use Rattle.stm_session.proofs.Keeping.{depth_text, unfinished_text}
-use Rattle.stm_journal.specs.Journals.{begin_entries, Loaded}
-use Rattle.stm_session.specs.ChangeOrder.{AreBegunTurns, IsOneSegment, IsSegmentBegun, KeepsErased, begins, ends, turns}
-use Rattle.stm_session.specs.Closing.{IsClosedInPart, closing}
-use Rattle.stm_session.specs.Fault.{cause_of}
-use Rattle.stm_session.specs.Order.{Step, Adds, Are, Begin, DoesSteps, StopsBy}
+use Rattle.stm_journal.proofs.Names.{begin_entries, Loaded}
 use Rattle.stm_session.proofs.CutShort.{part_stops, then_stops}
 use Rattle.stm_session.proofs.KeptErased.{each_then, keep_begin, keep_end, keep_still}
 use Rattle.stm_session.proofs.Orders.{does_then}
-use Rattle.stm_wire.specs.Rig.{RigState}
-use Rattle.stm_session.specs.declared.change.Change.{Change}
-use Rattle.stm_session.specs.declared.fault.Fault.{Fault}
-use Rattle.stm_session.specs.Moments.{SameMake}
-use Rattle.stm_session.specs.Segments.{Changes}
 use Rattle.stm_session.proofs.commanding.change_flash.Given as given
 use Rattle.stm_session.proofs.commanding.change_flash.Goals as goal
 use Rattle.stm_session.proofs.commanding.change_flash.Goals.{After-end_segment}

@@ -1,5 +1,5 @@
 use Rattle.std.proofs.Common.{◌≡◌, ℕ, ◌∙◌, length, sym, subst, rules}
-use Rattle.stm_session.specs.Order.{ReadsBlock}
+use Rattle.stm_session.proofs.Names.{ReadsBlock}
 use Rattle.stm_session.proofs.comparing.compare_block.Goals as goal
 
 pub returns-clause-order : goal.returns-clause-order

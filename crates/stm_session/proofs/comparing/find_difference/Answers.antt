@@ -1,17 +1,11 @@
 -- A round of the loop compares a block more.
 use Rattle.std.proofs.Common.{rules, ◌≡◌, ◌+◌, ◌-◌, ◌*◌, arith, ap, subst, sym, ◌∙◌, ℕ, Bool, Some, true, false, is_some, refl, drop}
-use Rattle.stm_wire.specs.Dialogue.{GoesOn}
-use Rattle.stm_wire.specs.Parts.{IsPart}
+use Rattle.stm_wire.proofs.Names.{GoesOn, IsPart}
 use Rattle.stm_wire.specs.lemmas.PartLaws.{nothing_is_part, part_longer}
-use Rattle.stm_session.specs.Answers.{first_difference}
-use Rattle.stm_session.specs.Sending.{most_of_command}
+use Rattle.stm_session.proofs.Names.{AgreeInBlocks, Cause, first_difference, IsReading, most_of_command, StopsBy}
 use Rattle.stm_session.proofs.Asking.{asks_failed, asks_ok, nothing_asked}
 use Rattle.stm_session.proofs.Comparisons.{block_agrees, block_differs, block_within, compare_asks, compared_part, compared_stop, reads_agree, reads_differ}
 use Rattle.std.specs.List.{AllByRecursion}
-use Rattle.stm_session.specs.Fault.{Cause}
-use Rattle.stm_session.specs.Order.{StopsBy}
-use Rattle.stm_session.specs.Came.{AgreeInBlocks}
-use Rattle.stm_session.specs.RunOrder.{IsReading}
 use Rattle.stm_session.proofs.CutShort.{by_fault}
 use Rattle.stm_session.proofs.RunOrders.{reads_nothing}
 use Rattle.stm_session.proofs.Sending.{same_fault}

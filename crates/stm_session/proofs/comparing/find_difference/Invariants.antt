@@ -1,6 +1,6 @@
 use Rattle.std.proofs.Common.{◌+◌, ◌-◌}
-use Rattle.stm_wire.specs.Chip.{flash_size}
-use Rattle.stm_session.specs.Reading.{IsNotBehind}
+use Rattle.stm_wire.proofs.Names.{flash_size}
+use Rattle.stm_session.proofs.Names.{IsNotBehind}
 use Rattle.stm_session.proofs.Comparisons.{IsComparedSoFar}
 use Rattle.stm_session.proofs.comparing.find_difference.Given as goal
 

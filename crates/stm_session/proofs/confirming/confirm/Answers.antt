@@ -2,16 +2,11 @@ use Rattle.std.proofs.Common.{◌≡◌, inl, inr, Bool, [], Option, Some, refl,
 use Rattle.std.specs.Prelude.{◌⊎◌}
 use Rattle.std.proofs.lemmas.Bool.{true≢false}
 use Rattle.stm_wire.specs.declared.places.UniquePlace.{UniquePlace}
-use Rattle.stm_wire.specs.Dialogue.{GoesOn}
+use Rattle.stm_wire.proofs.Names.{GoesOn, IsPart}
 use Rattle.stm_wire.specs.lemmas.DialogueLaws.{GoesOn-nothing}
-use Rattle.stm_wire.specs.Parts.{IsPart}
 use Rattle.stm_wire.specs.lemmas.PartLaws.{nothing_is_part}
 use Rattle.stm_session.specs.declared.fault.Fault.TheVariants.{BoardChanged}
-use Rattle.stm_session.specs.Confirming.{TellsAgain}
-use Rattle.stm_session.specs.Fault.{Cause, IsOfLine, cause_of, of_refusal}
-use Rattle.stm_session.specs.Order.{Begin, IsInOrder, StopsBy}
-use Rattle.stm_session.specs.Reaching.{IsConfirming, confirm_steps, confirmed_at}
-use Rattle.stm_session.specs.Sending.{most_of_confirming}
+use Rattle.stm_session.proofs.Names.{Begin, Cause, cause_of, confirm_steps, confirmed_at, IsConfirming, IsInOrder, IsOfLine, most_of_confirming, of_refusal, StopsBy, TellsAgain}
 use Rattle.stm_session.proofs.Asking.{asks_failed, asks_ok, nothing_asked}
 use Rattle.stm_session.specs.lemmas.ClosingLaws.{place_known}
 use Rattle.stm_session.proofs.Confirmings.{has_again}

@@ -1,7 +1,6 @@
 use Rattle.std.proofs.Common.{Bool, Some, rules, refl}
-use Rattle.stm_wire.specs.Dialogue.{GoesOn}
-use Rattle.stm_wire.specs.Parts.{IsPart}
-use Rattle.stm_session.specs.Sending.{most_of_confirming}
+use Rattle.stm_wire.proofs.Names.{GoesOn, IsPart}
+use Rattle.stm_session.proofs.Names.{most_of_confirming}
 use Rattle.stm_session.proofs.Asking.{asks_failed, asks_ok}
 use Rattle.stm_session.proofs.Confirmings.{again_read, confirm_part, confirm_unasked, told_again}
 use Rattle.stm_session.proofs.Sending.{same_fault}

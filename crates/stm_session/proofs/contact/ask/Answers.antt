@@ -1,10 +1,8 @@
 use Rattle.stm_session.proofs.Unwritings.{then_appends_nothing}
 use Rattle.std.proofs.Common.{◌∙◌, ap, ◌∷◌, [], List}
-use Rattle.stm_wire.specs.Device.{Device}
+use Rattle.stm_wire.proofs.Names.{Device, get_turns}
 use Rattle.stm_session.proofs.Asking.{asks_failed, asks_ok, asks_then, settled_still}
-use Rattle.stm_wire.specs.Frames.{get_turns}
-use Rattle.stm_session.specs.Order.{Step, Sends}
-use Rattle.stm_session.specs.Reaching.{id_turns}
+use Rattle.stm_session.proofs.Names.{id_turns, Sends, Step}
 use Rattle.stm_session.proofs.AskingStops.{get_id_stops, get_stops}
 use Rattle.stm_session.proofs.Orders.{order_then}
 use Rattle.stm_session.proofs.contact.ask.Goals as goal

@@ -1,10 +1,8 @@
 use Rattle.stm_session.proofs.Unwritings.{held_appends_nothing, broken_appends_nothing}
 use Rattle.std.proofs.Common.{◌<◌, rules, ℕ, List, length, take, refl, ◌∷◌, []}
-use Rattle.stm_wire.specs.Frames.{get_turns}
-use Rattle.stm_wire.specs.Stopped.{get}
+use Rattle.stm_wire.proofs.Names.{get, get_turns}
 use Rattle.stm_session.proofs.Asking.{asked, broken_off}
-use Rattle.stm_session.specs.Order.{Begin, Sends}
-use Rattle.stm_session.specs.Reaching.{IsGet}
+use Rattle.stm_session.proofs.Names.{Begin, IsGet, Sends}
 use Rattle.stm_session.proofs.CutShort.{begin_all, command_stops}
 use Rattle.stm_session.proofs.Orders.{order_sent}
 use Rattle.stm_session.proofs.contact.ask_commands.Goals as goal

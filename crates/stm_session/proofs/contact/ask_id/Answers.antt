@@ -1,10 +1,9 @@
 use Rattle.stm_session.proofs.Unwritings.{held_appends_nothing, broken_appends_nothing}
 use Rattle.std.proofs.Common.{◌/◌, ◌%◌, refl, ◌∷◌, []}
-use Rattle.stm_wire.specs.Frames.{get_id_turns}
+use Rattle.stm_wire.proofs.Names.{get_id_turns}
 use Rattle.stm_wire.specs.Stopped.{get_id}
 use Rattle.stm_session.proofs.Asking.{asked, broken_off}
-use Rattle.stm_session.specs.Order.{Begin, Sends}
-use Rattle.stm_session.specs.Reaching.{IsGetId, id_turns}
+use Rattle.stm_session.proofs.Names.{Begin, id_turns, IsGetId, Sends}
 use Rattle.stm_session.proofs.CutShort.{begin_all, command_stops}
 use Rattle.stm_session.proofs.Orders.{order_sent}
 use Rattle.stm_session.proofs.contact.ask_id.Goals as goal

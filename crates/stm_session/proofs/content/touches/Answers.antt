@@ -1,9 +1,8 @@
 use Rattle.std.proofs.Common.{arith, sym, ap, subst, ◌∙◌, ℕ, length, ◌+◌, ◌<◌, ◌≤◌, Bool, if◌then◌else◌}
 use Rattle.std.proofs.lemmas.Bool.Decides.{nat_tests}
 use Rattle.stm_image.specs.Pairs.{IsNext, HasNone}
-use Rattle.stm_wire.specs.Chip.{erased_page, page_offset, page_size}
-use Rattle.stm_session.specs.declared.change.Change.{Change}
-use Rattle.stm_session.specs.Contents.{content, MayTouch}
+use Rattle.stm_wire.proofs.Names.{erased_page, page_offset, page_size}
+use Rattle.stm_session.proofs.Names.{Change, content, MayTouch}
 use Rattle.stm_session.proofs.content.touches.Goals as goal
 
 pub returns-in-Some-clause-same : goal.returns-in-Some-clause-same

@@ -1,5 +1,5 @@
 use Rattle.std.proofs.Common.{rules, refl, true, false, nat_lt, ◌≡◌, length}
-use Rattle.stm_session.specs.Refusal.{open_refusal}
+use Rattle.stm_session.proofs.Names.{open_refusal}
 use Rattle.stm_session.proofs.Forgetting.{open-forgets}
 use Rattle.stm_session.proofs.Openings.{load_accepted, load_failed, load_refused, load_spared, closed_accepted, open_refused}
 use Rattle.stm_session.proofs.go_and_protect.check_closed.Goals as goal

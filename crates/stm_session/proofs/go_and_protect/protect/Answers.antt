@@ -1,7 +1,6 @@
-use Rattle.stm_wire.specs.Frames.{command, protect_turns}
-use Rattle.stm_wire.specs.Protection.{protection_code}
+use Rattle.stm_wire.proofs.Names.{command, protect_turns, protection_code}
 use Rattle.std.proofs.Common.{arith}
-use Rattle.stm_session.specs.Fault.{IsOutsideFault}
+use Rattle.stm_session.proofs.Names.{IsOutsideFault}
 use Rattle.stm_session.proofs.Leavings.{can_protect, fails_by_line, fails_unread, leaves_broken, leaves_fed, leaves_unread, leaves_unsettled, safe_then, settled_then}
 use Rattle.stm_session.proofs.Openings.{on_err, refused_nothing}
 use Rattle.stm_session.proofs.Sending.{begun_broken, begun_held, leaves_at_dialogue, leaves_at_journal, leaves_at_settling}

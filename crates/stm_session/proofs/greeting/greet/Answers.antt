@@ -1,22 +1,12 @@
 use Rattle.std.proofs.Common.{◌≡◌, ◌≤◌, ◌∙◌, [], ◌∷◌, true, false, List, ℕ, length, take, Some, Result, rules, sym, ap, subst, arith, inr}
 use Rattle.std.specs.Prelude.{◌&&◌, is_some}
 use Rattle.stm_wire.specs.declared.fault.WireFault.{WireFault}
-use Rattle.stm_wire.specs.Command.{with_rest}
-use Rattle.stm_wire.specs.Device.{Device}
-use Rattle.stm_wire.specs.Dialogue.{GoesOn}
-use Rattle.stm_wire.specs.Harmless.{Harmless}
-use Rattle.stm_wire.specs.Intents.{settling_byte}
-use Rattle.stm_wire.specs.Settling.{LeadsTo, PutsAll, PutsPart}
+use Rattle.stm_wire.proofs.Names.{Device, GoesOn, Harmless, LeadsTo, PutsAll, PutsPart, settling_byte, with_rest}
 use Rattle.stm_wire.specs.lemmas.DialogueLaws.{GoesOn-weaker}
-use Rattle.stm_journal.specs.Greetings.{may_greet}
-use Rattle.stm_journal.specs.States.{intent_of}
-use Rattle.stm_session.specs.declared.greeting.Greeting.{Greeting}
+use Rattle.stm_journal.proofs.Names.{intent_of, may_greet}
+use Rattle.stm_session.proofs.Names.{fault_of, fault_of_journal, Greeting, greets, GreetsBy, GreetsInPartBy, GreetsOnce, IsConnectable, IsGreetableAs, IsReset, ReadsFirst, risked_at, state_at}
+use Rattle.stm_session.proofs.Names.{Undoable}
 use Rattle.stm_session.specs.declared.greeting.Greeting.TheVariants.{Fresh}
-use Rattle.stm_session.specs.Fault.{fault_of, fault_of_journal}
-use Rattle.stm_session.specs.Fresh.{IsReset}
-use Rattle.stm_session.specs.Greeting.{GreetsBy, GreetsInPartBy, GreetsOnce, IsConnectable, IsGreetableAs, ReadsFirst, greets}
-use Rattle.stm_session.specs.Undoable.{Undoable, state_at}
-use Rattle.stm_session.specs.Undoes.{risked_at}
 use Rattle.stm_session.proofs.Causes.{cause_behind}
 use Rattle.stm_session.proofs.Freshness.{settling_starts}
 use Rattle.stm_session.proofs.Going.{line_outside}

@@ -1,13 +1,8 @@
 use Rattle.std.proofs.Common.{None}
 use Rattle.stm_wire.specs.lemmas.PartLaws.{silent_is_session, silent_then_session}
-use Rattle.stm_journal.specs.Calls.{AreFetches}
-use Rattle.stm_wire.specs.Dialogue.{GoesOn}
-use Rattle.stm_session.specs.declared.contact.Told.{Told}
-use Rattle.stm_session.specs.declared.fault.Fault.{Fault}
-use Rattle.stm_session.specs.Fault.{Cause, cause_of}
-use Rattle.stm_session.specs.Fresh.{Settles}
-use Rattle.stm_session.specs.Reaching.{ReachesInOrder, ReachesInPart, asking_steps}
-use Rattle.stm_session.specs.Sending.{is_whole, most_calls}
+use Rattle.stm_journal.proofs.Names.{AreFetches}
+use Rattle.stm_wire.proofs.Names.{GoesOn}
+use Rattle.stm_session.proofs.Names.{asking_steps, Cause, cause_of, Fault, is_whole, most_calls, ReachesInOrder, ReachesInPart, Settles, Told}
 use Rattle.stm_session.proofs.CutShort.{by_fault}
 use Rattle.stm_session.proofs.IdentifyContracts.{identify_asked, identify_unread}
 use Rattle.stm_session.proofs.Orders.{fetched_then}

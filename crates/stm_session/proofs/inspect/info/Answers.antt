@@ -1,12 +1,8 @@
-use Rattle.stm_session.specs.Fresh.{contact_way}
+use Rattle.stm_session.proofs.Names.{Cause, contact_way, most_of_reaching, ReachesInOrder, ReachesInPart}
 use Rattle.std.proofs.Common.{Bool, None, refl, ℕ, subst, sym}
-use Rattle.stm_wire.specs.Dialogue.{GoesOn}
-use Rattle.stm_wire.specs.Parts.{IsSession}
-use Rattle.stm_session.specs.Sending.{most_of_reaching}
+use Rattle.stm_wire.proofs.Names.{GoesOn, IsSession}
 use Rattle.stm_session.proofs.InfoContracts.{info_opened, info_unopened}
 use Rattle.stm_session.proofs.Sending.{same_fault}
-use Rattle.stm_session.specs.Fault.{Cause}
-use Rattle.stm_session.specs.Reaching.{ReachesInOrder, ReachesInPart}
 use Rattle.stm_session.proofs.CutShort.{by_fault}
 use Rattle.stm_session.proofs.inspect.info.Goals as goal
 

@@ -1,6 +1,5 @@
 use Rattle.std.proofs.Common.{◌≡◌, ◌∙◌, None, Some, MatchResult, Ok, Err, Result, IsErrAnd, sym, subst}
-use Rattle.stm_session.specs.declared.fault.Fault.{Fault}
-use Rattle.stm_session.specs.Unasked.{begun_refusal}
+use Rattle.stm_session.proofs.Names.{begun_refusal, Fault}
 use Rattle.stm_session.proofs.Unasked.{by_id, no_header}
 use Rattle.stm_session.proofs.journal_chip.check_undo.Goals as goal
 

@@ -1,7 +1,6 @@
 use Rattle.std.proofs.Common.{◌≡◌, Option, Some, ap, ◌∙◌}
-use Rattle.stm_wire.specs.Chip.{ChipData}
-use Rattle.stm_session.specs.declared.fault.Fault.{Fault}
-use Rattle.stm_session.specs.Refusal.{chip_with, table_refusal}
+use Rattle.stm_wire.proofs.Names.{ChipData}
+use Rattle.stm_session.proofs.Names.{chip_with, Fault, table_refusal}
 use Rattle.stm_session.proofs.Fitting.{unrefused-fits}
 use Rattle.stm_session.proofs.Openings.{has_chip, lacks_chip, on_err}
 use Rattle.stm_session.proofs.journal_chip.find_named.Goals as goal

@@ -1,9 +1,6 @@
 use Rattle.std.proofs.Common.{◌≡◌, Option, Some, ap, ◌∙◌}
-use Rattle.stm_wire.specs.Chip.{ChipData}
-use Rattle.stm_session.specs.declared.fault.Fault.{Fault}
-use Rattle.stm_session.specs.Fault.{IsLaterRefusal}
-use Rattle.stm_session.specs.Refusal.{chip_with}
-use Rattle.stm_session.specs.Unasked.{unlisted_refusal}
+use Rattle.stm_wire.proofs.Names.{ChipData}
+use Rattle.stm_session.proofs.Names.{chip_with, Fault, IsLaterRefusal, unlisted_refusal}
 use Rattle.stm_session.proofs.Openings.{has_chip, lacks_chip, on_err}
 use Rattle.stm_session.proofs.Unasked.{unasked_later}
 use Rattle.stm_session.proofs.journal_chip.find_unasked.Goals as goal

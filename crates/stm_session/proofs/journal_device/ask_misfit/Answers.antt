@@ -1,9 +1,6 @@
 use Rattle.std.proofs.Common.{◌∷◌, [], refl, ◌≡◌, ◌++◌, ℕ, List, ap, subst, rules}
-use Rattle.stm_wire.specs.Device.{Device}
-use Rattle.stm_wire.specs.Frames.{get_turns}
-use Rattle.stm_session.specs.Fault.{of_refusal}
-use Rattle.stm_session.specs.Order.{Step, Begin, Sends}
-use Rattle.stm_session.specs.Reaching.{AsksInOrder, IsAsking, IsGet, id_turns}
+use Rattle.stm_wire.proofs.Names.{Device, get_turns}
+use Rattle.stm_session.proofs.Names.{AsksInOrder, Begin, id_turns, IsAsking, IsGet, of_refusal, Sends, Step}
 use Rattle.stm_session.proofs.Asking.{asks_failed, asks_ok, asks_then, settled_still}
 use Rattle.stm_session.proofs.AskingStops.{asking_is, get_begins, get_id_stops, get_stops}
 use Rattle.stm_session.proofs.CutShort.{begin_all, halts}

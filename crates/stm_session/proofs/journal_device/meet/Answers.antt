@@ -1,26 +1,15 @@
 use Rattle.std.proofs.Common.{◌≡◌, ◌≤◌, ◌∙◌, [], None, ap, inr, length, sym, ◌+◌, ◌*◌, Bool, true, false, arith, Option, subst}
-use Rattle.stm_wire.specs.Chip.{ChipData}
-use Rattle.stm_wire.specs.Harmless.{Harmless}
-use Rattle.stm_wire.specs.Moments.{LeavesOnly}
-use Rattle.stm_journal.specs.Journals.{IsLoaded}
-use Rattle.stm_session.specs.Undoes.{IsElsewhere, IsWithinLimit, byte_at_journal, risked_at}
-use Rattle.stm_session.specs.Refusals.{undo_misfit}
+use Rattle.stm_wire.proofs.Names.{ChipData, GoesOn, Harmless, IsPart, IsSession, LeavesOnly}
+use Rattle.stm_journal.proofs.Names.{intent_of, IsLoaded}
+use Rattle.stm_session.proofs.Names.{asking_steps, Begin, byte_at_journal, byte_of, Cause, cause_of, Fault, is_whole, IsAsking, IsElsewhere, IsWithinLimit, limit_of, most_of_reaching, ReachesInPart}
+use Rattle.stm_session.proofs.Names.{risked_at, settling_way, StopsBy, undo_misfit}
 use Rattle.stm_session.proofs.Going.{at_exit, asks_go, asks_fail, goes_failed, goes_then}
 use Rattle.stm_session.proofs.Misfitting.{own_misfit}
 use Rattle.stm_session.proofs.Unread.{none_some}
 use Rattle.stm_session.proofs.Straying.{strays_failed, strays_asked, strays_unasked, misfit_was}
-use Rattle.stm_wire.specs.Dialogue.{GoesOn}
-use Rattle.stm_session.specs.Fresh.{byte_of, limit_of, settling_way}
-use Rattle.stm_wire.specs.Parts.{IsPart, IsSession}
 use Rattle.stm_wire.specs.lemmas.PartLaws.{session_joins, session_longer, settling_is_session}
-use Rattle.stm_journal.specs.States.{intent_of}
-use Rattle.stm_session.specs.Sending.{is_whole, most_of_reaching}
 use Rattle.stm_session.proofs.Sending.{same_fault}
 use Rattle.std.specs.Prelude.{IfSome}
-use Rattle.stm_session.specs.declared.fault.Fault.{Fault}
-use Rattle.stm_session.specs.Fault.{Cause, cause_of}
-use Rattle.stm_session.specs.Order.{Begin, StopsBy}
-use Rattle.stm_session.specs.Reaching.{IsAsking, ReachesInPart, asking_steps}
 use Rattle.stm_session.proofs.AskingStops.{asked_puts, cut_puts}
 use Rattle.stm_session.proofs.CutShort.{by_fault}
 use Rattle.stm_session.proofs.Reaching.{asks_stop, settle_stops}

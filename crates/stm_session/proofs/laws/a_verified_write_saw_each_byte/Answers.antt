@@ -1,5 +1,4 @@
-use Rattle.stm_session.specs.Fresh.{contact_way}
-use Rattle.stm_session.specs.Reaching.{confirming}
+use Rattle.stm_session.proofs.Names.{confirming, contact_way}
 use Rattle.stm_session.proofs.KeptRuns.{after_as, as_session, does_as}
 use Rattle.stm_session.proofs.SeenImages.{sees_byte}
 use Rattle.stm_session.proofs.laws.a_verified_write_saw_each_byte.Goals as goal

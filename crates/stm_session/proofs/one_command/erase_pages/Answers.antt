@@ -1,13 +1,9 @@
 use Rattle.std.proofs.Common.{ℕ, List, Ok, refl, subst, ap}
-use Rattle.stm_session.specs.declared.outcome.Outcome.{Outcome}
+use Rattle.stm_session.proofs.Names.{DoesCommand, IsBegunBy, IsDoneBy, IsSegmentBegun, Outcome, outcome_data, was_erased}
 use Rattle.stm_session.specs.declared.outcome.Outcome.TheVariants.{Erased}
-use Rattle.stm_session.specs.OneCommand.{DoesCommand}
 use Rattle.stm_session.specs.Meaning.{erases}
-use Rattle.stm_session.specs.Answers.{outcome_data, was_erased}
 use Rattle.stm_session.specs.declared.change.Change.TheVariants as change
 use Rattle.stm_session.proofs.OneCommands.{change_broken, change_made}
-use Rattle.stm_session.specs.RunOrder.{IsDoneBy, IsBegunBy}
-use Rattle.stm_session.specs.ChangeOrder.{IsSegmentBegun}
 use Rattle.stm_session.proofs.CutShort.{part_stops}
 use Rattle.stm_session.proofs.one_command.erase_pages.Goals as goal
 

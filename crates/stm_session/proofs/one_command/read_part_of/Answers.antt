@@ -1,11 +1,9 @@
 use Rattle.std.proofs.Common.{ℕ, Ok, refl, sym, ◌∙◌, ap, List}
-use Rattle.stm_wire.specs.Chip.{ChipData}
-use Rattle.stm_session.specs.Answers.{OutcomeData, outcome_data, was_read}
+use Rattle.stm_wire.proofs.Names.{ChipData}
+use Rattle.stm_session.proofs.Names.{bytes_at, ComeInBlocks, outcome_data, OutcomeData, was_read}
 use Rattle.stm_session.specs.Meaning.{reads}
-use Rattle.stm_session.specs.Running.{bytes_at}
 use Rattle.stm_session.proofs.Doings.{asks_does, asks_fails}
 use Rattle.stm_session.proofs.RunOrders.{reads_follow}
-use Rattle.stm_session.specs.Came.{ComeInBlocks}
 use Rattle.stm_session.proofs.Arrivals.{reading_stops}
 use Rattle.stm_session.proofs.one_command.read_part_of.Goals as goal
 

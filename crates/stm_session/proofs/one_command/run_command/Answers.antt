@@ -1,13 +1,7 @@
 use Rattle.std.proofs.Common.{sym, subst, ap}
-use Rattle.stm_session.specs.declared.command.Command.{Command}
-use Rattle.stm_session.specs.Answers.{outcome_data}
-use Rattle.stm_session.specs.ChangeOrder.{Keeping}
-use Rattle.stm_session.specs.OneCommand.{DoesCommand}
-use Rattle.stm_session.specs.Came.{TellsWhatCame}
-use Rattle.stm_session.specs.Meaning.{command_data, erases, is_change, writes}
+use Rattle.stm_session.proofs.Names.{Command, command_data, DoesCommand, FaultEnds, Follows, is_change, IsBegunBy, IsBegunTelling, IsDoneTelling, Keeping, outcome_data, StopsTelling, TellsWhatCame}
+use Rattle.stm_session.specs.Meaning.{erases, writes}
 use Rattle.std.specs.Prelude.{IfOk}
-use Rattle.stm_session.specs.Order.{Follows, FaultEnds}
-use Rattle.stm_session.specs.RunOrder.{IsDoneTelling, IsBegunBy, IsBegunTelling, StopsTelling}
 use Rattle.stm_session.proofs.Arrivals.{change_stops}
 use Rattle.stm_session.proofs.KeptErased.{done_only, reads_kept}
 use Rattle.stm_session.proofs.SentChanges.{change_puts}

@@ -1,14 +1,9 @@
 use Rattle.std.proofs.Common.{◌≡◌, ℕ, Option, Ok, refl, subst, Some}
-use Rattle.stm_session.specs.Answers.{first_difference, outcome_data}
-use Rattle.stm_session.specs.Asking.{Asks}
-use Rattle.stm_session.specs.Meaning.{verifies}
+use Rattle.stm_session.proofs.Names.{AllCameAgree, Asks, CameFor, first_difference, IsBegunTelling, of_refusal, OnlyReads, outcome_data, verifies}
 use Rattle.stm_session.proofs.Doings.{asks_fails}
 use Rattle.stm_session.proofs.OneCommands.{verify_agrees, verify_differs}
 use Rattle.stm_session.proofs.RunOrders.{reads_follow}
-use Rattle.stm_session.specs.Fault.{of_refusal}
-use Rattle.stm_session.specs.Came.{AllCameAgree, CameFor}
 use Rattle.stm_session.specs.declared.fault.Fault.TheVariants as faults
-use Rattle.stm_session.specs.RunOrder.{IsBegunTelling, OnlyReads}
 use Rattle.stm_session.proofs.Arrivals.{reading_stops}
 use Rattle.stm_session.proofs.CutShort.{halts}
 use Rattle.stm_session.proofs.one_command.verify_image.Goals as goal

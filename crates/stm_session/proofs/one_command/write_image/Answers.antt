@@ -1,10 +1,8 @@
 use Rattle.std.proofs.Common.{refl}
-use Rattle.stm_session.specs.Answers.{outcome_data, was_written}
+use Rattle.stm_session.proofs.Names.{IsBegunBy, IsDoneBy, IsSegmentBegun, outcome_data, was_written}
 use Rattle.stm_session.specs.declared.change.Change.TheVariants as change
 use Rattle.stm_session.proofs.OneCommands.{change_broken, change_made}
 use Rattle.stm_session.specs.Meaning.{writes}
-use Rattle.stm_session.specs.RunOrder.{IsDoneBy, IsBegunBy}
-use Rattle.stm_session.specs.ChangeOrder.{IsSegmentBegun}
 use Rattle.stm_session.proofs.CutShort.{part_stops}
 use Rattle.stm_session.proofs.one_command.write_image.Goals as goal
 

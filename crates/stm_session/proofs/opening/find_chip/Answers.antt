@@ -1,7 +1,6 @@
 use Rattle.std.proofs.Common.{rules, ◌≡◌, true, not, None, Some, ◌∙◌}
-use Rattle.stm_journal.specs.States.{names_other}
-use Rattle.stm_session.specs.declared.fault.Fault.{Fault}
-use Rattle.stm_session.specs.Refusal.{device_refusals, first_refusal}
+use Rattle.stm_journal.proofs.Names.{names_other}
+use Rattle.stm_session.proofs.Names.{device_refusals, Fault, first_refusal}
 use Rattle.stm_session.proofs.Openings.{device_refusal, has_chip, lacks_chip, on_err}
 use Rattle.stm_session.proofs.opening.find_chip.Goals as goal
 

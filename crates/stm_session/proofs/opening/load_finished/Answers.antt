@@ -1,6 +1,6 @@
 use Rattle.std.proofs.Common.{rules, refl, true, false, ◌≡◌}
-use Rattle.stm_journal.specs.States.{is_unfinished}
-use Rattle.stm_session.specs.Refusal.{unsent_refusal}
+use Rattle.stm_journal.proofs.Names.{is_unfinished}
+use Rattle.stm_session.proofs.Names.{unsent_refusal}
 use Rattle.stm_session.proofs.Forgetting.{unsent-forgets}
 use Rattle.stm_session.proofs.Openings.{load_accepted, load_failed, load_refused, load_spared, finished_accepted, unfinished_refused}
 use Rattle.stm_session.proofs.opening.load_finished.Goals as goal

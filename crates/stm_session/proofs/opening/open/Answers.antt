@@ -1,16 +1,12 @@
-use Rattle.stm_session.specs.Fresh.{contact_way}
+use Rattle.stm_session.proofs.Names.{asking_steps, Cause, contact_way, is_whole, most_of_reaching, ReachesInOrder, ReachesInPart}
 use Rattle.stm_session.proofs.Unwritings.{fetching_appends_nothing, then_appends_nothing}
 use Rattle.std.proofs.Common.{arith, Bool, None, true, refl, ℕ, subst, sym}
 use Rattle.stm_session.proofs.Openings.{left_by_loading, opens_all, opens_refused, opens_unreached, opens_unread}
-use Rattle.stm_wire.specs.Dialogue.{GoesOn}
-use Rattle.stm_wire.specs.Parts.{IsSession}
+use Rattle.stm_wire.proofs.Names.{GoesOn, IsSession}
 use Rattle.stm_wire.specs.lemmas.PartLaws.{session_weaker, silent_is_session, silent_then_session}
-use Rattle.stm_journal.specs.Calls.{AreFetches}
-use Rattle.stm_session.specs.Sending.{is_whole, most_of_reaching}
+use Rattle.stm_journal.proofs.Names.{AreFetches}
 use Rattle.stm_session.proofs.Sending.{fetches_get, fetches_put, same_fault}
 use Rattle.stm_session.proofs.Orders.{fetched_then}
-use Rattle.stm_session.specs.Fault.{Cause}
-use Rattle.stm_session.specs.Reaching.{ReachesInOrder, ReachesInPart, asking_steps}
 use Rattle.stm_session.proofs.CutShort.{by_fault}
 use Rattle.stm_session.proofs.Reaching.{fetched_stops, told_stops, unread_stops}
 use Rattle.stm_session.proofs.opening.open.Goals as goal

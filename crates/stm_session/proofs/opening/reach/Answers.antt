@@ -1,15 +1,11 @@
-use Rattle.stm_session.specs.Fresh.{contact_way}
+use Rattle.stm_session.proofs.Names.{asking_steps, Begin, Cause, cause_of, contact_way, is_whole, IsAsking, most_of_reaching, ReachesInPart, StopsBy}
 use Rattle.stm_session.proofs.Unwritings.{settling_appends_nothing, then_appends_nothing}
 use Rattle.stm_session.proofs.Unbegun.{begins_failed, then_asks}
 use Rattle.stm_session.proofs.Openings.{tells_first}
 use Rattle.std.proofs.Common.{◌+◌, ◌*◌, arith, None, true, false}
 use Rattle.stm_wire.specs.lemmas.PartLaws.{session_joins, session_longer, settling_is_session}
-use Rattle.stm_session.specs.Sending.{is_whole, most_of_reaching}
 use Rattle.stm_session.proofs.Orders.{settles_then}
-use Rattle.stm_wire.specs.Dialogue.{GoesOn}
-use Rattle.stm_session.specs.Fault.{Cause, cause_of}
-use Rattle.stm_session.specs.Order.{Begin, StopsBy}
-use Rattle.stm_session.specs.Reaching.{IsAsking, ReachesInPart, asking_steps}
+use Rattle.stm_wire.proofs.Names.{GoesOn}
 use Rattle.stm_session.proofs.AskingStops.{ask_puts}
 use Rattle.stm_session.proofs.CutShort.{by_fault}
 use Rattle.stm_session.proofs.Reaching.{asks_stop, err_then, settle_stops, told_then}

@@ -1,14 +1,8 @@
 use Rattle.std.proofs.Common.{◌≡◌, ◌∙◌, ◌++◌, ◌∷◌, [], List, ℕ, Result, None, Ok, refl, sym, ap, subst}
-use Rattle.stm_wire.specs.Call.{Call}
-use Rattle.stm_journal.specs.States.{intent_of, newest_keeps}
-use Rattle.stm_session.specs.declared.fault.Fault.{Fault}
-use Rattle.stm_session.specs.Fault.{cause_of}
-use Rattle.stm_session.specs.Lines.{work_entries}
-use Rattle.stm_session.specs.Order.{AreCutShort, AreRewritten, BeginTold, IsInOrder, IsRewritten, acts_of}
-use Rattle.stm_session.specs.Steps.{Goes, IsSteady}
-use Rattle.stm_session.specs.Told.{ToldIn}
-use Rattle.stm_session.specs.Undoable.{state_at}
-use Rattle.stm_session.specs.Work.{beside, kept_at_work, kept_of, pages_at_work, with_work}
+use Rattle.stm_wire.proofs.Names.{Call}
+use Rattle.stm_journal.proofs.Names.{intent_of, newest_keeps}
+use Rattle.stm_session.proofs.Names.{acts_of, AreCutShort, AreRewritten, BeginTold, beside, cause_of, Fault, Goes, IsInOrder, IsRewritten, IsSteady, kept_at_work, kept_of, pages_at_work, state_at}
+use Rattle.stm_session.proofs.Names.{ToldIn, with_work, work_entries}
 use Rattle.stm_session.proofs.CutShort.{part_stops, then_stops}
 use Rattle.stm_session.proofs.Exits.{goes_fault}
 use Rattle.stm_session.proofs.Going.{at_exit, goes_as, goes_failed, goes_nowhere, goes_ok, goes_then}

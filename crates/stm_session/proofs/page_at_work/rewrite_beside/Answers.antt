@@ -1,12 +1,6 @@
 use Rattle.std.proofs.Common.{◌≡◌, ◌∷◌, [], List, ℕ, Ok, Result, refl, sym, subst, arith, append-nil}
-use Rattle.stm_journal.specs.States.{newest_keeps}
-use Rattle.stm_session.specs.declared.fault.Fault.{Fault}
-use Rattle.stm_session.specs.Lines.{work_entries}
-use Rattle.stm_session.specs.Order.{AreRewritten, BeginTold, IsRewritten, Step}
-use Rattle.stm_session.specs.Steps.{Goes, IsSteady}
-use Rattle.stm_session.specs.Told.{ToldIn}
-use Rattle.stm_session.specs.Undoable.{state_at}
-use Rattle.stm_session.specs.Work.{beside, kept_of, with_work}
+use Rattle.stm_journal.proofs.Names.{newest_keeps}
+use Rattle.stm_session.proofs.Names.{AreRewritten, BeginTold, beside, Fault, Goes, IsRewritten, IsSteady, kept_of, state_at, Step, ToldIn, with_work, work_entries}
 use Rattle.stm_session.proofs.CutShort.{part_stops}
 use Rattle.stm_session.proofs.Exits.{goes_fault}
 use Rattle.stm_session.proofs.Going.{goes_nowhere, goes_ok}

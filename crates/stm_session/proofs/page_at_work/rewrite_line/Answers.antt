@@ -1,23 +1,14 @@
 use Rattle.std.proofs.Common.{◌≡◌, ◌∙◌, ◌/◌, ◌++◌, ◌∷◌, [], List, ℕ, Result, Some, length, take, drop, subst, sym, ap, ap₂, arith, rules, refl}
 use Rattle.std.proofs.Math.Seq.{take-append_seam}
-use Rattle.stm_wire.specs.Chip.{erased_byte, page_size, with_page}
-use Rattle.stm_wire.specs.Device.{Device}
-use Rattle.stm_journal.specs.KeptPlaces.{kept_entry, place_of}
+use Rattle.stm_wire.proofs.Names.{Call, Device, erased_byte, GoesOn, page_size, with_page}
+use Rattle.stm_journal.proofs.Names.{Brings, KeepsSame, kept_entry, place_of, StateData}
 use Rattle.stm_journal.specs.declared.kept.Kept.{Kept}
 use Rattle.stm_chip.specs.declared.plan.Frame.{Frame}
 use Rattle.stm_chip.specs.Plan.{frames_of}
 use Rattle.stm_journal.specs.declared.entry.Entry.TheVariants.{Erases}
-use Rattle.stm_session.specs.Lines.{program_entries, rewrite_entries}
+use Rattle.stm_session.proofs.Names.{acts_of, Are, AreCutShort, Begin, BeginTold, cause_of, Fault, Goes, IsInOrder, IsRewritten, IsSteady, program_entries, rewrite_entries, rewrite_steps, so_far}
+use Rattle.stm_session.proofs.Names.{state_at, ToldIn}
 use Rattle.hex.specs.Hex.{encode_upper}
-use Rattle.stm_wire.specs.Call.{Call}
-use Rattle.stm_wire.specs.Dialogue.{GoesOn}
-use Rattle.stm_journal.specs.PageFetching.{Brings}
-use Rattle.stm_session.specs.Fault.{cause_of}
-use Rattle.stm_session.specs.Order.{Are, AreCutShort, Begin, BeginTold, IsInOrder, IsRewritten, acts_of, rewrite_steps, so_far}
-use Rattle.stm_session.specs.Told.{ToldIn}
-use Rattle.stm_session.specs.Steps.{Goes, IsSteady}
-use Rattle.stm_session.specs.Undoable.{state_at}
-use Rattle.stm_session.specs.declared.fault.Fault.{Fault}
 use Rattle.stm_session.proofs.Exits.{goes_fault}
 use Rattle.stm_session.proofs.Fetchings.{fetch_goes, fetch_fails}
 use Rattle.stm_session.proofs.Going.{goes_as, goes_nowhere, goes_ok, goes_refused, goes_then}
@@ -27,8 +18,6 @@ use Rattle.stm_session.proofs.CutShort.{begin_as, memory_stops, then_stops}
 use Rattle.stm_session.proofs.ToldPages.{some_calls}
 use Rattle.stm_session.proofs.UndoOrders.{journal_stops, some_rewrite}
 use Rattle.stm_session.proofs.Performing.{does_of}
-use Rattle.stm_journal.specs.Newest.{KeepsSame}
-use Rattle.stm_journal.specs.States.{StateData}
 use Rattle.stm_session.proofs.page_at_work.rewrite_line.Given as given
 use Rattle.stm_session.proofs.page_at_work.rewrite_line.Goals as goal
 use Rattle.stm_session.proofs.page_at_work.rewrite_line.Goals.{After-rewrite_kept}

@@ -1,13 +1,9 @@
 use Rattle.std.proofs.Common.{◌≡◌, ◌∙◌, ◌∷◌, [], List, ℕ, Result, Some, sym, subst, append-nil}
-use Rattle.stm_wire.specs.Chip.{with_page}
+use Rattle.stm_wire.proofs.Names.{with_page}
 use Rattle.stm_journal.specs.declared.kept.Kept.{Kept}
-use Rattle.stm_journal.specs.KeptPlaces.{kept_entry, place_of}
+use Rattle.stm_journal.proofs.Names.{kept_entry, place_of}
 use Rattle.stm_journal.specs.lemmas.NewestLaws.{KeepsSame-refl}
-use Rattle.stm_session.specs.Lines.{rewrite_entries, work_entries}
-use Rattle.stm_session.specs.Steps.{Goes, IsSteady}
-use Rattle.stm_session.specs.declared.fault.Fault.{Fault}
-use Rattle.stm_session.specs.Undoable.{state_at}
-use Rattle.stm_session.specs.Work.{kept_of, with_work}
+use Rattle.stm_session.proofs.Names.{Fault, Goes, IsSteady, kept_of, rewrite_entries, state_at, with_work, work_entries}
 use Rattle.stm_session.proofs.Exits.{goes_fault}
 use Rattle.stm_session.proofs.Going.{goes_as, goes_ok}
 use Rattle.stm_session.proofs.Keeping.{depth_text, good_at}

@@ -1,14 +1,8 @@
 use Rattle.std.proofs.Common.{◌≡◌, ◌∙◌, ◌++◌, [], List, ℕ, Bool, Result, false, inl, inr, not, length, ap, ap₂, refl, sym, subst, rules}
 use Rattle.std.specs.Prelude.{bytes_eq}
-use Rattle.stm_wire.specs.Chip.{ChipData, flash_size, page_of, page_size, with_page}
-use Rattle.stm_wire.specs.Device.{Device}
+use Rattle.stm_wire.proofs.Names.{ChipData, Device, flash_size, page_of, page_size, with_page}
 use Rattle.stm_wire.specs.lemmas.PageLaws.{length-page_of}
-use Rattle.stm_session.specs.ChangeOrder.{IsChanged, IsPageTurn, IsTurnOf}
-use Rattle.stm_session.specs.Changing.{change_entries}
-use Rattle.stm_session.specs.Contents.{IsGiven, content}
-use Rattle.stm_session.specs.declared.fault.Fault.{Fault}
-use Rattle.stm_session.specs.Order.{Begin, DoesSteps, page_reads}
-use Rattle.stm_session.specs.Steps.{Goes, IsSteady}
+use Rattle.stm_session.proofs.Names.{Begin, change_entries, content, DoesSteps, Fault, Goes, IsChanged, IsGiven, IsPageTurn, IsSteady, IsTurnOf, page_reads}
 use Rattle.stm_session.proofs.ChangeOrders.{some_turn, turn_of}
 use Rattle.stm_session.proofs.Changes.{same_lines_of, told_same}
 use Rattle.stm_session.proofs.CutShort.{begin_after, memory_stops, then_stops}

@@ -1,19 +1,15 @@
 use Rattle.std.proofs.Common.{◌≡◌, ◌∙◌, ◌+◌, ◌<◌, ◌≤◌, ◌++◌, [], List, ℕ, Bool, length, ap, arith, refl, sym, subst, true}
-use Rattle.stm_wire.specs.Chip.{ChipData, flash_size, page_count, page_of}
+use Rattle.stm_wire.proofs.Names.{ChipData, flash_size, page_count, page_of}
 use Rattle.stm_wire.specs.lemmas.FlashLaws.{turned_none, turned_all}
 use Rattle.stm_journal.specs.declared.entry.Entry.{Entry}
 use Rattle.stm_journal.specs.lemmas.NewestLaws.{newest_may_keep_behind}
-use Rattle.stm_session.specs.Answers.{differing_below}
-use Rattle.stm_session.specs.Contents.{IsGiven, command_of, content}
-use Rattle.stm_session.specs.Lines.{page_entries, page_entries_below}
-use Rattle.stm_session.specs.Meaning.{flash_after}
+use Rattle.stm_session.proofs.Names.{AreAllTurned, AreBegunTurns, AreTurned, Begin, command_of, content, differing_below, flash_after, IsGiven, IsPageTurn, KeepsErased, none, page_entries}
+use Rattle.stm_session.proofs.Names.{page_entries_below, Step}
 use Rattle.stm_session.proofs.Going.{at_exit, goes_as, goes_nowhere, goes_failed, goes_ok, goes_then}
 use Rattle.stm_session.proofs.Turns.{LayLaws, begun_next, counted_more, free_next, from_one, has_next, lacks_next, lines_around, page_lines, size_after, told_more, turned_more}
-use Rattle.stm_session.specs.ChangeOrder.{AreAllTurned, AreTurned, none, AreBegunTurns, IsPageTurn, KeepsErased}
 use Rattle.stm_session.proofs.ChangeOrders.{all_turned}
 use Rattle.stm_session.proofs.KeptErased.{each_then, keep_still}
 use Rattle.stm_session.proofs.Orders.{does_nothing, does_then}
-use Rattle.stm_session.specs.Order.{Step, Begin}
 use Rattle.stm_session.proofs.CutShort.{then_stops}
 use Rattle.stm_session.proofs.page_changes.turn_pages.Goals as goal
 

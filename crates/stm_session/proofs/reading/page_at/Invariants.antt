@@ -1,5 +1,5 @@
 use Rattle.std.proofs.Common.{◌≡◌, ◌≤◌}
-use Rattle.stm_wire.specs.Chip.{page_offset}
+use Rattle.stm_wire.proofs.Names.{page_offset}
 use Rattle.stm_session.proofs.reading.page_at.Given as goal
 
 abbrev pub invariant-loop-page : goal.invariant-loop-page

@@ -1,6 +1,6 @@
 use Rattle.std.proofs.Common.{◌≡◌, ◌∙◌, ℕ, ◌∷◌, [], length, sym, subst, refl, rules}
-use Rattle.stm_wire.specs.Frames.{read_turns}
-use Rattle.stm_session.specs.Order.{Begin, IsReadOf, ReadsBlock, Sends}
+use Rattle.stm_wire.proofs.Names.{read_turns}
+use Rattle.stm_session.proofs.Names.{Begin, IsReadOf, ReadsBlock, Sends}
 use Rattle.stm_session.proofs.CutShort.{begin_all, memory_stops}
 use Rattle.stm_session.proofs.reading.read_block.Goals as goal
 

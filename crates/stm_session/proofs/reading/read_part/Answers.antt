@@ -1,13 +1,10 @@
 use Rattle.std.proofs.Common.{◌≡◌, rules, refl, sym, ◌∙◌, ap, subst, IsTrue, length, take, drop, ℕ, ◌-◌, ◌+◌, Bool, Some, ◌∷◌, []}
-use Rattle.stm_wire.specs.Chip.{ChipData, fits_inside}
+use Rattle.stm_wire.proofs.Names.{ChipData, fits_inside, GoesOn, IsPart, read_turns}
 use Rattle.stm_wire.specs.Stopped.{read}
 use Rattle.stm_session.proofs.Asking.{asked, broken_off}
-use Rattle.stm_wire.specs.Dialogue.{GoesOn}
-use Rattle.stm_wire.specs.Parts.{IsPart}
 use Rattle.stm_wire.specs.lemmas.PartLaws.{read_broken, read_held}
 use Rattle.stm_session.proofs.Sending.{with_fault}
-use Rattle.stm_wire.specs.Frames.{read_turns}
-use Rattle.stm_session.specs.Order.{Begin, IsReadOf, Sends}
+use Rattle.stm_session.proofs.Names.{Begin, IsReadOf, Sends}
 use Rattle.stm_session.proofs.CutShort.{begin_all, command_stops}
 use Rattle.stm_session.proofs.Orders.{order_sent}
 use Rattle.stm_session.proofs.ToldBoards.{flash_readable}

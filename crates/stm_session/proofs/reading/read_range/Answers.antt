@@ -1,21 +1,14 @@
 -- A round of the loop reads a block more.
 use Rattle.std.proofs.Common.{◌≡◌, ◌≤◌, ◌+◌, ◌-◌, ◌*◌, ◌++◌, ◌∷◌, arith, ap, ◌∙◌, ℕ, Bool, List, Some, [], true, length, refl, subst, sym}
-use Rattle.stm_wire.specs.Frames.{read_turns}
-use Rattle.stm_session.specs.Came.{ComeInBlocks}
+use Rattle.stm_wire.proofs.Names.{GoesOn, IsPart, read_turns}
+use Rattle.stm_session.proofs.Names.{AreReadsOf, Begin, bytes_at, Cause, ComeInBlocks, is_whole, IsInOrder, IsReading, most_of_command, Sends, Step, StopsBy}
 use Rattle.stm_session.proofs.Arrivals.{come_more}
-use Rattle.stm_session.specs.Running.{bytes_at}
 use Rattle.stm_session.proofs.Asking.{asks_failed, asks_ok, memory_refused, nothing_asked}
 use Rattle.stm_session.proofs.Ranges.{block_adds, block_asks, size-limit, block_part, block_read, block_stop, blocks_all, blocks_more, blocks_stop}
-use Rattle.stm_wire.specs.Dialogue.{GoesOn}
 use Rattle.stm_wire.specs.lemmas.DialogueLaws.{GoesOn-nothing}
 use Rattle.std.specs.List.{AllByRecursion}
-use Rattle.stm_session.specs.Fault.{Cause}
-use Rattle.stm_session.specs.Order.{Step, AreReadsOf, Begin, IsInOrder, Sends, StopsBy}
-use Rattle.stm_session.specs.RunOrder.{IsReading}
 use Rattle.stm_session.proofs.CutShort.{by_fault, memory_stops, reads_begin}
-use Rattle.stm_wire.specs.Parts.{IsPart}
 use Rattle.stm_wire.specs.lemmas.PartLaws.{nothing_is_part, part_longer}
-use Rattle.stm_session.specs.Sending.{is_whole, most_of_command}
 use Rattle.stm_session.proofs.Sending.{same_fault}
 use Rattle.stm_session.proofs.RunOrders.{reads_nothing}
 use Rattle.stm_session.proofs.reading.read_range.Goals as goal

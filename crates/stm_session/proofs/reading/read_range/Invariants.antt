@@ -1,5 +1,5 @@
 use Rattle.std.proofs.Common.{◌≡◌, ◌+◌, ◌-◌, vec_len}
-use Rattle.stm_session.specs.Reading.{IsNotBehind}
+use Rattle.stm_session.proofs.Names.{IsNotBehind}
 use Rattle.stm_session.proofs.Ranges.{IsReadSoFar}
 use Rattle.stm_session.proofs.reading.read_range.Given as goal
 

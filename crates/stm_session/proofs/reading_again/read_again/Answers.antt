@@ -1,7 +1,6 @@
 use Rattle.std.proofs.Common.{◌≡◌, ◌∙◌, ◌/◌, [], ℕ, length, ap₂, append-nil, refl, arith}
-use Rattle.stm_wire.specs.Chip.{page_size}
-use Rattle.stm_session.specs.Fault.{of_refusal}
-use Rattle.stm_session.specs.Order.{AreReadsOf, Begin, page_address, page_reads, read_steps}
+use Rattle.stm_wire.proofs.Names.{page_size}
+use Rattle.stm_session.proofs.Names.{AreReadsOf, Begin, of_refusal, page_address, page_reads, read_steps}
 use Rattle.stm_session.proofs.CutShort.{halts}
 use Rattle.stm_session.proofs.Exits.{in_page}
 use Rattle.stm_session.proofs.reading_again.read_again.Goals as goal

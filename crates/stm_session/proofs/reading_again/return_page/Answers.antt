@@ -1,12 +1,7 @@
 use Rattle.std.proofs.Common.{◌≡◌, ◌∙◌, ◌++◌, if◌then◌else◌, [], List, ℕ, Bool, Ok, true, false, ap, append-nil, refl, sym, subst, rules}
 use Rattle.std.specs.Prelude.{bytes_eq}
-use Rattle.stm_wire.specs.Chip.{page_of, with_page, page_size}
-use Rattle.stm_wire.specs.Device.{Device}
-use Rattle.stm_session.specs.ChangeOrder.{IsChanged}
-use Rattle.stm_session.specs.Lines.{rewrite_entries}
-use Rattle.stm_session.specs.Order.{Are, AreReadsOf, Begin, DoesSteps, page_address, page_reads, give_back_steps, return_steps}
-use Rattle.stm_session.specs.UndoOrder.{OrMisread, such}
-use Rattle.stm_session.specs.Steps.{Goes, IsSteady}
+use Rattle.stm_wire.proofs.Names.{Device, page_of, page_size, with_page}
+use Rattle.stm_session.proofs.Names.{Are, AreReadsOf, Begin, DoesSteps, give_back_steps, Goes, IsChanged, IsSteady, OrMisread, page_address, page_reads, return_steps, rewrite_entries, such}
 use Rattle.stm_session.proofs.CutShort.{page_was_read, part_stops, then_stops}
 use Rattle.stm_session.proofs.Exits.{goes_fault}
 use Rattle.stm_session.proofs.Going.{asks_fail, asks_on, at_exit, goes_as, goes_ok, goes_then}

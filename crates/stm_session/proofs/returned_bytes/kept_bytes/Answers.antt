@@ -1,6 +1,5 @@
 use Rattle.std.proofs.Common.{◌-◌, ◌<◌, ℕ, length, ap, arith}
-use Rattle.stm_session.specs.Refusal.{segment_pages}
-use Rattle.stm_session.specs.ReturnedBytes.{bytes_of_pages}
+use Rattle.stm_session.proofs.Names.{bytes_of_pages, segment_pages}
 use Rattle.stm_session.proofs.ReturnedBytes.{kept_more}
 use Rattle.stm_session.proofs.returned_bytes.kept_bytes.Goals as goal
 

@@ -1,7 +1,6 @@
 use Rattle.std.proofs.Common.{◌≡◌}
-use Rattle.stm_journal.specs.Journals.{capped}
-use Rattle.stm_journal.specs.Newest.{pages_of_segments}
-use Rattle.stm_session.specs.ReturnedBytes.{kept_bytes}
+use Rattle.stm_journal.proofs.Names.{capped, pages_of_segments}
+use Rattle.stm_session.proofs.Names.{kept_bytes}
 use Rattle.stm_session.proofs.returned_bytes.kept_bytes.Given as goal
 
 -- the bytes of the segments so far

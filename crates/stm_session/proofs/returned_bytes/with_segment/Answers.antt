@@ -1,10 +1,9 @@
 use Rattle.std.proofs.Common.{◌≡◌, ◌+◌, ◌∙◌, ℕ, List, suc, take, sym, ap, arith}
 use Rattle.std.proofs.lemmas.List.{take_all}
-use Rattle.stm_wire.specs.Chip.{page_size}
+use Rattle.stm_wire.proofs.Names.{page_size}
 use Rattle.stm_journal.specs.declared.kept.Kept.{Kept}
-use Rattle.stm_journal.specs.Journals.{capped}
-use Rattle.stm_session.specs.Refusal.{segment_pages}
-use Rattle.stm_session.specs.ReturnedBytes.{bytes_of_pages}
+use Rattle.stm_journal.proofs.Names.{capped}
+use Rattle.stm_session.proofs.Names.{bytes_of_pages, segment_pages}
 use Rattle.stm_session.proofs.ReturnedBytes.{bytes_next, count_pages, line_at, no_line, page_exists}
 use Rattle.stm_session.proofs.returned_bytes.with_segment.Goals as goal
 

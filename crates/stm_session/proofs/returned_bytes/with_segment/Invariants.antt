@@ -1,7 +1,6 @@
 use Rattle.std.proofs.Common.{◌≡◌, ◌+◌, take}
-use Rattle.stm_journal.specs.Journals.{capped}
-use Rattle.stm_session.specs.Refusal.{segment_pages}
-use Rattle.stm_session.specs.ReturnedBytes.{bytes_of_pages}
+use Rattle.stm_journal.proofs.Names.{capped}
+use Rattle.stm_session.proofs.Names.{bytes_of_pages, segment_pages}
 use Rattle.stm_session.proofs.returned_bytes.with_segment.Given as goal
 
 -- the bytes of the pages so far

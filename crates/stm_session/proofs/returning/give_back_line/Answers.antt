@@ -1,25 +1,12 @@
 use Rattle.std.proofs.Common.{◌≡◌, ◌∙◌, ◌++◌, if◌then◌else◌, [], List, ℕ, Result, Some, Ok, length, take, drop, ap, ap₂, append-nil, refl, sym, subst, arith, rules}
 use Rattle.std.proofs.Math.Seq.{take-append_seam}
 use Rattle.std.specs.Prelude.{bytes_eq}
-use Rattle.stm_wire.specs.Chip.{page_of, page_size, with_page}
-use Rattle.stm_wire.specs.Device.{Device}
-use Rattle.stm_wire.specs.Dialogue.{GoesOn}
-use Rattle.stm_wire.specs.Rig.{RigState}
-use Rattle.stm_journal.specs.Calls.{AreFetches}
+use Rattle.stm_wire.proofs.Names.{Call, Device, GoesOn, page_of, page_size, RigState, with_page}
+use Rattle.stm_journal.proofs.Names.{AreFetches, Brings, good, journal_of, kept_entry, place_of}
 use Rattle.stm_journal.specs.declared.kept.Kept.{Kept}
-use Rattle.stm_journal.specs.Journals.{journal_of, good}
-use Rattle.stm_journal.specs.KeptPlaces.{kept_entry, place_of}
-use Rattle.stm_session.specs.declared.fault.Fault.{Fault}
-use Rattle.stm_session.specs.Lines.{return_entries, rewrite_entries}
+use Rattle.stm_session.proofs.Names.{acts_of, Are, AreCutShort, AreReadsOf, Begin, BeginTold, cause_of, DoesSteps, Fault, Goes, IsGivenBack, IsInOrder, IsSteady, OrMisread, page_reads, return_entries}
+use Rattle.stm_session.proofs.Names.{return_steps, rewrite_entries, so_far, state_at, Step, such, Tells, ToldIn}
 use Rattle.hex.specs.Hex.{encode_upper}
-use Rattle.stm_wire.specs.Call.{Call}
-use Rattle.stm_journal.specs.PageFetching.{Brings}
-use Rattle.stm_session.specs.Fault.{cause_of}
-use Rattle.stm_session.specs.Order.{Step, Are, AreCutShort, AreReadsOf, Begin, BeginTold, DoesSteps, IsInOrder, IsGivenBack, Tells, acts_of, page_reads, return_steps, so_far}
-use Rattle.stm_session.specs.UndoOrder.{OrMisread, such}
-use Rattle.stm_session.specs.Told.{ToldIn}
-use Rattle.stm_session.specs.Steps.{Goes, IsSteady}
-use Rattle.stm_session.specs.Undoable.{state_at}
 use Rattle.stm_session.proofs.Causes.{cause_behind}
 use Rattle.stm_session.proofs.CutShort.{begin_after, memory_stops, part_stops, then_stops}
 use Rattle.stm_session.proofs.Exits.{goes_fault, in_page, reads_page}

@@ -1,6 +1,6 @@
 use Rattle.std.proofs.Common.{◌≡◌, ◌∷◌, ◌++◌, take}
 use Rattle.stm_session.specs.declared.deed.Deed.TheVariants as deed
-use Rattle.stm_session.specs.Deeds.{write_deeds}
+use Rattle.stm_session.proofs.Names.{write_deeds}
 use Rattle.stm_session.proofs.rewriting.plan_rewrite.Given as goal
 
 abbrev pub invariant-loop-frame : goal.invariant-loop-frame

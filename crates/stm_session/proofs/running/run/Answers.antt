@@ -1,19 +1,13 @@
-use Rattle.stm_session.specs.Fresh.{contact_way}
+use Rattle.stm_session.proofs.Names.{AreBegun, AreDoneInOrder, AreDoneSomehow, Command, commands_in, contact_way, Fault, is_whole, most_of_command, most_of_confirming, most_of_reaching, most_of_run}
+use Rattle.stm_session.proofs.Names.{outcome_data, outcomes_in, RunStops, SendsAsRun}
 use Rattle.std.proofs.Common.{◌≡◌, ◌≢◌, ◌+◌, ◌*◌, [], List, ◌∷◌, Bool, None, Some, length, map, true, arith, refl, inl}
 use Rattle.stm_wire.specs.lemmas.PartLaws.{session_joins, session_longer, session_of_any, session_weaker}
-use Rattle.stm_wire.specs.Dialogue.{GoesOn}
-use Rattle.stm_wire.specs.Parts.{IsSession}
-use Rattle.stm_session.specs.declared.command.Command.{Command}
-use Rattle.stm_session.specs.Answers.{outcome_data, outcomes_in}
-use Rattle.stm_session.specs.Meaning.{commands_in}
-use Rattle.stm_session.specs.Sending.{SendsAsRun, is_whole, most_of_command, most_of_confirming, most_of_reaching, most_of_run}
+use Rattle.stm_wire.proofs.Names.{GoesOn, IsSession}
 use Rattle.stm_session.proofs.RunContracts.{contract_ran, contract_refused, contract_unopened, runs_err, runs_ok}
 use Rattle.stm_session.proofs.Sending.{same_fault}
-use Rattle.stm_session.specs.declared.fault.Fault.{Fault}
 use Rattle.stm_session.specs.declared.fault.Fault.TheVariants as faults
-use Rattle.stm_session.specs.RunOrder.{AreBegun, AreDoneInOrder, AreDoneSomehow, RunStops}
 use Rattle.stm_session.proofs.Reaching.{at_fault, told_stops}
-use Rattle.stm_journal.specs.States.{StateData}
+use Rattle.stm_journal.proofs.Names.{StateData}
 use Rattle.stm_session.proofs.VerifiedWrites.{session_does, session_stops}
 use Rattle.stm_session.proofs.running.run.Goals as goal
 

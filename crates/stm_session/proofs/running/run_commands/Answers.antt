@@ -1,28 +1,18 @@
 use Rattle.std.proofs.Common.{rules, ◌≡◌, ◌∙◌, ◌+◌, ◌*◌, ◌++◌, ◌∷◌, [], List, ℕ, Vec, Global, Bool, Ok, Some, true, is_ok, vec_len, if◌then◌else◌, length, map, take, drop, sym, ap, subst, arith, refl, inl, inr}
 use Rattle.std.proofs.lemmas.List.{map-append, take_all}
-use Rattle.stm_wire.specs.Dialogue.{GoesOn}
-use Rattle.stm_wire.specs.Parts.{IsPart}
+use Rattle.stm_wire.proofs.Names.{GoesOn, IsPart}
 use Rattle.stm_wire.specs.lemmas.PartLaws.{nothing_is_part}
-use Rattle.stm_session.specs.declared.command.Command.{Command}
-use Rattle.stm_session.specs.declared.outcome.Outcome.{Outcome}
-use Rattle.stm_session.specs.Answers.{OutcomeData, outcome_data}
-use Rattle.stm_session.specs.Meaning.{CommandData, command_data, commands_in}
-use Rattle.stm_session.specs.Refusals.{lies_in_flash}
-use Rattle.stm_session.specs.Running.{AreKindsOf, IsKindOf}
-use Rattle.stm_session.specs.Runs.{Runs}
-use Rattle.stm_session.specs.Sending.{most_of_command}
+use Rattle.stm_session.proofs.Names.{AreBegun, AreDoneInOrder, AreKindsOf, cause_of, Command, command_data, CommandData, commands_in, Fault, Follows, IsBegunTelling, IsKindOf, lies_in_flash}
+use Rattle.stm_session.proofs.Names.{most_of_command, of_memory, Outcome, outcome_data, OutcomeData, Runs, Step, StopsBy}
 use Rattle.stm_session.proofs.OutcomeKinds.{kinds_more}
 use Rattle.stm_session.proofs.RunEnds.{run_all, run_refused, run_stopped}
 use Rattle.stm_session.proofs.RunLoop.{depth_next, passes_next, room_next, taken_next, whole_list, commands_split}
 use Rattle.stm_session.proofs.Runs.{HasRun, made_so_far, run_next, run_nothing}
 use Rattle.stm_session.proofs.Sending.{same_fault}
 use Rattle.stm_session.proofs.SentParts.{commands_next, commands_within}
-use Rattle.stm_session.specs.Order.{Follows, Step, StopsBy}
-use Rattle.stm_session.specs.RunOrder.{AreDoneInOrder, none as none_done, more, AreBegun, IsBegunTelling}
+use Rattle.stm_session.specs.RunOrder.{none as none_done, more}
 use Rattle.stm_session.proofs.Orders.{does_nothing, does_then}
-use Rattle.stm_session.specs.declared.fault.Fault.{Fault}
 use Rattle.stm_session.specs.declared.fault.Fault.TheVariants as faults
-use Rattle.stm_session.specs.Fault.{cause_of, of_memory}
 use Rattle.stm_session.proofs.CutShort.{halts_first, stop_after}
 use Rattle.stm_session.proofs.Reaching.{at_fault}
 use Rattle.stm_session.proofs.running.run_commands.Goals as goal

@@ -1,8 +1,6 @@
 use Rattle.std.proofs.Common.{rules, ◌≢◌, ◌*◌, length}
 use Rattle.stm_session.specs.declared.fault.Fault.TheVariants as faults
-use Rattle.stm_session.specs.Meaning.{commands_in}
-use Rattle.stm_session.specs.RunOrder.{AreBegun, AreDoneInOrder}
-use Rattle.stm_session.specs.Sending.{most_of_command}
+use Rattle.stm_session.proofs.Names.{AreBegun, AreDoneInOrder, commands_in, most_of_command}
 use Rattle.stm_session.proofs.ConfirmedCommands.{confirm_fails, confirm_then}
 use Rattle.stm_session.proofs.Confirmings.{is_no_memory}
 use Rattle.stm_session.proofs.Reaching.{at_fault}

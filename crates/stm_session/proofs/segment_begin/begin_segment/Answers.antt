@@ -1,12 +1,9 @@
 use Rattle.std.proofs.Common.{◌≡◌, ◌∙◌, ◌+◌, ℕ, arith, ap, subst, sym, ◌∷◌, [], List, refl}
-use Rattle.stm_wire.specs.Chip.{ChipData}
-use Rattle.stm_session.specs.Lines.{depth_at, is_named_at, opening_entries}
-use Rattle.stm_session.specs.Segments.{Changes}
-use Rattle.stm_session.specs.Undoable.{state_at}
+use Rattle.stm_wire.proofs.Names.{ChipData}
+use Rattle.stm_session.proofs.Names.{Adds, Are, Begin, Changes, depth_at, DoesSteps, FaultEnds, is_named_at, opening_entries, state_at, Step}
 use Rattle.stm_session.proofs.Beginnings.{begins, unbegun, untorn_begin}
 use Rattle.stm_session.proofs.Keeping.{good_at}
-use Rattle.stm_journal.specs.Journals.{begin_entries}
-use Rattle.stm_session.specs.Order.{Adds, DoesSteps, Step, Are, Begin, FaultEnds}
+use Rattle.stm_journal.proofs.Names.{begin_entries}
 use Rattle.stm_session.proofs.Orders.{does_add}
 use Rattle.stm_session.proofs.CutShort.{append_stops}
 use Rattle.stm_session.proofs.segment_begin.begin_segment.Goals as goal

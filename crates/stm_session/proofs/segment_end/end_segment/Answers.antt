@@ -1,12 +1,8 @@
 use Rattle.std.proofs.Common.{◌≢◌, ◌∷◌, [], List, ap, length, refl, inl, inr}
 use Rattle.stm_journal.specs.declared.entry.Entry.TheVariants.{Ends}
-use Rattle.stm_journal.specs.Journals.{Loaded}
+use Rattle.stm_journal.proofs.Names.{Loaded}
 use Rattle.stm_session.specs.declared.fault.Fault.TheVariants.{Unfinished}
-use Rattle.stm_session.specs.Closing.{IsClosedInPart, IsLookedAgain, closing}
-use Rattle.stm_session.specs.Fault.{fault_of_journal}
-use Rattle.stm_session.specs.Order.{Step, Adds, Are, Begin}
-use Rattle.stm_session.specs.Reaching.{confirmed_at}
-use Rattle.stm_session.specs.Undoable.{state_at}
+use Rattle.stm_session.proofs.Names.{Adds, Are, Begin, closing, confirmed_at, fault_of_journal, IsClosedInPart, IsLookedAgain, state_at, Step}
 use Rattle.stm_session.proofs.Closings.{behind_asking, ended, unasked, unended}
 use Rattle.stm_session.proofs.Confirmed.{confirmed_steady}
 use Rattle.stm_session.proofs.Confirmings.{is_finished}

@@ -1,18 +1,14 @@
 use Rattle.std.proofs.Common.{◌<◌, ◌∙◌, sym, refl, ap, arith, List, [], ℕ, ◌++◌, subst, take}
 use Rattle.std.proofs.lemmas.List.{take_all}
 use Rattle.stm_journal.specs.declared.kept.Kept.{Kept}
-use Rattle.stm_journal.specs.KeptPlaces.{kept_count}
+use Rattle.stm_journal.proofs.Names.{kept_count}
 use Rattle.stm_journal.specs.lemmas.NewestLaws.{KeepsSame-refl, KeepsSame-trans}
-use Rattle.stm_session.specs.SegmentUndo.{newest_at, give_back_lines, with_pages}
+use Rattle.stm_session.proofs.Names.{acts_of, AreCutShort, AreGivenBack, BeginTold, cause_of, Follows, give_back_lines, IsGivenBack, IsInOrder, newest_at, newest_kept, OrMisread, Step, tells_behind}
+use Rattle.stm_session.proofs.Names.{ToldIn, with_pages}
 use Rattle.stm_session.proofs.Going.{goes_as, goes_nowhere, goes_ok}
 use Rattle.stm_session.proofs.Returns.{count_newest, count_text, no_place, number_exists, number_kept, place_fits, the_kept}
 use Rattle.stm_session.proofs.UndoPuts.{chip_still, first, return_failed, returned, the_line}
-use Rattle.stm_session.specs.Undoable.{newest_kept}
-use Rattle.stm_wire.specs.Call.{Call}
-use Rattle.stm_session.specs.Fault.{cause_of}
-use Rattle.stm_session.specs.Order.{Step, AreCutShort, AreGivenBack, BeginTold, Follows, IsInOrder, IsGivenBack, acts_of, tells_behind}
-use Rattle.stm_session.specs.UndoOrder.{OrMisread}
-use Rattle.stm_session.specs.Told.{ToldIn}
+use Rattle.stm_wire.proofs.Names.{Call}
 use Rattle.stm_session.proofs.Orders.{does_nothing, does_then, returned_next}
 use Rattle.stm_session.proofs.Tellings.{pages_as, returned_as}
 use Rattle.stm_session.proofs.ToldPages.{told_on, told_then}

@@ -1,4 +1,4 @@
-use Rattle.stm_session.specs.Told.{ToldIn}
+use Rattle.stm_session.proofs.Names.{ToldIn}
 use Rattle.stm_session.proofs.UndoPuts.{IsGivenBackSoFar}
 use Rattle.stm_session.proofs.segment_undo.give_back_segment.Given as goal
 

@@ -1,22 +1,11 @@
 use Rattle.std.proofs.Common.{◌≡◌, ◌<◌, ◌∙◌, ◌∷◌, [], ◌++◌, List, ℕ, Result, Ok, Err, length, ap, refl, subst, sym, arith, append-nil}
-use Rattle.stm_wire.specs.Chip.{ChipData}
-use Rattle.stm_wire.specs.Device.{Device}
-use Rattle.stm_wire.specs.Rig.{IsModel, RigState}
+use Rattle.stm_wire.proofs.Names.{ChipData, Device, IsModel, RigState}
 use Rattle.stm_journal.specs.declared.entry.Entry.{Entry}
 use Rattle.stm_journal.specs.declared.entry.Entry.TheVariants.{Undoes}
-use Rattle.stm_journal.specs.Flashes.{flashes_before_segments}
-use Rattle.stm_journal.specs.Journals.{Loaded}
-use Rattle.stm_session.specs.declared.fault.Fault.{Fault}
-use Rattle.stm_session.specs.Asking.{Asks}
-use Rattle.stm_session.specs.Closing.{IsLookedAgain, closing}
-use Rattle.stm_session.specs.Fault.{cause_of, fault_of_journal}
-use Rattle.stm_session.specs.Order.{Step, Tells, Adds, Are, AreCutShort, AreGivenBack, Begin, BeginTold, Follows, IsInOrder, StopsBy, acts_of}
-use Rattle.stm_session.specs.Reaching.{confirmed_at}
-use Rattle.stm_session.specs.UndoOrder.{IsSegmentUndone, OrMisread, ending_steps, such}
-use Rattle.stm_session.specs.Told.{ToldIn}
-use Rattle.stm_session.specs.SegmentUndo.{UndoesSegment, newest_at, give_back_lines, taking_lines, with_pages}
-use Rattle.stm_session.specs.Steps.{Goes, IsSteady}
-use Rattle.stm_session.specs.Undoable.{newest_kept, state_at}
+use Rattle.stm_journal.proofs.Names.{flashes_before_segments, Loaded}
+use Rattle.stm_session.proofs.Names.{acts_of, Adds, Are, AreCutShort, AreGivenBack, Asks, Begin, BeginTold, cause_of, closing, confirmed_at, ending_steps, Fault, fault_of_journal, Follows}
+use Rattle.stm_session.proofs.Names.{give_back_lines, Goes, IsInOrder, IsLookedAgain, IsSegmentUndone, IsSteady, newest_at, newest_kept, OrMisread, state_at, Step, StopsBy, such, taking_lines, Tells}
+use Rattle.stm_session.proofs.Names.{ToldIn, UndoesSegment, with_pages}
 use Rattle.stm_session.proofs.Misreads.{may_as, may_elsewhere}
 use Rattle.stm_session.proofs.LookingAgain.{does_closing}
 use Rattle.stm_session.proofs.CutShort.{begin_after, line_stops, part_stops, stop_after, then_stops}

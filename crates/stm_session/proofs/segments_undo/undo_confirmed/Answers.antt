@@ -1,12 +1,7 @@
 use Rattle.std.proofs.Common.{◌+◌, ◌++◌, inl, inr, List, Some, length, true, refl, arith}
-use Rattle.stm_journal.specs.Newest.{pages_of_segments}
-use Rattle.stm_session.specs.Work.{pages_at_work}
-use Rattle.stm_session.specs.Order.{Step, Begin, BeginTold, so_far}
-use Rattle.stm_session.specs.UndoOrder.{AreAllUndone, OrMisread}
-use Rattle.stm_session.specs.Reaching.{IsConfirmedInPart, IsConfirming, confirmed_at, confirming}
-use Rattle.stm_session.specs.SegmentsUndo.{undo_lines}
-use Rattle.stm_session.specs.Sending.{most_of_confirming, most_of_undo}
-use Rattle.stm_session.specs.Told.{ToldIn, behind_confirming}
+use Rattle.stm_journal.proofs.Names.{pages_of_segments}
+use Rattle.stm_session.proofs.Names.{AreAllUndone, Begin, BeginTold, behind_confirming, confirmed_at, confirming, IsConfirmedInPart, IsConfirming, most_of_confirming, most_of_undo, OrMisread}
+use Rattle.stm_session.proofs.Names.{pages_at_work, so_far, Step, ToldIn, undo_lines}
 use Rattle.stm_session.proofs.Confirmed.{back_confirmed, back_failed, back_unconfirmed, confirmed_chip, confirmed_steady}
 use Rattle.stm_session.proofs.Confirmings.{does_confirm}
 use Rattle.stm_session.proofs.CutShort.{part_stops, then_stops}

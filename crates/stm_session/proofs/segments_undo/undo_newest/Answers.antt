@@ -1,20 +1,15 @@
 use Rattle.std.proofs.Common.{◌≡◌, ◌∙◌, ◌+◌, ◌<◌, length, refl, arith, ◌≤◌, [], ℕ, ◌++◌, drop, sym, subst, List}
 use Rattle.stm_session.proofs.Going.{at_exit}
 use Rattle.stm_session.proofs.UndoesOfSegments.{undoes_all_newest, undoes_failed, undoes_more, undoes_nowhere, next_flash, rest_depth, rest_fits, rest_next, some_left, steady_split}
-use Rattle.stm_journal.specs.Newest.{pages_of_segments}
-use Rattle.stm_wire.specs.Call.{Call}
-use Rattle.stm_session.specs.Fault.{cause_of}
-use Rattle.stm_session.specs.Order.{Step, AreCutShort, BeginTold, Follows, IsInOrder, acts_of, tells_behind}
-use Rattle.stm_session.specs.UndoOrder.{AreSegmentsUndone, IsSegmentUndone, OrMisread}
-use Rattle.stm_session.specs.Told.{ToldIn}
-use Rattle.stm_session.specs.Undoable.{newest_kept}
+use Rattle.stm_journal.proofs.Names.{pages_of_segments}
+use Rattle.stm_wire.proofs.Names.{Call}
+use Rattle.stm_session.proofs.Names.{acts_of, AreCutShort, AreSegmentsUndone, BeginTold, cause_of, Follows, IsInOrder, IsSegmentUndone, IsSteady, newest_kept, OrMisread, Step, tells_behind, ToldIn}
 use Rattle.stm_session.proofs.Orders.{does_nothing, does_then, segments_count, segments_split, taken_next}
 use Rattle.stm_session.proofs.Tellings.{segments_as, taken_as}
 use Rattle.stm_session.proofs.ToldPages.{told_on, told_then}
 use Rattle.stm_session.proofs.CutShort.{then_stops}
 use Rattle.stm_session.proofs.Misreads.{may_after}
 use Rattle.stm_session.proofs.UndoOrders.{back_begun, pages_count}
-use Rattle.stm_session.specs.Steps.{IsSteady}
 use Rattle.stm_session.proofs.segments_undo.undo_newest.Given as given
 use Rattle.stm_session.proofs.segments_undo.undo_newest.Goals as goal
 use Rattle.stm_session.proofs.segments_undo.undo_newest.Goals.{After-undo_segment}

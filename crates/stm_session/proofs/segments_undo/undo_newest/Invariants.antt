@@ -1,4 +1,4 @@
-use Rattle.stm_session.specs.Told.{ToldIn}
+use Rattle.stm_session.proofs.Names.{ToldIn}
 use Rattle.stm_session.proofs.UndoesOfSegments.{IsBackSoFar}
 use Rattle.stm_session.proofs.segments_undo.undo_newest.Given as goal
 

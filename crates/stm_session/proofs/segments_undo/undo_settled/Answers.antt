@@ -1,22 +1,18 @@
 use Rattle.std.proofs.Common.{◌≡◌, ◌∙◌, ◌≤◌, ◌++◌, List, ℕ, refl, subst, arith, length}
 use Rattle.stm_journal.specs.declared.kept.Kept.{Kept}
-use Rattle.stm_session.specs.Order.{Step, AreCutShort, AreRewritten, BeginTold, IsInOrder, acts_of, tells_behind}
-use Rattle.stm_session.specs.UndoOrder.{AreAllUndone, AreSegmentsUndone, OrMisread, such}
+use Rattle.stm_session.proofs.Names.{acts_of, AreAllUndone, AreCutShort, AreRewritten, AreSegmentsUndone, BeginTold, cause_of, IsInOrder, IsSteady, OrMisread, pages_at_work, Step, such, tells_behind}
+use Rattle.stm_session.proofs.Names.{ToldIn}
 use Rattle.stm_session.proofs.Going.{at_exit}
 use Rattle.stm_session.proofs.GoingAll.{all_back, all_failed, work_failed}
 use Rattle.stm_session.proofs.Keeping.{fits_pages}
 use Rattle.stm_session.proofs.Orders.{does_then}
-use Rattle.stm_journal.specs.Newest.{pages_of_segments}
-use Rattle.stm_wire.specs.Call.{Call}
-use Rattle.stm_session.specs.Fault.{cause_of}
-use Rattle.stm_session.specs.Told.{ToldIn}
+use Rattle.stm_journal.proofs.Names.{pages_of_segments}
+use Rattle.stm_wire.proofs.Names.{Call}
 use Rattle.stm_session.proofs.CutShort.{part_stops, then_stops}
 use Rattle.stm_session.proofs.Tellings.{segments_as, work_as}
 use Rattle.stm_session.proofs.ToldPages.{told_on, told_then}
 use Rattle.stm_session.proofs.Misreads.{may_after}
 use Rattle.stm_session.proofs.UndoOrders.{pages_count, segments_begun, work_begun}
-use Rattle.stm_session.specs.Steps.{IsSteady}
-use Rattle.stm_session.specs.Work.{pages_at_work}
 use Rattle.stm_session.proofs.segments_undo.undo_settled.Given as given
 use Rattle.stm_session.proofs.segments_undo.undo_settled.Goals as goal
 use Rattle.stm_session.proofs.segments_undo.undo_settled.Goals.{After-undo_newest}

@@ -1,16 +1,10 @@
 use Rattle.std.proofs.Common.{◌≡◌, ◌≤◌, ◌∙◌, ℕ, length, Option, Result, sym, ap, subst}
 use Rattle.stm_wire.specs.declared.fault.WireFault.{WireFault}
 use Rattle.stm_wire.specs.declared.intent.Intent.{Intent}
-use Rattle.stm_wire.specs.Dialogue.{GoesOn}
-use Rattle.stm_wire.specs.Harmless.{Harmless}
-use Rattle.stm_wire.specs.Intents.{settling_byte}
+use Rattle.stm_wire.proofs.Names.{EndsUnder, GoesOn, Harmless, SettlesWithin, settling_byte}
 use Rattle.stm_wire.specs.Settling as wire
-use Rattle.stm_wire.specs.Settling.{SettlesWithin}
-use Rattle.stm_wire.specs.SettlingCalls.{EndsUnder}
-use Rattle.stm_journal.specs.Journals.{IsLoaded}
-use Rattle.stm_journal.specs.States.{intent_of}
-use Rattle.stm_session.specs.Fresh.{byte_of, limit_of, settling_limit, settling_way}
-use Rattle.stm_session.specs.Undoes.{IsWithinLimit, byte_at_journal, risked_at}
+use Rattle.stm_journal.proofs.Names.{intent_of, IsLoaded}
+use Rattle.stm_session.proofs.Names.{byte_at_journal, byte_of, IsWithinLimit, limit_of, risked_at, settling_limit, settling_way}
 use Rattle.stm_session.proofs.Awaiting.{own_within}
 use Rattle.stm_session.proofs.Freshness.{way_ends, way_sends}
 use Rattle.stm_session.proofs.Settlings.{enough_sent, intent_text, settled_goes, settling_failed}

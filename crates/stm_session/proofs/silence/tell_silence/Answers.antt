@@ -1,9 +1,7 @@
 use Rattle.std.proofs.Common.{◌∷◌, [], List, Option, None, Some, Ok, inr, refl}
-use Rattle.stm_wire.specs.Call.{Append, Call}
-use Rattle.stm_wire.specs.Dialogue.{GoesOn}
-use Rattle.stm_wire.specs.Rig.{RecordsAppend}
-use Rattle.stm_journal.specs.Calls.{AppendsInPart}
-use Rattle.stm_session.specs.Silence.{silent_line}
+use Rattle.stm_wire.proofs.Names.{Append, Call, GoesOn, RecordsAppend}
+use Rattle.stm_journal.proofs.Names.{AppendsInPart}
+use Rattle.stm_session.proofs.Names.{silent_line}
 use Rattle.stm_session.proofs.Greetings.{reads_then}
 use Rattle.stm_session.proofs.silence.tell_silence.Goals as goal
 

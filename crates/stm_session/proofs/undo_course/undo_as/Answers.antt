@@ -1,35 +1,19 @@
 use Rattle.std.proofs.Common.{◌≡◌, ◌∙◌, ◌≤◌, ℕ, List, [], Some, Ok, Err, Result, option_map, length, refl, sym, ap, subst, arith, ◌++◌, inl, inr}
-use Rattle.stm_session.specs.declared.fault.Fault.{Fault}
-use Rattle.stm_session.specs.Promises.{UndoContract}
+use Rattle.stm_session.proofs.Names.{AreCutShort, AreTakenAs, asking_steps, BeginTakingTold, BeginTold, behind_confirming, byte_at_journal, cause_of, confirming, Fault, Goes, IsAfter}
+use Rattle.stm_session.proofs.Names.{IsConfirmedInPart, IsFlashSettled, IsWithinLimit, Meets, OrMisread, pages_at_work, risked_at, segments_of, SettlesFirst, settling_way, so_far, Step, taken_count}
+use Rattle.stm_session.proofs.Names.{ToldBy, ToldIn, undo_lines, Undoable, UndoContract, Undoes, UndoesBy, UndoStopsToldAs}
 use Rattle.stm_chip.specs.Document.{IsChipWith}
-use Rattle.stm_wire.specs.Chip.{ChipData}
-use Rattle.stm_wire.specs.Device.{Device}
-use Rattle.stm_wire.specs.Harmless.{Harmless}
-use Rattle.stm_wire.specs.Rig.{IsModel}
-use Rattle.stm_session.specs.JournalDevice.{Meets}
-use Rattle.stm_session.specs.SegmentsUndo.{UndoesBy, undo_lines}
-use Rattle.stm_session.specs.Steps.{Goes}
-use Rattle.stm_session.specs.Undoable.{Undoable}
-use Rattle.stm_session.specs.Undoes.{IsFlashSettled, IsWithinLimit, Undoes, byte_at_journal, risked_at, taken_count}
-use Rattle.stm_session.specs.Work.{pages_at_work}
+use Rattle.stm_wire.proofs.Names.{ChipData, Device, Harmless, IsModel}
 use Rattle.stm_session.proofs.Awaiting.{own_within}
 use Rattle.stm_session.proofs.Going.{at_exit}
-use Rattle.stm_session.specs.Fresh.{settling_way}
-use Rattle.stm_journal.specs.States.{intent_of}
+use Rattle.stm_journal.proofs.Names.{intent_of, pages_of_segments}
 use Rattle.stm_session.proofs.SentUndo.{sends_back, sends_failed, sends_met, sends_nothing, own-id}
 use Rattle.stm_session.proofs.Unread.{contract_unread, none_some}
 use Rattle.stm_session.proofs.UndoStarts.{contract_none, contract_unfound, flashes_depth, loaded_then, undoable_then}
 use Rattle.stm_session.proofs.Undone.{contract_when, contract_after, refuses_elsewhere, undoes_unmet, undoes_stopped, undoes_all, elsewhere_back, harmless_then, owed_then, own_chip, within_then, err_as}
-use Rattle.stm_session.specs.Fault.{cause_of}
-use Rattle.stm_journal.specs.Newest.{pages_of_segments}
-use Rattle.stm_session.specs.Order.{Step, AreCutShort, BeginTold, IsAfter, so_far}
-use Rattle.stm_session.specs.Reaching.{IsConfirmedInPart, SettlesFirst, asking_steps, confirming}
-use Rattle.stm_session.specs.UndoOrder.{AreTakenAs, OrMisread}
-use Rattle.stm_session.specs.Told.{BeginTakingTold, ToldBy, ToldIn, UndoStopsToldAs, behind_confirming}
 use Rattle.stm_session.proofs.Tellings.{all_as}
 use Rattle.stm_session.proofs.Misreads.{may_as}
 use Rattle.stm_session.proofs.ReturnedBytes.{err_of}
-use Rattle.stm_session.specs.ReturnedBytes.{segments_of}
 use Rattle.stm_session.proofs.ToldPages.{told_by}
 use Rattle.stm_session.proofs.KeptRuns.{confirmed_as, stops_as}
 use Rattle.stm_session.proofs.Orders.{fetched_and, fetched_then, settled_then}

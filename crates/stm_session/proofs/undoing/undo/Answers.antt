@@ -1,7 +1,5 @@
 use Rattle.std.proofs.Common.{false}
-use Rattle.stm_session.specs.Order.{untold}
-use Rattle.stm_session.specs.Told.{AreGivenBackTold, AreTakenTold, ToldBy}
-use Rattle.stm_session.specs.UndoOrder.{AreUndoneInOrder, AreTakenWhole}
+use Rattle.stm_session.proofs.Names.{AreGivenBackTold, AreTakenTold, AreTakenWhole, AreUndoneInOrder, ToldBy, untold}
 use Rattle.stm_session.proofs.KeptUndoes.{undo_does_as}
 use Rattle.stm_session.proofs.Untold.{given_in_order, stops_in_order}
 use Rattle.stm_session.proofs.undoing.undo.Goals as goal

@@ -1,7 +1,6 @@
 use Rattle.std.proofs.Common.{◌≤◌, true}
 use Rattle.std.proofs.lemmas.Result.{IfErr-weaker, IfOk-weaker}
-use Rattle.stm_session.specs.Told.{GivesBackTold, UndoStopsToldAs}
-use Rattle.stm_session.specs.UndoOrder.{GivesBackInOrder, UndoStopsAs}
+use Rattle.stm_session.proofs.Names.{GivesBackInOrder, GivesBackTold, UndoStopsAs, UndoStopsToldAs}
 use Rattle.stm_session.proofs.Untold.{given_in_order, stops_in_order}
 use Rattle.stm_session.proofs.undoing.undo_verified.Goals as goal
 

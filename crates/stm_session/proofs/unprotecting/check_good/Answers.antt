@@ -1,5 +1,5 @@
 use Rattle.std.proofs.Common.{refl}
-use Rattle.stm_session.specs.Unprotecting.{bad_refusal}
+use Rattle.stm_session.proofs.Names.{bad_refusal}
 use Rattle.stm_session.proofs.Openings.{load_accepted, load_failed, load_spared}
 use Rattle.stm_session.proofs.unprotecting.check_good.Goals as goal
 

@@ -1,6 +1,4 @@
-use Rattle.stm_session.specs.Fresh.{IsReset}
-use Rattle.stm_session.specs.Moments.{IsSafe}
-use Rattle.stm_session.specs.Unprotecting.{unprotect_turns}
+use Rattle.stm_session.proofs.Names.{IsReset, IsSafe, unprotect_turns}
 use Rattle.stm_session.proofs.Sending.{begun_broken, begun_held}
 use Rattle.stm_session.proofs.Unprotections.{broken, reset_is_ready, unconnected, unprotected_then, unprotects_at_connecting, unprotects_at_dialogue, unprotects_at_journal, unread, whole}
 use Rattle.stm_session.proofs.unprotecting.unprotect_fresh.Goals as goal

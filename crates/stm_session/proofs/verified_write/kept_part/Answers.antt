@@ -1,7 +1,7 @@
 use Rattle.std.proofs.Common.{◌≡◌, ◌∙◌, ◌+◌, ◌<◌, false, sym, arith}
 use Rattle.std.specs.Prelude.{is_some}
-use Rattle.stm_wire.specs.Chip.{page_count, page_size}
-use Rattle.stm_session.specs.Order.{page_address}
+use Rattle.stm_wire.proofs.Names.{page_count, page_size}
+use Rattle.stm_session.proofs.Names.{page_address}
 use Rattle.stm_session.proofs.KeptParts.{part_kept, part_left, unplaced}
 use Rattle.stm_session.proofs.verified_write.kept_part.Goals as goal
 use Rattle.stm_session.proofs.verified_write.kept_part.Goals.{then-is_some+in_ok-part, else-is_some}

@@ -1,18 +1,11 @@
 use Rattle.std.proofs.Common.{rules, ◌≡◌, ◌∙◌, ◌+◌, ◌*◌, Bool, None, Some, inl, sym, ap, subst, true, arith}
 use Rattle.stm_image.specs.Pairs.{Pairs}
-use Rattle.stm_wire.specs.Dialogue.{GoesOn}
-use Rattle.stm_wire.specs.Parts.{IsSession}
+use Rattle.stm_wire.proofs.Names.{GoesOn, IsSession}
 use Rattle.stm_wire.specs.lemmas.PartLaws.{session_joins, session_longer, session_of_any, session_weaker}
 use Rattle.stm_session.specs.declared.command.Command.TheVariants as command
-use Rattle.stm_session.specs.declared.fault.Fault.{Fault}
-use Rattle.stm_journal.specs.States.{StateData}
-use Rattle.stm_session.specs.Fresh.{contact_way}
-use Rattle.stm_session.specs.Order.{IsAfter}
-use Rattle.stm_session.specs.Reaching.{IsConfirmedInPart, confirming}
-use Rattle.stm_session.specs.Refusal.{first_refusal}
-use Rattle.stm_session.specs.RunOrder.{AreBegun, RunStops}
-use Rattle.stm_session.specs.Sending.{is_whole, most_of_command, most_of_confirming, most_of_reaching, most_of_run}
-use Rattle.stm_session.specs.VerifiedWrite.{IsWrittenAndSeen, WritesThen, outcomes_seen, written_then}
+use Rattle.stm_session.proofs.Names.{AreBegun, confirming, contact_way, Fault, first_refusal, is_whole, IsAfter, IsConfirmedInPart, IsWrittenAndSeen, most_of_command, most_of_confirming}
+use Rattle.stm_session.proofs.Names.{most_of_reaching, most_of_run, outcomes_seen, RunStops, WritesThen, written_then}
+use Rattle.stm_journal.proofs.Names.{StateData}
 use Rattle.stm_session.proofs.ConfirmedCommands.{cause_then}
 use Rattle.stm_session.proofs.Reaching.{at_fault, told_stops}
 use Rattle.stm_session.proofs.RunContracts.{contract_ran, contract_refused, contract_unopened}

@@ -1,8 +1,6 @@
 use Rattle.std.proofs.Common.{rules, ◌*◌, ◌∷◌, []}
 use Rattle.stm_session.specs.declared.command.Command.TheVariants as command
-use Rattle.stm_session.specs.RunOrder.{AreBegun}
-use Rattle.stm_session.specs.Sending.{most_of_command}
-use Rattle.stm_session.specs.VerifiedWrite.{IsWrittenAndSeen, outcomes_told_by, written_then}
+use Rattle.stm_session.proofs.Names.{AreBegun, IsWrittenAndSeen, most_of_command, outcomes_told_by, written_then}
 use Rattle.stm_session.proofs.ConfirmedCommands.{confirm_fails, confirm_then}
 use Rattle.stm_session.proofs.verified_write.write_confirmed.Goals as goal
 

@@ -1,20 +1,12 @@
 use Rattle.std.proofs.Common.{rules, ◌≡◌, ◌∙◌, ◌+◌, ◌*◌, ◌++◌, ◌∷◌, [], List, ℕ, Ok, Err, Some, inr, true, length, refl, sym, ap, ap₂, append-nil, arith}
-use Rattle.stm_wire.specs.Dialogue.{GoesOn}
-use Rattle.stm_wire.specs.Parts.{IsPart}
+use Rattle.stm_wire.proofs.Names.{GoesOn, IsPart}
 use Rattle.stm_session.specs.declared.command.Command.TheVariants as command
-use Rattle.stm_session.specs.declared.fault.Fault.{Fault}
+use Rattle.stm_session.proofs.Names.{AreBegun, AreDoneInOrder, cause_of, Fault, IsBegunTelling, IsSteady, IsWrittenAndSeen, most_of_command, of_memory, Outcome, outcome_data, OutcomeData, Step}
+use Rattle.stm_session.proofs.Names.{StopsBy, TellsWhatCame, verifies, was_verified, was_written, written_then}
 use Rattle.stm_session.specs.declared.fault.Fault.TheVariants as faults
-use Rattle.stm_session.specs.declared.outcome.Outcome.{Outcome}
 use Rattle.stm_session.specs.declared.outcome.Outcome.TheVariants as outcome
-use Rattle.stm_session.specs.Answers.{OutcomeData, outcome_data, was_verified, was_written}
-use Rattle.stm_session.specs.Came.{TellsWhatCame}
-use Rattle.stm_session.specs.Fault.{cause_of, of_memory}
-use Rattle.stm_session.specs.Meaning.{verifies, writes}
-use Rattle.stm_session.specs.Order.{Step, StopsBy}
-use Rattle.stm_session.specs.RunOrder.{AreBegun, AreDoneInOrder, IsBegunTelling, none as none_done, more}
-use Rattle.stm_session.specs.Sending.{most_of_command}
-use Rattle.stm_session.specs.Steps.{IsSteady}
-use Rattle.stm_session.specs.VerifiedWrite.{IsWrittenAndSeen, written_then}
+use Rattle.stm_session.specs.Meaning.{writes}
+use Rattle.stm_session.specs.RunOrder.{none as none_done, more}
 use Rattle.stm_session.proofs.Arrivals.{change_stops}
 use Rattle.stm_session.proofs.CutShort.{halts, stop_after, stop_as}
 use Rattle.stm_session.proofs.KeptParts.{part_fits, verified_only}

@@ -1,5 +1,5 @@
 use Rattle.std.proofs.Common.{◌≡◌, length}
-use Rattle.stm_wire.specs.Exchange.{two_byte_numbers}
+use Rattle.stm_wire.proofs.Names.{two_byte_numbers}
 use Rattle.stm_watch.specs.Known.{erased_known}
 use Rattle.stm_watch.proofs.change.erase_pairs.Given as goal
 

@@ -1,6 +1,6 @@
 use Rattle.std.proofs.Common.{ℕ, ◌≤◌}
 use Rattle.std.proofs.lemmas.Result.{IfErr-weaker, IfOk-weaker}
-use Rattle.stm_session.specs.UndoOrder.{UndoStops, UndoesInOrder}
+use Rattle.stm_session.proofs.Names.{UndoesInOrder, UndoStops}
 use Rattle.stm_weak.specs.Believed.{UndoHeals, UndoStopsHealing}
 use Rattle.stm_weak.proofs.undoing.undo_segment.Goals as goal
 

@@ -1,9 +1,6 @@
 use Rattle.std.proofs.Common.{rules, [], ◌≡◌, ◌∙◌, ◌+◌, ◌-◌, arith, refl, replicate}
 use Rattle.std.proofs.lemmas.Result.{on_ok_weaker, IfOk-weaker}
-use Rattle.stm_wire.specs.Call.{Put}
-use Rattle.stm_wire.specs.Settling.{PutsAll}
-use Rattle.stm_wire.specs.SettlingCalls.{Floods, Never, IsDrained, IsBatch}
-use Rattle.stm_wire.specs.Dialogue.{GoesOn}
+use Rattle.stm_wire.proofs.Names.{Floods, GoesOn, IsBatch, IsDrained, Never, Put, PutsAll}
 use Rattle.stm_wire.proofs.Going.{batch_step}
 use Rattle.stm_wire.proofs.Keeping.{keeps_start, keeps_then, batch_put, batch_next, batch_count, batch_first, batch_last}
 use Rattle.stm_wire.proofs.SettlingCalls.{adds_one, copies_more, batch_calls}

@@ -1,8 +1,5 @@
 use Rattle.std.proofs.Common.{◌≡◌, ◌≤◌, ◌+◌, ◌-◌, ℕ, List, replicate}
-use Rattle.stm_wire.specs.Call.{Put}
-use Rattle.stm_wire.specs.Device.{Device}
-use Rattle.stm_wire.specs.Dialogue.{GoesOn}
-use Rattle.stm_wire.specs.Settling.{IsGoing, KeepsSettling}
+use Rattle.stm_wire.proofs.Names.{Device, GoesOn, IsGoing, KeepsSettling, Put}
 use Rattle.stm_wire.proofs.Going.{InBatch}
 use Rattle.stm_wire.proofs.Talking.{Went}
 use Rattle.stm_wire.proofs.batch.send_batch.Given as goal

@@ -1,7 +1,5 @@
 use Rattle.std.proofs.Common.{rules, ◌≤◌, ◌<◌, ◌-◌, ◌+◌, ◌*◌, Bool, true, false, arith, refl, ◌∙◌, subst, replicate}
-use Rattle.stm_wire.specs.Dialogue.{GoesOn}
-use Rattle.stm_wire.specs.Settling.{PutsAll}
-use Rattle.stm_wire.specs.SettlingCalls.{IsBatch, Floods, Never}
+use Rattle.stm_wire.proofs.Names.{Floods, GoesOn, IsBatch, Never, PutsAll}
 use Rattle.stm_wire.proofs.Keeping.{keeps_start, keeps_then, going_split}
 use Rattle.stm_wire.proofs.SettlingCalls.{no_batches, batches_more, batches_answered, batches_used_up}
 use Rattle.stm_wire.proofs.SettlingFaults.{fails_on, never_after, floods_after}

@@ -1,8 +1,5 @@
 use Rattle.std.proofs.Common.{◌≡◌, ◌≤◌, ◌-◌, ◌*◌, ℕ, List, false, replicate}
-use Rattle.stm_wire.specs.Device.{Device}
-use Rattle.stm_wire.specs.Dialogue.{GoesOn}
-use Rattle.stm_wire.specs.Settling.{IsGoing, KeepsSettling}
-use Rattle.stm_wire.specs.SettlingCalls.{AreBatches}
+use Rattle.stm_wire.proofs.Names.{AreBatches, Device, GoesOn, IsGoing, KeepsSettling}
 use Rattle.stm_wire.proofs.Talking.{Went}
 use Rattle.stm_wire.proofs.batch.send_batches.Given as goal
 

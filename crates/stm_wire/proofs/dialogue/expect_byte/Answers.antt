@@ -1,9 +1,6 @@
 use Rattle.std.proofs.Common.{[], ◌∷◌, refl, sym, ap, Some}
-use Rattle.stm_wire.specs.declared.fault.WireFault.{WireFault}
+use Rattle.stm_wire.proofs.Names.{BreaksOff, Expects, Get, Learns, WireFault}
 use Rattle.stm_wire.specs.declared.fault.WireFault.TheVariants.{Garbled}
-use Rattle.stm_wire.specs.Call.{Get}
-use Rattle.stm_wire.specs.Dialogue.{Expects, Learns}
-use Rattle.stm_wire.specs.Sending.{BreaksOff}
 use Rattle.stm_wire.proofs.Holding.{Holds-none, on_fault}
 use Rattle.stm_wire.proofs.LineCalls.{Holds-retold, BreaksOff-heard, BreaksOff-retold}
 use Rattle.stm_wire.proofs.dialogue.expect_byte.Goals as goal

@@ -1,7 +1,5 @@
 use Rattle.std.proofs.Common.{◌≡◌, [], ◌<◌, ℕ, List, length, get_or, arith}
-use Rattle.stm_wire.specs.declared.fault.WireFault.{WireFault}
-use Rattle.stm_wire.specs.Dialogue.{learns}
-use Rattle.stm_wire.specs.Sending.{BreaksOff}
+use Rattle.stm_wire.proofs.Names.{BreaksOff, learns, WireFault}
 use Rattle.stm_wire.proofs.SentLists.{Holds-learned, BreaksOff-learned, owing-more}
 use Rattle.stm_wire.proofs.Holding.{on_fault}
 use Rattle.stm_wire.proofs.dialogue.fill.Goals as goal

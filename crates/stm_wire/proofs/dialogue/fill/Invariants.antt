@@ -1,7 +1,5 @@
 use Rattle.std.proofs.Common.{◌≡◌, [], take}
-use Rattle.stm_wire.specs.Dialogue.{learns}
-use Rattle.stm_wire.specs.Sending.{IsHeldToEnd}
-use Rattle.stm_wire.specs.Command.{owing}
+use Rattle.stm_wire.proofs.Names.{IsHeldToEnd, learns, owing}
 use Rattle.stm_wire.proofs.dialogue.fill.Given as goal
 
 abbrev pub invariant-loop-slot : goal.invariant-loop-slot

@@ -1,8 +1,6 @@
 use Rattle.std.proofs.Common.{get_or}
 use Rattle.stm_wire.specs.declared.fault.WireFault.TheVariants.{Line}
-use Rattle.stm_wire.specs.declared.fault.WireFault.{WireFault}
-use Rattle.stm_wire.specs.Dialogue.{says}
-use Rattle.stm_wire.specs.Sending.{BreaksOff}
+use Rattle.stm_wire.proofs.Names.{BreaksOff, says, WireFault}
 use Rattle.stm_wire.proofs.Holding.{on_fault}
 use Rattle.stm_wire.proofs.LineCalls.{Holds-put, BreaksOff-put}
 use Rattle.stm_wire.proofs.SentLists.{Holds-more, BreaksOff-more, Fed-more}

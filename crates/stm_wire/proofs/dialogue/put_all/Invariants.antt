@@ -1,7 +1,5 @@
 use Rattle.std.proofs.Common.{take}
-use Rattle.stm_wire.specs.Device.{Fed}
-use Rattle.stm_wire.specs.Dialogue.{says}
-use Rattle.stm_wire.specs.Sending.{IsHeldToEnd}
+use Rattle.stm_wire.proofs.Names.{Fed, IsHeldToEnd, says}
 use Rattle.stm_wire.proofs.dialogue.put_all.Given as goal
 
 abbrev pub invariant-loop-byte : goal.invariant-loop-byte

@@ -1,8 +1,6 @@
 use Rattle.std.proofs.Common.{ℕ, ◌∷◌, [], None, refl}
-use Rattle.stm_wire.specs.declared.fault.WireFault.{WireFault}
+use Rattle.stm_wire.proofs.Names.{BreaksOff, Learns, learns, WireFault}
 use Rattle.stm_wire.specs.declared.fault.WireFault.TheVariants.{Line, Quiet}
-use Rattle.stm_wire.specs.Dialogue.{Learns, learns}
-use Rattle.stm_wire.specs.Sending.{BreaksOff}
 use Rattle.stm_wire.proofs.LineCalls.{Holds-get, BreaksOff-get, BreaksOff-reply}
 use Rattle.stm_wire.proofs.Holding.{on_fault}
 use Rattle.stm_wire.proofs.dialogue.receive.Goals as goal

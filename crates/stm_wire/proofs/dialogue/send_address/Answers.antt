@@ -1,8 +1,5 @@
 use Rattle.std.proofs.lemmas.Result.{on_ok_weaker}
-use Rattle.stm_wire.specs.declared.fault.WireFault.{WireFault}
-use Rattle.stm_wire.specs.Frames.{command, with_checksum, address_bytes, address_turns}
-use Rattle.stm_wire.specs.Dialogue.{step_turns}
-use Rattle.stm_wire.specs.Sending.{BreaksOff}
+use Rattle.stm_wire.proofs.Names.{address_bytes, address_turns, BreaksOff, command, step_turns, WireFault, with_checksum}
 use Rattle.std.proofs.Common.{◌++◌}
 use Rattle.stm_wire.proofs.Holding.{Holds-append, BreaksOff-first, BreaksOff-second, on_fault, if_err_weaker}
 use Rattle.stm_wire.proofs.Steps.{code-step}

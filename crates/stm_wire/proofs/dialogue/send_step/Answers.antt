@@ -1,8 +1,6 @@
 use Rattle.std.proofs.Common.{◌∷◌, [], refl, rules}
-use Rattle.stm_wire.specs.declared.fault.WireFault.{WireFault}
+use Rattle.stm_wire.proofs.Names.{Acknowledged, BreaksOff, Learns, says, step_turns, WireFault}
 use Rattle.stm_wire.specs.declared.fault.WireFault.TheVariants.{Nack, Garbled}
-use Rattle.stm_wire.specs.Dialogue.{Acknowledged, Learns, says, step_turns}
-use Rattle.stm_wire.specs.Sending.{BreaksOff}
 use Rattle.stm_wire.proofs.Holding.{Holds-then, BreaksOff-early, BreaksOff-then, on_fault}
 use Rattle.stm_wire.proofs.LineCalls.{Holds-retold, BreaksOff-retold, BreaksOff-heard}
 use Rattle.stm_wire.proofs.dialogue.send_step.Goals as goal

@@ -1,9 +1,6 @@
 use Rattle.std.proofs.Common.{◌≡◌, ◌||◌, ℕ, arith, refl, sym, ap, ◌∙◌, subst, eqb, Bool, Option, Some, [], ◌+◌}
 use Rattle.stm_wire.specs.declared.fault.WireFault.TheVariants.{Garbled}
-use Rattle.stm_wire.specs.Dialogue.{GoesOn}
-use Rattle.stm_wire.specs.Reply.{nack}
-use Rattle.stm_wire.specs.Rig.{GetsFirst}
-use Rattle.stm_wire.specs.SettlingCalls.{Floods, Never}
+use Rattle.stm_wire.proofs.Names.{Floods, GetsFirst, GoesOn, nack, Never}
 use Rattle.stm_wire.proofs.Talking.{went_nowhere, went_then, went_get, went_up, failed_then, failed_get, speaks_ok, speaks_line, speaks_other}
 use Rattle.stm_wire.proofs.Keeping.{keeps_start, keeps_then, keeps_get, here, taken_more, taken_all}
 use Rattle.stm_wire.proofs.SettlingCalls.{TookSoFar, took_nothing, took_more, took_all, adds_get}

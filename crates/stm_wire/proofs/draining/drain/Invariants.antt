@@ -1,7 +1,5 @@
 use Rattle.std.proofs.Common.{◌≡◌, ℕ, List, []}
-use Rattle.stm_wire.specs.Device.{Device}
-use Rattle.stm_wire.specs.Dialogue.{GoesOn}
-use Rattle.stm_wire.specs.Settling.{IsSettling, KeepsSettling}
+use Rattle.stm_wire.proofs.Names.{Device, GoesOn, IsSettling, KeepsSettling}
 use Rattle.stm_wire.proofs.Keeping.{IsTaken}
 use Rattle.stm_wire.proofs.SettlingCalls.{TookSoFar}
 use Rattle.stm_wire.proofs.Talking.{Went}

@@ -1,11 +1,7 @@
 use Rattle.std.proofs.Common.{◌∷◌, [], ◌≡◌, ◌/◌, ◌%◌, ℕ, List}
 use Rattle.std.proofs.lemmas.Result.{on_ok_weaker}
 use Rattle.stm_wire.specs.declared.chip.EraseKind.TheVariants.{Extended}
-use Rattle.stm_wire.specs.declared.fault.WireFault.{WireFault}
-use Rattle.stm_wire.specs.Dialogue.{step_turns}
-use Rattle.stm_wire.specs.Sending.{BreaksOff}
-use Rattle.stm_wire.specs.Frames.{command, with_checksum, erase_frame, erase_turns}
-use Rattle.stm_wire.specs.Command.{with_pages_erased}
+use Rattle.stm_wire.proofs.Names.{BreaksOff, command, erase_frame, erase_turns, step_turns, WireFault, with_checksum, with_pages_erased}
 use Rattle.stm_wire.proofs.Holding.{Holds-append, BreaksOff-first, BreaksOff-second, on_fault, if_err_weaker}
 use Rattle.stm_wire.proofs.Answering.{does_line, does_last}
 use Rattle.stm_wire.proofs.Address.{settled-is}

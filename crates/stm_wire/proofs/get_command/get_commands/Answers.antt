@@ -1,11 +1,5 @@
 use Rattle.std.proofs.Common.{rules, ◌≡◌, ◌<◌, arith, ◌∷◌, [], ◌++◌, ℕ, List, length, take, refl, ap}
-use Rattle.stm_wire.specs.declared.fault.WireFault.{WireFault}
-use Rattle.stm_wire.specs.declared.get_command.Commands.{Commands}
-use Rattle.stm_wire.specs.Reply.{ack}
-use Rattle.stm_wire.specs.Device.{Device}
-use Rattle.stm_wire.specs.Dialogue.{Expects, learns, step_turns}
-use Rattle.stm_wire.specs.Sending.{BreaksOff}
-use Rattle.stm_wire.specs.Frames.{command, get_turns}
+use Rattle.stm_wire.proofs.Names.{ack, BreaksOff, command, Commands, Device, Expects, get_turns, learns, step_turns, WireFault}
 use Rattle.stm_wire.proofs.Holding.{Holds-then, BreaksOff-early, BreaksOff-then, on_fault}
 use Rattle.stm_wire.proofs.Answering.{does_line}
 use Rattle.stm_wire.proofs.Asking.{asked-first, asked-step, codes_owed, codes_answered}

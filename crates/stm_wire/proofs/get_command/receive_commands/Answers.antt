@@ -1,5 +1,5 @@
 use Rattle.std.proofs.Common.{◌<◌, rules, take}
-use Rattle.stm_wire.specs.declared.fault.WireFault.{WireFault}
+use Rattle.stm_wire.proofs.Names.{WireFault}
 use Rattle.stm_wire.proofs.Holding.{on_fault}
 use Rattle.stm_wire.proofs.Receiving.{IsBrokenAnswer, broken_at_count, broken_at_version, broken_at_codes, held_codes}
 use Rattle.stm_wire.proofs.get_command.receive_commands.Goals as goal

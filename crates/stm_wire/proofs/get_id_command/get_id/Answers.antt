@@ -1,11 +1,5 @@
 use Rattle.std.proofs.Common.{◌≡◌, ◌/◌, ◌%◌, ◌∷◌, [], ℕ, refl, ap}
-use Rattle.stm_wire.specs.declared.fault.WireFault.{WireFault}
-use Rattle.stm_wire.specs.Device.{Device}
-use Rattle.stm_wire.specs.Reply.{ack}
-use Rattle.stm_wire.specs.Dialogue.{Expects, Learns, step_turns}
-use Rattle.stm_wire.specs.Sending.{IsHeldToEnd, BreaksOff}
-use Rattle.stm_wire.specs.Frames.{command, get_id_turns}
-use Rattle.stm_wire.specs.Command.{owing}
+use Rattle.stm_wire.proofs.Names.{ack, BreaksOff, command, Device, Expects, get_id_turns, IsHeldToEnd, Learns, owing, step_turns, WireFault}
 use Rattle.stm_wire.proofs.Holding.{Holds-then, BreaksOff-early, BreaksOff-then, on_fault, if_err_weaker}
 use Rattle.stm_wire.proofs.Answering.{does_line, does_value, if_ok_weaker}
 use Rattle.stm_wire.proofs.Asking.{asked-first, asked-step, id_answered}

@@ -1,8 +1,5 @@
 use Rattle.std.proofs.Common.{◌≡◌, ◌<◌, ◌/◌, ◌%◌, ◌∷◌, [], ℕ, arith, sym, subst}
-use Rattle.stm_wire.specs.declared.fault.WireFault.{WireFault}
-use Rattle.stm_wire.specs.Reply.{ack}
-use Rattle.stm_wire.specs.Dialogue.{Expects, Learns}
-use Rattle.stm_wire.specs.Sending.{IsHeldToEnd, BreaksOff}
+use Rattle.stm_wire.proofs.Names.{ack, BreaksOff, Expects, IsHeldToEnd, Learns, WireFault}
 use Rattle.stm_wire.proofs.Holding.{Holds-append, BreaksOff-early, BreaksOff-between, BreaksOff-second, on_fault}
 use Rattle.stm_wire.proofs.get_id_command.receive_id.Goals as goal
 

@@ -1,10 +1,6 @@
 use Rattle.std.proofs.lemmas.Result.{on_ok_weaker}
-use Rattle.stm_wire.specs.declared.fault.WireFault.{WireFault}
-use Rattle.stm_wire.specs.Device.{Gone}
+use Rattle.stm_wire.proofs.Names.{address_bytes, BreaksOff, command, go_frame, go_turns, Gone, step_turns, WireFault, with_checksum}
 use Rattle.std.proofs.Common.{◌≡◌}
-use Rattle.stm_wire.specs.Dialogue.{step_turns}
-use Rattle.stm_wire.specs.Sending.{BreaksOff}
-use Rattle.stm_wire.specs.Frames.{command, with_checksum, address_bytes, go_frame, go_turns}
 use Rattle.stm_wire.proofs.Holding.{Holds-append, BreaksOff-first, BreaksOff-second, on_fault, if_err_weaker}
 use Rattle.stm_wire.proofs.Answering.{does_line, does_last}
 use Rattle.stm_wire.proofs.Address.{settled-is}

@@ -1,10 +1,5 @@
 use Rattle.std.proofs.Common.{rules, lit≤, ℕ, List, [], ◌∷◌, Bool, Result, Err, ap}
-use Rattle.stm_wire.specs.declared.fault.WireFault.{WireFault}
-use Rattle.stm_wire.specs.Device.{Device}
-use Rattle.stm_wire.specs.Intents.{settling_byte}
-use Rattle.stm_wire.specs.Settling.{PutsAll}
-use Rattle.stm_wire.specs.SettlingCalls.{Floods, Never}
-use Rattle.stm_wire.specs.Greeting.{IsGreeting}
+use Rattle.stm_wire.proofs.Names.{Device, Floods, IsGreeting, Never, PutsAll, settling_byte, WireFault}
 use Rattle.stm_wire.proofs.Greets.{greeted_quiet, greeting_begin, greeting_drain, greeting_get, greeting_put}
 use Rattle.stm_wire.proofs.Keeping.{left_here}
 use Rattle.stm_wire.proofs.SettlingFaults.{fails_on, floods_after, never_after}

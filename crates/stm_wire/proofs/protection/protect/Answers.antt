@@ -1,12 +1,7 @@
 use Rattle.std.proofs.Common.{◌∷◌, [], ◌≡◌}
 use Rattle.std.proofs.lemmas.Result.{on_ok_weaker}
-use Rattle.stm_wire.specs.declared.fault.WireFault.{WireFault}
+use Rattle.stm_wire.proofs.Names.{ack, BreaksOff, command, Expects, protect_turns, protection_code, step_turns, WireFault}
 use Rattle.stm_wire.specs.declared.fault.WireFault.TheVariants.{Line}
-use Rattle.stm_wire.specs.Reply.{ack}
-use Rattle.stm_wire.specs.Dialogue.{Expects, step_turns}
-use Rattle.stm_wire.specs.Sending.{BreaksOff}
-use Rattle.stm_wire.specs.Frames.{command, protect_turns}
-use Rattle.stm_wire.specs.Protection.{protection_code}
 use Rattle.stm_wire.proofs.Holding.{Holds-then, BreaksOff-early, BreaksOff-then, on_fault, if_err_weaker}
 use Rattle.stm_wire.proofs.Protecting.{protect-first, protect-second}
 use Rattle.stm_wire.proofs.protection.protect.Goals as goal

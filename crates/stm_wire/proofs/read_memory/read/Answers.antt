@@ -1,10 +1,6 @@
 use Rattle.std.proofs.Common.{◌≡◌, [], ◌≤◌, ℕ, List, length, rules, sym, le_of_eq}
 use Rattle.std.proofs.lemmas.Result.{on_ok_weaker}
-use Rattle.stm_wire.specs.declared.fault.WireFault.{WireFault}
-use Rattle.stm_wire.specs.Dialogue.{learns}
-use Rattle.stm_wire.specs.Sending.{BreaksOff}
-use Rattle.stm_wire.specs.Frames.{read_frame, read_turns}
-use Rattle.stm_wire.specs.Command.{HasRead, owing}
+use Rattle.stm_wire.proofs.Names.{BreaksOff, HasRead, learns, owing, read_frame, read_turns, WireFault}
 use Rattle.stm_wire.proofs.Holding.{on_fault, if_err_weaker}
 use Rattle.stm_wire.proofs.Answering.{does_line, does_last}
 use Rattle.stm_wire.proofs.Reading.{tells, takes-address, count-first, count-step, length-told, has_read, read_broken, read_broken-2, read_broken-3, read_held}

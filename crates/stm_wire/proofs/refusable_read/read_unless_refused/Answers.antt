@@ -1,12 +1,6 @@
 use Rattle.std.proofs.Common.{◌≡◌, ◌≤◌, ◌-◌, ◌++◌, ◌∷◌, [], ℕ, Bool, true, false, List, length, rules, refl, sym, subst, le_of_eq}
-use Rattle.stm_wire.specs.declared.fault.WireFault.{WireFault}
-use Rattle.stm_wire.specs.Command.{CanTell}
-use Rattle.stm_wire.specs.Device.{Fed}
-use Rattle.stm_wire.specs.Command.{owing}
-use Rattle.stm_wire.specs.Dialogue.{step_turns}
-use Rattle.stm_wire.specs.Frames.{address_bytes, address_turns, command, read_frame, read_turns, with_checksum}
-use Rattle.stm_wire.specs.Refused.{answer_byte, answered_turns, at_address, at_count, read_head, refused_turns}
-use Rattle.stm_wire.specs.Sending.{IsHeldToEnd, BreaksOff}
+use Rattle.stm_wire.proofs.Names.{address_bytes, address_turns, answer_byte, answered_turns, at_address, at_count, BreaksOff, CanTell, command, Fed, IsHeldToEnd, owing, read_frame, read_head}
+use Rattle.stm_wire.proofs.Names.{read_turns, refused_turns, step_turns, WireFault, with_checksum}
 use Rattle.stm_wire.proofs.Holding.{Holds-append, BreaksOff-first, BreaksOff-second, on_fault}
 use Rattle.stm_wire.proofs.Reading.{has_told, length-told, read_broken, read_broken-2, read_broken-3, read_held}
 use Rattle.stm_wire.proofs.RefusableReads.{address_answers, address_refused, address_told, asked_failed, code_answers, code_told, count_answers, count_refused, count_told, frame_sent, head_sent, part_all, part_first}

@@ -1,13 +1,8 @@
 use Rattle.std.proofs.Common.{rules, ◌≢◌, refl, ℕ, Some, None, [], ◌∷◌, ◌++◌, ◌∙◌, ap, lit≤, subst, Option}
 use Rattle.std.proofs.lemmas.Result.{on_ok_weaker}
-use Rattle.stm_wire.specs.Rig.{GetsFirst}
-use Rattle.stm_wire.specs.Reply.{nack}
-use Rattle.stm_wire.specs.Device.{Device, Connected}
-use Rattle.stm_wire.specs.Settling.{with_nothing_owed}
+use Rattle.stm_wire.proofs.Names.{answered_on, Connected, Device, Get, GetsFirst, IsAnswer, IsUnconfirmed, nack, Never, Put, unrefused, with_nothing_owed}
 use Rattle.stm_wire.proofs.Keeping.{keeps_get, keeps_then, keeps_known, here, taken_one, confirmed}
 use Rattle.stm_wire.proofs.Talking.{failed_put, speaks_line, speaks_then, went_both}
-use Rattle.stm_wire.specs.SettlingCalls.{Never, IsAnswer, IsUnconfirmed, unrefused, answered_on}
-use Rattle.stm_wire.specs.Call.{Put, Get}
 use Rattle.stm_wire.proofs.SettlingCalls.{adds_both}
 use Rattle.stm_wire.proofs.SettlingFaults.{fails_garbled, fails_all_weaker, adds_before}
 use Rattle.stm_wire.proofs.Turns.{Adds-append, Adds-GoesOn}

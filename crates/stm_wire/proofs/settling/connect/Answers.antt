@@ -1,9 +1,5 @@
 use Rattle.std.proofs.Common.{rules, refl, ◌∙◌, ap, Bool, Result, Err, Some, [], ◌∷◌, lit≤, inl, inr}
-use Rattle.stm_wire.specs.declared.fault.WireFault.{WireFault}
-use Rattle.stm_wire.specs.Call.{Put, Get}
-use Rattle.stm_wire.specs.Reply.{ack}
-use Rattle.stm_wire.specs.Settling.{with_nothing_owed}
-use Rattle.stm_wire.specs.SettlingCalls.{Floods, IsConnected, IsDrained, IsNoAck, IsUnanswered, IsUnconnected, Never}
+use Rattle.stm_wire.proofs.Names.{ack, Floods, Get, IsConnected, IsDrained, IsNoAck, IsUnanswered, IsUnconnected, Never, Put, WireFault, with_nothing_owed}
 use Rattle.stm_wire.proofs.Keeping.{keeps_then, here}
 use Rattle.stm_wire.proofs.SettlingFaults.{adds_before, fails_on, floods_before}
 use Rattle.stm_wire.proofs.Talking.{went_then, speaks_fault, speaks_ok, speaks_then, speaks_went}

@@ -1,10 +1,8 @@
 use Rattle.std.proofs.Common.{rules, ℕ, ◌∷◌, subst, refl, Option, Some, None, [], arith}
-use Rattle.stm_wire.specs.Rig.{GetsFirst}
+use Rattle.stm_wire.proofs.Names.{Get, GetsFirst, IsAnswer, Never}
 use Rattle.stm_wire.proofs.Keeping.{keeps_get, not_owed}
 use Rattle.stm_wire.specs.declared.fault.WireFault.TheVariants.{Garbled}
 use Rattle.stm_wire.proofs.Talking.{went_get, failed_get, speaks_ok, speaks_line, speaks_other}
-use Rattle.stm_wire.specs.SettlingCalls.{Never, IsAnswer}
-use Rattle.stm_wire.specs.Call.{Get}
 use Rattle.stm_wire.proofs.SettlingCalls.{adds_get}
 use Rattle.stm_wire.proofs.SettlingFaults.{fails_garbled}
 use Rattle.stm_wire.proofs.Turns.{Adds-GoesOn}

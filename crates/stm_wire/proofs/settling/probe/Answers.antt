@@ -1,11 +1,8 @@
 use Rattle.std.proofs.Common.{rules, None, [], ◌∷◌, ◌++◌, ◌∙◌, ap, lit≤}
 use Rattle.std.proofs.lemmas.Result.{on_ok_weaker}
-use Rattle.stm_wire.specs.Device.{Device}
-use Rattle.stm_wire.specs.Command.{with_rest}
+use Rattle.stm_wire.proofs.Names.{Device, Get, IsAnswer, IsAnswerTo, Never, Put, with_rest}
 use Rattle.stm_wire.proofs.Keeping.{keeps_then, keeps_known, here, probed}
 use Rattle.stm_wire.proofs.Talking.{went_put, failed_put, speaks_line, speaks_then}
-use Rattle.stm_wire.specs.SettlingCalls.{Never, IsAnswer, IsAnswerTo}
-use Rattle.stm_wire.specs.Call.{Put, Get}
 use Rattle.stm_wire.proofs.SettlingCalls.{adds_one}
 use Rattle.stm_wire.proofs.SettlingFaults.{fails_all_weaker, adds_before}
 use Rattle.stm_wire.proofs.Turns.{Adds-append}

@@ -1,11 +1,8 @@
 use Rattle.std.proofs.Common.{rules, Result, Err, [], ◌∷◌, ◌∙◌, ap, lit≤}
-use Rattle.stm_wire.specs.declared.fault.WireFault.{WireFault}
-use Rattle.stm_wire.specs.SettlingCalls.{Never, IsAnswerTo, IsConnected, IsUnanswered, IsUnconnected, IsUnconfirmed, IsUnended}
+use Rattle.stm_wire.proofs.Names.{Device, IsAnswerTo, IsConnected, IsUnanswered, IsUnconfirmed, IsUnconnected, IsUnended, Never, WireFault, with_rest}
 use Rattle.stm_wire.proofs.SettlingCalls.{IsProbed, probed, reconnects}
 use Rattle.stm_wire.proofs.SettlingFaults.{fails_on, fails_all_weaker, never_after, garbled_first, garbled_second, garbled_third}
 use Rattle.std.proofs.lemmas.Result.{on_ok_weaker}
-use Rattle.stm_wire.specs.Device.{Device}
-use Rattle.stm_wire.specs.Command.{with_rest}
 use Rattle.stm_wire.proofs.Keeping.{keeps_then, here}
 use Rattle.stm_wire.proofs.Talking.{went_then, speaks_then, speaks_fault, speaks_went}
 use Rattle.stm_wire.proofs.settling.reconnect.Goals as goal

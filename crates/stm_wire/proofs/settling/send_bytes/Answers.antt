@@ -1,14 +1,8 @@
 use Rattle.std.proofs.Common.{rules, ◌≡◌, ◌+◌, ◌-◌, ◌*◌, arith, refl, ◌∙◌, subst, Result, Err, Bool, ℕ, [], ◌∷◌, replicate}
-use Rattle.stm_wire.specs.declared.fault.WireFault.{WireFault}
-use Rattle.stm_wire.specs.Dialogue.{GoesOn}
-use Rattle.stm_wire.specs.SentList.{settling_run}
-use Rattle.stm_wire.specs.Settling.{PutsAll, PutsPart}
-use Rattle.stm_wire.specs.SettlingCalls.{AreUnrefused, IsRefused, IsUnanswered, IsUnended, EndsQuiet, EndsGarbled, Floods, Never}
+use Rattle.stm_wire.proofs.Names.{AreUnrefused, EndsGarbled, EndsQuiet, Floods, GoesOn, IsGoing, IsRefused, IsSettled, IsUnanswered, IsUnended, Never, PutsAll, PutsPart, settling_run, WireFault}
 use Rattle.stm_wire.proofs.Talking.{went_nowhere, all_part, part_run, speaks_more, cause_fault}
 use Rattle.std.proofs.lemmas.Bool.{MatchBool-at_true, MatchBool-at_false}
 use Rattle.std.proofs.lemmas.Result.{on_ok_weaker}
-use Rattle.stm_wire.specs.Device.{IsSettled}
-use Rattle.stm_wire.specs.Settling.{IsGoing}
 use Rattle.stm_wire.proofs.Going.{fresh_at_last}
 use Rattle.stm_wire.proofs.Keeping.{keeps_start, keeps_then, going_begin, going_next, going_last, settled_waiting}
 use Rattle.stm_wire.proofs.Talking.{went_more, speaks_ok, speaks_then, speaks_went}

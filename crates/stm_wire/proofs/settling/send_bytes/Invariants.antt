@@ -1,8 +1,5 @@
 use Rattle.std.proofs.Common.{◌≡◌, ◌-◌, ◌*◌, ℕ, List, replicate}
-use Rattle.stm_wire.specs.Device.{Device}
-use Rattle.stm_wire.specs.Dialogue.{GoesOn}
-use Rattle.stm_wire.specs.Settling.{IsGoing, KeepsSettling}
-use Rattle.stm_wire.specs.SettlingCalls.{AreUnrefused}
+use Rattle.stm_wire.proofs.Names.{AreUnrefused, Device, GoesOn, IsGoing, KeepsSettling}
 use Rattle.stm_wire.proofs.Talking.{Went}
 use Rattle.stm_wire.proofs.settling.send_bytes.Given as goal
 

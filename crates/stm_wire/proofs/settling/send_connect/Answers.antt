@@ -1,14 +1,9 @@
 use Rattle.std.proofs.Common.{rules, ℕ, refl, ◌∙◌, ap, subst, Option, Some, None, [], ◌∷◌, lit≤}
-use Rattle.stm_wire.specs.Rig.{GetsFirst}
-use Rattle.stm_wire.specs.Reply.{ack}
-use Rattle.stm_wire.specs.Device.{Device}
-use Rattle.stm_wire.specs.Settling.{with_nothing_owed}
+use Rattle.stm_wire.proofs.Names.{ack, Device, Get, GetsFirst, IsNoAck, IsUnanswered, Put, with_nothing_owed}
 use Rattle.stm_wire.proofs.Keeping.{keeps_get, keeps_then, keeps_put, here, taken_one, connected}
 use Rattle.stm_wire.proofs.Going.{settling_connects}
 use Rattle.stm_wire.specs.declared.fault.WireFault.TheVariants.{Garbled, Quiet}
 use Rattle.stm_wire.proofs.Talking.{went_put, failed_put, failed_then, failed_get, speaks_ok, speaks_line, speaks_other, went_both}
-use Rattle.stm_wire.specs.SettlingCalls.{IsUnanswered, IsNoAck}
-use Rattle.stm_wire.specs.Call.{Put, Get}
 use Rattle.stm_wire.proofs.SettlingCalls.{adds_both}
 use Rattle.stm_wire.proofs.SettlingFaults.{fails_quiet, fails_garbled}
 use Rattle.stm_wire.proofs.Turns.{Adds-GoesOn}

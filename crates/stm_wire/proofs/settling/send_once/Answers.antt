@@ -1,11 +1,8 @@
 use Rattle.std.proofs.Common.{rules, ℕ, subst, Bool, Option, Some, None, Result, Err, [], ◌∷◌, lit≤, false, eqb}
-use Rattle.stm_wire.specs.declared.fault.WireFault.{WireFault}
+use Rattle.stm_wire.proofs.Names.{Floods, Get, GetsFirst, Never, Put, WireFault}
 use Rattle.stm_wire.proofs.Keeping.{keeps_then, keeps_get, here, going_put, once_none, once_some}
-use Rattle.stm_wire.specs.Rig.{GetsFirst}
 use Rattle.stm_wire.proofs.Going.{step}
 use Rattle.stm_wire.proofs.Talking.{went_then, went_up, failed_put, speaks_ok, speaks_line, speaks_then, speaks_fault, speaks_went, went_both}
-use Rattle.stm_wire.specs.SettlingCalls.{Never, Floods}
-use Rattle.stm_wire.specs.Call.{Put, Get}
 use Rattle.stm_wire.proofs.SettlingCalls.{adds_both, unrefused_silence, refused_or_not}
 use Rattle.stm_wire.proofs.SettlingFaults.{fails_on, adds_before, floods_before}
 use Rattle.stm_wire.proofs.settling.send_once.Goals as goal

@@ -1,7 +1,6 @@
 use Rattle.std.proofs.Common.{◌≡◌, ◌+◌, ◌*◌, arith, [], rules}
 use Rattle.std.proofs.lemmas.Result.{on_ok_weaker}
-use Rattle.stm_wire.specs.SentList.{settling_run}
-use Rattle.stm_wire.specs.SettlingCalls.{EndsQuiet, EndsGarbled, IsUnanswered}
+use Rattle.stm_wire.proofs.Names.{EndsGarbled, EndsQuiet, IsUnanswered, settling_run}
 use Rattle.stm_wire.proofs.Keeping.{enough_sent, keeps_then, settling_start, going_drained}
 use Rattle.stm_wire.proofs.SettlingCalls.{settled_singly, single_calls}
 use Rattle.stm_wire.proofs.SettlingFaults.{fails_all_weaker, garbled_after, past_after}

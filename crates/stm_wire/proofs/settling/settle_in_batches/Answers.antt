@@ -1,9 +1,6 @@
 use Rattle.std.proofs.Common.{rules, ◌≡◌, ◌≤◌, ◌+◌, ◌-◌, ◌*◌, arith, [], replicate, Result, Err, Bool, ℕ}
 use Rattle.std.proofs.lemmas.Result.{on_ok_weaker}
-use Rattle.stm_wire.specs.declared.fault.WireFault.{WireFault}
-use Rattle.stm_wire.specs.SentList.{settling_run}
-use Rattle.stm_wire.specs.Settling.{PutsAll}
-use Rattle.stm_wire.specs.SettlingCalls.{EndsQuiet, EndsGarbled, IsUnanswered, Floods, Never}
+use Rattle.stm_wire.proofs.Names.{EndsGarbled, EndsQuiet, Floods, IsUnanswered, Never, PutsAll, settling_run, WireFault}
 use Rattle.stm_wire.proofs.Keeping.{keeps_then, settling_start, going_drained}
 use Rattle.stm_wire.proofs.SettlingCalls.{batched_calls}
 use Rattle.stm_wire.proofs.SettlingFaults.{fails_on, fails_all_weaker, never_so, never_after, floods_after, garbled_flood, garbled_after, past_after}

@@ -1,7 +1,5 @@
 use Rattle.std.proofs.Common.{ℕ, subst}
-use Rattle.stm_wire.specs.Awaited.{Awaits}
-use Rattle.stm_wire.specs.Harmless.{Harmless}
-use Rattle.stm_wire.specs.Settling.{Settles}
+use Rattle.stm_wire.proofs.Names.{Awaits, Harmless, Settles}
 use Rattle.stm_wire.proofs.settling.settle_under.Goals as goal
 
 -- the byte is the intent's

@@ -1,5 +1,5 @@
 use Rattle.std.proofs.Common.{◌≡◌, length}
-use Rattle.stm_wire.specs.Exchange.{all_exist, two_byte_numbers}
+use Rattle.stm_wire.proofs.Names.{all_exist, two_byte_numbers}
 use Rattle.stm_wire.proofs.verdict.pairs_exist.Given as goal
 
 abbrev pub invariant-loop-rest : goal.invariant-loop-rest

@@ -1,12 +1,6 @@
 use Rattle.std.proofs.Common.{◌≤◌, ◌-◌, ◌++◌, ◌∷◌, [], ℕ, List, length, arith}
 use Rattle.std.proofs.lemmas.Result.{on_ok_weaker}
-use Rattle.stm_wire.specs.declared.fault.WireFault.{WireFault}
-use Rattle.stm_wire.specs.Device.{Fed}
-use Rattle.stm_wire.specs.Dialogue.{step_turns}
-use Rattle.stm_wire.specs.Sending.{BreaksOff}
-use Rattle.stm_wire.specs.Frames.{command, with_checksum, address_bytes, address_turns, write_frame, write_turns}
-use Rattle.stm_wire.specs.Reply.{ack}
-use Rattle.stm_wire.specs.Command.{HasWritten, owing}
+use Rattle.stm_wire.proofs.Names.{ack, address_bytes, address_turns, BreaksOff, command, Fed, HasWritten, owing, step_turns, WireFault, with_checksum, write_frame, write_turns}
 use Rattle.stm_wire.proofs.Holding.{Holds-append, BreaksOff-first, BreaksOff-second, on_fault, if_err_weaker}
 use Rattle.stm_wire.proofs.Answering.{does_line, does_last}
 use Rattle.stm_wire.proofs.Writing.{write-address, data-first, has_written}

@@ -1,11 +1,6 @@
 use Rattle.std.proofs.Common.{◌-◌, ◌++◌, ◌∷◌, [], ℕ, List, length}
 use Rattle.std.proofs.lemmas.Result.{on_ok_weaker}
-use Rattle.stm_wire.specs.declared.fault.WireFault.{WireFault}
-use Rattle.stm_wire.specs.Exchange.{xor}
-use Rattle.stm_wire.specs.Dialogue.{step_turns}
-use Rattle.stm_wire.specs.Sending.{BreaksOff}
-use Rattle.stm_wire.specs.Reply.{ack}
-use Rattle.stm_wire.specs.Command.{owing, LeavesFirst}
+use Rattle.stm_wire.proofs.Names.{ack, BreaksOff, LeavesFirst, owing, step_turns, WireFault, xor}
 use Rattle.stm_wire.proofs.Feeding.{Fed-append}
 use Rattle.stm_wire.proofs.Holding.{Holds-says, BreaksOff-says, BreaksOff-said, on_fault, if_err_weaker}
 use Rattle.stm_wire.proofs.write_memory.send_data.Goals as goal

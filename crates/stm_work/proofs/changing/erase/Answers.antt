@@ -1,7 +1,7 @@
 use Rattle.std.proofs.Common.{◌∙◌, [], ◌∷◌, ap, map}
 use Rattle.stm_session.specs.declared.command.Command.TheVariants.{Erase}
 use Rattle.stm_session.specs.declared.outcome.Outcome.{Outcome}
-use Rattle.stm_session.specs.Answers.{outcome_data, outcomes_in}
+use Rattle.stm_session.proofs.Names.{outcome_data, outcomes_in}
 use Rattle.stm_work.specs.Answer.{outcomes_told}
 use Rattle.stm_work.proofs.Telling.{only_is, told_err, told_ok}
 use Rattle.stm_work.proofs.changing.erase.Goals as goal

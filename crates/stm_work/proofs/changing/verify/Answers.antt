@@ -1,5 +1,5 @@
 use Rattle.std.proofs.Common.{ap, map}
-use Rattle.stm_session.specs.Answers.{outcome_data, outcomes_in}
+use Rattle.stm_session.proofs.Names.{outcome_data, outcomes_in}
 use Rattle.stm_work.specs.Answer.{outcomes_told}
 use Rattle.stm_work.proofs.Telling.{told_err, told_ok, verified_is}
 use Rattle.stm_work.proofs.changing.verify.Goals as goal

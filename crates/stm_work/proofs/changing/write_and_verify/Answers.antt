@@ -1,5 +1,5 @@
 use Rattle.std.proofs.Common.{rules, Some, refl}
-use Rattle.stm_session.specs.VerifiedWrite.{outcomes_seen}
+use Rattle.stm_session.proofs.Names.{outcomes_seen}
 use Rattle.stm_work.specs.declared.answer.Answer.TheVariants.{Written}
 use Rattle.stm_work.specs.Answer.{outcomes_told}
 use Rattle.stm_work.proofs.Telling.{told_err, told_ok}

@@ -1,8 +1,7 @@
 use Rattle.std.proofs.Common.{◌∙◌, List, [], ◌∷◌, ap, map, subst}
 use Rattle.stm_session.specs.declared.command.Command.TheVariants.{Read}
 use Rattle.stm_session.specs.declared.outcome.Outcome.{Outcome}
-use Rattle.stm_session.specs.Answers.{outcome_data, outcomes_in}
-use Rattle.stm_session.specs.Running.{AreKindsOf}
+use Rattle.stm_session.proofs.Names.{AreKindsOf, outcome_data, outcomes_in}
 use Rattle.stm_work.specs.Answer.{outcomes_told}
 use Rattle.stm_work.proofs.Telling.{only_is, told_err, told_ok}
 use Rattle.stm_work.proofs.reading.read_bytes.Goals as goal

@@ -1,6 +1,6 @@
 -- Watching begins at what a settled device told.
 use Rattle.std.proofs.Common.{◌∙◌, ap, List, ℕ, take}
-use Rattle.stm_wire.specs.Chip.{ChipData}
+use Rattle.stm_wire.proofs.Names.{ChipData}
 use Rattle.stm_watch.specs.Known.{known_at_first}
 use Rattle.stm_work.proofs.WatchedWork.{begun-at}
 use Rattle.stm_work.proofs.watching.begin.Goals as goal

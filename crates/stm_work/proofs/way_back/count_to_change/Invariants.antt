@@ -1,6 +1,5 @@
 use Rattle.std.proofs.Common.{◌≡◌, ◌+◌, ◌<◌, ◌≤◌, ℕ}
-use Rattle.stm_journal.specs.KeptPlaces.{kept_count}
-use Rattle.stm_journal.specs.States.{depth}
+use Rattle.stm_journal.proofs.Names.{depth, kept_count}
 use Rattle.stm_work.proofs.way_back.count_to_change.Given as goal
 
 -- the newest segments so far keep no page

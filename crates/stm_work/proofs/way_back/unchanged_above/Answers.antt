@@ -1,6 +1,5 @@
 use Rattle.std.proofs.Common.{◌+◌, ◌-◌, ◌==◌, ◌∷◌, [], ◌++◌, ◌∙◌, ℕ, List, ap, sym}
-use Rattle.stm_journal.specs.KeptPlaces.{kept_count}
-use Rattle.stm_journal.specs.States.{StateData}
+use Rattle.stm_journal.proofs.Names.{kept_count, StateData}
 use Rattle.stm_work.specs.WayBack.{unchanged_in}
 use Rattle.stm_work.proofs.Unchanged.{more}
 use Rattle.stm_work.proofs.way_back.unchanged_above.Goals as goal

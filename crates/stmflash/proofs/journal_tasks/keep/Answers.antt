@@ -1,7 +1,7 @@
 use Rattle.std.proofs.Common.{◌≡◌, ℕ, None, Option, Result, Some, subst, sym}
 use Rattle.std.specs.Prelude.{IfOk}
 use Rattle.std.proofs.lemmas.Result.{IfOk-weaker}
-use Rattle.stm_journal.specs.States.{StateData}
+use Rattle.stm_journal.proofs.Names.{StateData}
 use Rattle.stm_work.specs.Keeping.{IsCutTo, IsGivenUp}
 use Rattle.stm_work.specs.declared.answer.Answer.{Answer}
 use Rattle.stmflash.specs.JournalTasks.{TellsKept}

@@ -1,5 +1,5 @@
 use Rattle.std.proofs.Common.{◌≡◌, length}
-use Rattle.stm_wire.specs.Exchange.{is_listed, two_byte_numbers}
+use Rattle.stm_wire.proofs.Names.{is_listed, two_byte_numbers}
 use Rattle.stmflash.proofs.protections.has_pair.Given as goal
 
 abbrev pub invariant-loop-rest : goal.invariant-loop-rest

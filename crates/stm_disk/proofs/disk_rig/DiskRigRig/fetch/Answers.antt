@@ -1,6 +1,6 @@
 -- Bytes that are fetched, or refused.
 use Rattle.std.proofs.Common.{ap}
-use Rattle.stm_wire.specs.Call.{Fetch}
+use Rattle.stm_wire.proofs.Names.{Fetch}
 use Rattle.stm_disk.specs.DiskRig.{disk_of}
 use Rattle.stm_disk.proofs.OnDisk.{fetch_done, fetch_refused, crashes_kept, failed}
 use Rattle.stm_disk.proofs.disk_rig.DiskRigRig.fetch.Goals as goal

@@ -1,6 +1,6 @@
 -- A byte that is taken, or refused.
 use Rattle.std.proofs.Common.{ap, refl, None}
-use Rattle.stm_wire.specs.Call.{Get}
+use Rattle.stm_wire.proofs.Names.{Get}
 use Rattle.stm_disk.specs.DiskRig.{DiskState, disk_of}
 use Rattle.stm_disk.proofs.OnDisk.{get_done, get_refused, crashes_kept}
 use Rattle.stm_disk.proofs.disk_rig.DiskRigRig.get.Goals as goal

@@ -1,6 +1,6 @@
 -- A byte that is put, or refused.
 use Rattle.std.proofs.Common.{ap, refl}
-use Rattle.stm_wire.specs.Call.{Put}
+use Rattle.stm_wire.proofs.Names.{Put}
 use Rattle.stm_disk.specs.DiskRig.{DiskState, disk_of}
 use Rattle.stm_disk.proofs.OnDisk.{put_done, put_refused, crashes_kept}
 use Rattle.stm_disk.proofs.disk_rig.DiskRigRig.put.Goals as goal

@@ -1,7 +1,6 @@
 use Rattle.std.proofs.Common.{◌≡◌, ℕ, List, Option, Some, sym, ◌∙◌, ap, ap₂}
 use Rattle.std.specs.Prelude.{option_map}
-use Rattle.stm_wire.specs.Chip.{ChipData}
-use Rattle.stm_wire.specs.Device.{Device, Phase}
+use Rattle.stm_wire.proofs.Names.{ChipData, Device, Phase}
 use Rattle.stm_files.specs.declared.standing.Standing.{Standing}
 use Rattle.stm_files.specs.SimulatorFile.{simulator_at}
 use Rattle.stm_files.specs.Standing.{standing_line, phase_from, standing_phase, standing_of}

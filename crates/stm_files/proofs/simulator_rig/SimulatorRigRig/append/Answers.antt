@@ -1,6 +1,6 @@
 use Rattle.std.proofs.Common.{◌≡◌, ◌⊎◌, inl, inr, ◌∙◌, Err, subst, rules}
 use Rattle.stm_wire.specs.declared.fault.RigFault.TheVariants.{File}
-use Rattle.stm_wire.specs.Rig.{RecordsAppend}
+use Rattle.stm_wire.proofs.Names.{RecordsAppend}
 use Rattle.stm_files.specs.SimulatorRig.{SimulatorState, AppendsToBoth, simulator_rig_state}
 use Rattle.stm_files.specs.lemmas.SimulatorRigLaws.{appended, append_recorded, refused_at_once}
 use Rattle.stm_files.proofs.Growing.{taken, failed, to_file}

@@ -1,6 +1,6 @@
 use Rattle.std.proofs.Common.{subst}
 use Rattle.stm_sim.specs.Memory.{IsMemory, rig_state}
-use Rattle.stm_wire.specs.Rig.{GetsHonestly}
+use Rattle.stm_wire.proofs.Names.{GetsHonestly}
 use Rattle.stm_files.specs.SimulatorRig.{SimulatorState, simulator_rig_state}
 use Rattle.stm_files.specs.lemmas.SimulatorRigLaws.{counted, gets}
 use Rattle.stm_files.proofs.simulator_rig.SimulatorRigRig.get.Goals as goal

@@ -1,12 +1,10 @@
 use Rattle.std.proofs.Common.{◌∙◌, []}
 use Rattle.std.proofs.lemmas.Result.{on_ok_weaker}
-use Rattle.stm_journal.specs.InMemory.{filled}
+use Rattle.stm_journal.proofs.Names.{allows, Entry, filled}
 use Rattle.stm_journal.proofs.Appending.{Appends-added}
 use Rattle.stm_journal.proofs.InTexts.{InText-added}
 use Rattle.stm_journal.proofs.Ties.{AllAllowed-one}
-use Rattle.stm_journal.specs.States.{allows}
 use Rattle.std.proofs.Common.{sym, subst, IsTrue}
-use Rattle.stm_journal.specs.declared.entry.Entry.{Entry}
 use Rattle.stm_journal.proofs.journal.Journal.add.Goals as goal
 
 pub returns-clause-honest : goal.returns-clause-honest

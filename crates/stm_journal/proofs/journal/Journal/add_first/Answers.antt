@@ -1,6 +1,6 @@
 use Rattle.std.proofs.Common.{◌∙◌, ◌∷◌, [], arith}
 use Rattle.stm_journal.specs.declared.entry.Entry.TheVariants.{Names, Opens}
-use Rattle.stm_journal.specs.Journals.{version_for}
+use Rattle.stm_journal.proofs.Names.{version_for}
 use Rattle.stm_journal.proofs.Appending.{Appends-added}
 use Rattle.std.proofs.lemmas.Result.{on_ok_weaker}
 use Rattle.stm_journal.proofs.InTexts.{InText-first}

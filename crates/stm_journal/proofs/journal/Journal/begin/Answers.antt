@@ -1,8 +1,6 @@
 use Rattle.std.proofs.Common.{List, subst, sym, ap, Err, Ok, ℕ, ◌+◌, ◌∷◌, [], ◌∙◌, arith, length}
 use Rattle.std.proofs.lemmas.Result.{err_from_is_err_and}
-use Rattle.stm_journal.specs.declared.entry.Entry.{Entry}
-use Rattle.stm_journal.specs.Journals.{Loaded, first_entries}
-use Rattle.stm_journal.specs.Calls.{Appends}
+use Rattle.stm_journal.proofs.Names.{Appends, Entry, first_entries, Loaded}
 use Rattle.stm_journal.proofs.InTexts.{InText-opened}
 use Rattle.stm_journal.proofs.Appending.{Appends-ok, Appends-err}
 use Rattle.stm_journal.specs.declared.entry.Entry.TheVariants.{Opens}

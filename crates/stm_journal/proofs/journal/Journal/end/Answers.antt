@@ -1,7 +1,6 @@
 use Rattle.std.proofs.Common.{sym, subst}
 use Rattle.std.proofs.lemmas.Result.{on_ok_weaker}
-use Rattle.stm_journal.specs.Journals.{Loaded}
-use Rattle.stm_journal.specs.Newest.{HasEnded}
+use Rattle.stm_journal.proofs.Names.{HasEnded, Loaded}
 use Rattle.stm_journal.proofs.AfterCalls.{HasEnded-after}
 use Rattle.stm_journal.proofs.journal.Journal.end.Goals as goal
 

@@ -1,7 +1,5 @@
 use Rattle.std.proofs.Common.{◌≤◌, ◌-◌, ◌^◌, ◌++◌, ℕ, List, length, true, sym, subst, arith}
-use Rattle.stm_journal.specs.Greetings.{greeting_line}
-use Rattle.stm_journal.specs.GreetingCalls.{loaded_greeted}
-use Rattle.stm_journal.specs.Journals.{Loaded, IsLoaded}
+use Rattle.stm_journal.proofs.Names.{greeting_line, IsLoaded, Loaded, loaded_greeted}
 use Rattle.stm_journal.proofs.Greeting.{pass-greeting, greeted-as, same-state, whole-of}
 use Rattle.stm_journal.proofs.journal.Journal.greet.Goals as goal
 

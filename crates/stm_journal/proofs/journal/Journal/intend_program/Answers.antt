@@ -1,8 +1,7 @@
 use Rattle.std.proofs.Common.{sym, subst}
 use Rattle.std.proofs.lemmas.Result.{on_ok_weaker}
 use Rattle.stm_wire.specs.declared.intent.Intent.TheVariants.{Program}
-use Rattle.stm_journal.specs.Journals.{Loaded}
-use Rattle.stm_journal.specs.Newest.{HasIntended}
+use Rattle.stm_journal.proofs.Names.{HasIntended, Loaded}
 use Rattle.stm_journal.proofs.AfterCalls.{HasIntended-program}
 use Rattle.stm_journal.proofs.journal.Journal.intend_program.Goals as goal
 

@@ -1,9 +1,7 @@
 use Rattle.std.proofs.Common.{sym, subst}
 use Rattle.std.proofs.lemmas.Result.{on_ok_weaker}
 use Rattle.std.proofs.Common.{length}
-use Rattle.stm_journal.specs.Blank.{blank}
-use Rattle.stm_journal.specs.Journals.{Loaded}
-use Rattle.stm_journal.specs.Newest.{HasKept}
+use Rattle.stm_journal.proofs.Names.{blank, HasKept, Loaded}
 use Rattle.stm_journal.proofs.AfterCalls.{HasKept-after}
 use Rattle.stm_journal.proofs.journal.Journal.keep_page.Goals as goal
 

@@ -1,6 +1,5 @@
 use Rattle.std.proofs.Common.{ap, ◌∙◌}
-use Rattle.stm_journal.specs.Journals.{Loaded}
-use Rattle.stm_journal.specs.KeptPlaces.{page_place}
+use Rattle.stm_journal.proofs.Names.{Loaded, page_place}
 use Rattle.stm_journal.proofs.Kepts.{page-is-kept}
 use Rattle.stm_journal.proofs.journal.Journal.page.Goals as goal
 

@@ -1,6 +1,5 @@
 use Rattle.std.proofs.Common.{◌∙◌, ap, arith}
-use Rattle.stm_journal.specs.InMemory.{filled}
-use Rattle.stm_journal.specs.Journals.{Loaded}
+use Rattle.stm_journal.proofs.Names.{filled, Loaded}
 use Rattle.stm_journal.proofs.Preparing.{prepared}
 use Rattle.stm_journal.proofs.journal.Journal.prepare.Goals as goal
 

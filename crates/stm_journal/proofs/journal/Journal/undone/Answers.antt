@@ -1,8 +1,6 @@
 use Rattle.std.proofs.Common.{sym, subst}
 use Rattle.std.proofs.lemmas.Result.{on_ok_weaker}
-use Rattle.stm_journal.specs.States.{IsSound}
-use Rattle.stm_journal.specs.Journals.{Loaded}
-use Rattle.stm_journal.specs.Newest.{HasUndone}
+use Rattle.stm_journal.proofs.Names.{HasUndone, IsSound, Loaded}
 use Rattle.stm_journal.proofs.AfterCalls.{HasUndone-after}
 use Rattle.stm_journal.proofs.journal.Journal.undone.Goals as goal
 

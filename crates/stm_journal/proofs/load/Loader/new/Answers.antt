@@ -1,8 +1,5 @@
 use Rattle.std.proofs.Common.{sym, subst, refl, []}
-use Rattle.stm_journal.specs.Journals.{Loaded, empty_loaded}
-use Rattle.stm_journal.specs.States.{empty_state}
-use Rattle.stm_journal.specs.Summary.{Summary}
-use Rattle.stm_journal.specs.Loading.{IsRead}
+use Rattle.stm_journal.proofs.Names.{empty_loaded, empty_state, IsRead, Loaded, Summary}
 use Rattle.stm_journal.proofs.load.Loader.new.Goals as goal
 
 pub returns : goal.returns

@@ -2,8 +2,7 @@ use Rattle.std.proofs.Common.{◌≡◌, ◌≤◌, ◌<◌, ◌^◌, ◌+◌, �
 use Rattle.std.specs.List.{position}
 use Rattle.std.proofs.lemmas.List.{length-take-le}
 use Rattle.std.proofs.lemmas.Result.{err_from_is_err_and}
-use Rattle.stm_journal.specs.Text.{HasNoLF}
-use Rattle.stm_journal.specs.Loading.{IsRead}
+use Rattle.stm_journal.proofs.Names.{HasNoLF, IsRead}
 use Rattle.stm_journal.proofs.Loads.{TakesBytes-join, TakesBytes-same, StopsAt-part}
 use Rattle.stm_journal.proofs.FirstLF.{lf-at, lf-none, line-more, rest-is, part-is}
 use Rattle.std.proofs.lemmas.List.{take-append-drop}

@@ -1,6 +1,5 @@
 use Rattle.std.proofs.Common.{◌≡◌, ◌+◌, ◌-◌, ◌<◌, ◌≤◌, ◌^◌, ◌++◌, List, ℕ, length, take}
-use Rattle.stm_journal.specs.Journals.{capped}
-use Rattle.stm_journal.specs.Loading.{IsRead}
+use Rattle.stm_journal.proofs.Names.{capped, IsRead}
 use Rattle.stm_journal.proofs.load.Loader.take.Given as goal
 
 abbrev pub invariant-loop-lf : goal.invariant-loop-lf

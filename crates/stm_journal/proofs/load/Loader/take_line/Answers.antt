@@ -1,7 +1,6 @@
 use Rattle.std.proofs.Common.{sym, subst, ◌∷◌, [], ◌++◌}
 use Rattle.std.proofs.lemmas.Result.{err_from_is_err_and}
-use Rattle.stm_journal.specs.Summary.{Summary}
-use Rattle.stm_journal.specs.Loading.{IsRead}
+use Rattle.stm_journal.proofs.Names.{IsRead, Summary}
 use Rattle.stm_journal.proofs.Loads.{IsRead-line, StopsAt-line}
 use Rattle.stm_journal.proofs.load.Loader.take_line.Goals as goal
 

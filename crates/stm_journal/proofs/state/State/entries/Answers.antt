@@ -1,8 +1,6 @@
 use Rattle.std.proofs.Common.{◌+◌, ℕ, List, length, Option, ap, ap₂, sym, ◌∙◌}
 use Rattle.std.specs.Prelude.{sum_by}
-use Rattle.stm_journal.specs.States.{StateData, SegmentData, stack_of}
-use Rattle.stm_journal.specs.KeptPlaces.{entries_of}
-use Rattle.stm_journal.specs.Journals.{capped}
+use Rattle.stm_journal.proofs.Names.{capped, entries_of, SegmentData, stack_of, StateData}
 use Rattle.stm_journal.proofs.Kepts.{entries-stack}
 use Rattle.stm_journal.proofs.state.State.entries.Goals as goal
 

@@ -1,7 +1,6 @@
 use Rattle.std.proofs.Common.{rules, arith, ◌≡◌, List, [], refl, sym, ◌∙◌, ap}
 use Rattle.stm_sim.specs.declared.past.PastStep.{PastStep}
-use Rattle.stm_wire.specs.Chip.{page_size}
-use Rattle.stm_wire.specs.Device.{Device}
+use Rattle.stm_wire.proofs.Names.{Device, page_size}
 use Rattle.stm_sim.specs.Memory.{MemoryData}
 use Rattle.stm_sim.proofs.PowerLosses.{powered-outside}
 use Rattle.stm_sim.proofs.memory_rig.MemoryRig.lose_power.Goals as goal

@@ -4,7 +4,7 @@ use Rattle.stm_wire.specs.declared.rig.RigCall.{RigCall}
 use Rattle.stm_sim.specs.declared.past.PastStep.{PastStep}
 use Rattle.stm_wire.specs.declared.rig.RigCall.TheVariants.{Get}
 use Rattle.stm_sim.specs.declared.past.PastStep.TheVariants.{Taken, Nothing}
-use Rattle.stm_wire.specs.Device.{Device}
+use Rattle.stm_wire.proofs.Names.{Device}
 use Rattle.stm_sim.specs.Memory.{MemoryData, memory_of, first_device, GetsFrom}
 use Rattle.stm_sim.specs.lemmas.Past.{keeps-quiet, taken-step, taken-rest, taken-first, taken-device, is-with_call}
 use Rattle.stm_sim.proofs.memory_rig.MemoryRig.try_get.Goals as goal

@@ -1,6 +1,5 @@
 use Rattle.std.proofs.Common.{◌≡◌, length, drop}
-use Rattle.stm_wire.specs.Chip.{flash_size}
-use Rattle.stm_wire.specs.Effect.{erased_pages}
+use Rattle.stm_wire.proofs.Names.{erased_pages, flash_size}
 use Rattle.stm_sim.proofs.simulator.effect.erase_bytes.Given as goal
 
 abbrev pub invariant-loop-page : goal.invariant-loop-page

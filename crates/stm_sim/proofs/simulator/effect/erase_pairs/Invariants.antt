@@ -1,7 +1,5 @@
 use Rattle.std.proofs.Common.{◌≡◌, length}
-use Rattle.stm_wire.specs.Chip.{flash_size}
-use Rattle.stm_wire.specs.Exchange.{two_byte_numbers}
-use Rattle.stm_wire.specs.Effect.{erased_pages}
+use Rattle.stm_wire.proofs.Names.{erased_pages, flash_size, two_byte_numbers}
 use Rattle.stm_sim.proofs.simulator.effect.erase_pairs.Given as goal
 
 abbrev pub invariant-loop-rest : goal.invariant-loop-rest

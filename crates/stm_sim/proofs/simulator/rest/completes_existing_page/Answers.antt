@@ -1,5 +1,5 @@
 use Rattle.std.proofs.Common.{◌≡◌, ◌%◌, ◌*◌, ◌+◌, ◌∙◌, ◌&&◌, sym, ap₂, nat_lt, arith, length}
-use Rattle.stm_wire.specs.Exchange.{all_exist, two_byte_numbers}
+use Rattle.stm_wire.proofs.Names.{all_exist, two_byte_numbers}
 use Rattle.stm_sim.proofs.NamedPages.{first_exists, second_exists}
 use Rattle.stm_sim.proofs.simulator.rest.completes_existing_page.Goals as goal
 

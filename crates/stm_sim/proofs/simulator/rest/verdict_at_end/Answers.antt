@@ -1,6 +1,5 @@
 use Rattle.std.proofs.Common.{◌≡◌, ℕ, ◌+◌, ◌*◌, ap, ap₂, ◌∙◌, arith, rules, eqb, ◌&&◌, Some, length, get_or, length-take, length-drop}
-use Rattle.stm_wire.specs.Chip.{fits_inside}
-use Rattle.stm_wire.specs.Exchange.{done_if, number_of, pair_of}
+use Rattle.stm_wire.proofs.Names.{done_if, fits_inside, number_of, pair_of}
 use Rattle.stm_sim.proofs.Checks.{write_at_end, list_at_end, pairs_at_end}
 use Rattle.stm_sim.proofs.simulator.rest.verdict_at_end.Goals as goal
 

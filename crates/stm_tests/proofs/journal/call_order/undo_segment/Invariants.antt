@@ -1,4 +1,4 @@
-use Rattle.stm_journal.specs.Newest.{KeepsSame}
+use Rattle.stm_journal.proofs.Names.{KeepsSame}
 use Rattle.stm_tests.proofs.journal.call_order.undo_segment.Given as goal
 
 abbrev pub invariant-loop-i : goal.invariant-loop-i

@@ -1,6 +1,5 @@
 use Rattle.std.proofs.Common.{ℕ, ◌<◌, ◌≤◌, IsTrue, length, get_or}
-use Rattle.stm_journal.specs.States.{newest_is_open}
-use Rattle.stm_journal.specs.Newest.{next_page}
+use Rattle.stm_journal.proofs.Names.{newest_is_open, next_page}
 use Rattle.stm_tests.proofs.journal.call_order.write_pages.Given as goal
 
 abbrev pub invariant-loop-n : goal.invariant-loop-n

@@ -1,5 +1,5 @@
 use Rattle.std.proofs.Common.{List, ℕ, sym, subst, arith}
-use Rattle.stm_wire.specs.Effect.{change_of}
+use Rattle.stm_wire.proofs.Names.{change_of}
 use Rattle.stm_sim.specs.Simulator.{Fits}
 use Rattle.stm_sim.specs.lemmas.SimulatedChange.{done-change-fits}
 use Rattle.stm_watch.specs.Known.{Known}

@@ -1,6 +1,6 @@
 -- The pages so far lie inside, and so many bytes are left for the others.
 use Rattle.std.proofs.Common.{◌≡◌, ◌+◌, drop}
-use Rattle.stm_wire.specs.Cut.{pages_within}
+use Rattle.stm_wire.proofs.Names.{pages_within}
 use Rattle.stm_wire.proofs.chip.cut.pages_within.Given as goal
 
 abbrev pub invariant-loop-size : goal.invariant-loop-size

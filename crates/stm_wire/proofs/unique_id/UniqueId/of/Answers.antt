@@ -1,5 +1,5 @@
 use Rattle.std.proofs.Common.{length, sym, subst, List, ℕ, ◌++◌, drop, replicate}
-use Rattle.stm_wire.specs.UniqueIdFields.{AreFields}
+use Rattle.stm_wire.proofs.Names.{AreFields}
 use Rattle.stm_wire.proofs.UniqueIds.{held-fields}
 use Rattle.stm_wire.proofs.unique_id.UniqueId.of.Goals as goal
 

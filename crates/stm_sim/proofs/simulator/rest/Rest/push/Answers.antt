@@ -1,8 +1,7 @@
 use Rattle.std.proofs.Common.{◌≡◌, ℕ, ◌-◌, ◌++◌, ◌∷◌, [], ◌∙◌, ◌&&◌, ap, arith, append_assoc, bit_xor, Bool, List, None, refl, sym, subst}
 use Rattle.std.proofs.lemmas.List.Sums.{fold_push}
 use Rattle.stm_sim.specs.declared.simulator.rest.Rest.{Rest}
-use Rattle.stm_wire.specs.Chip.{ChipData}
-use Rattle.stm_wire.specs.Exchange.{all_exist, verdict}
+use Rattle.stm_wire.proofs.Names.{all_exist, ChipData, verdict}
 use Rattle.stm_sim.specs.Rest.{IsAwaiting, IsCurrent, named_pages}
 use Rattle.stm_sim.specs.lemmas.SimulatedDevice.{open-more}
 use Rattle.stm_sim.proofs.simulator.rest.Rest.push.Goals as goal
