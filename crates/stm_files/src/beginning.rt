@@ -249,6 +249,11 @@ pub fn is_no_journal<S: Read>(source: &mut S) -> io::Result<bool>
     Err(io::Error::from(ErrorKind::Other))
 }
 
+/// Whether bytes begin with the word of a journal's header.
+pub fn has_header_word(bytes: &[u8]) -> bool {
+    bytes.starts_with(WORD)
+}
+
 /// Refuses such a file.
 pub fn refuse_other<S: Read>(source: &mut S) -> Result<(), Unusable>
     ensures { OnOk result (IfSome (S.remaining source.old) (λ told. is_no_journal told ≡ false)) }

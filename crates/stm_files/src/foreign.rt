@@ -10,6 +10,12 @@ pub enum Foreign {
     Elf,
     /// Motorola's S-records.
     SRecord,
+    /// Blocks for a drive that a bootloader shows on USB.
+    Uf2,
+    /// A file for ST's bootloader on USB.
+    DfuSe,
+    /// HEX or S-records of two bytes a character, behind the mark of that.
+    Utf16,
     /// HEX behind the bytes EF BB BF.
     HexBehindMark,
     /// HEX behind a space or a tab.
@@ -25,6 +31,9 @@ impl Display for Foreign {
         f.write_str(match self {
             Foreign::Elf => "ELF",
             Foreign::SRecord => "S-record",
+            Foreign::Uf2 => "UF2",
+            Foreign::DfuSe => "DfuSe",
+            Foreign::Utf16 => "text in UTF-16",
             Foreign::HexBehindMark => "HEX behind a byte order mark",
             Foreign::HexBehindBlank => "HEX behind a blank",
             Foreign::HexBehindLineEnd => "HEX behind a line end",
@@ -40,6 +49,15 @@ pub fn foreign_form(bytes: &[u8]) -> Option<Foreign> {
     }
     if is_record(bytes, b'S', 1) {
         return Some(Foreign::SRecord);
+    }
+    if bytes.starts_with(b"UF2\nWQ]\x9E") {
+        return Some(Foreign::Uf2);
+    }
+    if bytes.starts_with(b"DfuSe") {
+        return Some(Foreign::DfuSe);
+    }
+    if let [0xFF, 0xFE, b':' | b'S', 0, ..] | [0xFE, 0xFF, 0, b':' | b'S', ..] = bytes {
+        return Some(Foreign::Utf16);
     }
     let hex = hex_behind(bytes)?;
     is_record(behind(bytes), b':', 8).then_some(hex)

@@ -54,7 +54,7 @@ mod turn;
 mod turns;
 mod unusable;
 
-pub use beginning::is_no_journal;
+pub use beginning::{has_header_word, is_no_journal};
 pub use begun::{Begun, Note, Noting, add_image_line, begun_lines};
 pub use board_name::BoardName;
 pub use bound_socket::BoundSocket;

@@ -10,7 +10,8 @@ use std::io::ErrorKind;
 use std::os::unix::fs::MetadataExt;
 use std::path::Path;
 use stm_files::{
-    Locks, Shown, SimulatorNames, Source, doubt_at, is_handed, is_same_file, try_beside,
+    Locks, Shown, SimulatorNames, Source, doubt_at, has_header_word, is_handed, is_same_file,
+    try_beside,
 };
 use stm_words::{Device, Options, TableNames, Task};
 use stm_work::Failure;
@@ -22,9 +23,6 @@ const STANDARD: &str = "-";
 const OUT: &str = "/dev/stdout";
 
 const ERR: &str = "/dev/stderr";
-
-/// How a journal's first line begins.
-const JOURNAL: &[u8; 11] = b"stmjournal ";
 
 /// The files that the words of one use name.
 #[derive(Drop)]
@@ -227,7 +225,7 @@ fn is_journal<R: Files>(rt: &R, name: &str) -> bool {
     let mut begins = [0; 11];
     match Shown::open(rt, name) {
         Ok(mut shown) => match shown.fetch(0, &mut begins) {
-            Ok(_) => begins == *JOURNAL,
+            Ok(_) => has_header_word(&begins),
             Err(_) => false,
         },
         Err(_) => false,
