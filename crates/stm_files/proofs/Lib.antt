@@ -1,3 +1,4 @@
+mod Walks
 pub mod Beginnings
 mod BoardDigits
 pub mod Damages

@@ -1,6 +1,8 @@
 pub mod BatchWait
 pub mod Beginning
 pub mod Begun
+pub mod CallRecord
+pub mod Called
 pub mod Checking
 pub mod Crc
 pub mod Cutting

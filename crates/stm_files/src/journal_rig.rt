@@ -49,9 +49,9 @@ impl<S: Source + Drop> JournalRig<S> {
 }
 
 impl<S: Source + Drop> Rig for JournalRig<S> {
-    ghost use Rattle.stm_files.specs.SocketRig.{socket_rig_state};
+    ghost use Rattle.stm_files.specs.SocketRig.{journal_rig_state};
 
-    ghost view = { socket_rig_state };
+    ghost view = { journal_rig_state };
 
     ghost model = { λ rig honest. absurd honest };
 

@@ -7,6 +7,7 @@ mod beginning;
 mod begun;
 mod board_name;
 mod bound_socket;
+mod call_record;
 mod checking;
 pub mod crc;
 mod cut_text;

@@ -1,9 +1,11 @@
 // A device behind a socket, and a journal kept in a file.
-ghost use Rattle.std.specs.Prelude.{◌≡◌, ◌<◌, ◌-◌, ◌^◌, IfOk, OnOk, MatchResult, Err, Ok, length, false, true};
+ghost use Rattle.std.specs.Prelude.{◌≡◌, ◌<◌, ◌-◌, ◌^◌, IfOk, OnOk, MatchResult, Err, Ok, false, true};
+ghost use Rattle.std.specs.Prelude.{length, refl};
 ghost use Rattle.std.specs.Io.KnownBytes.{IsAtEnd};
 ghost use Rattle.stm_journal.specs.States.{is_unfinished};
+ghost use Rattle.stm_files.specs.CallRecord.{no_calls};
 ghost use Rattle.stm_files.specs.JournalFile.{AppendsIfTaken, IsNoted};
-ghost use Rattle.stm_files.specs.SocketRig.{SocketState, socket_rig_state};
+ghost use Rattle.stm_files.specs.SocketRig.{SocketState, socket_state};
 ghost use Rattle.stm_files.specs.SocketLine.{PutsOnLine, ReadsNothing, SendsAll, TakesFromLine};
 ghost use Rattle.stm_wire.specs.Call.{Put, Fetch};
 ghost use Rattle.stm_wire.specs.Rig.{AppendsHonestly, Enters, EntersAppend, FetchesAside};
@@ -11,6 +13,7 @@ ghost use Rattle.stm_wire.specs.Rig.{FetchesHonestly};
 ghost use Rattle.stm_wire.specs.Rig.{FetchesWithin, GetsAside, GetsHonestly, HasCause};
 ghost use Rattle.stm_wire.specs.Rig.{PutsAside, PutsHonestly, Records, RecordsAppend, entry_of_get};
 
+use crate::call_record::{CallRecord, Called};
 use crate::file_fault::FileFault;
 use crate::journal_file::JournalFile;
 use crate::locks::Locks;
@@ -28,6 +31,7 @@ pub struct SocketRig<'a, S: Timed, R: Locks> {
     file: JournalFile<'a, R>,
     line_failures: u64,
     journal_failures: u64,
+    record: CallRecord,
 }
 
 impl<'a, S: Timed, R: Locks> Model for SocketRig<'a, S, R> {
@@ -37,6 +41,7 @@ impl<'a, S: Timed, R: Locks> Model for SocketRig<'a, S, R> {
       failures = record { line = rig.line_failures; journal = rig.journal_failures };
       line = rig.line;
       file = rig.file;
+      past = rig.record.past;
     } };
 }
 
@@ -45,12 +50,14 @@ impl<'a, S: Timed + Drop, R: Locks + Clock + AllocGlobal> SocketRig<'a, S, R> {
     pub fn new(line: SocketLine<'a, S, R>, file: JournalFile<'a, R>) -> SocketRig<'a, S, R>
         ensures line { result.line ≡ line.entry }
         ensures file { result.file ≡ file.entry }
+        ensures past { result.past ≡ no_calls }
     {
         SocketRig {
             line,
             file,
             line_failures: 0,
             journal_failures: 0,
+            record: CallRecord::new(),
         }
     }
 
@@ -71,7 +78,8 @@ impl<'a, S: Timed + Drop, R: Locks + Clock + AllocGlobal> SocketRig<'a, S, R> {
         to: Option<&'w str>,
     ) -> Result<(), FileFault<'w>>
         requires finished { is_unfinished journal.now.state ≡ false }
-        ensures { self.new.failures ≡ self.old.failures }
+        ensures count { self.new.failures ≡ self.old.failures }
+        ensures past { self.new.past ≡ self.old.past }
     {
         self.file.end(journal, name, to)
     }
@@ -93,6 +101,7 @@ impl<'a, S: Timed + Drop, R: Locks + Clock + AllocGlobal> SocketRig<'a, S, R> {
         ensures journal { self.new.failures.journal ≡ self.old.failures.journal }
         ensures file { self.new.file ≡ self.old.file }
         ensures socket { self.new.line ≡ self.old.line }
+        ensures past { self.new.past ≡ self.old.past }
     {
         if answer.is_err() {
             self.line_failures = self.line_failures.saturating_add(1);
@@ -107,6 +116,7 @@ impl<'a, S: Timed + Drop, R: Locks + Clock + AllocGlobal> SocketRig<'a, S, R> {
         ensures cause { HasCause self.old.failures.line self.new.failures.line result }
         ensures journal { self.new.failures.journal ≡ self.old.failures.journal }
         ensures file { self.new.file ≡ self.old.file }
+        ensures past { self.new.past ≡ self.old.past }
         ensures from_line { IfOk result (λ answer. TakesFromLine answer
             self.old.line self.new.line) }
     {
@@ -117,6 +127,7 @@ impl<'a, S: Timed + Drop, R: Locks + Clock + AllocGlobal> SocketRig<'a, S, R> {
     /// Adds void lines to the journal's file, which no session asked for.
     pub fn note(&mut self, lines: &[u8])
         ensures count { self.new.failures ≡ self.old.failures }
+        ensures past { self.new.past ≡ self.old.past }
         ensures in_file { IsNoted lines.now self.old.file self.new.file }
     {
         self.file.note(lines);
@@ -125,6 +136,7 @@ impl<'a, S: Timed + Drop, R: Locks + Clock + AllocGlobal> SocketRig<'a, S, R> {
     /// Adds nothing more to the journal, as after an append that failed.
     pub fn give_up_journal(&mut self)
         ensures count { self.new.failures ≡ self.old.failures }
+        ensures past { self.new.past ≡ self.old.past }
         ensures failed { self.new.file.has_failed ≡ true }
     {
         self.file.give_up();
@@ -137,6 +149,7 @@ impl<'a, S: Timed + Drop, R: Locks + Clock + AllocGlobal> SocketRig<'a, S, R> {
         ensures line { self.new.failures.line ≡ self.old.failures.line }
         ensures file { self.new.file ≡ self.old.file }
         ensures socket { self.new.line ≡ self.old.line }
+        ensures past { self.new.past ≡ self.old.past }
     {
         if answer.is_err() {
             self.journal_failures = self.journal_failures.saturating_add(1);
@@ -146,28 +159,26 @@ impl<'a, S: Timed + Drop, R: Locks + Clock + AllocGlobal> SocketRig<'a, S, R> {
 }
 
 impl<'a, S: Timed + Drop, R: Locks + Clock + AllocGlobal> Rig for SocketRig<'a, S, R> {
-    ghost view = { λ rig. socket_rig_state rig.failures };
+    ghost view = { socket_state };
 
     ghost model = { λ rig honest. absurd honest };
 
-    ghost places = { λ rig. tt };
+    ghost places = { λ rig. refl };
 
     fn put(&mut self, byte: u8) -> Result<(), RigFault>
         ensures cause { HasCause self.old.failures.line self.new.failures.line result }
         ensures journal_count { self.new.failures.journal ≡ self.old.failures.journal }
         ensures recorded { Records (Put byte) result
-            (socket_rig_state self.old.failures).calls (socket_rig_state self.new.failures).calls }
-        ensures entered { Enters (Put byte)
-            (socket_rig_state self.old.failures) (socket_rig_state self.new.failures) }
-        ensures aside { PutsAside
-            (socket_rig_state self.old.failures) (socket_rig_state self.new.failures) }
-        ensures honest { (socket_rig_state self.old.failures).is_honest
-            → PutsHonestly byte result
-            (socket_rig_state self.old.failures) (socket_rig_state self.new.failures) }
+            (socket_state self.old).calls (socket_state self.new).calls }
+        ensures entered { Enters (Put byte) (socket_state self.old) (socket_state self.new) }
+        ensures aside { PutsAside (socket_state self.old) (socket_state self.new) }
+        ensures honest { (socket_state self.old).is_honest
+            → PutsHonestly byte result (socket_state self.old) (socket_state self.new) }
         ensures on_line { OnOk result (PutsOnLine byte self.old.line self.new.line) }
         ensures file { self.new.file ≡ self.old.file }
     {
         let answer = as_line_fault(self.line.put(byte));
+        self.record = self.record.then(&Called::Put(byte));
         self.count_line(answer)
     }
 
@@ -176,37 +187,33 @@ impl<'a, S: Timed + Drop, R: Locks + Clock + AllocGlobal> Rig for SocketRig<'a, 
         ensures cause { HasCause self.old.failures.line self.new.failures.line result }
         ensures journal_count { self.new.failures.journal ≡ self.old.failures.journal }
         ensures recorded { Records (entry_of_get result) result
-            (socket_rig_state self.old.failures).calls (socket_rig_state self.new.failures).calls }
+            (socket_state self.old).calls (socket_state self.new).calls }
         ensures entered { Enters (entry_of_get result)
-            (socket_rig_state self.old.failures) (socket_rig_state self.new.failures) }
-        ensures aside { GetsAside patience
-            (socket_rig_state self.old.failures) (socket_rig_state self.new.failures) }
-        ensures honest { (socket_rig_state self.old.failures).is_honest
-            → GetsHonestly result
-            (socket_rig_state self.old.failures) (socket_rig_state self.new.failures) }
+            (socket_state self.old) (socket_state self.new) }
+        ensures aside { GetsAside patience (socket_state self.old) (socket_state self.new) }
+        ensures honest { (socket_state self.old).is_honest
+            → GetsHonestly result (socket_state self.old) (socket_state self.new) }
         ensures from_line { IfOk result (λ answer. TakesFromLine answer
             self.old.line self.new.line) }
         ensures file { self.new.file ≡ self.old.file }
     {
-        if let Some(byte) = self.line.pop(patience) {
-            return Ok(Some(byte));
-        }
-        self.take(patience)
+        let answer = match self.line.pop(patience) {
+            Some(byte) => Ok(Some(byte)),
+            None => self.take(patience),
+        };
+        self.record = self.record.then(&Called::Get(patience, answer));
+        answer
     }
 
     fn append(&mut self, bytes: &[u8]) -> Result<(), RigFault>
-        ensures cause { HasCause
-            self.old.failures.journal self.new.failures.journal result }
+        ensures cause { HasCause self.old.failures.journal self.new.failures.journal result }
         ensures line_count { self.new.failures.line ≡ self.old.failures.line }
         ensures recorded { RecordsAppend bytes.now result
-            (socket_rig_state self.old.failures).calls (socket_rig_state self.new.failures).calls }
-        ensures entered { EntersAppend bytes.now
-            (socket_rig_state self.old.failures) (socket_rig_state self.new.failures) }
-        ensures aside { PutsAside
-            (socket_rig_state self.old.failures) (socket_rig_state self.new.failures) }
-        ensures honest { (socket_rig_state self.old.failures).is_honest
-            → AppendsHonestly bytes.now result
-            (socket_rig_state self.old.failures) (socket_rig_state self.new.failures) }
+            (socket_state self.old).calls (socket_state self.new).calls }
+        ensures entered { EntersAppend bytes.now (socket_state self.old) (socket_state self.new) }
+        ensures aside { PutsAside (socket_state self.old) (socket_state self.new) }
+        ensures honest { (socket_state self.old).is_honest
+            → AppendsHonestly bytes.now result (socket_state self.old) (socket_state self.new) }
         ensures in_file { AppendsIfTaken bytes.now result self.old.file self.new.file }
         ensures sent { OnOk result (SendsAll self.old.line self.new.line) }
         ensures unread { ReadsNothing self.old.line self.new.line }
@@ -216,28 +223,27 @@ impl<'a, S: Timed + Drop, R: Locks + Clock + AllocGlobal> Rig for SocketRig<'a, 
             Ok(()) => as_fault(self.file.append(bytes)),
             Err(_) => Err(RigFault::File),
         };
+        self.record = self.record.then(&Called::Append(bytes));
         self.count_journal(answer)
     }
 
     fn fetch(&mut self, at: u64, buf: &mut [u8]) -> Result<usize, RigFault>
         ensures within { FetchesWithin at buf.old buf.new result }
-        ensures cause { HasCause
-            self.old.failures.journal self.new.failures.journal result }
+        ensures cause { HasCause self.old.failures.journal self.new.failures.journal result }
         ensures line_count { self.new.failures.line ≡ self.old.failures.line }
         ensures recorded { Records Fetch result
-            (socket_rig_state self.old.failures).calls (socket_rig_state self.new.failures).calls }
-        ensures entered { Enters Fetch
-            (socket_rig_state self.old.failures) (socket_rig_state self.new.failures) }
+            (socket_state self.old).calls (socket_state self.new).calls }
+        ensures entered { Enters Fetch (socket_state self.old) (socket_state self.new) }
         ensures aside { FetchesAside buf.new result
-            (socket_rig_state self.old.failures) (socket_rig_state self.new.failures) }
-        ensures honest { (socket_rig_state self.old.failures).is_honest
-            → FetchesHonestly at buf.old buf.new result
-            (socket_rig_state self.old.failures) (socket_rig_state self.new.failures) }
+            (socket_state self.old) (socket_state self.new) }
+        ensures honest { (socket_state self.old).is_honest
+            → FetchesHonestly at buf.old buf.new result (socket_state self.old) (socket_state self.new) }
         ensures end { at < 2 ^ 63 - 1 → 0 < length buf.old
             → IfOk result (λ n. n ≡ 0 → IsAtEnd self.new.file.ahead) }
         ensures line { self.new.line ≡ self.old.line }
     {
         let answer = as_fault(self.file.fetch(at, buf));
+        self.record = self.record.then(&Called::Fetch(buf, answer));
         self.count_journal(answer)
     }
 }
