@@ -14,6 +14,8 @@ import re
 TOP = os.path.dirname(os.path.dirname(os.path.dirname(os.path.abspath(__file__))))
 HEAD = re.compile(r"^( *)(?:pub(?:\([a-z]+\))? )?fn (\w+)")
 OPENS = re.compile(r"^ *(?:(?:\} )?else(?: if .*)?|if .*|for .*|while .*|loop|.* =>|let .* else) \{$")
+# what proofs alone read
+UNRUN = re.compile(r"ghost |\.record\.then\(")
 STATEMENT = re.compile(r"^ +(?!let (?!_ = )|return\b|break|continue|if |match |for |while |loop|use |const |static |ghost |[})\]])[\w*&(]")
 NUMBER = re.compile(r"(?<![\w.'\"])(\d[\d_]*?|0x[0-9A-Fa-f_]+?)(_?[ui](?:8|16|32|64|size))?(?![\w.'\"]|\.\d)")
 BOOL = re.compile(r"(?<![\w.])(true|false)(?!\w)")
@@ -159,7 +161,7 @@ def slips(text):
             continue
         if early(answer) and end - begun > 1:
             yield starts[begun], starts[begun], f"    if @on {{\n    {early(answer)}\n    }}\n", "it ends at once", f"{name}#{counts[name] - len(set(inside.values())) + 1}"
-        found = list(statements(lines, plain, begun, end))
+        found = [it for it in statements(lines, plain, begun, end) if not UNRUN.search(lines[it[0]])]
         yield from ((*it, inside[at]) for at, it in of_arms(lines, plain, starts, begun, end))
         answered = plain[end - 1].strip()
         if early(answer) and re.match(r"^[\w!.]+\(", answered) and answered.endswith(")") and not answered.startswith(("Ok(", "Err(", "Some(")):
@@ -176,7 +178,7 @@ def slips(text):
                     f"`{other.strip()}` before `{one.strip()}`", inside[first]
         for at in range(begun, end):
             line = plain[at]
-            if "ghost " in line or line.lstrip().startswith(("const ", "static ", "#[", "use ")):
+            if UNRUN.search(line) or line.lstrip().startswith(("const ", "static ", "#[", "use ")):
                 continue
             yield from ((*it, inside[at]) for it in of_line(line, lines[at], starts[at], answer == "bool" and at == end - 1, limits))
             yield from ((*it, inside[at]) for it in of_whole(line, lines[at], starts[at]))
