@@ -128,7 +128,7 @@ def count_of_pages(asked, value):
 
 
 def take_range(asked, value):
-    if asked.page is not None or asked.pages is not None:
+    if asked.page or asked.pages:
         raise Fault(PAGES_OR_ADDRESS)
     address, colon, length = value.partition(":")
     asked.address = number(address) if address or not colon else None
