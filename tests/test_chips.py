@@ -102,21 +102,17 @@ class Chips(Served):
         for number, chip in CHIPS.items():
             notes = " ".join(chip.get("notes", ()))
             with self.subTest(chip=number):
-                self.assertEqual("words of 8 bytes" in notes, number in EIGHT)
-                self.assertEqual("words of 16 bytes" in notes, number in ("0480", "0482"))
-                self.assertEqual("words of 32 bytes" in notes, number in ("0450", "0483"))
-                self.assertEqual("second bank" in notes, number in BANKS)
+                for note, those in (("words of 8 bytes", EIGHT), ("words of 16 bytes", ("0480", "0482")), ("words of 32 bytes", ("0450", "0483")), ("second bank", BANKS)):
+                    self.assertEqual(note in notes, number in those, note)
 
     def test_each_says_whence_it_knows_where_its_board_is_told(self):
         for number, chip in CHIPS.items():
             notes = chip.get("notes", ())
             with self.subTest(chip=number):
-                self.assertEqual("size_at" in chip, any(note in SIZE_AT for note in notes))
-                self.assertEqual("unique" in chip, any(note in UNIQUE for note in notes))
+                self.assertEqual(["size_at" in chip, "unique" in chip], [any(note in those for note in notes) for those in (SIZE_AT, UNIQUE)])
                 # the pages of a smaller part may not be the first ones
                 self.assertFalse("size_at" in chip and number in BANKS)
-        self.assertEqual(sum("size_at" in chip for chip in CHIPS.values()), 41)
-        self.assertEqual(sum("unique" in chip for chip in CHIPS.values()), 56)
+        self.assertEqual([sum(key in chip for chip in CHIPS.values()) for key in ("size_at", "unique")], [41, 56])
 
     def test_the_places_lie_outside_the_flash_and_apart(self):
         for number, chip in CHIPS.items():

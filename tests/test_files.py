@@ -71,8 +71,7 @@ class Files(Place):
                     os.umask(old)
                 for name in ("flash", "flash.line", "journal"):
                     self.assertEqual(os.stat(self.path(name)).st_mode & 0o777, 0o600, name)
-                self.assertEqual(set(seen), {0o600})
-                self.assertEqual(os.stat(self.path("out")).st_mode & 0o777, 0o666 & ~mask)
+                self.assertEqual((set(seen), os.stat(self.path("out")).st_mode & 0o777), ({0o600}, 0o666 & ~mask))
         os.chmod(self.path("journal"), 0o640)
         self.assertTold(self.use("erase", "6"), "segment 2: 0 pages erased\n", new(2))
         self.assertEqual(os.stat(self.path("journal")).st_mode & 0o777, 0o640)

@@ -208,9 +208,7 @@ class Mutants(unittest.TestCase):
         looking.reach = types.SimpleNamespace(of=lambda fault: ["a", "gone", "b", "c", "d"], tests=["a", "gone", "b", "c", "d", "e"], seconds={"a": 10, "b": 10, "c": 10})
         looking.there = {*"abcde", "a.new", "e.new"}
         fault = mutants.planted.Fault("program", "it", "x.rt", 0, 0, "", "", "", "")
-        self.assertEqual(looking.tests_of(fault), ["c", "a", "b"])
-        self.assertEqual(looking.tests_of(fault._replace(name="other")), ["a", "b"])
-        self.assertEqual(looking.tests_of(fault._replace(test="named")), ["named"])
+        self.assertEqual([looking.tests_of(it) for it in (fault, fault._replace(name="other"), fault._replace(test="named"))], [["c", "a", "b"], ["a", "b"], ["named"]])
         # what was recorded isn't there any more, or was there not yet
         self.assertEqual(looking.reaching(fault), [*"abcd", "a.new"])
         self.assertEqual([it for it in looking.parts(["a", "b", "c", "d"]) if it], [["a"], ["b", "c"], ["d"]])

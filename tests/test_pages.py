@@ -38,6 +38,8 @@ UNCALLED = ("stm_tests", "stm_rows", "bench", "refused_memory", "stm_histories")
 IN_A_COMMAND = ("--raw", "--yes", "--check", "--last", "--help")  # options that stmflash(1) tells of where it tells of their command
 # faults that hand on what the memory, the line, or a file of the system said
 HANDED_ON = re.compile(r"::(?:Memory|Session|of_\w+|from|other)$|^(?:RigFault|io::Error)::|Fault::(?:Line|Journal|File)$")
+# what a help says of an option that isn't given
+DEFAULT = re.compile(r"^ +(?:-\w, )?(--?[\w-]+) .*?(?:\[default: (.*)\]| ([\w.]+) without it| \((\d+)\)$)", re.M)
 # what `make pages` makes: each tool with its page
 MADE = {"map": "MAP.md", "proved": "PROVED.md", "statement": "STATEMENT.md"}
 # what MAP has no line of: answers in proofs/, which have the paths of their functions, and what lists modules or is empty
@@ -60,8 +62,7 @@ class Pages(Place):
             fences = [line for line in text_in(page).splitlines() if "```" in line]
             with self.subTest(page=os.path.relpath(page, TOP)):
                 self.assertEqual([it for it in fences[::2] if not re.fullmatch(r"```\w*", it)], [])
-                self.assertEqual(fences[1::2], ["```"] * (len(fences) // 2))
-                self.assertEqual(len(fences) % 2, 0)
+                self.assertEqual(fences[1::2], ["```"] * len(fences[::2]))
 
     def test_no_merge_was_left_half_done(self):
         """No file has the marks that git leaves where two sides of a merge differ."""
@@ -81,8 +82,7 @@ class Pages(Place):
         header, *events = [json.loads(line) for line in text_in("docs", "pictures", "session.cast").splitlines()]
         self.assertEqual(header["version"], 2)
         times = [at for at, kind, words in events if kind == "o" and isinstance(words, str)]
-        self.assertEqual(len(times), len(events))
-        self.assertEqual(times, sorted(times))
+        self.assertEqual((len(times), times), (len(events), sorted(times)))
 
     def test_one_version(self):
         said = self.call("--version").out.decode()
@@ -111,6 +111,19 @@ class Pages(Place):
             told = options(self.call(name, "--help").out.decode()) - {"-h"}
             missing += [f"{name} {option}" for option in told if not re.search(option if option in IN_A_COMMAND else rf"^\.TP\n\.BI? {option}\b", page, re.M)]
         self.assertEqual(missing, [])
+
+    @each_of(("stmflash", "stmflash-line", "stmflash-trial", "stmflash-as-stm32flash"))
+    def test_the_manual_pages_have_the_defaults_of_the_helps(self, name):
+        """Of each option the help's own words, or its number."""
+        words = [sys.executable, "-B", os.path.join(TOP, "line", name.removeprefix("stmflash-as-")), "-h"]
+        ran = subprocess.run(words, env={**os.environ, "COLUMNS": "999"}, capture_output=True, text=True) if "-" in name else None
+        told = ran.stdout + ran.stderr if ran else "".join(self.call(it, "--help").out.decode() for it in ("info", "sim"))
+        page = re.sub(r"(?m)^\.B[IR]? ", "", text_in(*["line"] * bool(ran), name + ".1").replace("\\", "").replace('"', "")).replace(" ,", ",")
+        found = {option: "".join(default) for option, *default in DEFAULT.findall(told)}
+        self.assertGreater(len(found), 1)
+        for option, default in found.items():
+            paragraph = " ".join(re.search(rf"^{option} .*?(?=^\.(?:TP|SH))", page, re.M | re.S)[0].split())
+            self.assertRegex(paragraph, rf"(?<![\w.]){re.escape(default)}(?![\w.]\w)", option)
 
     @each_of(MADE.items())
     def test_what_is_made_is_what_the_tools_make_now(self, tool, page):
@@ -186,8 +199,7 @@ class Pages(Place):
         for path in glob.glob(os.path.join(TOP, "crates", "*", "[sp]*", "**", "*.*t*"), recursive=True):
             named += re.findall(r"\b\w*(?:[Tt]ake[ns]?[-_]?[Bb]ack|[Gg]oe?s?[-_]?[Bb]ack)\w*", re.sub(r"(--|//).*", "", text_in(path)))
         self.assertGreater(len(defined), 2000)
-        self.assertEqual([it for it, paths in defined.items() if len(paths) > 1], [])
-        self.assertEqual(named, [])
+        self.assertEqual(([it for it, paths in defined.items() if len(paths) > 1], named), ([], []))
 
     def test_contracts_cite_no_lemma_s_definition(self):
         """What is defined in specs/lemmas serves a lemma there: no clause names it."""
@@ -201,8 +213,7 @@ class Pages(Place):
     def test_the_words_are_in_use(self):
         """MODEL has twenty, in their order; README leads to it. Each is in two more pages at least, or its parts are."""
         words = re.findall(r"^\| ((?!Word \|)[\w, ]+) \|", text_in("docs", "MODEL.md").split("\n## Words\n")[1], re.M)
-        self.assertEqual(len(words), 20)
-        self.assertEqual(words, sorted(words, key=str.lower))
+        self.assertEqual((len(words), words), (20, sorted(words, key=str.lower)))
         self.assertIn("(docs/MODEL.md", text_in("README.md"))
         texts = [re.sub(r"\s+", " ", text_in(page)) for page in pages() if os.path.basename(page) not in ("MODEL.md", "CHANGELOG.md")]
         for word in (it for told in words for it in told.split(", ")):

@@ -151,8 +151,7 @@ class Silence(Served):
             with self.subTest(journal=journal[-20:]):
                 self.store_all({"table": telling.TABLE + wide, "flash": FLASH, "flash.line": FRESH + b"\n", "journal": journal})
                 waited = self.waited_in_vain("undo", "--baud", "115200", number=number)
-                self.assertEqual([at for at in waited if at >= WHOLE], [WHOLE], waited)
-                self.assertEqual(waited[0], WHOLE)
+                self.assertEqual([waited[0], *(at for at in waited if at >= WHOLE)], [WHOLE, WHOLE], waited)
 
     @each_of(((BEFORE, b"rest 43BC", 4), (BEFORE + b"program 5\n", b"rest 31CE0800", 5)))
     def test_an_undo_at_a_device_that_was_not_reset_waits_whole_for_what_ends_the_command_alone(self, journal, stands, most):
@@ -201,8 +200,7 @@ class Silence(Served):
         due as well, and Get is out behind the next."""
         self.store("journal", GREETED)
         waits = self.at(FRESH, "undo")
-        self.assertEqual(waits[:2], [WHOLE, LONG - IN_VAIN * WHOLE])
-        self.assertEqual(waits[2:waits.index(LONG)].count(WHOLE), 1)
+        self.assertEqual([*waits[:2], waits[2:waits.index(LONG)].count(WHOLE)], [WHOLE, LONG - IN_VAIN * WHOLE, 1])
         self.assertIn("short", waits)
 
     @each_of((20, 9, 7))

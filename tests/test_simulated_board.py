@@ -82,8 +82,7 @@ class EverySize(Place):
         told = at("info")
         self.assertWell(told)
         lines = told.out.decode().splitlines()
-        self.assertEqual(lines[:4], [f"id {number}", "base 08000000", f"pages {pages}", f"size {len(flash)}"])
-        self.assertEqual(lines[-2:], [f"board {name}", f"flash {kib} KiB"])
+        self.assertEqual(lines[:4] + lines[-2:], [f"id {number}", "base 08000000", f"pages {pages}", f"size {len(flash)}", f"board {name}", f"flash {kib} KiB"])
         for words in (("write", "-S", hex(end - 7), "image"), ("erase", str(pages))):
             self.assertFault(at(*words), "address outside the flash", flash=flash, journal=None)
         self.assertTold(at("write", "-S", hex(end - 8), "image"), "segment 1: 1 pages written\n", flash=flash[:-8] + b"an image")

@@ -90,8 +90,7 @@ class Socket(Served):
                 clients[0].shutdown(socket.SHUT_WR)
 
         said, waits = syncs.call(self.folder, served(), 0, come, syncs.ACCEPT, errno.EINTR)
-        self.assertEqual((said.status, said.out, said.err, len(waits)), (0, b"", b"", 2))
-        self.assertEqual(clients[0].recv(2), b"\x79")
+        self.assertEqual((said.status, said.out, said.err, len(waits), clients[0].recv(2)), (0, b"", b"", 2, b"\x79"))
         self.assertHolds(ZEROS, b"idle\n")
 
     def memory(self, process):

@@ -235,8 +235,7 @@ class Line(Watching):
         _, came, _ = self.clean("info")
         said, _ = self.through("info", "--watch", "--json", wrong=came - 1)
         text = FAULT.format("86 came, and 79 was due")
-        self.assertEqual(json.loads(said.out), {"fault": "does_otherwise", "says": text, "status": 1})
-        self.assertEqual(said.err, f"stmflash: {text}\n".encode())
+        self.assertEqual((json.loads(said.out), said.err), ({"fault": "does_otherwise", "says": text, "status": 1}, f"stmflash: {text}\n".encode()))
         # the end line stands on standard error alone
         said, _ = self.through("crc", "--watch", "--json")
         self.assertEqual((said.status, list(json.loads(said.out))), (0, ["answer", "crc", "board", "flash_kib", "chip", "journal", "milliseconds"]))
