@@ -55,8 +55,7 @@ class Begun(Noted):
         times = [re.match(rb"time (\S+)Z!\n", it)[1].decode() for it in (one, two)]
         for it in times:
             self.assertTrue(before <= datetime.datetime.fromisoformat(it) <= after, (before, it, after))
-        self.assertEqual(one.split(b"\n")[1:], [b"image image!", b"image other image!!", b""])
-        self.assertEqual(two.count(b"\n"), 1)
+        self.assertEqual((one.split(b"\n")[1:], two.count(b"\n")), ([b"image image!", b"image other image!!", b""], 1))
         # a name that ends in the mark can't be told from a torn line
         self.assertEqual(self.log()[2:], ["segment 1: ended, 2 pages: 0-1", f"  time {times[0]}Z", "  image image",
                                           "segment 2: ended, 2 pages: 3 9", f"  time {times[1]}Z", "2 can be undone"])

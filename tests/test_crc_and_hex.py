@@ -45,8 +45,7 @@ class Hex(Place):
 
     def test_by_the_name(self):
         found = self.read("out.hex")
-        self.assertEqual(b"".join(data for _, data in found), COUNTING)
-        self.assertEqual([address for address, _ in found], list(range(BASE, BASE + SIZE, 16)))
+        self.assertEqual((b"".join(data for _, data in found), [address for address, _ in found]), (COUNTING, list(range(BASE, BASE + SIZE, 16))))
 
     def test_blank_is_left_out(self):
         flash = ERASED[:100] + b"abc" + ERASED[103:20000] + b"\xff" * 8 + b"x" + ERASED[20009:]

@@ -132,8 +132,7 @@ class Packaging(unittest.TestCase):
         subprocess.run(["md5sum", "--check", "--quiet", "DEBIAN/md5sums"], cwd=f"{room}/tree", check=True)
         paths = sorted(glob.glob("usr/**", root_dir=f"{room}/tree", recursive=True))
         modes = {path: os.lstat(f"{room}/tree/{path}").st_mode for path in paths}
-        self.assertEqual(named, [path for path in paths if stat.S_ISREG(modes[path])])
-        self.assertEqual([path for path, mode in modes.items() if not mode & 0o004], [])
+        self.assertEqual((named, [path for path, mode in modes.items() if not mode & 0o004]), ([path for path in paths if stat.S_ISREG(modes[path])], []))
         sizes = [-(-os.path.getsize(f"{room}/tree/{path}") // 1024) if stat.S_ISREG(mode) else 1 for path, mode in modes.items()]
         self.assertEqual(int(fields["Installed-Size"]), sum(sizes), "a folder is as large as its file system says")
         self.assertEqual(text_in(room, f"tree/usr/share/doc/{fields['Package']}/copyright"), text_in("packaging", "copyright"))

@@ -40,8 +40,7 @@ class Recipes(Unnamed):
                               stdin=subprocess.DEVNULL, capture_output=True, text=True, check=False)
 
     def assertFlash(self, ran, flash, status=0):
-        self.assertEqual(ran.returncode, status, ran)
-        self.assertEqual(self.given.store(), flash)
+        self.assertEqual((ran.returncode, self.given.store()), (status, flash), ran)
 
     @unittest.skipIf(shutil.which("make") is None, "make is not installed")
     def test_make(self):

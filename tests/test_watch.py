@@ -255,8 +255,7 @@ class Line(Watching):
         """Who it is is heard all the same, by its id."""
         for words, is_read in (((), True), (("--no-board",), False)):
             said, relay = self.through("info", "--watch", *words)
-            self.assertEqual(said.status, 0, said.err)
-            self.assertEqual(b"\x11\xee" in relay.sent(), is_read)
+            self.assertEqual((said.status, b"\x11\xee" in relay.sent()), (0, is_read), said.err)
 
 
 class Planted(Watching):

@@ -152,7 +152,10 @@ class Page(InFirefox):
             self.assertLine(b"gone\n")
             self.assertNotIn("--fresh", tab.js("document.getElementById('said').textContent"))
             tab.close()
-        self.do(self.tab(), "#write", "^Not done: ")
+        tab = self.tab()
+        tab.js("document.getElementById('fresh').checked = true")
+        self.do(tab, "#write", "^Not done: ")
+        self.assertFalse(tab.js("document.getElementById('fresh').checked"), "what was sent counts, whatever came of it")
         self.assertFlash(self.before)
 
     def test_a_wiring_says_nothing_of_another_board(self):
@@ -296,7 +299,7 @@ class Page(InFirefox):
         self.undo(tab, "by the journal that was downloaded")
 
     def test_a_private_window_and_a_page_that_is_loaded_again(self):
-        """What is in a private window goes with it, which is said. A reload in mid-write is a stop as any."""
+        """What is in a private window goes with it, which is said. A reload in mid-write is a stop as any. None is closed unasked between two calls of a row."""
         context = self.browser.call("Target.createBrowserContext")
         tab = self.tab(**context)
         self.assertIn("may clear the journals", tab.js("document.getElementById('state').innerText"))
@@ -307,7 +310,10 @@ class Page(InFirefox):
         self.undo(tab, "in a private window")
         self.assertNotIn('{"', tab.js("document.getElementById('said').textContent"))
         self.browser.call("Target.disposeBrowserContext", **context)
-        self.assertEqual(self.tab().js("stmflash.state.names"), [])
+        tab = self.tab()
+        self.assertEqual(tab.js("stmflash.state.names"), [])
+        leaves = "dispatchEvent(new Event('beforeunload', { cancelable: true }))"
+        self.assertEqual(tab.js(f"[{leaves}, stmflash.state.isAtWork = true, {leaves}]"), [True, True, False])
 
 
 def run(test):
