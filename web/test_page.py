@@ -299,13 +299,15 @@ class Page(InFirefox):
         self.undo(tab, "by the journal that was downloaded")
 
     def test_a_private_window_and_a_page_that_is_loaded_again(self):
-        """What is in a private window goes with it, which is said. A reload in mid-write is a stop as any. None is closed unasked between two calls of a row."""
+        """What is in a private window goes with it, which is said. A reload in mid-write is a stop as any, no question holds the page up, and none is
+        closed unasked between two calls of a row."""
         context = self.browser.call("Target.createBrowserContext")
         tab = self.tab(**context)
         self.assertIn("may clear the journals", tab.js("document.getElementById('state').innerText"))
         self.hold_write(tab)
+        tab.call("Page.addScriptToEvaluateOnNewDocument", source="StorageManager.prototype.persist = () => new Promise(() => { window.isAsked = true; })")
         tab.reload()
-        self.ready(tab)
+        self.assertTrue(self.ready(tab).js("isAsked"))
         self.assertIn(f"Download {JOURNAL}", self.do(tab, "#write", "^Not done: unfinished or bad: [^-]*; undo first"))
         self.undo(tab, "in a private window")
         self.assertNotIn('{"', tab.js("document.getElementById('said').textContent"))
