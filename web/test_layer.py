@@ -74,8 +74,8 @@ class Module(Tried):
         self.assertHolds(self.try_page(f"{HERE}/page", MODULE))
 
     def test_is_small(self):
-        """As a server sends it, each file by itself."""
-        self.assertLessEqual(sum(len(gzip.compress(it.read_bytes())) for it in pathlib.Path(MODULE).parent.iterdir()), 520_000)
+        sizes = [len(gzip.compress(it.read_bytes())) for it in pathlib.Path(MODULE).parent.iterdir()]  # as a server sends each
+        self.assertTrue(max(sizes) <= 520_000 and sum(sizes) - max(sizes) <= 42_000, sizes)
 
 
 class Layer(Tried):
