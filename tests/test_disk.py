@@ -5,7 +5,7 @@ import holding
 import syncs
 from holding import files_up_to
 from place import HEADER, WAIT, ZEROS, Place, each_of, files, had, served
-from rows import cases
+from rows import in_parts
 from served import Served
 
 # a chip with a flash that is shorter than its journal
@@ -154,5 +154,7 @@ class OverSocket(Served):
 
 
 class Held(holding.Held):
-    def test_each_case(self):
-        self.play_all(cases("held.rows"))
+    """Each case of held.rows."""
+
+
+in_parts(Held, "held.rows", 10)
