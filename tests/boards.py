@@ -25,7 +25,6 @@ LINE = os.path.join(TOP, "line", "stmflash-line")
 STAND_INS = os.path.dirname(os.path.abspath(__file__))
 RUNNER = "import runpy, serial, sys; sys.path.insert(0, sys.argv.pop(1)); sys.dont_write_bytecode = True; " \
          "serial.protocol_handler_packages.append('stand_ins'); sys.argv.pop(0); runpy.run_path(sys.argv[0], run_name='__main__')"
-LATENCY = "LAT  low"
 # the modules of which the companion is made
 sys.path.insert(0, os.path.dirname(LINE))
 sys.dont_write_bytecode = True
@@ -126,14 +125,6 @@ class LinePlace(Place):
         self.until(has_all, "bytes are missing")
         return held
 
-    def start_and_wait(self, *words):
-        """Runs a command that writes its process id and ends, and answers the companion once it has seen that. More than the port
-        takes at once waits there until it is read."""
-        started = self.start("ttyUSB0", "--", *words)
-        process = int(started.stdout.readline())
-        self.until(lambda: not os.path.exists(f"/proc/{process}"), "the command goes on")
-        return started
-
     def start_known(self, *command, words=("ttyUSB0",), start=None):
         """Starts a command behind the companion on these words: that, and the command's process. A shell writes its number, and becomes
         the command."""
@@ -149,13 +140,6 @@ class LinePlace(Place):
         status = started.wait(PATIENCE)
         self.until(lambda: not os.path.exists(f"/proc/{child}"), "the command goes on")
         return status
-
-    def taken(self, master):
-        """A client that the companion has taken, whose port has its other end here: it has handed its byte on."""
-        client = self.connect()
-        client.sendall(b"?")
-        self.assertEqual(self.read_from(master, 1), b"?")
-        return client
 
     def stop(self, started):
         """Ends one that serves, which says nothing."""
@@ -180,10 +164,6 @@ class LinePlace(Place):
     def assertInfo(self, said):
         """The board was there, and told its id."""
         self.assertEqual((said.status, said.out.split(b"\n")[0], said.err), (0, b"id 0412", b""))
-
-    def assertBadWords(self, said, text=""):
-        self.assertEqual((said.status, said.out), (2, b""))
-        self.assertIn(f"stmflash-line: error: {text}", said.err.decode())
 
     def assertLineFault(self, said, text, status=1):
         """This one line was all that the companion said."""
@@ -216,16 +196,10 @@ class Named(LinePlace):
 class LineRows(LinePlace, Rows):
     """A test whose cases are told as text, each call one of stmflash-line (tests/line.rows says how)."""
 
-    # of a port's name, what stands for it
-    wired = ""
-
     def begin(self):
         # the case before has left nothing that is temporary
         self.tearDown()
         super().begin()
-
-    def placed(self, told):
-        return super().placed(told).replace("{wired}", self.wired)
 
     def run_words(self, words):
         return self.line(*shlex.split(words), **self.variables)
@@ -281,32 +255,15 @@ class OnPorts(Named, LineRows):
 
 
 class WiredPlace(LinePlace):
-    """The port ttyUSB0 is a pseudo-terminal, plain or with a board behind, that pyserial takes to have RTS and DTR. Its moves are
-    noted in `calls`."""
+    """The port ttyUSB0 is a pseudo-terminal, with an end of ours behind it, that pyserial takes to have RTS and DTR."""
 
     def setUp(self):
         super().setUp()
         self.wired = f"wired://{self.path('ttyUSB0')}?file={self.path('calls')}"
-        self.master = self.port()
-
-    def port(self):
-        """What stands behind the port: an end of ours, without another word."""
-        return self.plain()
-
-    def play(self, *words, **more):
-        return self.ended(self.begin(*words, **more))
-
-    def begin(self, *words, **more):
-        return self.begin_on(self.wired, *words, **more)
+        self.master = self.plain()
 
     def begin_on(self, port, *words, **more):
         return self.start(STAND_INS, LINE, port, *words, line=("-c", RUNNER), **more)
-
-    def calls(self, name="calls"):
-        """The calls that move something on the line, and when each was made, in seconds."""
-        lines = [text.split(" ", 1) for text in (self.held(name) or b"").decode().splitlines()]
-        lines = [(when, " ".join(call.split())) for when, call in lines if call != LATENCY]
-        return [call for _, call in lines], [float(when) for when, _ in lines]
 
 
 def end_with(started, number):

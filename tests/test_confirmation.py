@@ -1,34 +1,37 @@
-"""The question on a terminal before `protect readout-unprotect`: what goes on, what ends, and where nobody is asked."""
+"""The question on a terminal before `protect readout-unprotect` (tests/confirmation.rows)."""
 
 import os
 import pty
 
-from place import COUNTING, ERASED, PATIENCE, Place, each_of, files, read_some, readable
-
-KIND = "readout-unprotect"
-ASKED = b"this erases the whole flash, and no journal keeps it: it can't be undone\r\ngo on? [y/N] "
-REFUSED = b"stmflash: not confirmed, nothing was sent\r\n"
-END = b"\x04"
+from place import PATIENCE, Place, read_some, readable
+from rows import Rows, bytes_of, cases
 
 
-class Confirmation(Place):
-    begins = {"flash": COUNTING}
+class Confirmation(Rows):
+    def set_nothing(self):
+        super().set_nothing()
+        self.typed, self.streams = None, ()
 
-    def on_terminal(self, typed, *words, kind=KIND, input=True, err=True, device="sim:0412:flash"):
-        """What a protection answers whose standard input and error are a terminal, where that is said, and what that showed.
-        What is typed is typed once the question stands there, or else at once."""
+    def does(self, sign, told, name, *more):
+        if sign == "typed":
+            self.typed, self.streams = bytes_of(told), ("stdin", "stderr")
+        elif sign == "terminal":
+            self.streams = (name, *more)
+        else:
+            super().does(sign, told, name, *more)
+
+    def call(self, *words, before, variables, given):
         here, there = pty.openpty()
-        process = self.start("protect", *files(device), *words, kind, **({"stdin": there} if input else {}), **({"stderr": there} if err else {}))
+        process = Place.start(self, *words, before=before, variables=variables, **dict.fromkeys(self.streams, there))
         os.close(there)
         shown = b""
-        if typed is not None:
+        if self.typed is not None:
             shown = self.shown_until(here, b"[y/N] ")
-            os.write(here, typed)
-        ended = self.ended(process)
+            os.write(here, self.typed)
+        said = self.ended(process)
         shown += self.shown_until(here)
         os.close(here)
-        self.assertEqual(ended.out, b"")
-        return ended.status, shown, ended.err
+        return said._replace(err=shown + (said.err or b""))
 
     def shown_until(self, here, text=None):
         """What a terminal shows until it shows this, or has no more."""
@@ -37,59 +40,14 @@ class Confirmation(Place):
             shown += piece
         return shown
 
-    def assertUntouched(self):
-        """The flash is as it was, and no line was opened to it, and no journal."""
-        self.assertFiles({"flash": COUNTING, "flash.line": None, "journal": None})
+    def played(self, which):
+        self.play_all(case for case in cases("confirmation.rows") if which(case[0], dict(case[1])))
 
-    @each_of((b"y\n", b"yes\n"))
-    def test_yes_goes_on(self, typed):
-        self.store("flash", COUNTING)
-        self.assertEqual(self.on_terminal(typed, "--quiet")[:2], (0, ASKED + typed.replace(b"\n", b"\r\n")))
-        self.assertFile("flash", ERASED)
-
-    @each_of((b"\n", b"n\n", b"no\n", b"Y\n", b"yess\n", b" y\n", b"ye\n", b"yes please\n", b"y" * 300 + b"\n"))
-    def test_anything_else_ends(self, typed):
-        status, shown, _ = self.on_terminal(typed)
-        self.assertEqual((status, shown), (1, ASKED + typed.replace(b"\n", b"\r\n") + REFUSED))
-        self.assertUntouched()
-
-    @each_of((END, b"y" + END + END))
-    def test_an_end_of_input_ends(self, typed):
-        """Also behind a word that would go on, whose line isn't ended."""
-        status, shown, _ = self.on_terminal(typed)
-        self.assertEqual((status, shown[:len(ASKED)], shown[-len(REFUSED) - 2:]), (1, ASKED, b"\r\n" + REFUSED))
-        self.assertUntouched()
-
-    def test_no_line_is_opened_before(self):
-        """A socket where nobody listens isn't connected to, and a journal of another program isn't waited for."""
-        for typed, told in ((b"n", REFUSED), (b"y", b"stmflash: cannot connect nobody\r\n")):
-            self.assertEqual(self.on_terminal(typed + b"\n", device="nobody")[:2], (1, ASKED + typed + b"\r\n" + told))
+    def test_what_is_answered(self):
+        self.played(lambda _, lines: "typed" in lines)
 
     def test_faults_of_the_words_come_first(self):
-        self.remove("table")
-        self.assertEqual(self.on_terminal(None)[:2], (1, b"stmflash: cannot read table\r\n"))
-        self.assertUntouched()
+        self.played(lambda title, _: title.startswith("faults of the words"))
 
-    def test_it_is_asked_under_quiet_too(self):
-        self.assertEqual(self.on_terminal(b"n\n", "--quiet")[:2], (1, ASKED + b"n\r\n" + REFUSED))
-        self.assertUntouched()
-
-    def test_nobody_is_asked_elsewhere(self):
-        """Where standard input or standard error is no terminal."""
-        for input, err in ((False, True), (True, False)):
-            with self.subTest(input=input):
-                self.store("flash", COUNTING)
-                self.assertEqual(self.on_terminal(None, "--quiet", input=input, err=err), (0, b"", None if err else b""))
-                self.assertFile("flash", ERASED)
-        self.store("flash", COUNTING)
-        self.assertSilent(self.use("protect", KIND), flash=ERASED)
-
-    def test_nobody_is_asked_where_it_is_said(self):
-        self.assertEqual(self.on_terminal(None, "--yes", "--quiet")[:2], (0, b""))
-        self.assertFile("flash", ERASED)
-
-    @each_of(("write-unprotect", "readout-protect"))
-    def test_no_other_protection_asks(self, kind):
-        self.assertEqual(self.on_terminal(None, "--quiet", kind=kind)[:2], (0, b""))
-        self.assertFile("flash", COUNTING)
-        self.remove("flash.line")
+    def test_nobody_is_asked(self):
+        self.played(lambda title, lines: "typed" not in lines and not title.startswith("faults of the words"))

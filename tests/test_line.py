@@ -1,35 +1,27 @@
-"""stmflash-line over pseudo-terminals, with simulated boards behind them: sessions, bytes both ways, signals, kills."""
+"""stmflash-line over pseudo-terminals, with simulated boards behind them (tests/started.rows), eight at once, and killed."""
 
 import concurrent.futures
 import os
 import random
-import signal
-import socket
-import stat
 import threading
 import time
 
-from boards import LinePlace, default_signals, end_with
-from place import COUNTING, ERASED, PATIENCE, SIZE, WAIT
+from boards import LinePlace
+from place import COUNTING, ERASED, PATIENCE, SIZE
+from rows import in_parts
+from started import Started
 
 KILLS = int(os.environ.get("STMFLASH_LINE_KILLS", "6"))
-ENDING = (signal.SIGTERM, signal.SIGINT, signal.SIGHUP)
+
+
+class Played(Started):
+    """Each case of started.rows."""
+
+
+in_parts(Played, "started.rows", 6)
 
 
 class Sessions(LinePlace):
-    def test_is_as_over_a_socket(self):
-        """A write, a look at it and its undo, with what they say, and nothing left behind."""
-        board = self.board(flash=COUNTING)
-        # bytes that a port marks, and that a terminal would take for its own
-        image = bytes(range(256)) * 9 + b"\xff" * 300 + b"\xff\x00" * 99 + b"\x03\x04\x11\x13\r\n"
-        self.store("image", image)
-        self.assertTold(self.through("write", "-v", "-S", "0x08000000", "-f", "image"), f"segment 1: 3 pages written\nverified {len(image)} bytes\n")
-        self.assertEqual(board.store(), image + COUNTING[len(image):])
-        self.assertSilent(self.through("read", "-S", "0x08000000", "out"))
-        self.assertFile("out", image + COUNTING[len(image):])
-        self.assertTold(self.through("undo"), "undone 1\n")
-        self.assertEqual(board.store(), COUNTING)
-
     def test_eight_at_once(self):
         boards = [self.board(f"ttyUSB{number}") for number in range(8)]
         images = [random.Random(number).randbytes(5000) for number in range(8)]
@@ -49,113 +41,7 @@ class Sessions(LinePlace):
         self.assertEqual([board.store() for board in boards], [ERASED] * 8)
 
 
-class Commands(LinePlace):
-    def setUp(self):
-        super().setUp()
-        self.master = self.plain()
-
-    def test_files_that_it_makes_are_as_open_as_without_us(self):
-        """The socket is for few, and that is not handed on."""
-        for mask in (0o022, 0o077):
-            self.assertTold(self.line("ttyUSB0", "--", "sh", "-c", "umask", before=lambda: (default_signals(), os.umask(mask))), f"{mask:04o}\n")
-
-    def test_a_signal_ends_the_command_too(self):
-        """It gets the same signal, and may answer it."""
-        script = "trap 'echo TERM; exit' TERM; trap 'echo INT; exit' INT; trap 'echo HUP; exit' HUP; echo $$; while :; do sleep 0.1; done"
-        for number in ENDING:
-            with self.subTest(number=number):
-                started = self.start("ttyUSB0", "--", "sh", "-c", script)
-                child = int(started.stdout.readline())
-                self.assertEqual(end_with(started, number), 128 + number)
-                self.assertFalse(os.path.exists(f"/proc/{child}"))
-                self.assertEqual(started.stdout.read().decode(), number.name.removeprefix("SIG") + "\n")
-                self.assertEqual(started.stderr.read(), b"")
-
-    def test_a_change_that_a_signal_ends_has_a_next_step(self):
-        """Where COMMAND writes, erases or undoes, and had the line."""
-        told = b"stmflash-line: ended by a signal: where the same call with log says unfinished, with undo 1 it undoes what was begun\n"
-        connect = "import os, socket; s = socket.socket(socket.AF_UNIX); s.connect(os.environ['STMFLASH_DEVICE']); s.sendall(b'?')"
-        for word, connects, text in (("write", True, told), ("erase", True, told), ("undo", True, told), ("info", True, b""), ("write", False, b"")):
-            with self.subTest(word=word, connects=connects):
-                script = (f'python3 -c "{connect}"; ' if connects else "") + "echo; exec sleep 1000"
-                started = self.start("ttyUSB0", "--", "sh", "-c", script, word)
-                self.assertEqual(started.stdout.readline(), b"\n")
-                if connects:
-                    self.assertEqual(self.read_from(self.master, 1), b"?")
-                self.assertEqual(end_with(started, signal.SIGINT), 128 + signal.SIGINT)
-                self.assertEqual(started.stderr.read(), text)
-
-    def test_a_signal_that_was_ignored_stays_so(self):
-        """As behind nohup, or in the background of a shell."""
-        def before():
-            default_signals()
-            signal.signal(signal.SIGHUP, signal.SIG_IGN)
-
-        started = self.start("ttyUSB0", "--", "sh", "-c", "echo; sleep 1; echo went", before=before)
-        self.assertEqual(started.stdout.readline(), b"\n")
-        started.send_signal(signal.SIGHUP)
-        self.assertTold(self.ended(started), "went\n")
-
-    def test_a_command_that_does_not_listen_is_killed(self):
-        started = self.start("ttyUSB0", "--", "sh", "-c", "trap '' TERM; echo $$; while :; do sleep 1; done")
-        child = int(started.stdout.readline())
-        self.assertEqual(end_with(started, signal.SIGTERM), 128 + signal.SIGTERM)
-        self.assertFalse(os.path.exists(f"/proc/{child}"))
-
-    def test_killed_it_ends_the_command(self):
-        """What it has to leave behind, the next one removes."""
-        started, child = self.start_known("sleep", "1000")
-        self.assertEqual(self.kill_some("line", started, child), -signal.SIGKILL)
-        self.assertEqual(len(os.listdir(self.path("temporary"))), 1)
-        self.remove("ttyUSB0")
-        self.plain()
-        self.assertSilent(self.line("ttyUSB0", "--", "true"))
-
-    def test_what_a_killed_client_has_sent_goes_out(self):
-        """More than a port takes at once, by a client that is killed when it has sent it."""
-        script = "import os, socket, sys; s = socket.socket(socket.AF_UNIX); s.connect(sys.argv[1]); print(os.getpid(), flush=True); " \
-                 "s.sendall(bytes(range(251)) * 400); os.kill(os.getpid(), 9)"
-        started = self.start_and_wait("python3", "-c", script, "{}")
-        self.assertTrue(self.read_from(self.master, 251 * 400) == bytes(range(251)) * 400)
-        self.assertEqual(self.ended(started).status, 128 + signal.SIGKILL)
-        self.assertNothingSent(self.master)
-
-
 class Serving(LinePlace):
-    def test_one_client_after_another(self):
-        self.board()
-        started = self.serve()
-        self.assertEqual(stat.S_IMODE(os.stat(self.path("board")).st_mode), 0o660)
-        for _ in range(2):
-            self.assertInfo(self.use("info", "--wait", WAIT, device="board"))
-        self.assertEqual(end_with(started, signal.SIGTERM), 0)
-        self.assertEqual(self.ended(started).err, b"")
-        self.assertFalse(self.is_there("board"))
-
-    def test_signals_end_it(self):
-        master = self.plain()
-        for number in ENDING:
-            with self.subTest(number=number):
-                started = self.serve()
-                client = self.taken(master)
-                self.assertEqual(end_with(started, number), 0)
-                self.assertEqual(client.recv(1), b"")
-                self.assertFalse(self.is_there("board"))
-
-    def test_a_socket_that_nobody_listens_at_any_more_is_replaced(self):
-        self.plain()
-        with self.listen("board"):
-            pass
-        self.assertEqual(end_with(self.serve(), signal.SIGTERM), 0)
-
-    def test_what_waited_is_dropped(self):
-        master = self.plain()
-        os.write(master, b"old")
-        self.serve()
-        client = self.taken(master)
-        os.write(master, b"new")
-        self.assertEqual(client.recv(3, socket.MSG_WAITALL), b"new")
-
     def test_no_byte_is_lost_or_doubled(self):
         """Many at once both ways, in pieces of all sizes."""
         master = self.plain()

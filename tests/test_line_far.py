@@ -1,4 +1,4 @@
-"""stmflash-line on ports that another machine has: over pyserial's far end, ser2net, and a plain connection of ours."""
+"""stmflash-line on ports that another machine has: over pyserial's far end, a plain connection of ours (tests/far.rows), and ser2net."""
 
 import concurrent.futures
 import contextlib
@@ -15,11 +15,12 @@ import unittest
 
 from boards import PYTHON, STAND_INS, LinePlace, end_with
 from place import COUNTING, PATIENCE, SIZE, Said, first_of
+from rows import cases
+from started import Started
 
 UNKNOWN = "parity, speed and errors are the far end's: a byte that came with an error may be handed on"
 TELLS = "the far end tells of bytes that came with an error, but may hand them on before"
 SILENT = "the far end doesn't tell of bytes that came with an error, and may hand them on"
-CLOSED = "the far end closed the line; where the same call with log says unfinished, with undo 1 it undoes what was begun"
 
 
 class FarPlace(LinePlace):
@@ -43,63 +44,9 @@ class FarPlace(LinePlace):
         return listener, f"{name}:{listener.getsockname()[1]}"
 
 
-class Plain(FarPlace):
-    """socket://, whose other end is ours."""
-
-    def setUp(self):
-        super().setUp()
-        self.listener, self.url = self.listen_as("socket://127.0.0.1")
-
-    def taken(self):
-        end, _ = self.listener.accept()
-        self.addCleanup(end.close)
-        end.settimeout(PATIENCE)
-        return end
-
-    def test_bytes_both_ways(self):
-        started = self.serve_far()
-        end, client, data = self.taken(), self.connect(), bytes(range(256)) * 100
-        client.sendall(data)
-        self.assertEqual(end.recv(len(data), socket.MSG_WAITALL), data)
-        end.sendall(data)
-        self.assertEqual(client.recv(len(data), socket.MSG_WAITALL), data)
-        started.terminate()
-        self.assertTold(self.ended(started), UNKNOWN)
-        self.assertEqual(end.recv(1), b"")
-
-    def test_an_end_that_goes(self):
-        started = self.serve_far()
-        end, client = self.taken(), self.connect()
-        client.sendall(b"?")
-        self.assertEqual(end.recv(1), b"?")
-        end.close()
-        self.assertEqual(client.recv(1), b"")
-        self.assertTold(self.ended(started), UNKNOWN, CLOSED, status=1)
-
-    def test_an_address_of_six_is_named_in_brackets(self):
-        self.listener, self.url = self.listen_as("socket://[::1]", "::1", family=socket.AF_INET6)
-        started = self.start(self.url, "--", "true")
-        self.taken()
-        self.assertTold(self.ended(started), UNKNOWN)
-
-    def test_moves_nothing(self):
-        for words, name in ((("--wiring", "dtr-reset"), "DTR"), (("--boot", ",rts"), "RTS"), (("--after", "brk"), "BRK")):
-            self.assertTold(self.line(self.url, *words, "--", "true"), UNKNOWN, f"has no {name}; leave --wiring, --boot and --after out", status=1)
-
-    def test_what_waits_to_go_out_at_that_speed(self):
-        """The end is told only when the bytes had the time of a line: 60 of them at 300 baud take two seconds."""
-        script = "import socket, sys; s = socket.socket(socket.AF_UNIX); s.connect(sys.argv[1]); s.sendall(bytes(60))"
-        started = self.start(self.url, "--baud", "300", "--", "python3", "-c", script, "{}")
-        end = self.taken()
-        self.assertEqual(end.recv(60, socket.MSG_WAITALL), bytes(60))
-        end.settimeout(1)
-        self.assertRaises(TimeoutError, end.recv, 1)
-        self.assertEqual(self.ended(started).status, 0)
-
-    def test_nobody_there(self):
-        self.listener.close()
-        for url in (self.url, self.url.replace("socket", "rfc2217")):
-            self.assertLineFault(self.line(url, "--", "true"), f"{url}: Connection refused; ser2net, or what else serves the port, has to run there")
+class Played(Started):
+    def test_each_case(self):
+        self.play_all(cases("far.rows"))
 
 
 class Rfc2217(FarPlace):
@@ -129,26 +76,6 @@ class Rfc2217(FarPlace):
         self.assertEqual(len(said.err.splitlines()), 1, said.err)
         self.assertTrue(said.err.startswith(f"stmflash-line: {url}: ".encode()), said.err)
 
-    def test_asks_for_the_mode_and_moves_the_signals(self):
-        end = self.far_end()
-        said = self.line(self.url, "--baud", "57600", "--wiring", "dtr-reset,rts-boot0", "--", "sh", "-c", "echo $STMFLASH_FRESH")
-        self.assertTold(said, TELLS, out=b"\n")
-        noted = end.communicate(timeout=PATIENCE)[0].decode().splitlines()
-        for setting in ("baudrate 57600", "parity E", "mask 30"):
-            self.assertIn(setting, noted)
-        self.assertEqual({line for line in noted if line.startswith(("bytesize", "stopbits"))}, {"bytesize 8", "stopbits 1"})
-        self.assertEqual([line for line in noted if line.startswith(("rts ", "dtr "))], ["rts True", "dtr True", "rts False", "dtr False", "rts True", "dtr True", "dtr False"])
-
-    def test_bytes_both_ways(self):
-        """Each of them, also the one that telnet takes for its own."""
-        self.far_end()
-        started = self.serve_far()
-        data = bytes(set(range(256)) - set(b"!.")) * 20
-        with self.connect() as client:
-            self.assertEqual(self.exchange(client, data, len(data)), data)
-        started.terminate()
-        self.assertTold(self.ended(started), TELLS)
-
     def test_an_error_that_is_told_of_ends_the_line(self):
         self.far_end()
         started = self.serve_far()
@@ -161,18 +88,6 @@ class Rfc2217(FarPlace):
             self.assertEqual(self.exchange(client, b"", 2) if came == b"cd" else came, b"on")
         started.terminate()
         self.assertTold(self.ended(started), TELLS, "1 bytes came with an error at 115200 baud: look at speed, wiring and ground")
-
-    def test_an_end_that_goes(self):
-        self.far_end()
-        started = self.serve_far()
-        with self.connect() as client:
-            self.assertEqual(self.exchange(client, b"ab", 2), b"ab")
-            self.assertEqual(self.exchange(client, b".", 1), b"")
-        self.assertTold(self.ended(started), TELLS, CLOSED, status=1)
-
-    def test_an_end_that_tells_of_no_errors(self):
-        self.far_end("silent")
-        self.assertTold(self.line(self.url, "--", "true"), SILENT)
 
 
 @unittest.skipIf(shutil.which("ser2net") is None, "ser2net is not installed")

@@ -14,8 +14,8 @@ import sys
 import unittest
 from unittest import mock
 
-from boards import LINE, REAL, LinePlace, LineRows, default_signals, end_with
-from place import WAIT, Said, text_in
+from boards import LINE, REAL, LinePlace, LineRows, end_with
+from place import text_in
 from rows import cases
 from stmflash_line import command, faults, session
 
@@ -36,23 +36,6 @@ class Played(LineRows):
 class Faults(LinePlace):
     def assertUnusable(self, port, text, *words, **more):
         self.assertLineFault(self.line(port, *(words or ("--", "true")), **more), text)
-
-    def test_where_nobody_is_told_nothing_is(self):
-        """Standard output is COMMAND's alone, and may have the flash of a read: no fault stands there where standard error is closed."""
-        def close():
-            default_signals()
-            os.close(2)
-
-        self.assertEqual(self.line("none", "--", "true", before=close), Said(1, b"", b""))
-
-    def test_held_by_another_line(self):
-        """Who came first keeps the port, and its session isn't disturbed."""
-        self.board()
-        holder = self.serve()
-        self.assertUnusable("ttyUSB0", f"ttyUSB0: busy: {name_of(holder.pid)} has it")
-        self.assertInfo(self.use("info", "--wait", WAIT, device="board"))
-        self.assertEqual(end_with(holder, signal.SIGTERM), 0)
-        self.assertInfo(self.through("info"))
 
     def test_held_by_a_program_without_a_lock(self):
         self.plain()
@@ -98,33 +81,8 @@ class Faults(LinePlace):
         owner = pwd.getpwuid(place.st_uid).pw_name
         self.assertUnusable("ttyUSB0", f"ttyUSB0: no permission; only {owner} has it", line=("line",), before=before)
 
-class Pulled(LinePlace):
-    UNPLUGGED = b"stmflash-line: ttyUSB0: unplugged; plug it in; where the same call with log says unfinished, with undo 1 it undoes what was begun\n"
 
-    def test_in_the_midst(self):
-        """The client sees its line closed, and then the port is told."""
-        master = self.plain(closes=False)
-        # as long as this is waited before the first byte, and behind it: not as long as a test may take
-        started = self.start("ttyUSB0", "--", *self.stmflash("info", wait="10000"))
-        self.assertEqual(self.read_from(master, 1), b"\x7f")
-        os.close(master)
-        self.assertEqual(self.ended(started), Said(1, b"", b"stmflash: line failed\n" + self.UNPLUGGED))
-
-    def test_while_nobody_is_connected(self):
-        master = self.plain(closes=False)
-        started = self.serve()
-        os.close(master)
-        self.assertEqual(self.ended(started), Said(1, b"", self.UNPLUGGED))
-        self.assertFalse(self.is_there("board"))
-
-    def test_a_command_that_goes_on_is_ended(self):
-        master = self.plain(closes=False)
-        started = self.start("ttyUSB0", "--", "sh", "-c", "trap 'echo TERM; exit' TERM; echo $$; while :; do sleep 0.1; done")
-        child = int(started.stdout.readline())
-        os.close(master)
-        self.assertEqual(self.ended(started), Said(1, b"TERM\n", self.UNPLUGGED))
-        self.assertFalse(os.path.exists(f"/proc/{child}"))
-
+class Ending(unittest.TestCase):
     def test_what_was_had_is_let_go_of(self):
         """Lines and port, whatever ended the call; and COMMAND is waited for, told to end, and killed in the end."""
         had, call = mock.Mock(), mock.call
@@ -137,17 +95,6 @@ class Pulled(LinePlace):
             child = mock.Mock(**{"wait.side_effect": [*times * [subprocess.TimeoutExpired("it", 5)], 0]})
             command.end(child)
             self.assertEqual(child.mock_calls, [call.wait(5), call.terminate(), call.wait(5), call.kill(), call.wait()][:2 * times + 1])
-
-    def test_a_write_is_undone(self):
-        """A board is pulled in a write, and plugged in again."""
-        board = self.board(flash=b"\x55" * 32768)
-        self.store("image", b"\xaa" * 32768)
-        started = self.start("ttyUSB0", "--", *self.stmflash("write", "-f", "-S", "0x08000000", "image"))
-        self.until(lambda: b"program 2" in (self.held("journal") or b"") or started.poll() is not None, "nothing is written")
-        board.renew()
-        self.assertEqual(self.ended(started), Said(1, b"", b"stmflash: line failed\n" + self.UNPLUGGED))
-        self.assertTold(self.through("undo"), "undone 1\n")
-        self.assertEqual(board.store(), b"\x55" * 32768)
 
 
 def template(node):

@@ -120,22 +120,7 @@ class Sequences(unittest.TestCase):
                 read_sequence(text)
 
 
-class Played(WiredPlace):
-    def test_before_and_after(self):
-        """The calls and delays in this order, and no byte on the line before."""
-        self.assertSilent(self.play("--boot", "rts,-dtr,,:dtr", "--", "cp", "calls", "before"))
-        self.assertEqual(self.calls("before")[0], ["RTS active", "DTR inactive"])
-        calls, (first, second, third) = self.calls()
-        self.assertEqual(calls, ["RTS active", "DTR inactive", "DTR active"])
-        # the times are noted in whole milliseconds
-        self.assertGreaterEqual(second - first, 0.099)
-        self.assertGreaterEqual(third - second, 0.199)
-        self.assertNothingSent(self.master)
-
-    def test_a_break(self):
-        self.assertSilent(self.play("--boot", "brk&-brk", "--after", "-rts&-dtr", "--", "true"))
-        self.assertEqual(self.calls()[0], ["BRK send_break 0.25s", "RTS inactive", "DTR inactive"])
-
+class Mode(WiredPlace):
     def test_mode(self):
         """What comes is marked where it is bad, and not changed; RTS and DTR stay when the port is closed."""
         marks = termios.INPCK | termios.PARMRK
@@ -161,21 +146,6 @@ class Played(WiredPlace):
         self.ended(started)
         self.assertEqual(termios.tcgetattr(self.master), mode)
         return mode
-
-    def test_the_board_is_left_whatever_came(self):
-        """After a command that failed, and after a signal, also in the midst of --boot; the waits of --after are whole."""
-        self.assertEqual(self.play("--after", "-rts", "--", "false").status, 1)
-        self.assertEqual(self.calls()[0], ["RTS inactive"])
-        for boot in ("dtr", "dtr" + 5000 * ","):
-            self.remove("calls")
-            started = self.begin("--boot", boot, "--after", "-rts,rts", "--", "sleep", "1000")
-            self.until(lambda: self.held("calls"), "nothing is played")
-            started.send_signal(signal.SIGTERM)
-            said = self.ended(started)
-            self.assertEqual((said.status, said.err), (128 + signal.SIGTERM, b""))
-            calls, times = self.calls()
-            self.assertEqual(calls, ["DTR active", "RTS inactive", "RTS active"])
-            self.assertGreaterEqual(times[2] - times[1], 0.099)
 
 
 class Waits(Place):

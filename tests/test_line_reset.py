@@ -1,4 +1,4 @@
-"""Wirings, --resets, and what both bring to clients; each wiring's moves beside those of stm32flash."""
+"""Wirings and --resets (tests/wired.rows); boards whose reset hangs on nothing; each wiring's moves beside those of stm32flash."""
 
 import concurrent.futures
 import contextlib
@@ -14,7 +14,9 @@ import time
 import unittest
 
 from boards import LINE, PYTHON, LinePlace, WiredPlace
-from place import COUNTING, ERASED, PATIENCE, TABLE, TOP
+from place import COUNTING, PATIENCE, TABLE, TOP
+from rows import in_parts
+from started import Started
 from stmflash_line.sequences import DELAY, read_sequence, read_wiring
 from stmflash_line.words import read_words
 
@@ -27,9 +29,6 @@ WIRINGS = {
     "inverted-rts-reset,dtr-boot0": ("-dtr&-rts,rts,,", "dtr&-rts,rts"), "inverted-rts-reset,inverted-dtr-boot0": ("dtr&-rts,rts,,", "-dtr&-rts,rts"),
     "dtr-reset": ("dtr,-dtr,,", ""), "rts-reset": ("rts,-rts,,", ""), "inverted-dtr-reset": ("-dtr,dtr,,", ""), "inverted-rts-reset": ("-rts,rts,,", "")}
 EXAMPLE = "dtr-reset,rts-boot0"
-# the calls of the stand-in port at the example's entry
-ENTRY = ["RTS inactive", "DTR active", "DTR inactive"]
-TELL = ("sh", "-c", "echo ${STMFLASH_FRESH-no}")
 
 
 class Pins:
@@ -93,7 +92,7 @@ class Wirings(unittest.TestCase):
                 read_wiring(text)
 
 
-class Words(WiredPlace):
+class Words(unittest.TestCase):
     def test_one_example_everywhere(self):
         """README, LINE, `--help`, the manual page and the unit name the same wiring first, and one sequence wherever one is shown."""
         for path in ("README.md", "docs/LINE.md", "line/stmflash-line.1", "line/stmflash_line/words.py", "packaging/stmflash-line@.service"):
@@ -104,21 +103,6 @@ class Words(WiredPlace):
                 self.assertNotIn("ttyUSB?", text)
                 for sequence in re.findall(r"--boot[ =]'?([-a-z&]+,[-a-z&,:]+)", text):
                     self.assertEqual(sequence, ":".join(WIRINGS[EXAMPLE]))
-
-    def test_nobody_says_that_the_board_is_fresh(self):
-        """No move does, and no wiring. The caller's own word is handed on."""
-        self.each((("--boot", "-rts&dtr,-dtr"), ("--after", "-rts"), ("--boot", "-rts&dtr,-dtr", "--resets"), ("--wiring", EXAMPLE)),
-                  lambda *words: self.assertTold(self.play(*words, "--", *TELL), "no\n"))
-        self.assertTold(self.play("--", *TELL, STMFLASH_FRESH="1"), "1\n")
-
-    def test_what_a_wiring_plays(self):
-        """Into the bootloader before COMMAND, and out of it behind."""
-        for wiring in (EXAMPLE, "inverted-rts-reset,dtr-boot0", "dtr-reset"):
-            entry, leave = WIRINGS[wiring]
-            self.assertSilent(self.play("--wiring", wiring, "--", "cp", "calls", "before"))
-            self.assertEqual(self.calls("before")[0], calls_of(entry))
-            self.assertEqual(self.calls()[0], calls_of(entry) + calls_of(leave))
-            self.remove("calls")
 
     def test_one_word_says_how_the_board_is_left(self):
         """Also where it says that nothing is moved; of two neither is taken."""
@@ -133,94 +117,11 @@ class Words(WiredPlace):
                         self.assertEqual(read_words(words).after, read_sequence((own or "") if after is None else after))
 
 
-def calls_of(text):
-    """The calls of the stand-in port at a sequence."""
-    return [f"{name.upper()} {'active' if value else 'inactive'}" for name, value in read_sequence(text) if name != "wait"]
+class Played(Started):
+    """Each case of wired.rows."""
 
 
-# connects to a socket, sends so many bytes of one value, and takes as many as it is told; then it ends
-CLIENT = "import socket, sys; s = socket.socket(socket.AF_UNIX); s.connect(sys.argv[1]); " \
-         "s.sendall(sys.argv[2].encode() * int(sys.argv[3])); s.recv(int(sys.argv[4]), socket.MSG_WAITALL)"
-
-
-def client(value, count, taken=0):
-    return f"python3 -c '{CLIENT}' \"$STMFLASH_DEVICE\" {value} {count} {taken}"
-
-
-class Clients(WiredPlace):
-    def reset_count(self):
-        calls = self.calls()[0]
-        self.assertEqual(calls, ENTRY * (len(calls) // 3) + ENTRY[:len(calls) % 3])
-        return -(-len(calls) // 3)
-
-    def with_clients(self, script, **more):
-        """COMMAND is this script, behind a wiring that resets."""
-        return self.begin("--wiring", EXAMPLE, "--after", "", "--", "sh", "-c", script, **more)
-
-    def test_each_one_of_a_command_finds_the_board_fresh(self):
-        """Behind the last byte of the one before it, and before its own first; one that says nothing resets nothing. So does one that is
-        gone before its turn, also where COMMAND has ended, and the port has not yet taken what the client before has sent."""
-        for size, first, rest in ((200_000, 100_000, f"{client('-', 0)}; {client('b', 1)}"), (150_000, 37_500, f"{client('b', 1)}; echo")):
-            with self.subTest(rest=rest):
-                started = self.with_clients(f"{client('a', size)}; {rest}")
-                if "echo" in rest:
-                    self.assertEqual(started.stdout.readline(), b"\n")
-                self.read_from(self.master, first)
-                self.assertEqual(self.reset_count(), 1)
-                self.assertEqual(set(self.read_from(self.master, size - first)), {ord("a")})
-                self.assertEqual(self.read_from(self.master, 1), b"b")
-                self.assertSilent(self.ended(started))
-                self.assertEqual(self.reset_count(), 2)
-                self.remove("calls")
-
-    def test_what_the_board_said_before_is_dropped(self):
-        started = self.with_clients(f"{client('a', 1)}; echo next; read word; {client('b', 1, 3)}", reads=True)
-        self.assertEqual(self.read_from(self.master, 1), b"a")
-        self.assertEqual(started.stdout.readline(), b"next\n")
-        os.write(self.master, b"old")
-        started.stdin.write(b"on\n")
-        started.stdin.flush()
-        self.assertEqual(self.read_from(self.master, 1), b"b")
-        os.write(self.master, b"new")
-        self.assertSilent(self.ended(started))
-
-    def test_each_one_of_a_socket_where_the_sequence_resets(self):
-        """One that resets is played for each; another once."""
-        for words, due in ((("--resets",), (2, 3)), ((), (1, 1))):
-            with self.subTest(words=words):
-                started = self.until_served(self.begin("--socket", "board", "--boot", "-rts&dtr,-dtr", *words))
-                for count in due:
-                    with self.connect() as one:
-                        for _ in range(2):
-                            one.sendall(b"?")
-                            self.assertEqual(self.read_from(self.master, 1), b"?")
-                            self.assertEqual(self.reset_count(), count)
-                self.stop(started)
-                self.remove("calls")
-
-    def test_a_signal_in_the_midst_of_a_reset(self):
-        """The reset is let go of, and the client's bytes don't go out."""
-        started = self.begin("--socket", "board", "--boot", "dtr" + 5000 * "," + "-dtr", "--resets")
-        self.until(lambda: self.held("calls"), "nothing is played")
-        self.stop(started)
-        self.assertEqual(self.calls()[0], ["DTR active", "DTR inactive"])
-        self.remove("calls")
-        started = self.begin("--boot", "dtr,-dtr" + 50 * ",", "--resets", "--", "sh", "-c", f"{client('a', 1)}; {client('b', 1, 1)}")
-        self.until(lambda: len(self.calls()[0]) == 4, "the second client brings no reset")
-        started.terminate()
-        self.assertEqual(self.ended(started).status, 128 + signal.SIGTERM)
-        self.assertEqual(self.read_from(self.master, 1), b"a")
-        self.assertNothingSent(self.master)
-
-
-class Fresh(WiredPlace):
-    def port(self):
-        self.made = self.board()
-
-    def test_a_board_that_was_reset(self):
-        """The session goes through."""
-        self.assertEqual(self.made.store(), ERASED)
-        self.assertInfo(self.play("--wiring", EXAMPLE, "--", *self.stmflash("info")))
+in_parts(Played, "wired.rows", 2)
 
 
 class Unwired(LinePlace):
