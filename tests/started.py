@@ -16,8 +16,6 @@ from place import PATIENCE, first_of, program, readable
 from rows import bytes_of
 
 GPIO, FAR_END = os.path.join(STAND_INS, "stand_ins"), os.path.join(STAND_INS, "stand_ins", "far_end.py")
-
-
 # what a process does before it becomes stmflash-line
 STEPS = {"umask": lambda it: (os.umask, int(it, 8)), "closes": lambda it: (os.close, int(it)), "alone": lambda _: (os.setsid,),
          "ignores": lambda it: (signal.signal, getattr(signal, f"SIG{it}"), signal.SIG_IGN)}
@@ -30,7 +28,7 @@ def moved(text):
 
 
 class Started(LineRows):
-    started = url = None
+    started, url, chip = None, None, "0412"
 
     def begin(self):
         super().begin()
@@ -54,8 +52,8 @@ class Started(LineRows):
     def begun(self, told, reads=False):
         """Starts a call, where a port that is a stand-in for one with signals is known."""
         words, line, steps = shlex.split(told), (LINE,), [default_signals, *self.steps]
-        if words[0] == "stm32flash":
-            words, line = words[1:], (os.path.join(os.path.dirname(LINE), "stm32flash"),)
+        if words[0] in ("stm32flash", "stmflash-trial"):
+            words, line = words[1:], (os.path.join(os.path.dirname(LINE), words[0]),)
         elif words[0] == self.wired:
             words, line = [STAND_INS, LINE, *words], ("-c", RUNNER)
         return self.start(*words, line=line, reads=reads, before=lambda: [step() for step in steps], **self.around | self.variables)
@@ -153,7 +151,7 @@ class Started(LineRows):
             self.end = self.plain(closes=False)
             self.addCleanup(self.let_go)
         elif sign == "board":
-            self.made = self.board(flash=bytes_of(told))
+            self.made = self.board(chip=self.chip, flash=bytes_of(told))
         elif sign == "holds":
             self.assertEqual(self.made.store(), bytes_of(told))
         elif sign == "renew":

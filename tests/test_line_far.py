@@ -36,9 +36,9 @@ class FarPlace(LinePlace):
         """The companion told this of a port, line by line, and ended so."""
         self.assertEqual(said, Said(status, out, "".join(f"stmflash-line: {url or self.url}: {text}\n" for text in texts).encode()))
 
-    def listen_as(self, name, host="127.0.0.1", **more):
+    def listen_as(self, name):
         """An other end of ours, and its whole name with the number of its port."""
-        listener = socket.create_server((host, 0), **more)
+        listener = socket.create_server(("127.0.0.1", 0))
         self.addCleanup(listener.close)
         listener.settimeout(PATIENCE)
         return listener, f"{name}:{listener.getsockname()[1]}"

@@ -1,5 +1,5 @@
 """A line that watches: over a board that follows the model nothing changes; a reply that no such board gives ends the line, and is
-told (tests/watch.rows has each byte, tests/planted the boards)."""
+told (tests/watch.rows has each byte, tests/over.rows sessions, tests/planted the boards)."""
 
 import os
 import random
@@ -10,8 +10,9 @@ import tomllib
 from unittest import mock
 
 from boards import LinePlace
-from place import COUNTING, TOP, UNIQUE, Said
-from rows import Rows, bytes_of, cases
+from place import COUNTING, TOP, UNIQUE
+from rows import Rows, bytes_of, cases, in_parts
+from started import Started
 from stmflash_line import session, tables
 from stmflash_line.watch import Watch
 
@@ -21,13 +22,6 @@ TABLE = b'[[chip]]\nid = 0x440\nbase = 0x08000000\npages = [[8, 1024]]\nerase = 
 SUMMARY = r"stmflash-line: \S+: watched: [0-9]+ bytes of replies, each as a device of the model sends it(; [0-9]+ more were due)?\n"
 # so many writes are stopped
 STOPS = int(os.environ.get("STMFLASH_LINE_STOPS", "3"))
-# what a write of 13 blocks with -v finds on boards that do otherwise
-FOUND = {
-    "76-before-an-ack": "76 came in Extended Erase, and 79 was due", "read-protected": "1F came in Read Memory, and 79 was due",
-    "lists-43-and-44": "it lists the codes ",
-    "erases-the-page-before": "FF stands at 08001000, and 00 was read or written there before",
-    "writes-a-wrong-last-byte": "FE stands at 080010FF, and FF was read or written there before"}
-
 
 class Bytes(Rows):
     """One conversation, byte by byte."""
@@ -53,18 +47,31 @@ class Bytes(Rows):
         self.play_all(cases("watch.rows"))
 
 
+class Played(Started):
+    """Each case of over.rows."""
+
+    chip = "0440"
+
+    def begin(self):
+        super().begin()
+        self.around = {"STMFLASH_TABLE": self.path("table")}
+
+    def does(self, sign, told, name, *more):
+        if sign == "planted":
+            words = "--id 0440 --pages 8 --size 1024 --erase 44 --clients 1000"
+            shim = f'#!/bin/sh\nexec {sys.executable} {TOP}/tests/planted "$9" --plant {name} {words} --flash "$7"\n'
+            self.store("planted", shim.encode())
+            os.chmod(self.path("planted"), 0o755)
+            self.addCleanup(pty_boards.PtyBoard(self.path("planted"), self.path("ttyUSB0"), "0440", self.path("table")).stop)
+        else:
+            super().does(sign, told, name, *more)
+
+
+in_parts(Played, "over.rows", 3)
+
+
 class WatchedPlace(LinePlace):
     begins = {"table": TABLE, "image": COUNTING[:3328]}
-
-    def planted(self, name):
-        """A port with a planted board behind it."""
-        words = "--id 0440 --pages 8 --size 1024 --erase 44 --clients 1000"
-        shim = f'#!/bin/sh\nexec {sys.executable} {TOP}/tests/planted "$9" --plant {name} {words} --flash "$7"\n'
-        self.store("planted", shim.encode())
-        os.chmod(self.path("planted"), 0o755)
-        made = pty_boards.PtyBoard(self.path("planted"), self.path("ttyUSB0"), "0440", self.path("table"))
-        self.addCleanup(made.stop)
-        return made
 
     def over(self, *command):
         """What a command says over a line that watches."""
@@ -82,28 +89,6 @@ class WatchedPlace(LinePlace):
 
 
 class Boards(WatchedPlace):
-    def test_sessions_with_a_board_of_the_model(self):
-        """Each is as it is without a watch, and says that it was watched."""
-        board = self.board(chip="0440")
-        self.assertWatched(self.write())
-        flash = board.store()
-        self.assertEqual(flash[4096:4096 + 3328], COUNTING[:3328])
-        self.assertWatched(self.watched("read", "copy", "--quiet"))
-        self.assertFile("copy", flash)
-        self.assertWatched(self.watched("erase", "4", "--quiet"))
-        self.assertWatched(self.watched("undo", "2"), b"undone 2\n")
-        self.assertEqual(board.store(), b"\xff" * 8192)
-        # which asks for neither codes nor id
-        said = self.watched("go", "0x08000000")
-        self.assertEqual(said, Said(0, b"", b"stmflash-line: ttyUSB0: watched: nothing, since no chip of the table has told its codes and id\n"))
-
-    def test_two_sessions_on_one_line(self):
-        """What each of them was told is counted by itself."""
-        self.board(chip="0440")
-        said = self.over("sh", "-c", '"$@" && "$@"', "sh", *self.stmflash("crc"))
-        counts = re.findall(rb"watched: ([0-9]+) bytes", said.err)
-        self.assertEqual((said.status, len(counts), counts[:1]), (0, 2, counts[1:]), said.err)
-
     def test_a_board_that_tells_which_it_is(self):
         """It is asked before the session, and once more in it; what comes behind is watched too."""
         here = UNIQUE.encode()
@@ -139,28 +124,6 @@ class Boards(WatchedPlace):
                 self.remove("journal")
             self.assertEqual(board.store(), flash, f"after {count} bytes of seed {seed}")
 
-    def test_boards_that_do_otherwise(self):
-        """The byte isn't handed on, the session ends, and one line tells of it."""
-        self.store("image", bytes(range(256)) * 13)
-        for name, text in FOUND.items():
-            with self.subTest(board=name):
-                board = self.planted(name)
-                said = self.write()
-                board.stop()
-                self.assertEqual((said.status, said.out), (1, b""))
-                self.assertIn(b"stmflash: line failed\n", said.err)
-                self.assertRegex(said.err.decode(), rf"ttyUSB0: the board does otherwise than the model: {text}.*; stmflash-trial tells more")
-                self.assertEqual(said.err.count(b"\n"), 2)
-                self.clear("journal", "ttyUSB0", "ttyUSB0.flash")
-
-    def test_a_command_that_passes_over_it(self):
-        """The status isn't 0, also where a client that does well comes behind."""
-        self.planted("read-protected")
-        said = self.over("sh", "-c", f'"$@" 2>/dev/null; {sys.executable} -c "import socket; socket.socket(socket.AF_UNIX).connect(\'{{}}\')"', "sh",
-                         *self.stmflash("read", "copy"))
-        self.assertLineFault(said, "ttyUSB0: the board does otherwise than the model: 1F came in Read Memory, and 79 was due; "
-                             "stmflash-trial tells more")
-
     def test_tables(self):
         """The one that is named is read alone, else one's own over the installed one."""
         os.mkdir(self.path("stmflash"))
@@ -168,7 +131,3 @@ class Boards(WatchedPlace):
         with mock.patch.multiple(tables, TABLES=[self.path("table"), self.path("other")], MACHINES=""), mock.patch.dict(os.environ, XDG_CONFIG_HOME=self.folder):
             for os.environ["STMFLASH_TABLE"], ids in (("", [0x441, 0x440]), (self.path("table"), [0x440])):
                 self.assertEqual([chip["id"] for chip in session.make_watch().chips], ids)
-        self.plain()
-        for text, told_of in ((b"[[chip", "is no chip table"), (b"[[chip]]\nid = 1\n", "is no chip table"), (None, "No such file or directory")):
-            self.store("table", text)
-            self.assertLineFault(self.over("true"), f"{self.path('table')}: {told_of}; STMFLASH_TABLE names another")

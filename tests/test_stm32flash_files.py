@@ -7,7 +7,7 @@ import tomllib
 from unittest import mock
 
 from boards import pty_boards
-from place import COUNTING, ERASED, TABLE, TOP, program, text_in
+from place import COUNTING, ERASED, TABLE, TOP, program
 from test_stm32flash_words import NEW, Words, places
 from stmflash_line import tables
 from as_stm32flash import actions, tools

@@ -17,7 +17,7 @@ from unittest import mock
 
 from boards import REAL, Named, OnPorts, default_signals, pty_boards
 from place import COUNTING, PATIENCE, TABLE, TOP, Place, Said, program, readable, text_in
-from rows import bytes_of, cases, in_parts
+from rows import Rows, bytes_of, cases, in_parts
 
 import image
 from stmflash_line import journals as places
@@ -34,11 +34,6 @@ BACK = COUNTING[:5120] + b"\x55" * 1024 + COUNTING[6144:]
 NEW = b"new" + COUNTING[3:]
 # a table of a chip that tells its board
 TELLING = TABLE + b"unique = [0x1FFFF7E8, 12]\n"
-
-
-def of_board(byte, chip="0412"):
-    """The header of a journal of a board whose unique id is of this byte alone."""
-    return f"stmjournal 3 {chip} {12 * byte}".encode()
 
 
 class Words(Named):
@@ -66,18 +61,11 @@ class Words(Named):
         self.assertEqual(board.store(), flash)
         return said
 
-    def fails(self, err, *words, **more):
-        """The same, which ends with 1, and says just this."""
+    def refused(self, text, words=(), **more):
+        """Runs it on these words, where it has to end with 1 and say this."""
         said = self.words("-m", "8n1", *words, **more)
-        self.assertEqual((said.status, said.err), (1, err))
-
-    def refused(self, *texts, words=(), on="err", mode=("-m", "8n1"), **more):
-        """Runs it on these words, where it has to end with 1 and say each of these texts."""
-        said = self.words(*mode, *words, **more)
         self.assertEqual(said.status, 1, said)
-        for text in texts:
-            self.assertIn(text, getattr(said, on))
-        return said
+        self.assertIn(text, said.err)
 
     def flash(self, data):
         """A board whose flash holds these bytes."""
@@ -213,7 +201,17 @@ class TakingBack(Words):
                 self.remove(journal)
 
 
-class Dropping(Place):
+def header_of(word):
+    """The header of a journal that was put aside, by the word for it."""
+    if ":" in word:
+        return f"stmjournal {word.replace(':', ' ')}"
+    if word.startswith("#"):
+        return f"stmjournal 3 0412 {int(word[1:]):024X}"
+    byte, _, chip = word.partition("@")
+    return f"stmjournal 3 {chip or '0412'} {12 * byte}" if re.fullmatch("[AB][12]", byte) else "" if word == "none" else word
+
+
+class Dropping(Rows):
     """Which of the journals that were put aside are dropped."""
 
     def setUp(self):
@@ -223,89 +221,48 @@ class Dropping(Place):
         self.journals.make()
         # a copy that a user has made is none
         self.store(self.journals.next_kept() + ".old", b"")
+        self.told = ""
 
-    def keep(self, header, size=0):
+    def placed(self, told):
+        return re.sub(r"\{(kept|ended)\}", lambda it: f"{self.journals.folder}/{it[1]}-0000", super().placed(told))
+
+    def aside(self, word):
         """Puts one aside, as a call does; what it told."""
-        self.store(self.journals.next_kept(), header + b"\n" + b"." * size)
+        header, _, size = word.partition("+")
+        self.store(self.journals.next_kept(), f"{header_of(header)}\n".encode() + b"." * (int(size or 0) << 19))
         with contextlib.redirect_stderr(io.StringIO()) as told:
             self.journals.drop_old()
         return told.getvalue()
 
-    def numbers(self, word="kept"):
-        return [int(path[-6:]) for path in self.journals.numbered(word)]
+    def does(self, sign, told, name, *more):
+        if sign == "told":
+            self.assertEqual(self.told, self.told if told == ".." else f"stm32flash: {told}\n")
+            self.assertNotEqual(self.told, "")
+            self.told = ""
+            return
+        self.assertEqual(self.told, "")
+        if sign == "aside":
+            *before, self.told = map(self.aside, (name, *more))
+            self.assertEqual("".join(before), "")
+        elif sign in ("room", "most"):
+            self.enterContext(mock.patch.object(journals, sign.upper(), int(told)))
+        elif sign == "refuses":
+            self.enterContext(mock.patch.object(journals.os, "remove", side_effect=PermissionError(13, "Permission denied")))
+        elif sign == "ends":
+            self.assertEqual(list(self.journals.set_apart(Owner("0412", 12 * name)).values()), [Owner(*more)])
+        else:
+            due = [it for word in told.split() for ends in [word.split("-")] for it in range(int(ends[0]), int(ends[-1]) + 1)]
+            self.assertEqual([int(path[-6:]) for path in self.journals.numbered(sign)], due)
 
-    def pushed_out(self, number, owner):
-        """What is told of a removal for newer ones."""
-        return f"stm32flash: no more than 8 journals stay {owner}: {self.journals.folder}/kept-{number:06d} was removed\n"
-
-    def test_boards_that_are_swapped_keep_eight_each(self):
-        for number in range(-15, 5):
-            byte = ("A1", "B2")[(number + 15) % 2]
-            self.assertEqual(self.keep(of_board(byte)), self.pushed_out(number, f"of the board {12 * byte}") if number > 0 else "")
-        self.assertEqual(self.numbers(), list(range(5, 21)))
-
-    def test_one_board_often_costs_others_nothing(self):
-        others = (of_board("A1"), of_board("B2", "0410"), b"stmjournal 2 0412", b"stmjournal 1 0410", b"nonsense")
-        for header in (*others, *8 * [of_board("B2")]):
-            self.assertEqual(self.keep(header), "")
-        for number in range(6, 18):
-            self.assertEqual(self.keep(of_board("B2")), self.pushed_out(number, "of the board " + 12 * "B2"))
-        self.assertEqual(self.numbers(), [*range(1, 6), *range(18, 26)])
-
-    def test_journals_without_a_board_count_by_the_chip_and_bad_ones_together(self):
-        for header in (b"stmjournal 2 0412", b"stmjournal 1 0412", b"stmjournal 2 0410", b"", b"stmjournal 3 0412 A1"):
-            for _ in range(5):
-                self.keep(header)
-        self.assertEqual(self.numbers(), [*range(3, 16), *range(18, 26)])
-
-    def test_many_boards_keep_one_each_until_there_is_no_room(self):
-        def header(number):
-            return f"stmjournal 3 0412 {number:024X}".encode()
-        half, line = 1 << 19, f"stm32flash: no room for more than 1000 journals, or 5 MiB, of a port: {self.journals.folder}/kept-00000"
-        with mock.patch.object(journals, "ROOM", (10 * half) + 4096):
-            for number, size in ((1, half), (2, half), (3, half), (4, half), (5, half), (1, 2 * half), (7, 2 * half)):
-                self.assertEqual(self.keep(header(number), size), "")
-            # the old one of the first board goes before the only one of another
-            self.assertEqual(self.keep(header(8), 2 * half), f"{line}1 was removed\n")
-            self.assertEqual(self.keep(header(9), half), f"{line}2 was removed, the last that was put aside of the board {2:024X}\n")
-            self.assertEqual(self.numbers(), list(range(3, 10)))
-            # the very newest stays, whatever it has
-            self.keep(header(10), 12 * half)
-            self.assertEqual(self.numbers(), [10])
-        with mock.patch.object(journals, "MOST", 3):
-            self.keep(header(11))
-            self.keep(header(12))
-            self.assertIn("kept-000011 was removed\n", self.keep(header(11)))
-            self.assertEqual(self.numbers(), [10, 12, 13])
-
-    def test_what_was_ended_goes_first(self):
-        with mock.patch.object(journals, "ROOM", 3 << 20):
-            self.keep(of_board("B2"), 1 << 20)
-            self.keep(b"stmjournal 2 0412", 1 << 20)
-            self.assertEqual(list(self.journals.set_apart(Owner("0412", "A1" * 12)).values()), [Owner("0412", None)])
-            self.assertIn("ended-000002 was removed\n", self.keep(of_board("B2"), 1 << 20))
-        self.assertEqual((self.numbers(), self.numbers("ended")), ([1, 3], []))
-
-    def test_all_that_may_be_of_a_board_are_ended_however_old(self):
-        self.keep(of_board("A1"))
-        for number in range(12):
-            self.keep(f"stmjournal 3 0412 {number:024X}".encode())
-        self.journals.set_apart(Owner("0412", "A1" * 12))
-        self.assertEqual((self.numbers(), self.numbers("ended")), (list(range(2, 14)), [1]))
-
-    def test_one_that_cant_be_removed_stays(self):
-        for _ in range(8):
-            self.keep(b"stmjournal 2 0412")
-        with mock.patch.object(journals.os, "remove", side_effect=PermissionError(13, "Permission denied")):
-            told = self.keep(b"stmjournal 2 0412")
-        self.assertEqual(told, f"stm32flash: {self.journals.folder}/kept-000001 is too old, and stays: Permission denied\n")
+    def test_each_case(self):
+        self.play_all(cases("dropping.rows"))
 
     def test_a_folder_that_cant_be_read_isnt_taken_for_an_empty_one(self):
         with mock.patch.object(journals.os, "listdir", side_effect=PermissionError(13, "Permission denied")):
             self.assertRaisesRegex(Fault, "Permission denied; journals are kept there", self.journals.kept)
 
     def test_the_header_is_behind_what_is_void(self):
-        self.store("held", b"stmjour!\n" + of_board("A1") + b"\nopen 1\n")
+        self.store("held", f"stmjour!\n{header_of('A1')}\nopen 1\n".encode())
         self.assertEqual(owner_of(self.path("held")), Owner("0412", "A1" * 12))
 
 

@@ -22,7 +22,9 @@ import unittest
 
 from boards import LINE, PYTHON, LinePlace, default_signals
 from place import PATIENCE, TOP, Place, Said, readable, text_in
+from rows import in_parts
 from served import Served
+from started import Started
 
 PLANTED = os.path.join(TOP, "tests", "planted")
 sys.path.insert(0, PLANTED)
@@ -254,33 +256,6 @@ class Terminal(TrialPlace):
 
 
 class Words(TrialPlace):
-    def assertRefused(self, said, text):
-        self.assertEqual((said.status, said.out), (2, b""))
-        self.assertIn(text.encode(), said.err)
-        self.assertFalse(self.is_there("trial.toml"))
-
-    def test_words_that_cannot_be_done(self):
-        self.store_all({"table": table("44"), "here": b"kept", "held": b"stmjournal 1 0410\n", "bad": b"[[chip]]\nid = 1\n"})
-        os.symlink("saved", self.path("linked"))
-        other = "give --out another name\n"
-        self.each((
-            ("", "no board"), ("--port= --yes", "an empty word"), ("--device none", "--yes, where nobody can be asked"), ("--device none --port none", "either --device or --port"),
-            ("--device none --yes", "stmflash-trial: none: No such file or directory; --device names a socket that is served\n"),
-            ("--device none --wiring dtr-reset", "--wiring is for --port"), *((f"--device none --yes --pages {it}", "--pages: pages are numbers, as 62,63") for it in ("1,-2", "1-3")),
-            ("--device none --yes --skip erase,nothing", "no row is named nothing"),
-            ("--device none --yes --skip pause,put-back", "put-back can't be left out"),
-            ("--device none --yes --out saved", f"saved: is --save too; {other}"), ("--device none --yes --wait 0", "--wait is 1 to 60000"),
-            ("--device none --yes --out linked", f"linked: is --save too; {other}"), ("--device none --yes --out held", f"held: is a journal; {other}"),
-            ("--device none --yes --out ./table", f"./table: is the chip table too; {other}"),
-            *((f"--device none --yes --save {it}", f"{it}: is there already; give --save another name\n") for it in ("here", "linked")),
-            ("--device none --yes --table bad", "bad: is no chip table; --table names another\n"),
-            ("--device none --yes --table gone", "gone: No such file or directory; --table names another\n")), lambda words, text: self.assertRefused(self.trial(*words.split()), text))
-        self.assertFile("here", b"kept")
-        # where no word names one, one's own is read
-        os.renames(self.path("table"), self.path("stmflash/chips.toml"))
-        words = ("--device", "none", "--yes", "--out", "stmflash/chips.toml")
-        self.assertRefused(run(self.folder, *words, XDG_CONFIG_HOME=self.folder), f"stmflash/chips.toml: is the chip table too; {other}")
-
     def test_what_is_found_replaces_no_other_file(self):
         """A link and a pipe stay, and so does whatever has a name of that kind; a name that is no text is told as far as it is one."""
         self.store("real.new", b"mine")
@@ -308,24 +283,6 @@ class Words(TrialPlace):
                                       ("came", "1", "the flash couldn't be saved: File exists", b"kept"), ("whole", "2", "2 False\n2 True", bytes(2))):
             self.assertEqual(of_modules(text, self.path(name), size), why + "\n")
             self.assertEqual(self.held(name), held)
-
-    def test_a_page_that_is_not_there(self):
-        said = self.tried("none", "--pages", "8", *QUICK)
-        self.assertEqual((said.status, said.err), (2, b"stmflash-trial: --pages: this chip has no such page; give 0 to 7, but for 255\n"))
-        self.assertFalse(self.is_there("saved"))
-
-    def test_only_reads(self):
-        said = self.tried("none", "--only-read", *QUICK[1:])
-        self.assertStatus(said, 0)
-        found, verdict = rows_of(said)
-        self.assertLessEqual({"erase", "write", "settle-erase", "put-back"}, names_of(found, "not tried"))
-        self.assertIn("; not tried: ", verdict)
-
-    def test_named_rows_are_left_out(self):
-        said = self.tried("erases-before-check", "--skip", "refuse-erase,pause,reset-in-frame", *QUICK)
-        self.assertStatus(said, 0)
-        self.assertIn("refuse-erase      not tried  left out\n", said.out.decode())
-        self.assertIn("not tried: pause, refuse-erase, reset-in-frame", said.out.decode())
 
     def test_progress(self):
         said, count = self.tried("silent", "--progress", *QUICK), len(row_names())
@@ -439,37 +396,19 @@ class FastBoard:
         return b""
 
 
-class Speeds(LinePlace):
-    """Which speeds a board takes: it is reset before each."""
+class Played(Started):
+    def does(self, sign, told, name, *more):
+        if sign == "planted":
+            self.board_there = self.enterContext(planted(self.folder, name, "--pages", str(PAGES)))
+        elif sign == "over":
+            self.assertEqual(self.board_there.wait(PATIENCE), 0)
+        elif sign == "fast":
+            FastBoard(self, int(name), int(*more))
+        else:
+            super().does(sign, told, name, *more)
 
-    def speeds(self, fastest, right, *words):
-        FastBoard(self, fastest, right)
-        self.store("table", table("43", 32).replace(b"440", b"412"))
-        said = self.line("--port", "ttyUSB0", "--table", "table", "--speeds", *words, line=(TRIAL,))
-        self.assertEqual(said.err, b"")
-        self.assertEqual(sorted(os.listdir(self.folder)), ["table", "temporary", "ttyUSB0"])
-        return said.status, [re.sub(r" in \d+\.\d s", "", line) for line in said.out.decode().splitlines()]
 
-    def test_the_highest_is_found(self):
-        status, lines = self.speeds(1000000, 460800, "--reset", "touch reset")
-        self.assertEqual((status, lines), (0, [
-            *(f"{baud:<9}taken: 16384 bytes read" for baud in (57600, 115200, 230400, 460800)),
-            *(f"{baud:<9}not taken: other bytes were read than at a lower speed" for baud in (921600, 1000000)),
-            *(f"{baud:<9}not taken: no answer" for baud in (1500000, 2000000)), "the highest that this board takes on this line: --baud 460800"]))
-
-    def test_a_board_that_takes_none(self):
-        status, lines = self.speeds(0, 0, "--reset", "touch reset")
-        self.assertEqual((status, lines[-1]), (1, "none is taken"))
-
-    def test_one_that_is_not_reset_answers_at_the_first_alone(self):
-        status, lines = self.speeds(2000000, 2000000, "--reset", "true")
-        self.assertEqual((status, lines[-1]), (0, "the highest that this board takes on this line: --baud 57600"))
-
-    def test_without_a_reset_it_is_refused(self):
-        for words in (("--port", "ttyUSB0"), ("--device", "board", "--reset", "true")):
-            said = self.line("--speeds", *words, line=(TRIAL,))
-            self.assertEqual((said.status, said.out), (2, b""))
-            self.assertIn(b"--speeds needs --port, and a reset before each: --wiring, --reset, or a terminal\n", said.err)
+in_parts(Played, "trial.rows", 2)
 
 
 class Told(TrialPlace):

@@ -1,17 +1,16 @@
 """`--watch`: over a board that follows the model nothing changes; the first reply that no such board gives ends the session, is named,
-and nothing is sent or added behind it (tests/planted has boards that do otherwise)."""
+and nothing is sent or added behind it (tests/watched.rows; tests/planted has boards that do otherwise)."""
 
 import json
-import os
 import re
 
-from place import COUNTING, TABLE, WAIT, Said, had
+from place import COUNTING, WAIT
+from rows import Rows, in_parts
 from served import Served
 from test_trial import planted
 
 WATCHED = r"watched: ([0-9]+) bytes of replies, each as a device of the model sends it"
 OPEN = "; 2 more that it leaves open, behind a protection or where memory failed"
-NOTHING = "watched: nothing, since no chip of the table had told its id and codes by then"
 FAULT = "the board does otherwise than the model: {}; undo what was begun, then stmflash-trial"
 HINT = "(hint: .*\n)?"
 # chip 0440, of which the planted boards are, and with the places where it tells which board it is
@@ -24,13 +23,6 @@ SESSIONS = (
     (("verify", "-S", "0x08000000", "old"), True), (("erase", "2-4"), True), (("undo",), True), (("undo", "1"), True),
     (("go", "0x08000000"), False), (("protect", "write-unprotect"), False), (("info", "--no-board"), True),
     (("write", "-f", "--no-board", "image"), True), (("undo", "--no-board"), True), (("go", "0x08000000", "--no-board"), False))
-STANDS = "[0-9A-F]{2} stands at 0800[0-9A-F]{4}, and [0-9A-F]{2} was read or written there before"
-# what a write of 13 blocks with -v finds on boards that do otherwise
-FOUND = {
-    "76-before-an-ack": "76 came, and 79 was due",
-    **dict.fromkeys(("read-protected", "refuses-read-of-256"), "1F came, and 79 was due"),
-    **dict.fromkeys(("lists-43-and-44", "lists-no-write"), "no device with its chip lists the codes that it lists"),
-    **dict.fromkeys(("erases-half-a-page", "erases-the-page-before", "erases-two-pages", "leaves-a-bit", "writes-a-wrong-last-byte"), STANDS)}
 
 
 class Relay:
@@ -96,48 +88,6 @@ class Boards(Watching):
     def test_a_board_that_tells_which_it_is_passes(self):
         self.store_all(TOLD)
         self.compare()
-
-    def test_where_nothing_is_watched(self):
-        """No chip of the table has told its id; or nothing was sent at all."""
-        self.store_all({"table": TABLE, "flash": COUNTING, "other": PLANTED_TABLE})
-        self.serve(2)
-        for words, status, err, out in ((("info", "--raw"), 0, "", b"id 0412\n"), (("crc",), 1, "stmflash: unknown chip 0412\n", b"")):
-            said = self.call(*words, "--table", "other", "--device", "board", "--journal", "journal", "--wait", WAIT, "--watch")
-            self.assertEqual((said.status, said.err.decode()), (status, f"{NOTHING}\n{err}"))
-            self.assertTrue(said.out.startswith(out))
-        self.assertServed()
-
-    def test_an_undo_of_nothing_sends_nothing(self):
-        self.assertEqual(self.simulated("erase", "7").status, 0)
-        self.assertEqual(self.simulated("undo").status, 0)
-        self.remove("flash.line")
-        self.assertEqual(self.simulated("undo", "--watch"), Said(0, b"undone 0\n", NOTHING.encode() + b"\n"))
-
-    def test_a_stopped_write_and_its_undo(self):
-        """Both watched; the undo knows nothing of what the write was told."""
-        for stop in (100, 1000, 2500):
-            said = self.simulated("write", "-f", "--stop", str(stop), "--watch", "image")
-            self.assertEqual(said.status, 3, said.err)
-            self.assertRegex(said.err.decode(), rf"\A({WATCHED}|{re.escape(NOTHING)})\nstmflash: stopped\n\Z")
-            if self.is_there("journal"):
-                self.assertEqual(self.simulated("undo", "--watch").status, 0)
-                self.remove("journal")
-            self.assertFile("flash", COUNTING[:8192])
-
-    def test_a_folder_of_journals(self):
-        """The session beside the board's journal is watched, and not the question before it."""
-        self.store_all(TOLD)
-        os.mkdir(self.path("journals"))
-        words = ("--table", "table", "--device", "sim:0440:flash", "--journals", "journals")
-        self.assertWatched(self.call("erase", "3", *words, "--watch"), b"segment 1: 1 pages erased\n")
-        self.assertWatched(self.call("undo", *words, "--watch"), b"undone 1\n")
-        self.assertFile("flash", COUNTING[:8192])
-
-    def test_a_fresh_board(self):
-        self.assertEqual(self.simulated("write", "-f", "--stop", "3000", "image").status, 3)
-        self.store("flash.line", b"fresh\n")
-        self.assertWatched(self.simulated("undo", "--fresh", "--watch"), b"undone 1\n", end=f"\nnote: {had(1, left=0)}")
-        self.assertFile("flash", COUNTING[:8192])
 
 
 class Line(Watching):
@@ -258,33 +208,12 @@ class Line(Watching):
             self.assertEqual((said.status, b"\x11\xee" in relay.sent()), (0, is_read), said.err)
 
 
-class Planted(Watching):
-    """Boards that do otherwise, each in one thing."""
+class Played(Rows):
+    def does(self, sign, told, name, *more):
+        if sign == "planted":
+            self.enterContext(planted(self.folder, name, "--pages", "8", "--clients", "1000"))
+        else:
+            super().does(sign, told, name, *more)
 
-    def board(self, name):
-        self.clear("board", "flash")
-        return planted(self.folder, name, "--pages", "8", "--clients", "1000")
 
-    def at(self, *words):
-        return self.use(words[0], "--wait", WAIT, *words[1:], device="board")
-
-    def test_boards_that_do_otherwise(self):
-        self.store("image", bytes(range(256)) * 13)
-        for name, text in FOUND.items():
-            with self.subTest(board=name), self.board(name):
-                said = self.at("write", "-f", "-v", "-S", "0x08001000", "image", "--watch")
-                self.assertEqual((said.status, said.out), (1, b""))
-                self.assertRegex(said.err.decode(), rf"\Astmflash: {FAULT.format(text)}\n{HINT}\Z")
-                self.clear("journal")
-
-    def test_a_refusal_is_hinted_at(self):
-        with self.board("read-protected"):
-            self.assertFault(self.at("crc", "--watch"), FAULT.format("1F came, and 79 was due"),
-                             hint="the device refused to read: is its flash readout-protected?")
-
-    def test_one_that_follows_the_model(self):
-        self.store("image", bytes(range(256)) * 13)
-        with self.board("none"):
-            said = self.at("write", "-f", "-v", "-S", "0x08001000", "image", "--watch")
-            self.assertWatched(said, b"segment 1: 4 pages written\nverified 3328 bytes\n")
-            self.assertWatched(self.at("undo", "--watch"), b"undone 1\n")
+in_parts(Played, "watched.rows", 4)
