@@ -32,7 +32,7 @@ COMPILER = "x86_64-w64-mingw32-gcc"
 STRICT = ["-O2", "-Wall", "-Wextra", "-Werror", "-mno-red-zone"]
 INSTEAD = {"FlushFileBuffers": "flush", "SetFileInformationByHandle": "set", "MoveFileExW": "move", "EscapeCommFunction": "signal", "Sleep": "sleep",
            "LockFileEx": "lock", "setsockopt": "option", "SetCommState": "state", "GetSecurityInfo": "security", "CreateFileW": "create",
-           "ClearCommError": "errors", "SetCommTimeouts": "waits", "WriteFile": "write", "FindFirstFileW": "list", "FindClose": "end",
+           "ClearCommError": "errors", "SetCommTimeouts": "waits", "WriteFile": "write", "FindFirstFileW": "list", "FindClose": "end", "FindNextFileW": "next",
            "CloseHandle": "close", "SetSecurityInfo": "secure", "PurgeComm": "purge", "socket": "socket", "accept": "accept", "closesocket": "shut",
            "GetFinalPathNameByHandleW": "final", "GetFileAttributesW": "attributes", "GetFileInformationByHandle": "information"}
 ASKED_BITS = termios.CSIZE | termios.CSTOPB
