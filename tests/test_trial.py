@@ -541,7 +541,7 @@ for given in (Of(wiring='W', reset=''), Of(wiring='', reset='R'), Of(wiring='', 
     speeds.tried(given)
     print(*done)
 slow.refusal = None
-print(*told.judge(slow, [told.Found(rows_reading.save, told.DIFFERS, '', rows_reading.save.means)], 'a signal'), sep='; ')
+for row in (rows_reading.save, rows_ending.reply_time): print(*told.judge(slow, [told.Found(row, told.DIFFERS, '', row.means)], 'a signal'), sep='; ')
 """
 
 # each row, and each call that changes something, on a board of the model whose line ends where the flash was changed first
@@ -650,7 +650,7 @@ class Parts(unittest.TestCase):
             # what was put back is as it was, and no other page was another; and before each speed the board is reset, also by a hand
             "None", "None", "Differs; page 7 isn't as it was: write the saved file; ", "Differs; page 7 was changed, and wasn't named; it is as it was again; ", "None",
             "asked closed", "reset asked closed", "reset asked closed",
-            "don't use; save: the journal can't keep a page"])
+            "don't use; save: the journal can't keep a page", "don't use; the trial wasn't ended: a signal"])
 
 
 class Companion(Place):
