@@ -188,8 +188,8 @@ class Page(InFirefox):
     def test_a_journal_to_the_command_line_and_back(self):
         tab = self.tab()
         self.do(tab, "#write")
-        path = f"{self.room}/{JOURNAL}"
-        pathlib.Path(path).write_bytes(self.journal_of(tab))
+        pathlib.Path(path := f"{self.room}/{JOURNAL}").write_bytes(self.journal_of(tab))
+        self.assertIn(b"\nimage a.bin!\n", held(path))
         self.assertFlash(self.after)
         pathlib.Path(f"{self.room}/image").write_bytes(self.image)
 

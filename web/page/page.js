@@ -14,8 +14,7 @@ import { WIRINGS } from './wiring.js';
 // a module with a memory of 64 bits
 const WIDE = Uint8Array.of(0, 97, 115, 109, 1, 0, 0, 0, 5, 3, 1, 4, 1);
 
-/** The image's bytes where they are to lie.
- * @param {{ isRaw: boolean, parts: import('./difference.js').Part[] }} image */
+/** @param {{ isRaw: boolean, parts: import('./difference.js').Part[] }} image its bytes are told where they are to lie */
 const placed = ({ isRaw, parts }) => laidOut(isRaw ? [{ ...parts[0], at: parseInt($('address').value, 16) }] : parts);
 
 /** The pages of a chip of the table.
@@ -32,13 +31,12 @@ function showImage() {
   if (state.image) say('image', `${state.image.says}${numbers.length ? `; ${numbers.length} of the ${state.pages?.length} pages: ${ranges(numbers)}` : ''}.`);
 }
 
-/** A call on the image, as its file is by now.
- * @param {string} act @param {string[]} how @param {(it: any) => string[]} done */
+/** @param {string} act a call on the image, as its file is by now @param {string[]} how @param {(it: any) => string[]} done */
 async function onImage(act, how, done) {
   await take(state.file);
   if (!state.image) return tell('bad', [$('image').textContent]);
-  const { bytes, isRaw } = state.image, typed = isRaw && wrong('address'), put = typed ? { error: typed } : await ask('put', { path: '/image', bytes });
-  const it = put.error ? put : await run([act, ...named(), ...how, ...(isRaw ? ['-S', `0x${$('address').value}`] : []), '/image'], { onBoard: true });
+  const { bytes, isRaw } = state.image, path = `/images/${state.file?.name}`, typed = isRaw && wrong('address'), put = typed ? { error: typed } : await ask('put', { path, bytes });
+  const it = put.error ? put : await run([act, ...named(), ...how, ...(isRaw ? ['-S', `0x${$('address').value}`] : []), path], { onBoard: true });
   return end(it, it.status === 0 ? done(it) : []);
 }
 

@@ -9,8 +9,8 @@ import { E, Fault } from './faults.js';
 /** @typedef {{ read(bytes: Uint8Array, how: { at: number }): number, write(bytes: Uint8Array, how: { at: number }): number,
  *   truncate(size: number): void, getSize(): number, flush(): void, close(): void }} Handle */
 
-export const JOURNALS = '/boards';
-const HEAD = 512, SIDE = 4096, HEADS = 2 * SIDE, MARK = 'stmpool1', NAME_AT = 18, SUM_AT = HEAD - 4;
+export const JOURNALS = '/boards', IMAGES = '/images';
+const HEAD = 512, SIDE = 4096, HEADS = 2 * SIDE, MARK = 'stmpool1', NAME_AT = 18, SUM_AT = HEAD - 4, FOLDERS = ['/', JOURNALS, IMAGES];
 
 /** @param {Uint8Array} bytes */
 function sumOf(bytes) {
@@ -147,7 +147,7 @@ export class Store {
   look(path) {
     const whole = this.whole(path), slot = this.named.get(whole);
     if (path === '') return undefined;
-    if (whole === '/' || whole === JOURNALS) return { kind: 'folder', ino: whole === '/' ? 2 ** 40 : 2 ** 40 + 1 };
+    if (FOLDERS.includes(whole)) return { kind: 'folder', ino: 2 ** 40 + FOLDERS.indexOf(whole) };
     return slot && { kind: 'file', size: slot.size(), ino: slot.ino };
   }
 
@@ -171,7 +171,9 @@ export class Store {
 
   /** @param {string} whole */
   make(whole) {
-    if (!['/', JOURNALS].includes(whole.slice(0, whole.lastIndexOf('/')) || '/')) throw new Fault(E.NOENT);
+    const folder = whole.slice(0, whole.lastIndexOf('/')) || '/';
+    if (!FOLDERS.includes(folder)) throw new Fault(E.NOENT);
+    if (folder === IMAGES) this.list(IMAGES).forEach(({ name }) => this.remove(`${IMAGES}/${name}`));
     const slot = whole.startsWith(`${JOURNALS}/`) ? this.pool.find((it) => !it.name && !it.uses) : new Slot(inMemory(), this.next++, 0);
     if (!slot) throw new Fault(E.NOSPC);
     // what another journal left in it is gone, also on the disk, before it has a name
