@@ -100,7 +100,7 @@ class ServedPage(unittest.TestCase):
 
     def ready(self, tab):  # its bar stands still: one that moves would take a tenth of all processor time
         tab.until(READY, "the page isn't ready")
-        tab.js(f"document.getElementById('bar').style.appearance = 'none', stmflash.state.wait = {wait()}, stmflash.take({named(('a.bin', self.image))})")
+        tab.js(f"document.getElementById('bar').style.appearance = 'none', stmflash.state.wait = {wait()}, stmflash.take({named(('a@0', self.image))})")
         return tab
 
     def until_held(self, path, wanted):

@@ -189,7 +189,7 @@ class Page(InFirefox):
         tab = self.tab()
         self.do(tab, "#write")
         pathlib.Path(path := f"{self.room}/{JOURNAL}").write_bytes(self.journal_of(tab))
-        self.assertIn(b"\nimage a.bin!\n", held(path))
+        self.assertIn(b"\nimage a_0!\n", held(path))
         self.assertFlash(self.after)
         pathlib.Path(f"{self.room}/image").write_bytes(self.image)
 

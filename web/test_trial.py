@@ -23,10 +23,10 @@ class Trial(ServedPage):
     def test_what_a_write_would_change(self):
         """Pages and bytes as they are then written; and nothing is changed before."""
         tab = self.tab()
-        self.assertEqual(self.image_says(tab), f"a.bin: {len(self.image)} raw bytes.")
+        self.assertEqual(self.image_says(tab), f"a@0: {len(self.image)} raw bytes.")
         others = sum(one != other for one, other in zip(self.before, self.image))
         self.do(tab, "#compare", rf"^Done: 5 of 5 pages differ, in {others} bytes: 0-4\. A write changes these pages\.$")
-        self.assertEqual(self.image_says(tab), f"a.bin: {len(self.image)} raw bytes; {PAGES} of the 32 pages: 0-4.")
+        self.assertEqual(self.image_says(tab), f"a@0: {len(self.image)} raw bytes; {PAGES} of the 32 pages: 0-4.")
         self.assertEqual((held(self.flash), tab.js("stmflash.state.names")), (self.before, []))
         self.do(tab, "#write")
         again = bytearray(self.image)

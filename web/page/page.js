@@ -35,7 +35,7 @@ function showImage() {
 async function onImage(act, how, done) {
   await take(state.file);
   if (!state.image) return tell('bad', [$('image').textContent]);
-  const { bytes, isRaw } = state.image, path = `/images/${state.file?.name}`, typed = isRaw && wrong('address'), put = typed ? { error: typed } : await ask('put', { path, bytes });
+  const { bytes, isRaw } = state.image, path = `/images/${state.file?.name.replace(/@/g, '_')}`, typed = isRaw && wrong('address'), put = typed ? { error: typed } : await ask('put', { path, bytes });
   const it = put.error ? put : await run([act, ...named(), ...how, ...(isRaw ? ['-S', `0x${$('address').value}`] : []), path], { onBoard: true });
   return end(it, it.status === 0 ? done(it) : []);
 }
