@@ -277,8 +277,7 @@ fn left_alone<'a, R: AllocGlobal>(
     }
 }
 
-/// The same options with a file in the place of the folder: the journal of the board that the device
-/// is.
+/// The same options with a file in the place of the folder: the journal of the device's board.
 pub fn find_journal<'a, 'r, R: Locks + Net + Clock + AllocGlobal + Clone + Drop>(
     rt: &'r R,
     options: &Options<'a>,

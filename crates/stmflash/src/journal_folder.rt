@@ -109,8 +109,7 @@ fn see<R: Files + AllocGlobal>(rt: &R, name: &str) -> Seen {
     }
 }
 
-/// Whether a journal is that of a board: its first line names it. One that has no line is any
-/// board's.
+/// Whether a journal is that of a board: its first line names it, or it has none.
 fn is_of(journal: &Journal, board: &UniqueId) -> bool {
     match (journal.id(), journal.unique()) {
         (None, _) => true,

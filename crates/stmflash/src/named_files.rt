@@ -117,8 +117,7 @@ impl<'a> NamedFiles<'a> {
         check_file_system(rt, self.journal, to)
     }
 
-    /// Refuses a file that is to be written and that others have or may write, unless they are
-    /// trusted.
+    /// Refuses a file to write that others have or may write, unless they are trusted.
     pub fn check_owner<R: Locks + AllocGlobal>(
         &self,
         rt: &R,

@@ -212,8 +212,7 @@ fn use_work<'a, 'r, 'e, R: Locks + Net + Clock + AllocGlobal, E: Write + IsTermi
     }
 }
 
-/// The same steps, beside what the tables say of the answer, and with what the device was used since
-/// then.
+/// The same steps, beside what the tables say of the answer and what the device was used with.
 fn tell_beside<'a, R: Clock + AllocGlobal>(
     rt: &R,
     steps: Steps<'a>,

@@ -48,8 +48,7 @@ pub fn open_simulator<'a: 'r, 'r, R: Locks + AllocGlobal>(
     }
 }
 
-/// Closes the journal of this name behind a session, and stores the simulator; what was read goes out
-/// before.
+/// Closes the journal behind a session, and stores the simulator; what was read goes out before.
 pub fn close_simulator<'a, 'r, R: Locks + AllocGlobal>(
     rt: &'r R,
     name: &'a str,

@@ -16,8 +16,7 @@ use stm_files::{JournalFile, Locks, SocketLine, SocketRig};
 use stm_words::Options;
 use stm_work::{Failure, Steps, Work, done_on, serving_journal};
 
-/// The least and the most seconds without an answer after which a line is given up, unless that is
-/// said.
+/// The least and the most seconds without an answer before a line is given up, if no word says it.
 const LEAST: u32 = 4;
 
 const MOST: u32 = 20;

@@ -232,8 +232,7 @@ fn print_behind<R: AllocGlobal, E: Write>(rt: &R, told: Option<Behind>, err: &mu
     };
 }
 
-/// Tells what changed nothing, where that is to be told: in one line that is written at once, where
-/// there is memory for it.
+/// Tells what changed nothing, in one line that is written at once, if there is memory for it.
 fn print_note<R: AllocGlobal, E: Write>(rt: &R, steps: &Steps, err: &mut E) {
     if let Ok(note) = note_of(rt.alloc(), steps) {
         let _ = err.write_all(note.as_slice());
@@ -264,8 +263,7 @@ fn print_steps<R: AllocGlobal, O: Write, E: Write>(
     }
 }
 
-/// Prints the steps, as text or as JSON. What was read of the flash is printed as it is: beside it no
-/// line would have a place.
+/// Prints the steps, as text or as JSON. What was read of the flash is printed as it is, alone.
 fn print_as<R: AllocGlobal, O: Write>(
     rt: &R,
     steps: &Steps,

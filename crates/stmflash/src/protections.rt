@@ -205,8 +205,7 @@ impl Model for Protections {
 }
 
 impl Protections {
-    /// What words protect of a simulator of this chip, which has each page of them. Its flash can be
-    /// read.
+    /// What words protect of a simulator of this chip, which has each page of them and can be read.
     pub fn given<'a>(
         alloc: Global,
         chip: &Chip,

@@ -1,6 +1,5 @@
 // What stands in the place of words: variables of the environment, and the chip tables that are
 // there.
-ghost use Rattle.std.specs.Prelude.{◌≡◌, IfOk};
 ghost use Rattle.stmflash.specs.Standing.{IsTables, StandsFor};
 ghost use Rattle.stmflash.specs.Variables.{AreChecked, AreNamed, ComesOfEach, SystemIsAsked, names_of};
 ghost use Rattle.stmflash.specs.Variables.{others_of};
