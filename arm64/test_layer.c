@@ -18,15 +18,10 @@ extern char **environ;
 
 struct tried { bool ok; void *p; };
 
-struct tried rattle_alloc(size_t n, size_t a);
-struct tried rattle_realloc(void *p, size_t kept, size_t n, size_t a);
-void rattle_dealloc(void *p);
-ssize_t rattle_arg(size_t i, char *buf, size_t room);
-ssize_t rattle_env(const char *name, char *buf, size_t room);
-ssize_t rattle_env_at(size_t i, char *buf, size_t room);
-int rattle_errno(void);
-void rattle_set_errno(int error);
-int rattle_open_dir_at(int dir, const char *name);
+struct tried rattle_alloc(size_t n, size_t a), rattle_realloc(void *p, size_t kept, size_t n, size_t a);
+void rattle_dealloc(void *p), rattle_set_errno(int error);
+ssize_t rattle_arg(size_t i, char *buf, size_t room), rattle_env(const char *name, char *buf, size_t room), rattle_env_at(size_t i, char *buf, size_t room);
+int rattle_errno(void), rattle_open_dir_at(int dir, const char *name);
 
 // more than any machine has
 #define TOO_MUCH ((size_t)1 << 62)
@@ -35,31 +30,24 @@ static int tried_so_far, failed;
 
 #define HOLDS(fact) ((void)(tried_so_far++, (fact) || (failed++, printf("line %d: %s\n", __LINE__, #fact))))
 
-static void fill(char *p, size_t n)
-{
-    for (size_t k = 0; k < n; k++)
-        p[k] = (char)(k * 7 + 1);
-}
-
+static void fill(char *p, size_t n) { for (size_t k = 0; k < n; k++) p[k] = (char)(k * 7 + 1); }
 static bool is_filled(const char *p, size_t n)
 {
-    for (size_t k = 0; k < n; k++)
-        if (p[k] != (char)(k * 7 + 1))
-            return false;
-    return true;
+    size_t k = 0;
+    while (k < n && p[k] == (char)(k * 7 + 1))
+        k++;
+    return k == n;
 }
 
 static void test_alloc(void)
 {
     for (size_t n = 0; n < 300; n++) {
         struct tried got = rattle_alloc(n, 16), beside = rattle_alloc(n, 1);
-        HOLDS(got.ok && got.p != NULL && (uintptr_t)got.p % 16 == 0);
-        HOLDS(beside.ok && beside.p != NULL && beside.p != got.p);
+        HOLDS(got.ok && got.p != NULL && (uintptr_t)got.p % 16 == 0 && beside.ok && beside.p != NULL && beside.p != got.p);
         fill(got.p, n);
         memset(beside.p, 0, n);
         HOLDS(is_filled(got.p, n));
-        rattle_dealloc(got.p);
-        rattle_dealloc(beside.p);
+        rattle_dealloc(got.p), rattle_dealloc(beside.p);
     }
     size_t before = mallinfo2().hblkhd;
     struct tried large = rattle_alloc(1 << 20, 16);
@@ -68,8 +56,7 @@ static void test_alloc(void)
     HOLDS(mallinfo2().hblkhd == before);
     struct tried one = rattle_alloc(0, 8), other = rattle_alloc(0, 8);
     HOLDS(one.ok && other.ok && one.p != NULL && one.p != other.p);
-    rattle_dealloc(one.p);
-    rattle_dealloc(other.p);
+    rattle_dealloc(one.p), rattle_dealloc(other.p);
     struct tried none = rattle_alloc(TOO_MUCH, 16);
     HOLDS(!none.ok && none.p != NULL);
 }
@@ -84,9 +71,7 @@ static void test_realloc(void)
         size_t kept = n < sizes[k] ? n : sizes[k];
         struct tried got = rattle_realloc(p, kept, sizes[k], 8);
         HOLDS(got.ok && got.p != NULL && (uintptr_t)got.p % 16 == 0 && is_filled(got.p, kept));
-        p = got.p;
-        n = sizes[k];
-        fill(p, n);
+        fill(p = got.p, n = sizes[k]);
     }
     struct tried none = rattle_realloc(p, n, TOO_MUCH, 8);
     HOLDS(!none.ok && none.p != NULL && is_filled(p, n));
@@ -117,19 +102,12 @@ static void test_texts(int count, char **given)
         // (the program's name is a path of any length)
         for (int i = strlen(given[0]) >= sizeof buf; i < count; i++)
             HOLDS(is_put(rattle_arg((size_t)i, buf, room), buf, room, given[i]));
-        HOLDS(is_put(rattle_env("FIRST", buf, room), buf, room, "one"));
-        HOLDS(is_put(rattle_env("EMPTY", buf, room), buf, room, ""));
+        HOLDS(is_put(rattle_env("FIRST", buf, room), buf, room, "one") && is_put(rattle_env("EMPTY", buf, room), buf, room, ""));
         for (size_t i = 0; environ[i] != NULL; i++)
             HOLDS(is_put(rattle_env_at(i, buf, room), buf, room, environ[i]));
-        HOLDS(rattle_arg((size_t)count, buf, room) == -1 && buf[0] == '#');
-        // (the variables stand behind the words)
-        HOLDS(rattle_arg((size_t)count + 1, buf, room) == -1 && buf[0] == '#');
-        HOLDS(rattle_arg(SIZE_MAX, buf, room) == -1 && buf[0] == '#');
-        HOLDS(rattle_env("FIRS", buf, room) == -1 && buf[0] == '#');
-        HOLDS(rattle_env_at(2, buf, room) == -1 && buf[0] == '#');
-        // (what the system told the program stands behind the variables)
-        HOLDS(rattle_env_at(3, buf, room) == -1 && buf[0] == '#');
-        HOLDS(rattle_env_at(SIZE_MAX, buf, room) == -1 && buf[0] == '#');
+        // (the variables stand behind the words, and what the system told the program behind the variables)
+        HOLDS(rattle_arg((size_t)count, buf, room) == -1 && rattle_arg((size_t)count + 1, buf, room) == -1 && rattle_arg(SIZE_MAX, buf, room) == -1 && buf[0] == '#');
+        HOLDS(rattle_env("FIRS", buf, room) == -1 && rattle_env_at(2, buf, room) == -1 && rattle_env_at(3, buf, room) == -1 && rattle_env_at(SIZE_MAX, buf, room) == -1 && buf[0] == '#');
     }
     HOLDS(rattle_arg(2, NULL, 0) == 0 && rattle_arg(1, NULL, 0) == -2);
 }
@@ -141,8 +119,7 @@ static void test_long_texts(void)
     memset(buf, '#', sizeof buf);
     for (size_t length = 200; length < sizeof text; length = length * 5 / 4) {
         memset(text, 'x', length);
-        text[length] = '\0';
-        HOLDS(setenv("LONG", text, 1) == 0);
+        HOLDS((text[length] = '\0') == 0 && setenv("LONG", text, 1) == 0);
         for (size_t room = length - 1; room <= length + 1; room++)
             HOLDS(is_put(rattle_env("LONG", buf, room), buf, room, text));
     }
@@ -154,9 +131,7 @@ static void test_no_environment(void)
     char buf[8] = "#";
     char **were = environ;
     environ = NULL;
-    HOLDS(rattle_env_at(0, buf, sizeof buf) == -1 && buf[0] == '#');
-    HOLDS(rattle_env_at(5, buf, sizeof buf) == -1 && buf[0] == '#');
-    HOLDS(rattle_env("FIRST", buf, sizeof buf) == -1 && buf[0] == '#');
+    HOLDS(rattle_env_at(0, buf, sizeof buf) == -1 && rattle_env_at(5, buf, sizeof buf) == -1 && rattle_env("FIRST", buf, sizeof buf) == -1 && buf[0] == '#');
     environ = were;
 }
 
@@ -196,8 +171,7 @@ static void test_open_dir(void)
     alarm(10);
     while (held < sizeof refused / sizeof *refused && rattle_open_dir_at(at, refused[held].name) == -1 && errno == refused[held].error)
         held++;
-    HOLDS(alarm(0) != 0 && held == sizeof refused / sizeof *refused);
-    HOLDS(dup(at) == through && close(through) == 0);
+    HOLDS(alarm(0) != 0 && held == sizeof refused / sizeof *refused); HOLDS(dup(at) == through && close(through) == 0);
     for (size_t k = 0; k < sizeof refused / sizeof *refused; k++)
         unlinkat(at, refused[k].name, 0);
     HOLDS(close(at) == 0 && rmdir(place) == 0);
@@ -206,13 +180,7 @@ static void test_open_dir(void)
 int main(int count, char **given)
 {
     HOLDS(count == 4 && given[2][0] == '\0' && environ[0] != NULL && environ[1] != NULL && environ[2] == NULL);
-    test_alloc();
-    test_realloc();
-    test_texts(count, given);
-    test_long_texts();
-    test_no_environment();
-    test_errno();
-    test_open_dir();
+    test_alloc(), test_realloc(), test_texts(count, given), test_long_texts(), test_no_environment(), test_errno(), test_open_dir();
     printf("%d of %d hold\n", tried_so_far - failed, tried_so_far);
     return failed != 0;
 }

@@ -9,10 +9,7 @@ typedef __SIZE_TYPE__ size_t;
 enum { HEAD = 16, PAGE = 65536, GROWTH = 16, LISTS = 4 * 64 };
 
 // before the bytes of each block; free ones are chained
-struct block {
-    size_t list;
-    struct block *next;
-};
+struct block { size_t list; struct block *next; };
 
 struct tried { _Bool ok; void *p; };
 
@@ -23,10 +20,7 @@ static size_t last, end;
 static char nothing;
 
 // The size of the blocks of a list.
-static size_t size_of(size_t list)
-{
-    return (4 + list % 4) << (list / 4 + 2);
-}
+static size_t size_of(size_t list) { return (4 + list % 4) << (list / 4 + 2); }
 
 // The list of the smallest blocks that have so many bytes with their heads.
 static size_t list_for(size_t size)
@@ -48,10 +42,7 @@ static _Bool reaches(size_t far)
 }
 
 // Blocks begin at multiples of 16.
-static size_t rounded(size_t n)
-{
-    return (n + 15) & ~(size_t)15;
-}
+static size_t rounded(size_t n) { return (n + 15) & ~(size_t)15; }
 
 static void *take(size_t n)
 {
@@ -73,15 +64,9 @@ static void *take(size_t n)
     return (char *)b + HEAD;
 }
 
-static struct tried tried(void *p)
-{
-    return p != NULL ? (struct tried){1, p} : (struct tried){0, &nothing};
-}
+static struct tried tried(void *p) { return p != NULL ? (struct tried){1, p} : (struct tried){0, &nothing}; }
 
-struct tried rattle_alloc(size_t n, size_t a)
-{
-    return tried(take(n != 0 ? n : a));
-}
+struct tried rattle_alloc(size_t n, size_t a) { return tried(take(n != 0 ? n : a)); }
 
 void rattle_dealloc(void *p)
 {
@@ -120,12 +105,7 @@ struct tried rattle_realloc(void *p, size_t kept, size_t n, size_t a)
 typedef unsigned long long u64;
 typedef unsigned __int128 u128;
 
-union wide {
-    u128 all;
-    struct {
-        u64 low, high;
-    } half;
-};
+union wide { u128 all; struct { u64 low, high; } half; };
 
 // The product of two halves, by their quarters.
 static u128 product(u64 a, u64 b)

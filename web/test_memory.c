@@ -8,13 +8,7 @@
 static size_t pages_there, most;
 static unsigned char *heap;
 
-static size_t grow(size_t pages)
-{
-    if (pages_there + pages > most)
-        return (size_t)-1;
-    pages_there += pages;
-    return pages_there - pages;
-}
+static size_t grow(size_t pages) { return pages_there + pages > most ? (size_t)-1 : (pages_there += pages) - pages; }
 
 #define __builtin_wasm_memory_size(memory) pages_there
 #define __builtin_wasm_memory_grow(memory, pages) grow(pages)
@@ -33,18 +27,9 @@ static void holds(const char *what, int is_so)
 }
 
 static unsigned long long seed = 1;
+static size_t any(size_t below) { return (size_t)((seed = seed * 6364136223846793005ULL + 1442695040888963407ULL) >> 33) % below; }
 
-static size_t any(size_t below)
-{
-    seed = seed * 6364136223846793005ULL + 1442695040888963407ULL;
-    return (size_t)(seed >> 33) % below;
-}
-
-static struct held_block {
-    unsigned char *at;
-    size_t size;
-    unsigned char is;
-} blocks[BLOCKS];
+static struct held_block { unsigned char *at; size_t size; unsigned char is; } blocks[BLOCKS];
 
 static int is_whole(const struct held_block *b)
 {
