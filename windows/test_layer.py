@@ -8,6 +8,7 @@ answers itself.
 
 import concurrent.futures
 import glob
+import hashlib
 import itertools
 import os
 import pathlib
@@ -25,6 +26,7 @@ import unittest
 HERE = os.path.dirname(os.path.abspath(__file__))
 sys.path.insert(0, f"{HERE}/../tools")
 
+import retarget
 import slips
 import wine
 
@@ -34,9 +36,11 @@ INSTEAD = {"FlushFileBuffers": "flush", "SetFileInformationByHandle": "set", "Mo
            "LockFileEx": "lock", "setsockopt": "option", "SetCommState": "state", "GetSecurityInfo": "security", "CreateFileW": "create",
            "ClearCommError": "errors", "SetCommTimeouts": "waits", "WriteFile": "write", "FindFirstFileW": "list", "FindClose": "end", "FindNextFileW": "next",
            "CloseHandle": "close", "SetSecurityInfo": "secure", "PurgeComm": "purge", "socket": "socket", "accept": "accept", "closesocket": "shut",
-           "GetFinalPathNameByHandleW": "final", "GetFileAttributesW": "attributes", "GetFileInformationByHandle": "information"}
+           "GetFinalPathNameByHandleW": "final", "GetFileAttributesW": "attributes", "GetFileInformationByHandle": "information",
+           "QueryPerformanceCounter": "counter", "QueryPerformanceFrequency": "frequency", "GetSystemTimePreciseAsFileTime": "day", "ReadFile": "read"}
+VARIABLES = {"FIRST": "one", "EMPTY": "", **{f"SAID_{it}": os.strerror(it) for it in range(1, 112)}}
 ASKED_BITS = termios.CSIZE | termios.CSTOPB
-WORDS = ["word", "", "zwei Wörter", "a\\b", "--baud", "57600", "--wiring=dtr-reset,rts-boot0", "end"]
+WORDS = ["--wiring", "none", "--baud=9600", "word", "", "zwei Wörter", "--wirings=x", "a\\b", "--baud", "57600", "--wiring=dtr-reset,rts-boot0", "end"]
 FAULTS = list(slips.read(pathlib.Path(f"{HERE}/slips").read_text(encoding="utf-8")))
 
 # how many go on at once, which mostly wait; those whose names begin so, or all; how many of these, if not all; and by which seed
@@ -46,9 +50,9 @@ SEED = int(os.environ.get("STMFLASH_WINDOWS_SEED", "0")) or random.SystemRandom(
 
 
 class Port:
-    """A port of wine: a pseudo-terminal, behind which somebody answers 7F by 79. `settings` are those that it had with each 7F."""
+    """A port of wine: a pseudo-terminal, behind which somebody answers 7F by 79, and m by 12345. `settings` are those that it had with each 7F."""
 
-    numbers = itertools.count(40)
+    numbers = itertools.count(os.getpid() * 100)
 
     def __init__(self):
         self.master, self.slave = os.openpty()
@@ -66,9 +70,10 @@ class Port:
 
     def answer(self):
         while True:
-            if b"\x7f" in os.read(self.master, 64):
+            came = os.read(self.master, 64)
+            if b"\x7f" in came:
                 self.settings.append(termios.tcgetattr(self.slave))
-                os.write(self.master, b"\x79")
+            os.write(self.master, b"\x79" * (b"\x7f" in came) + b"12345" * (b"m" in came))
 
     def close(self):
         os.remove(self.link)
@@ -78,37 +83,34 @@ class Layer(unittest.TestCase):
     @classmethod
     def setUpClass(cls):
         wine.begin()
-        room = cls.enterClassContext(tempfile.TemporaryDirectory())
         sources = {os.path.basename(source): source for source in sorted(glob.glob(f"{HERE}/*.c"))}
         with concurrent.futures.ThreadPoolExecutor(AT_ONCE) as pool:
-            cls.objects = dict(zip(sources, pool.map(lambda name: cls.compiled(sources[name], f"{room}/{name}.o"), sources)))
+            cls.objects = dict(zip(sources, pool.map(cls.compiled, sources.values())))
         cls.patience, begun = 900, time.monotonic()
-        cls.sound = cls.ran_with_ports(cls.objects)
+        cls.sound = cls.ran(cls.objects)
         # a layer that waits for ever is one that takes five times as long, on a machine as busy as this one
         cls.patience = 20 + 5 * (time.monotonic() - begun)
 
     @classmethod
-    def compiled(cls, source, to, flags=()):
-        instead = [] if source.endswith("test_layer.c") else [f"-D{name}=tried_{other}" for name, other in INSTEAD.items()]
-        subprocess.run([COMPILER, *STRICT, *flags, "-DTRIED", f"-I{HERE}", *instead, "-c", source, "-o", to], check=True)
-        return to
+    def compiled(cls, source, flags=()):
+        """A file's object, which stays beside wine's settings for the next call that wants one of the same text."""
+        words = [] if source.endswith("test_layer.c") else [f"-D{name}=tried_{other}" for name, other in INSTEAD.items()]
+        words = [COMPILER, *STRICT, *flags, "-DTRIED", *words, "-c"]
+        of = hashlib.sha256(repr([words, *(pathlib.Path(it).read_bytes() for it in (source, f"{HERE}/layer.h"))]).encode()).hexdigest()
+        if not os.path.exists(made := f"{wine.PREFIX}/{of}.o"):
+            retarget.put(made, lambda room, path: subprocess.run([*words, f"-I{HERE}", source, "-o", path], check=True))
+        return made
 
     @classmethod
-    def ran(cls, objects, ports=()):
-        """What the test says of a layer of these objects, in a folder of its own."""
-        with tempfile.TemporaryDirectory() as room:
-            program = f"{room}/test_layer.exe"
-            subprocess.run([COMPILER, "-o", program, *objects.values(), "-lws2_32", "-ladvapi32", "-lntdll"], check=True)
-            os.mkdir(f"{room}/empty")
-            words = [program, *WORDS, *(it.name for it in ports)]
-            return wine.run(words, cwd=f"{room}/empty", env={"FIRST": "one", "EMPTY": ""}, timeout=cls.patience)
-
-    @classmethod
-    def ran_with_ports(cls, objects):
-        """The same with two ports, and with what these were set to: speed, bits and parity."""
+    def ran(cls, objects):
+        """What the test says of a layer of these objects, in a folder of its own, with two ports; and to what speed and bits these were set."""
         ports = [Port(), Port()]
         try:
-            ran = cls.ran(objects, ports)
+            with tempfile.TemporaryDirectory() as room:
+                program = f"{room}/test_layer.exe"
+                subprocess.run([COMPILER, "-o", program, *objects.values(), "-lws2_32", "-ladvapi32", "-lntdll"], check=True)
+                os.mkdir(f"{room}/empty")
+                ran = wine.run([program, *WORDS, *(it.name for it in ports)], cwd=f"{room}/empty", env=VARIABLES, timeout=cls.patience)
         finally:
             for port in ports:
                 port.close()
@@ -128,10 +130,8 @@ class Layer(unittest.TestCase):
             return f"{name}, {fault}: the text is there {text.count(old)} times"
         with tempfile.TemporaryDirectory() as room:
             pathlib.Path(f"{room}/{name}").write_text(text.replace(old, new), encoding="utf-8")
-            made = self.compiled(f"{room}/{name}", f"{room}/changed.o", ["-w"])
-            objects, were = {**self.objects, name: made}, self.SET
             try:
-                ran, were = self.ran_with_ports(objects) if name == "port.c" else (self.ran(objects), self.SET)
+                ran, were = self.ran({**self.objects, name: self.compiled(f"{room}/{name}", ["-w"])})
             except subprocess.TimeoutExpired:
                 return None
         return None if ran.returncode or were != self.SET or " hold" not in ran.stdout else f"{name}, {fault}: not found"

@@ -17,10 +17,10 @@ char *narrow(const wchar_t *wide)
 // A variable's value, which the caller frees; NULL where it isn't set.
 char *variable(const char *name)
 {
-    static wchar_t wide[256], value[PATH_ROOM];
-    // (its room is asked for: that of an empty one is 1, for the 0)
+    static wchar_t wide[256], value[32767];
+    // (its room is asked for: that of an empty one is 1, for the 0; wine takes no room of 32,768 units or more for what it is)
     if (MultiByteToWideChar(CP_UTF8, 0, name, -1, wide, 256) == 0 || GetEnvironmentVariableW(wide, NULL, 0) == 0)
         return NULL;
     *value = 0;
-    return GetEnvironmentVariableW(wide, value, PATH_ROOM) < PATH_ROOM ? narrow(value) : NULL;
+    return GetEnvironmentVariableW(wide, value, 32767) < 32767 ? narrow(value) : NULL;
 }

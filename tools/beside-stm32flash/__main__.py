@@ -93,8 +93,7 @@ def compare(program, source, call, show):
         theirs, ours = room.real(words), room.ours(words)
         found = differences(room.held("first"), theirs, ours, words)
         if show:
-            texts = [[line for line in lines(one, words) if line not in lines(other, words)]
-                     for one, other in ((theirs, ours), (ours, theirs))]
+            texts = [[line for line in lines(one, words) if line not in lines(other, words)] for one, other in ((theirs, ours), (ours, theirs))]
             print(f"{call}: {', '.join(sorted(found)) or 'alike'}\n    theirs {texts[0]}\n    ours   {texts[1]}", flush=True)
         return found
     except (OSError, subprocess.SubprocessError) as error:
@@ -148,8 +147,7 @@ def main():
     for fault in faults + wrong:
         print("FAILED: " + fault)
     alike = sum(not kinds for kinds in found.values())
-    print(f"beside stm32flash: {len(calls)} calls, {alike} alike, the others as docs/SWITCH.md says{killed}: "
-          f"{len(faults + wrong)} faults")
+    print(f"beside stm32flash: {len(calls)} calls, {alike} alike, the others as docs/SWITCH.md says{killed}: {len(faults + wrong)} faults")
     return 1 if faults or wrong else 0
 
 

@@ -149,6 +149,5 @@ def kills(pool, program, source, count, seed, show):
     ended = [(name, text, *one.result()) for name, text, one in begun]
     for name in SCRIPTS:
         found = [kind for script, _, kind, _ in ended if script == name]
-        print(f"{name}: {len(found)} kills, the flash as it was " + ", ".join(
-            f"{found.count(kind)} {kind}" for kind in KINDS if kind in found), flush=True)
+        print(f"{name}: {len(found)} kills, the flash as it was " + ", ".join(f"{found.count(kind)} {kind}" for kind in KINDS if kind in found), flush=True)
     return f", {len(ended)} kills (seed {seed})", [f"{text}: {fault}" for _, text, _, fault in ended if fault]

@@ -46,8 +46,7 @@ def images(folder):
     store("fw.elf", b"\x7fELF\1\1\1" + chance.randbytes(1017))
     store("fw.srec", b"S00600004844521B\nS107080001020304EA\nS9030000FC\n")
     store("bad.hex", b":0400000001020304F3\n:00000001FF\n")
-    for name, data, at in (("full.hex", full, 0x08000000), ("fw.hex", part, 0x08000000), ("at400.hex", part, 0x08000400),
-                           ("at0.hex", part, 0)):
+    for name, data, at in (("full.hex", full, 0x08000000), ("fw.hex", part, 0x08000000), ("at400.hex", part, 0x08000400), ("at0.hex", part, 0)):
         store(name, text_of(data, at, range(0, len(data), 16)))
     return store("first", chance.randbytes(SIZE))
 

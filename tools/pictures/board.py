@@ -36,8 +36,7 @@ class Board(Simulator):
         tape = Tape()
         listener = listen(self.path("line"))
         files = ["--table", TABLE, "--journal", "journal", "--device", "line", "--wait", "200"]
-        host = subprocess.Popen([self.program, name, *files, *words], cwd=self.folder, stdout=subprocess.PIPE,
-                                stderr=subprocess.STDOUT, text=True)
+        host = subprocess.Popen([self.program, name, *files, *words], cwd=self.folder, stdout=subprocess.PIPE, stderr=subprocess.STDOUT, text=True)
         near, _ = listener.accept()
         with listener, near, connect(self.path("board")) as device:
             carry(near.fileno(), device.fileno(), between=tape, cut=cut)
