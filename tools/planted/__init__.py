@@ -18,12 +18,12 @@ from planted import slips_python, slips_rattle, slips_text
 CRATES = ("stm_words", "stm_files", "stm_work", "stmflash")
 GROUPS = ("program", "companions", "layers", "packages")
 # the group of a file by hand, by its folder; any other is of the packages
-GROUP_OF = {"crates": "program", "line": "companions", "arm64": "layers", "web": "layers"}
+GROUP_OF = {"crates": "program", "line": "companions", "arm64": "layers", "web": "layers", "windows": "layers"}
 # where slips are made, by group
 SOURCES = {
     "program": [f"crates/{crate}/src/**/*.rt" for crate in CRATES],
     "companions": ["line/stmflash-line", "line/stmflash-trial", "line/stm32flash", "line/*/*.py"],
-    "layers": ["arm64/layer.c", "web/memory.c", *(f"web/page/{name}.js" for name in (
+    "layers": ["arm64/layer.c", "web/memory.c", "windows/*.c", *(f"web/page/{name}.js" for name in (
         "clock", "faults", "files", "image", "line", "memory", "program", "store", "wiring", "words"))],
     "packages": ["Makefile", "packaging/deb*", "packaging/release", "packaging/zip", "packaging/*.service", "packaging/*.rules", "packaging/completions/*.bash"],
 }
@@ -51,7 +51,7 @@ class Gone(Exception):
 
 def files(group):
     """The files of a group, from the top."""
-    return sorted(it for pattern in SOURCES[group] for it in glob.glob(pattern, root_dir=TOP, recursive=True))
+    return sorted(it for pattern in SOURCES[group] for it in glob.glob(pattern, root_dir=TOP, recursive=True) if it != "windows/test_layer.c")
 
 
 def read(file):

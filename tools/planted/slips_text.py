@@ -13,14 +13,8 @@ CALLS = {
     "recipe": re.compile(r"^\t(?!@echo|@test).*$"),
     "setting": re.compile(r"^[A-Z]\w+=.*$"),
 }
-GUARD = {
-    "C": re.compile(r"(?<![\w])(?:if|while) \((.*)\)(?= \{$| [^()]*;$|$)"),
-    "sh": re.compile(r"^\s*(?:el)?if (.*); then$"),
-}
-HEAD = {
-    "C": re.compile(r"^(?:export |async |static |[\w*]+ )*\*?(\w+)\([^;]*\) \{$|^  (?:async |\*)?(\w+)\([^;]*\) \{$"),
-    "sh": re.compile(r"^(\w+)\(\) \{$"),
-}
+GUARD = {"C": re.compile(r"(?<![\w])(?:if|while) \((.*)\)(?= \{$| [^()]*;$|$)"), "sh": re.compile(r"^\s*(?:el)?if (.*); then$")}
+HEAD = {"C": re.compile(r"^(?:export |async |static |[\w*]+ )*\*?(\w+)\([^;]*\) \{$|^  (?:async |\*)?(\w+)\([^;]*\) \{$"), "sh": re.compile(r"^(\w+)\(\) \{$")}
 
 
 def kind_of(path, text):
@@ -101,7 +95,7 @@ def of_line(line, start, kind):
         for it in re.finditer(r" (<|>)(=?) ", line):
             new = f" {it[1]}{'' if it[2] else '='} "
             yield start + it.start(), start + it.end(), new, f"`{new.strip()}` for `{it[0].strip()}` in `{line.strip()}`"
-    for it in NUMBER.finditer(re.sub(r"'[^']*'|\"[^\"]*\"" if kind == "C" else "$^", lambda it: " " * len(it[0]), line)):
+    for it in NUMBER.finditer(re.sub(r"'[^']*'|\"[^\"]*\"| //.*" if kind == "C" else "$^", lambda it: " " * len(it[0]), line)):
         old, value = it[1], int(it[1], 16 if it[1].startswith("0x") else 8 if it[1].startswith("0") and it[1].isdigit() and len(it[1]) > 1 and
                                 not set(it[1]) & set("89") else 10)
         new = f"{value + 1:0{len(old)}o}" if len(old) > 1 and old[0] == "0" and old[1:2] != "x" else str(value + 1)

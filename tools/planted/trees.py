@@ -29,6 +29,7 @@ LAYER, PACKAGE = "web/test_layer.Layer.", "test_packaging.Packaging."
 BESIDE = {
     "arm64/layer.c": ["arm64/test_layer.Layer.test_on_this_machine"],
     "web/memory.c": [LAYER + "test_memory"],
+    "windows/": ["windows/test_layer.Layer.test_holds"],
     "web/page/": [LAYER + it for it in ("test_the_page", "test_wirings_are_those_of_stmflash_line", "test_images_are_those_of_objcopy")],
     "packaging/completions/": ["test_completions"],
     "packaging/stmflash-line@.service": ["test_packaging", "test_line_service.Unit", "test_line_service.Confinement"],
@@ -91,7 +92,8 @@ def stands(top, fault):
         except SyntaxError:
             return False
         return True
-    words = {".c": ["gcc", "-fsyntax-only", "-w"], ".js": ["node", "--check"]}.get(os.path.splitext(path)[1]) or \
+    compiler = "x86_64-w64-mingw32-gcc" if fault.file.startswith("windows/") else "gcc"
+    words = {".c": [compiler, "-fsyntax-only", "-w"], ".js": ["node", "--check"]}.get(os.path.splitext(path)[1]) or \
         (["bash", "-n"] if text.startswith("#!") or path.endswith(".bash") else None)
     return words is None or subprocess.run([*words, path], capture_output=True).returncode == 0
 
@@ -101,7 +103,8 @@ def call(words, folder, program, limit, given=()):
     # where a program is, the tests make files that others may not meet
     with tempfile.TemporaryDirectory(prefix="planted-") as room:
         # a package that is tried needn't be small
-        variables = {**os.environ, "STMFLASH": program, "STMFLASH_PATIENCE": PATIENCE, "TMPDIR": room, "DPKG_DEB_COMPRESSOR_LEVEL": "0", **dict(given)}
+        variables = {"WINEPREFIX": f"{TOP}/bin/wine", **os.environ, "STMFLASH": program, "STMFLASH_PATIENCE": PATIENCE, "TMPDIR": room,
+                     "DPKG_DEB_COMPRESSOR_LEVEL": "0", **dict(given)}
         # in the session of the call: Linux shares processors out by sessions first, and by priorities within each
         ran = subprocess.Popen(words, cwd=folder, env=variables, stdin=subprocess.DEVNULL, stdout=subprocess.PIPE, stderr=subprocess.STDOUT,
                                text=True, errors="replace", process_group=0)
