@@ -51,11 +51,7 @@ static size_t word_count;
 static char **words;
 
 // The program's `main` takes no words. glibc hands them to each such function before it.
-__attribute__((constructor)) static void keep_words(int count, char **given)
-{
-    word_count = (size_t)count;
-    words = given;
-}
+__attribute__((constructor)) static void keep_words(int count, char **given) { word_count = (size_t)count, words = given; }
 
 // c.rt: puts argument i, counted from the program's name, at the start of buf, and answers as `put` does.
 ssize_t rattle_arg(size_t i, char *buf, size_t room) { return put(i < word_count ? words[i] : NULL, buf, room); }

@@ -31,13 +31,7 @@ static int tried_so_far, failed;
 #define HOLDS(fact) ((void)(tried_so_far++, (fact) || (failed++, printf("line %d: %s\n", __LINE__, #fact))))
 
 static void fill(char *p, size_t n) { for (size_t k = 0; k < n; k++) p[k] = (char)(k * 7 + 1); }
-static bool is_filled(const char *p, size_t n)
-{
-    size_t k = 0;
-    while (k < n && p[k] == (char)(k * 7 + 1))
-        k++;
-    return k == n;
-}
+static bool is_filled(const char *p, size_t n) { size_t k = 0; while (k < n && p[k] == (char)(k * 7 + 1)) k++; return k == n; }
 
 static void test_alloc(void)
 {

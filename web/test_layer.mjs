@@ -89,7 +89,7 @@ const disks = (count) => Array.from({ length: count }, () => inMemory());
   holds('no room for a name', [env.getdents64(env.rattle_open_dir_at(-100, it.path('/boards')), 30000n, 4n), it.fault()], [-1n, E.INVAL]);
   holds('a real path, and none of none', [env.realpath(it.path('boards//./a'), 40000n), it.memory.text(40000n), env.realpath(it.path('/dev/stdout'), 40000n), it.memory.text(40000n), env.realpath(it.path('boards/none'), 40000n), it.fault()], [40000n, '/boards/a', 40000n, '/dev/stdout', 0n, E.NOENT]);
   holds('no links', [env.readlink(it.path('/boards/a'), 0n, 9n), it.fault(), env.readlink(it.path('/none'), 0n, 9n), it.fault()], [-1n, E.INVAL, -1n, E.NOENT]);
-  holds('no second names', [env.link(it.path('/boards/a'), it.path('/boards/b', 5000n)), it.fault(), it.told(0, '/boards/a') !== false, it.told(0, '/boards/b')], [-1, E.PERM, true, false]);
+  holds('what isn\'t there, or is no file', [env.unlink(it.path('/boards/none')), it.fault(), env.rename(it.path('/boards/none'), it.path('/boards/b', 5000n)), it.fault(), env.fsync(99), it.fault(), env.lseek(list, 0n, 0), it.fault(), env.flock(list, 6), it.fault(), env.ftruncate(list, 0n), it.fault(), env.fcntl(99, 1030, 0n), it.fault(), env.fcntl(more, 3, 0n), it.fault()], [-1, E.NOENT, -1, E.NOENT, -1, E.BADF, -1n, E.INVAL, -1, E.INVAL, -1, E.ISDIR, -1, E.BADF, -1, E.INVAL]); holds('no second names', [env.link(it.path('/boards/a'), it.path('/boards/b', 5000n)), it.fault(), it.told(0, '/boards/a') !== false, it.told(0, '/boards/b')], [-1, E.PERM, true, false]);
   holds('a journal stays among them, and where it is', [env.rename(it.path('/boards/a'), it.path('/a', 5000n)), it.fault(), env.rename(it.path('/boards/a'), it.path('boards/./a', 5000n)), it.store.list('/boards').length], [-1, E.PERM, 0, 2]);
   holds('no terminal', [env.isatty(0), env.isatty(1), env.isatty(2)], [0, 0, 0]); holds('no pipe that waits', env.poll(0n, 0n, 0), 0);
   holds('streams', [it.write(1, 'ab'), it.write(2, 'c'), it.out], [2n, 1n, [[1, 97, 98], [2, 99]]]); holds('what is given', [it.read(0, 3), it.read(0, 9), it.read(0, 9)], ['giv', 'en', '']);
@@ -127,12 +127,12 @@ function port() {
   const recv = async (room) => { const got = await ends(env.recv(fd, 9000n, BigInt(room), 0)); return typeof got === 'bigint' && got > 0n ? it.memory.bytes(9000n, got).slice() : got; };
   for (const [at, parts] of [[16, 0n], [24, 30000n]]) it.memory.view().setBigInt64(at, parts, true);
   holds('a wait is set', env.setsockopt(fd, 1, 20, 16n, 16), 0); it.memory.view().setBigInt64(16, 60n, true); holds('and another one, for what is sent, is no matter', env.setsockopt(fd, 1, 21, 16n, 16), 0);
-  const began = performance.now(); holds('nothing comes in time', [await recv(9), it.fault(), performance.now() - began > 20], [-1n, E.AGAIN, true]);
+  const began = performance.now(); holds('nothing comes in time', [await recv(9), it.fault(), performance.now() - began > 20 && performance.now() - began < 2000], [-1n, E.AGAIN, true]);
   setTimeout(() => board.into.enqueue(Uint8Array.of(1, 2, 3, 4, 5)), 10); env.setsockopt(fd, 1, 20, 16n, 16);
   holds('what comes is taken, in order, and no more than there is room for', [await recv(2), await recv(9)], [[1, 2], [3, 4, 5]]);
   it.memory.bytes(9000n, 3n).set([0x7f, 0, 255]); holds('sent', env.send(fd, 9000n, 3n, 0), 3n); it.memory.bytes(9000n, 3n).fill(0);
   const copy = env.fcntl(fd, 1030, 0n); await env.close(copy); holds('open as long as one has it', board.told.includes('closed'), false);
-  holds('closed, which isn\'t why it ended', [await ends(env.close(fd)), board.told.at(-1), line.ended], [0, 'closed', undefined]);
+  holds('closed once, which isn\'t why it ended', [await ends(env.close(fd)), board.told.filter((it) => it === 'closed').length, line.ended, await line.close(), board.told.filter((it) => it === 'closed').length, env.close(fd), it.fault()], [0, 1, undefined, undefined, 1, -1, E.BADF]);
   holds('and all that was sent went out before', board.sent, [0x7f, 0, 255]);
 }
 {
@@ -162,7 +162,7 @@ for (const [what, over, sum] of [['a wrong parity', (board) => board.into.error(
   await line.connect(); const took = performance.now() - began, { came } = line; await line.close();
   holds('a wiring is played, in and out of an open port, and what comes by then is no answer', [board.told.map((it) => it.baudRate ?? it), came],
     [[9600, { requestToSend: false }, { dataTerminalReady: true }, { dataTerminalReady: false }, { requestToSend: true }, { dataTerminalReady: true }, { dataTerminalReady: false }, 'closed'], []]);
-  holds('with its waits', took >= 290);
+  holds('with its waits', took >= 290); const { setSignals } = board; board.setSignals = async () => { throw new DOMException('gone', 'NetworkError'); }; holds('one that fails in it is closed again', [(await line.connect().catch((it) => it)).name, await line.close(), board.told.at(-1)], ['NetworkError', undefined, 'closed']); Object.assign(board, { setSignals });
   board.open = async () => { throw new DOMException('in use', 'InvalidStateError'); };
   const it = machine({ line: new Line(board, 9600) }), fd = it.env.socket(1, 1, 0); it.memory.put('/dev/board', 50002n, 100n);
   holds('a port in use', [await ends(it.env.connect(fd, 50000n, 13)), it.fault(), await ends(it.env.close(fd))], [-1, E.CONNREFUSED, 0]);
@@ -283,7 +283,7 @@ const choose = () => { seed = (seed * 48271) % 2147483647; return seed >> 6; };
   make(store, 'd', 'long before'); store.remove('/boards/d'); make(store, 'd', '');
   holds('nothing is left of another file', contents(store), { b: 'C', d: '' }); make(store, 'e', '');
   holds('no place left', thrownBy(() => make(store, 'f', '')).number, E.NOSPC); holds('nor in a head', [482, 483].map((it) => thrownBy(() => make(new Store([inMemory()]), 'n'.repeat(it), ''))?.number), [undefined, E.INVAL]);
-  store.open('image', { creates: true }).close();
+  store.open('image', { creates: true }).close(); holds('no such folder, and a folder is no file', [() => make(store, 'x/y', ''), () => store.open('/none/x', { creates: true }), () => store.remove('/boards'), () => store.remove('/none'), () => store.rename('/boards/d', '/'), () => store.rename('/none', '/boards')].map((it) => thrownBy(it)?.number), [E.NOENT, E.NOENT, E.ISDIR, E.NOENT, E.ISDIR, E.NOENT]); holds('one image at a time', ['a', 'b'].map((it) => [store.open(`/images/${it}`, { creates: true }).close(), ...store.list('/images').map(({ name, kind }) => [name, kind])]), [[undefined, ['a', 'file']], [undefined, ['b', 'file']]]);
   holds('files beside are in memory', [store.free(), store.look('/image')?.kind, store.look('/image')?.size, contents(store).image], [0, 'file', 0, undefined]);
 }
 

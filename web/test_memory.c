@@ -18,26 +18,15 @@ static size_t grow(size_t pages) { return pages_there + pages > most ? (size_t)-
 enum { BLOCKS = 200, ROUNDS = 200000 };
 static size_t held, all;
 
-static void holds(const char *what, int is_so)
-{
-    all++;
-    held += is_so != 0;
-    if (!is_so)
-        printf("FAILED: %s\n", what);
-}
+static void holds(const char *what, int is_so) { all++, is_so ? (void)held++ : (void)printf("FAILED: %s\n", what); }
 
 static unsigned long long seed = 1;
 static size_t any(size_t below) { return (size_t)((seed = seed * 6364136223846793005ULL + 1442695040888963407ULL) >> 33) % below; }
 
 static struct held_block { unsigned char *at; size_t size; unsigned char is; } blocks[BLOCKS];
 
-static int is_whole(const struct held_block *b)
-{
-    for (size_t i = 0; i < b->size; i++)
-        if (b->at[i] != b->is)
-            return 0;
-    return ((size_t)b->at & 15) == 0 && (size_t)b->at + b->size <= pages_there * 65536;
-}
+static int is(const struct held_block *b, size_t n) { while (n != 0 && b->at[n - 1] == b->is) n--; return n == 0; }
+static int is_whole(const struct held_block *b) { return is(b, b->size) && ((size_t)b->at & 15) == 0 && (size_t)b->at + b->size <= pages_there * 65536; }
 
 // Any calls in any order, of which some are refused: every block keeps its bytes, whatever is done with the others, or can't be.
 static void mix(void)

@@ -1,6 +1,6 @@
 // What the program asks of each function of windows/*.c, tried. It is linked with the layer, of which test_layer.py puts some of Windows'
 // functions into the hands of this file, and called in an empty folder as
-//   FIRST=one EMPTY= SAID_N=.. test_layer WORDS [COM5 COM6]
+//   FIRST=one EMPTY= SAID_N=.. test_layer WORDS COM5 COM6 --wiring dtr-reset,rts-boot0 --wiring
 // with a text of Linux for each fault N, and the words of test_layer.py. It prints what doesn't hold, and its status says whether all does.
 #include "layer.h"
 #include <aclapi.h>
@@ -9,8 +9,6 @@
 #include <time.h>
 #include <winternl.h>
 
-void read_words(void);
-
 static int tried_so_far, wrong;
 
 #define HOLDS(fact) (tried_so_far++, (fact) || (wrong++, printf("line %d: %s\n", __LINE__, #fact), false))
@@ -18,9 +16,8 @@ static int tried_so_far, wrong;
 #define FAILS(call, error) HOLDS((call) < 0 && sysv_rattle_errno() == (error) && sysv_rattle_errno() == (error))
 
 struct tried { bool ok; void *p; };
-struct when { long long sec; unsigned nsec; int none; };
 struct statx { unsigned mask, blksize; unsigned long long attributes; unsigned nlink, uid, gid; unsigned short mode, none0;
-    unsigned long long ino, size, blocks, more; struct when atime, btime, ctime, mtime; unsigned major, minor, dev_major, dev_minor; unsigned long long none[14]; };
+    unsigned long long ino, size, none1[10]; unsigned major, minor, dev_major, dev_minor; unsigned long long none2[14]; };
 struct features { unsigned is[4], usable[4]; };
 // what the program asks for, by files
 ASKED(int, rattle_errno)(void), sysv___xpg_strerror_r(int error, char *buf, size_t room);
@@ -56,7 +53,7 @@ static ULONG flushed_by; // the rights of the handle
 static ULONGLONG locked;
 static int option;
 static DCB state;
-static bool has_posix, private, is_link, is_opened; // (private: a list that has none of its folder's entries; is_link: each name is a link, which was opened itself)
+static bool has_posix, private, is_link, is_opened, is_bare; // (is_bare: a port by its bare name; private: a list that has none of its folder's entries; is_link: each name is a link, which was opened itself)
 static char signals[64];
 static const wchar_t *list; // in the place of an open file's rights; the answer that Windows gives, and what it was given; and whether there is a list
 static DWORD security, secured, posix_flags;
@@ -67,8 +64,11 @@ static const wchar_t *leads; // where Windows says that an open file is; NULL: w
 static int opened;          // so many handles, listings and sockets: one that is closed twice counts so too
 static COMMTIMEOUTS waits;
 static DWORD nap = 50;       // a short sleep; and whether a listing breaks behind its first entry
-static bool breaks, takes_any; // (takes_any: each setting of a port is taken and left as it is)
+static int breaks, takes;            // each setting of a port is taken and left as it is (1), or none is (-1)
 static DWORD barred, asked_for, created_how, shared, move_error; // rights that are refused; the newest file's rights, way and share; why moves fail, and how many
+static HANDLE written; // what was written last, and where
+static const char *said;
+static UINT consoles, page_count, pages[9]; // (consoles: how many show colors)
 static bool is_new; // POSIX's way knows files that may not be written
 static int naps, moves, came_at;    // (naps: how often it slept for a moment; came_at: the call alone that says how a byte came wrong)
 static long long ticks;             // what each clock says, of which the steady one has 3,000,000 in a second
@@ -76,16 +76,14 @@ static const BY_HANDLE_FILE_INFORMATION *instead; // what is said of each file
 
 static bool is_for_one(SECURITY_ATTRIBUTES *rights)
 {
-    BOOL any;
-    PACL only;
-    ACCESS_ALLOWED_ACE *one;
+    BOOL any; PACL only; ACCESS_ALLOWED_ACE *one;
     return rights != NULL && (((SECURITY_DESCRIPTOR *)rights->lpSecurityDescriptor)->Control & SE_DACL_PROTECTED) && GetSecurityDescriptorDacl(rights->lpSecurityDescriptor, &any, &only, &any)
         && only->AceCount == 1 && GetAce(only, 0, (void **)&one) && one->Mask == FILE_ALL_ACCESS;
 }
 
 static HANDLE WINAPI tried_create(const wchar_t *path, DWORD access, DWORD share, SECURITY_ATTRIBUTES *rights, DWORD how, DWORD flags, HANDLE like)
 {
-    is_opened = (flags & FILE_FLAG_OPEN_REPARSE_POINT) != 0, private = is_for_one(rights), asked_for = access, created_how = how, shared = share;
+    is_bare = wcsncmp(path, L"\\\\.\\COM", 7) == 0, is_opened = (flags & FILE_FLAG_OPEN_REPARSE_POINT) != 0, private = is_for_one(rights), asked_for = access, created_how = how, shared = share;
     SetLastError(refused != 0 ? refused : ERROR_ACCESS_DENIED);
     HANDLE it = refused != 0 || (access & barred) ? INVALID_HANDLE_VALUE : CreateFileW(path, access, share, rights, how, flags, like);
     return opened += it != INVALID_HANDLE_VALUE, it;
@@ -101,10 +99,10 @@ static BOOL WINAPI tried_flush(HANDLE handle)
 static BOOL WINAPI tried_errors(HANDLE port, DWORD *errors, COMSTAT *waiting) { BOOL done = ClearCommError(port, errors, waiting); return *errors |= came_at == 0 || --came_at == 0 ? came : 0, done; }
 static BOOL WINAPI tried_lock(HANDLE handle, DWORD how, DWORD none, DWORD low, DWORD high, OVERLAPPED *place) { return locked = (ULONGLONG)place->OffsetHigh << 32 | place->Offset, HOLDS(low == 1 && high == 0), LockFileEx(handle, how, none, low, high, place); }
 static int WINAPI tried_option(SOCKET socket, int level, int name, const char *value, int length) { return option = level == SOL_SOCKET && getsockname(socket, &(struct sockaddr){0}, &(int){16}) != 0 ? name : option, setsockopt(socket, level, name, value, length); }
-static BOOL WINAPI tried_state(HANDLE port, DCB *set) { return state = *set, takes_any || SetCommState(port, set); }
+static BOOL WINAPI tried_state(HANDLE port, DCB *set) { return state = *set, SetLastError(ERROR_INVALID_PARAMETER), takes > 0 || (takes == 0 && SetCommState(port, set)); }
 static BOOL WINAPI tried_purge(HANDLE port, DWORD what) { return snprintf(signals + strlen(signals), sizeof signals - strlen(signals), "purge "), PurgeComm(port, what); }
 static BOOL WINAPI tried_waits(HANDLE port, COMMTIMEOUTS *set) { return waits = *set, SetCommTimeouts(port, set); }
-static BOOL WINAPI tried_write(HANDLE handle, const void *buf, DWORD n, DWORD *done, OVERLAPPED *place) { return bytes = n, WriteFile(handle, buf, n < most ? n : most, done, place); }
+static BOOL WINAPI tried_write(HANDLE handle, const void *buf, DWORD n, DWORD *done, OVERLAPPED *place) { return bytes = n, written = handle, said = buf, WriteFile(handle, buf, n < most ? n : most, done, place); }
 static BOOL WINAPI tried_read(HANDLE handle, void *buf, DWORD n, DWORD *done, OVERLAPPED *place) { return bytes = n, ReadFile(handle, buf, n < most ? n : most, done, place); }
 
 static BOOL WINAPI tried_set(HANDLE handle, FILE_INFO_BY_HANDLE_CLASS what, void *value, DWORD size)
@@ -158,7 +156,26 @@ static BOOL WINAPI tried_close(HANDLE it) { return opened -= it != INVALID_HANDL
 static SOCKET counted(SOCKET it) { return opened += it != INVALID_SOCKET, it; }
 static SOCKET WSAAPI tried_socket(int family, int kind, int protocol) { return counted(socket(family, kind, protocol)); }
 static SOCKET WSAAPI tried_accept(SOCKET server, struct sockaddr *who, int *length) { return counted(accept(server, who, length)); }
+static int WSAAPI tried_poll(WSAPOLLFD *one, ULONG n, int wait) { return HOLDS(n == 1 && wait > 0), WSAPoll(one, n, wait); }
 static int WSAAPI tried_shut(SOCKET it) { return opened--, closesocket(it); }
+
+static BOOL WINAPI tried_mode(HANDLE it, DWORD *mode) { return *mode = 3, it != GetStdHandle(STD_OUTPUT_HANDLE); }
+static BOOL WINAPI tried_console(HANDLE it, DWORD mode) { return consoles += it == GetStdHandle(STD_ERROR_HANDLE) && mode == 7 ? 1 : 9, TRUE; }
+static UINT WINAPI tried_page(void) { return 850; }
+static BOOL WINAPI tried_pages(UINT page) { return pages[page_count++ % 9] = page, TRUE; }
+int main(void), __wgetmainargs(int *count, wchar_t ***words, wchar_t ***variables, int globs, int *mode);
+int tried_words(int *count, wchar_t ***words, wchar_t ***variables, int globs, int *mode) { int status = __wgetmainargs(count, words, variables, globs, mode); return *count -= page_count != 0, status; }
+
+// It begins once more, without the last word, and ends well; so help is told.
+static void WINAPI tried_exit(UINT status)
+{
+    HOLDS(pages[0] == CP_UTF8 && pages[1] == 850 && (page_count == 2 ? consoles == 1 && status == 7 && bytes == 0 : status == 0 && written == table[1]->handle && bytes > 100));
+    if (page_count == 2 && wrong == 0)
+        main();
+    if (HOLDS(said[bytes - 1] == '\n' && memcmp(said, "\nOn Windows a device is COM3", 28) == 0 && strcmp(asked_wiring, "dtr-reset,rts-boot0") == 0 && sysv_rattle_arg(13, NULL, 0) == -1))
+        printf("%d of %d hold\n", tried_so_far, tried_so_far);
+    ExitProcess(wrong != 0);
+}
 
 static BOOL WINAPI tried_counter(LARGE_INTEGER *now) { return ticks == 0 ? QueryPerformanceCounter(now) : (now->QuadPart = ticks, TRUE); }
 static BOOL WINAPI tried_frequency(LARGE_INTEGER *second) { return ticks == 0 ? QueryPerformanceFrequency(second) : (second->QuadPart = 3000000, TRUE); }
@@ -177,7 +194,8 @@ void *__imp_tried_flush = tried_flush, *__imp_tried_set = tried_set, *__imp_trie
     *__imp_tried_errors = tried_errors, *__imp_tried_waits = tried_waits, *__imp_tried_write = tried_write, *__imp_tried_list = tried_list, *__imp_tried_end = tried_end,
     *__imp_tried_close = tried_close, *__imp_tried_secure = tried_secure, *__imp_tried_purge = tried_purge, *__imp_tried_socket = tried_socket, *__imp_tried_accept = tried_accept,
     *__imp_tried_shut = tried_shut, *__imp_tried_final = tried_final, *__imp_tried_attributes = tried_attributes, *__imp_tried_information = tried_information, *__imp_tried_next = tried_next,
-    *__imp_tried_counter = tried_counter, *__imp_tried_frequency = tried_frequency, *__imp_tried_day = tried_day, *__imp_tried_read = tried_read;
+    *__imp_tried_counter = tried_counter, *__imp_tried_frequency = tried_frequency, *__imp_tried_day = tried_day, *__imp_tried_read = tried_read,
+    *__imp_tried_mode = tried_mode, *__imp_tried_console = tried_console, *__imp_tried_page = tried_page, *__imp_tried_pages = tried_pages, *__imp_tried_exit = tried_exit, *__imp_tried_poll = tried_poll;
 
 // --- helpers
 
@@ -262,13 +280,14 @@ static void test_memory(void)
 
 static void test_words(void)
 {
-    static const char *const given[] = {"stmflash", "--baud=9600", "word", "", "zwei Wörter", "--wirings=x", "a/b", "--baud", "57600", "end"};
+    static const char *const given[] = {"stmflash", "--baud=9600", "word", "", "zwei Wörter", "--wirings=x", "a/b", "--baud", "57600", "-h", "end"};
     char buf[64];
     for (size_t i = 0; i < sizeof given / sizeof *given; i++) {
         memset(buf, '#', sizeof buf);
         HOLDS(is_put(sysv_rattle_arg(i, buf, 60), buf, given[i]));
     }
     memset(buf, '#', sizeof buf);
+    HOLDS(is_put(sysv_rattle_arg(13, buf, 60), buf, "--wiring") && sysv_rattle_arg(14, buf, 60) == -1 && memset(buf, '#', 9) == buf); // (one without a value is told by the program)
     HOLDS(sysv_rattle_arg(2, buf, 3) == -2 && memcmp(buf, "wor#", 4) == 0 && sysv_rattle_arg(2, buf, 4) == 4 && sysv_rattle_arg(3, NULL, 0) == 0);
     HOLDS(sysv_rattle_arg(SIZE_MAX, buf, 60) == -1 && strcmp(asked_speed, "57600") == 0 && strcmp(asked_wiring, "dtr-reset,rts-boot0") == 0);
     memset(buf, '#', sizeof buf);
@@ -289,7 +308,7 @@ static void test_words(void)
         found += strcmp(entry, "FIRST") == 0 || (strcmp(entry, "NÄME") == 0 && memcmp(value, "C:/имя/名前", (size_t)(n - length - 1)) == 0);
     }
     HOLDS(found == 2 && sysv_rattle_env_at(100000, entry, 9) == -1);
-    static const struct { const wchar_t *wide; const char *text; } texts[] = {{L"", ""}, {L"\\\\a\\", "//a/"}, {L"\xd83d\xdcdf\xe9", "\xf0\x9f\x93\x9f\xc3\xa9"}, {L"a\xd83d", "\xff"}};
+    static const struct { const wchar_t *wide; const char *text; } texts[] = {{L"", ""}, {L"\\\\a\\", "//a/"}, {L"\xd83d\xdcdf\xe9", "\xf0\x9f\x93\x9f\xc3\xa9"}, {L"a\xd83d", "\xff"}, {L"\1\\", "\1/"}};
     for (size_t i = 0; i < sizeof texts / sizeof *texts; i++) {
         char *text = narrow(texts[i].wide);
         HOLDS(text != NULL && strcmp(text, texts[i].text) == 0);
@@ -319,10 +338,10 @@ static void test_clock(void)
 
 static void test_paths(void)
 {
-    static wchar_t path[PATH_ROOM];
+    static wchar_t path[PATH_ROOM], program[PATH_ROOM];
     static char name[5000], real[5000], other[5000];
     static const char *const refused[] = {"CON", "con.txt", "folder/AUX", "com1.log", "LPT9", "file:b", "C:/a:b", "\xff\xfe", "PRN.x.y", "//?/C:/x/con.txt", "CONIN$", "conout$.x", "x/Lpt1 .a", "PRN", "aux:",
-        "//?/C:/a:b", "//./pipe/x", "//./COM3", "//server/share/a:b"};
+        "//?/C:/a:b", "//./pipe/x", "//./COM3", "//server/share/a:b", "//?/C:/x/com1.a", "//?/C:/x/LPT9", "//?/C:/x/conout$", "//?/C:/CONIN$.b"};
     for (size_t i = 0; i < sizeof refused / sizeof *refused; i++)
         if (!HOLDS(!widen(refused[i], path) && sysv_rattle_errno() == 22 && sysv_open(refused[i], 0, 0) < 0 && sysv_rattle_errno() == 22))
             printf("    %s\n", refused[i]);
@@ -344,9 +363,9 @@ static void test_paths(void)
         HOLDS(widen(name, path) && wcslen(path) == (n < 248 ? n : n + 4) && wcsncmp(path, n < 248 ? L"C:\\zzz" : L"\\\\?\\C:\\zzz", n < 248 ? 6 : 10) == 0);
         name[n] = 'z';
     }
+    HOLDS(widen(strcat(memcpy(real, "//?/", 5), name), path) && wcslen(path) == 404 && wcsncmp(path, L"\\\\?\\C:\\zz", 9) == 0);
     static char far_off[40000] = {[0 ... 32985] = 'y', 0};
     HOLDS(!widen(far_off, path) && sysv_rattle_errno() == 36 && !widen(memset(far_off, 'y', 39000), path) && sysv_rattle_errno() == 22 && (far_off[32700] = 0, widen(far_off, path)));
-    static wchar_t program[PATH_ROOM];
     GetModuleFileNameW(NULL, program, PATH_ROOM);
     HOLDS(widen("/usr/share/stmflash/chips.toml", path) && wcscmp(wcscpy(wcsrchr(program, L'\\') + 1, L"chips.toml") ? program : NULL, path) == 0);
     HOLDS(widen("/usr/share/stmflash/chips.tom", path) && wcsstr(path, L":\\usr\\share\\stmflash\\chips.tom") == path + 1);
@@ -381,9 +400,10 @@ static void test_paths(void)
     struct statx one = told("Board.journal", 0), two = told("BOARD.JOURNAL", 0);
     HOLDS(one.ino != 0 && one.ino == two.ino && one.dev_minor == two.dev_minor && one.ino != told("име", 0).ino); HOLDS((one.mode & 0170000) == 0100000 && one.nlink == 1 && one.size == 1 && one.mask == 0x31f);
     HOLDS((told(".", 0).mode & 0170000) == 0040000 && (told("tcp:127.0.0.1:1", 0).mode & 0170000) == 0140000);
-    HOLDS(told("tcp:127.0.0.1:1", 0).ino != told("tcp:127.0.0.1:2", 0).ino && (told("NUL", 0).mode & 0170000) == 0020000); HOLDS(told("NUL", 0).major == 1 && told("NUL", 0).minor == 3);
+    HOLDS(told(strcpy(memset(real, 1, 99), "tcp:127.0.0.1:1"), 0).ino == told("tcp:127.0.0.1:1", 0).ino && told(real, 0).ino != told("tcp:127.0.0.1:2", 0).ino && (told("NUL", 0).mode & 0170000) == 0020000); HOLDS(told("NUL", 0).major == 1 && told("NUL", 0).minor == 3);
     static const char *const ports[] = {"COM3", "com12", "//./COM3", "COM3:57600", "//./com77:9600"}, *const others[] = {"COM", "COM3x", "COM3:", "COM3:x", "tcp:1", "XCOM3"};
     struct statx none;
+    HOLDS(put_file("com12", "x") == 0); // a file of that name is none
     for (int i = 0; i < 5; i++) {
         HOLDS(is_port(ports[i])); FAILS(sysv_statx(-100, ports[i], 0, 0, &none), 2);
     }
@@ -496,8 +516,7 @@ static void test_rights(void)
         if (!HOLDS((found.mode & 01777) == each[i / 5].file && found.uid == each[i / 5].owner && found.gid == found.uid && (told(".", 0).mode & 01777) == each[i / 5].folder))
             printf("    %ls: %o, %o, %u\n", list, found.mode, told(".", 0).mode, found.uid);
     }
-    HOLDS((is_listed = false, told(".", 0).mode & 01777) == 0766); HOLDS((security = ERROR_ACCESS_DENIED, told(".", 0).mode & 01777) == 0766);
-    HOLDS((security = ERROR_NOT_SUPPORTED, told(".", 0).mode & 01777) == 01744);
+    HOLDS((is_listed = false, told(".", 0).mode & 01777) == 0766); HOLDS((security = ERROR_ACCESS_DENIED, told(".", 0).mode & 01777) == 0766); HOLDS((security = ERROR_NOT_SUPPORTED, told(".", 0).mode & 01777) == 01744);
     list = NULL, security = ERROR_SUCCESS;
 }
 
@@ -506,9 +525,8 @@ static void test_locks_and_syncs(void)
     char buf[4];
     HOLDS(put_file("lock", "abc") == 0);
     int one = sysv_open("lock", 2, 0), two = sysv_open("lock", 2, 0), same = sysv_fcntl(one, 1030, 3);
-    HOLDS(sysv_flock(one, 2 | 4) == 0 && locked > (ULONGLONG)1 << 62); FAILS(sysv_flock(two, 2 | 4), 11); FAILS(sysv_flock(two, 1 | 4), 11);
-    HOLDS(sysv_read(two, buf, 3) == 3 && sysv_write(two, "d", 1) == 1 && holds("lock", "abcd"));
-    HOLDS(sysv_close(one) == 0 && sysv_flock(two, 2 | 4) < 0 && sysv_close(same) == 0 && sysv_flock(two, 2 | 4) == 0);
+    HOLDS(sysv_flock(one, 2 | 4) == 0 && locked == 0x7ffffffffffffffe); FAILS(sysv_flock(two, 2 | 4), 11); FAILS(sysv_flock(two, 1 | 4), 11);
+    HOLDS(sysv_read(two, buf, 3) == 3 && sysv_write(two, "d", 1) == 1 && holds("lock", "abcd")); HOLDS(sysv_close(one) == 0 && sysv_flock(two, 2 | 4) < 0 && sysv_close(same) == 0 && sysv_flock(two, 2 | 4) == 0);
     one = sysv_open("lock", 0, 0);
     HOLDS(sysv_flock(two, 8) == 0 && sysv_flock(two, 1 | 4) == 0 && sysv_flock(one, 1 | 4) == 0 && sysv_flock(one, 8) == 0 && sysv_flock(two, 8) == 0); FAILS(sysv_flock(99, 2), 9);
     int folder = sysv_open(".", 0, 0), before = flushes;
@@ -516,7 +534,8 @@ static void test_locks_and_syncs(void)
     HOLDS((flushed_by & FILE_WRITE_DATA) != 0); FAILS(sysv_fsync(99), 9); FAILS(sysv_fdatasync(99), 9); FAILS(sysv_ftruncate(99, 0), 9); FAILS(sysv_lseek(99, 0, 0), 9);
     struct statx none;
     tried_close(table[one]->handle), table[one]->handle = INVALID_HANDLE_VALUE;
-    FAILS(sysv_fsync(one), 9); FAILS(sysv_read(one, buf, 1), 9); FAILS(sysv_flock(one, 6), 9); FAILS(sysv_flock(one, 8), 9); FAILS(sysv_statx(one, "", 0x1000, 0, &none), 9); FAILS(sysv_fchmod(one, 0400), 9);
+    tried_close(table[folder]->handle), table[folder]->handle = INVALID_HANDLE_VALUE;
+    HOLDS(sysv_fsync(folder) == 0); FAILS(sysv_fsync(one), 9); FAILS(sysv_read(one, buf, 1), 9); FAILS(sysv_flock(one, 6), 9); FAILS(sysv_flock(one, 8), 9); FAILS(sysv_statx(one, "", 0x1000, 0, &none), 9); FAILS(sysv_fchmod(one, 0400), 9);
     HOLDS(sysv_close(one) == 0 && sysv_close(two) == 0 && sysv_close(folder) == 0);
 }
 
@@ -560,7 +579,8 @@ static void test_names(bool posix)
     FAILS(sysv_unlink("old"), 16); HOLDS(sysv_rename("new", "old") < 0 && CloseHandle(other) && (nap = 50) && holds("old", "3") && sysv_unlink("new") == 0);
     // a name goes at once, also of what is open
     open = sysv_open("old", 0, 0);
-    HOLDS(sysv_unlink("old") == 0 && is_opened && (posix || told("old", 0).nlink == 0));
+    before = through;
+    HOLDS(sysv_unlink("old") == 0 && is_opened && (posix || (told("old", 0).nlink == 0 && through == before + 1)));
     int second = posix ? -1 : put_file("old", "y") == 0 ? sysv_open("old", 0, 0) : -1;
     HOLDS(posix ? posix_flags == 0x13 : sysv_unlink("old") == 0 && told("old", 0).nlink == 0 && sysv_close(second) == 0); HOLDS(sysv_close(open) == 0 && told("old", 0).nlink == 0);
     FAILS(sysv_unlink("old"), 2); HOLDS(put_file("old", "x") == 0);
@@ -597,11 +617,10 @@ static void test_folder(void)
         HOLDS(n == 0 && files == 120 && entries == 122 && sysv_getdents64(folder, buf, room) == 0 && sysv_close(folder) == 0);
     }
     int folder = sysv_rattle_open_dir_at(-100, "many");
-    FAILS(sysv_rattle_open_dir_at(3, "many"), 22); FAILS(sysv_read(folder, buf, 9), 21); FAILS(sysv_getdents64(folder, buf, 8), 22); breaks = true; FAILS(sysv_getdents64(folder, buf, sizeof buf), 5); breaks = false;
+    FAILS(sysv_rattle_open_dir_at(3, "many"), 22); FAILS(sysv_read(folder, buf, 9), 21); FAILS(sysv_getdents64(folder, buf, 8), 22); HOLDS(sysv_getdents64(folder, buf, 24) == 24); breaks = true; FAILS(sysv_getdents64(folder, buf, sizeof buf), 5); breaks = false;
     HOLDS(sysv_close(folder) == 0); FAILS(sysv_rattle_open_dir_at(-100, "many/1-ü"), 20); FAILS(sysv_rattle_open_dir_at(-100, "none"), 2);
     is_link = true; // which is followed for what is told of it, unless that is asked for, and not for its entries
-    FAILS(sysv_rattle_open_dir_at(-100, "many"), 20);
-    HOLDS((told("many", 0).mode & 0170000) == 0040000 && (told("many", 0x100).mode & 0170000) == 0120000 && (told("many/1-ü", 0x100).mode & 0170000) == 0120000);
+    FAILS(sysv_rattle_open_dir_at(-100, "many"), 20); HOLDS((told("many", 0).mode & 0170000) == 0040000 && (told("many", 0x100).mode & 0170000) == 0120000 && (told("many/1-ü", 0x100).mode & 0170000) == 0120000);
     is_link = false;
     int file = sysv_open("many/1-ü", 0, 0);
     FAILS(sysv_getdents64(file, buf, sizeof buf), 20); FAILS(sysv_getdents64(99, buf, sizeof buf), 9); HOLDS(sysv_close(file) == 0);
@@ -616,9 +635,9 @@ static int by_name(__attribute__((sysv_abi)) int (*how)(int, const unsigned char
 
 static void wait_for(int number, long long millis)
 {
-    long long parts[2] = {millis / 1000, millis % 1000 * 1000 - (millis % 1000 != 0 ? 999 : 0)}, writes[2] = {9, 0}; // (a part of one is one: 0 has no end)
+    long long parts[2] = {millis / 1000, millis % 1000 * 1000 - (millis % 1000 != 0 ? 999 : 0)}, writes[2] = {90, 0}; // (a part of one is one: 0 has no end)
     HOLDS(sysv_setsockopt(number, 1, 20, parts, sizeof parts) == 0 && sysv_setsockopt(number, 1, 21, writes, sizeof writes) == 0);
-    if (!HOLDS(table[number]->read_wait == millis && table[number]->write_wait == 9000))
+    if (!HOLDS(table[number]->read_wait == millis && table[number]->write_wait == 90000))
         exit(1); // it would wait for ever
     // what else is asked is no matter
     HOLDS(sysv_setsockopt(number, 6, 20, writes, sizeof parts) == 0 && sysv_setsockopt(number, 1, 22, writes, sizeof parts) == 0 && sysv_setsockopt(number, 1, 20, writes, 4) == 0 && table[number]->read_wait == millis);
@@ -647,7 +666,7 @@ static void test_tcp(void)
         HOLDS(getsockopt(table[i ? client : served]->socket, IPPROTO_TCP, TCP_NODELAY, (char *)&on, &(int){4}) == 0 && on != 0);
     struct statx found;
     HOLDS(sysv_statx(client, "", 0x1000, 0, &found) == 0 && (found.mode & 0170000) == 0140000);
-    HOLDS(sysv_send(client, "\x7f", 1, 0) == 1 && sysv_recv(served, buf, 16, 0) == 1 && buf[0] == 0x7f && sysv_write(served, "ab", 2) == 2 && sysv_read(client, buf, (size_t)1 << 32) == 2);
+    HOLDS(sysv_send(client, "\x7f", 1, 0) == 1 && sysv_recv(served, buf, 16, 0) == 1 && buf[0] == 0x7f && sysv_write(served, "ab", 2) == 2 && sysv_read(client, buf, (size_t)1 << 32) == 2 && sysv_send(client, "", 0, 0) == 0);
     wait_for(client, 1999999999), wait_for(client, 2000000000), wait_for(client, 1), wait_for(client, 1001);
     HOLDS(sysv_setsockopt(client, 1, 20, (long long[]){1LL << 32, 0}, 16) == 0 && table[client]->read_wait == 2000000000);
     wait_for(client, 120);
@@ -682,9 +701,10 @@ static void test_port(const char *port, const char *other)
     HOLDS(!state.fOutX && !state.fInX && !state.fNull && !state.fOutxCtsFlow && !state.fOutxDsrFlow);
     wait_for(line, 60000);
     HOLDS((most = 1, sysv_send(line, "\x7f\x7f", 2, 0)) == 1 && sysv_recv(line, buf, 16, 0) == 1 && buf[0] == 0x79);
-    HOLDS(waits.ReadTotalTimeoutConstant == 60000 && waits.WriteTotalTimeoutConstant == 9000); FAILS((most = 0, sysv_send(line, "x", 1, 0)), 11);
-    most = -1;
-    wait_for(line, 150);
+    HOLDS(waits.ReadTotalTimeoutConstant == 60000 && waits.WriteTotalTimeoutConstant == 90000 && (waits = (COMMTIMEOUTS){0}, sysv_send(line, "e", 1, 0)) == 1 && waits.WriteTotalTimeoutConstant == 90000);
+    HANDLE kept = table[line]->handle; // one that is gone
+    FAILS((table[line]->handle = INVALID_HANDLE_VALUE, sysv_recv(line, buf, 1, 0)), 5); FAILS(sysv_send(line, "e", 1, 0), 5); HOLDS((table[line]->handle = kept) == kept); FAILS((most = 0, sysv_send(line, "x", 1, 0)), 11);
+    most = -1, wait_for(line, 150);
     ULONGLONG begun = GetTickCount64();
     HOLDS(sysv_write(line, "e", 1) == 1); FAILS(sysv_read(line, buf, 16), 11); HOLDS(GetTickCount64() - begun >= 100 && GetTickCount64() - begun < 60000);
     wait_for(line, 20);
@@ -692,11 +712,11 @@ static void test_port(const char *port, const char *other)
         FAILS(sysv_read(line, buf, 16), 5);
     // several that come at once are taken in order, as many as there is room for; a wrong one among them, or behind them, ends the line
     wait_for(line, 60000);
-    for (int i = came = 0, n = 0; i < 4; i++, n = 0) {
+    for (int i = came = 0, n = 0, reads = 0; i < 4; i++, n = 0) {
         HOLDS(sysv_write(line, "m", 1) == 1 && sysv_send(line, "", 0, 0) == 0);
-        for (long long got = 0; i < 2 && n < 5 && got >= 0; n += (int)got)
+        for (long long got = 0; i < 2 && n < 5 && got >= 0; n += (int)got, reads++)
             HOLDS((memset(buf + n, '#', 4), got = sysv_read(line, buf + n, 3)) > 0 && got <= 3 && buf[n + 3] == '#');
-        HOLDS(i > 1 || (n == 5 && memcmp(buf, "12345", 5) == 0));
+        HOLDS(i > 1 || (n == 5 && reads < 5 + 5 * i && memcmp(buf, "12345", 5) == 0));
         for (came = CE_FRAME, came_at = i - 1; i > 1 && n < 1; n++) // (the first one is asked where a byte came)
             FAILS(sysv_read(line, buf, 16), 5);
         came = 0;
@@ -712,7 +732,7 @@ static void test_port(const char *port, const char *other)
     HOLDS(SetEnvironmentVariableW(L"STMFLASH_WIRING", L"nothing")); FAILS(by_name(sysv_connect, line, other), 22);
     asked_wiring = "inverted-rts-reset", signals[0] = 0;
     snprintf(name, sizeof name, "//./%s:19200", other);
-    HOLDS(by_name(sysv_connect, line, name) == 0 && strcmp(signals, "-rts 100 rts 200 purge ") == 0);
+    HOLDS(by_name(sysv_connect, line, name) == 0 && is_bare && strcmp(signals, "-rts 100 rts 200 purge ") == 0);
     wait_for(line, 60000);
     HOLDS(sysv_send(line, "\x7f", 1, 0) == 1 && sysv_recv(line, buf, 16, 0) == 1);
     signals[0] = 0;
@@ -721,35 +741,38 @@ static void test_port(const char *port, const char *other)
     static const struct { const char *wiring, *in, *out; } wirings[] = {{"rts-boot0,dtr-reset", "-rts dtr 100 -dtr 200 purge ", "rts dtr 100 -dtr "}, {"rts-reset", "rts 100 -rts 200 purge ", ""},
         {"inverted-dtr-reset,dtr-boot0", "-dtr -dtr 100 dtr 200 purge ", "dtr -dtr 100 dtr "}, {"rts-reset,inverted-dtr-boot0", "dtr rts 100 -rts 200 purge ", "-dtr rts 100 -rts "},
         {"dtr-reset,inverted-rts-boot0", "rts dtr 100 -dtr 200 purge ", "-rts dtr 100 -dtr "}, {"", "purge ", ""}, {"dtr-boot0", NULL, ""}, {"xrts-reset", NULL, ""}};
-    takes_any = true;
+    FAILS((takes = -1, signals[0] = 0, by_name(sysv_connect, line = sysv_socket(1, 1, 0), other)), 22); HOLDS(signals[0] == 0 && sysv_close(line) == 0 && (takes = 1));
     for (size_t i = 0; i < sizeof wirings / sizeof *wirings; i++) {
-        asked_wiring = wirings[i].wiring, signals[0] = 0, line = sysv_socket(1, 1, 0);
+        asked_wiring = i % 2 ? NULL : wirings[i].wiring, signals[0] = 0, line = sysv_socket(1, 1, 0);
+        SetEnvironmentVariableA("STMFLASH_WIRING", i % 2 ? wirings[i].wiring : "nothing");
         HOLDS(by_name(sysv_connect, line, other) == (wirings[i].in ? 0 : -1) && strcmp(signals, wirings[i].in ? wirings[i].in : "") == 0 && shared == 0 && (wirings[i].in || sysv_rattle_errno() == 22));
         signals[0] = 0;
         HOLDS(sysv_close(line) == 0 && strcmp(signals, wirings[i].out) == 0);
     }
-    asked_wiring = NULL, takes_any = false;
-    SetEnvironmentVariableW(L"STMFLASH_WIRING", NULL);
-    // the speed that a variable says, the usual one, and none
-    static const struct { const wchar_t *said; DWORD speed; } speeds[] = {{L"38400", 38400}, {L"", 115200}, {NULL, 115200}, {L"1", 1}, {L"x", 0}, {L"0", 0}, {L"-9", 0}};
-    asked_speed = NULL;
+    asked_wiring = NULL, SetEnvironmentVariableW(L"STMFLASH_WIRING", NULL);
+    // the speed that is asked for, that a variable says, the usual one, and none
+    static const struct { const char *asked; const wchar_t *said; DWORD speed; } speeds[] = {{"9600", L"38400", 9600}, {NULL, L"38400", 38400}, {NULL, L"", 115200}, {NULL, NULL, 115200}, {NULL, L"1", 1},
+        {NULL, L"x", 0}, {NULL, L"0", 0}, {NULL, L"-9", 0}};
     for (size_t i = 0; i < sizeof speeds / sizeof *speeds; i++) {
         SetEnvironmentVariableW(L"STMFLASH_BAUD", speeds[i].said);
-        state.BaudRate = 0;
+        state.BaudRate = 0, asked_speed = speeds[i].asked;
         line = sysv_socket(1, 1, 0);
-        HOLDS(by_name(sysv_connect, line, other) < 0 || speeds[i].speed != 0); HOLDS(state.BaudRate == speeds[i].speed && sysv_close(line) == 0);
+        HOLDS((by_name(sysv_connect, line, other) == 0) == (speeds[i].speed != 0)); HOLDS(state.BaudRate == speeds[i].speed && sysv_close(line) == 0);
     }
 }
 
-int main(int count, char **given)
+// the layer's own start calls it, with a console for what is typed and for what is told of faults
+__attribute__((sysv_abi)) int rattle_main(void)
 {
+    if (page_count > 1)
+        return 0;
     setvbuf(stdout, NULL, _IONBF, 0);
-    read_words();
     for (int i = 0; i < 3; i++)
-        numbered(made(A_FILE, CreateFileW(L"NUL", GENERIC_READ | GENERIC_WRITE, SHARED, NULL, OPEN_EXISTING, 0, NULL)), i);
+        HOLDS(table[i]->kind == (i == 1 ? A_FILE : A_CONSOLE) && table[i]->numbers == 1 && table[i]->handle == GetStdHandle(STD_INPUT_HANDLE - (DWORD)i) && table[3] == NULL && page_count == 1);
+    for (int i = 0; i < 3; i++)
+        table[i] = NULL, numbered(made(A_FILE, CreateFileW(L"NUL", GENERIC_READ | GENERIC_WRITE, SHARED, NULL, OPEN_EXISTING, 0, NULL)), i);
     CLOSES(test_errors()); CLOSES(test_memory()); CLOSES(test_words()); CLOSES(test_clock()); CLOSES(test_paths()); CLOSES(test_files()); CLOSES(test_rights());
     CLOSES(test_locks_and_syncs()); CLOSES(test_names(true)); CLOSES(test_names(false)); CLOSES(test_folder()); CLOSES(test_tcp());
-    if (strncmp(given[count - 1], "COM", 3) == 0)
-        CLOSES(test_port(given[count - 2], given[count - 1]));
-    return printf("%d of %d hold\n", tried_so_far, tried_so_far) < 0;
+    CLOSES(test_port(__argv[__argc - 5], __argv[__argc - 4]));
+    return bytes = 0, 7; // (so no help is told)
 }

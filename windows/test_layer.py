@@ -37,10 +37,13 @@ INSTEAD = {"FlushFileBuffers": "flush", "SetFileInformationByHandle": "set", "Mo
            "ClearCommError": "errors", "SetCommTimeouts": "waits", "WriteFile": "write", "FindFirstFileW": "list", "FindClose": "end", "FindNextFileW": "next",
            "CloseHandle": "close", "SetSecurityInfo": "secure", "PurgeComm": "purge", "socket": "socket", "accept": "accept", "closesocket": "shut",
            "GetFinalPathNameByHandleW": "final", "GetFileAttributesW": "attributes", "GetFileInformationByHandle": "information",
-           "QueryPerformanceCounter": "counter", "QueryPerformanceFrequency": "frequency", "GetSystemTimePreciseAsFileTime": "day", "ReadFile": "read"}
+           "QueryPerformanceCounter": "counter", "QueryPerformanceFrequency": "frequency", "GetSystemTimePreciseAsFileTime": "day", "ReadFile": "read",
+           "GetConsoleMode": "mode", "SetConsoleMode": "console", "GetConsoleOutputCP": "page", "SetConsoleOutputCP": "pages", "ExitProcess": "exit", "WSAPoll": "poll",
+           "__wgetmainargs": "words"}
 VARIABLES = {"FIRST": "one", "EMPTY": "", **{f"SAID_{it}": os.strerror(it) for it in range(1, 112)}}
 ASKED_BITS = termios.CSIZE | termios.CSTOPB
-WORDS = ["--wiring", "none", "--baud=9600", "word", "", "zwei Wörter", "--wirings=x", "a\\b", "--baud", "57600", "--wiring=dtr-reset,rts-boot0", "end"]
+WORDS = ["--wiring", "none", "--baud=9600", "word", "", "zwei Wörter", "--wirings=x", "a\\b", "--baud", "57600", "--wiring=none", "-h", "end"]
+LAST = ["--wiring", "dtr-reset,rts-boot0", "--wiring"]
 FAULTS = list(slips.read(pathlib.Path(f"{HERE}/slips").read_text(encoding="utf-8")))
 
 # how many go on at once, which mostly wait; those whose names begin so, or all; how many of these, if not all; and by which seed
@@ -95,7 +98,7 @@ class Layer(unittest.TestCase):
     def compiled(cls, source, flags=()):
         """A file's object, which stays beside wine's settings for the next call that wants one of the same text."""
         words = [] if source.endswith("test_layer.c") else [f"-D{name}=tried_{other}" for name, other in INSTEAD.items()]
-        words = [COMPILER, *STRICT, *flags, "-DTRIED", *words, "-c"]
+        words = [COMPILER, *STRICT, *flags, *words, "-c"]
         of = hashlib.sha256(repr([words, *(pathlib.Path(it).read_bytes() for it in (source, f"{HERE}/layer.h"))]).encode()).hexdigest()
         if not os.path.exists(made := f"{wine.PREFIX}/{of}.o"):
             retarget.put(made, lambda room, path: subprocess.run([*words, f"-I{HERE}", source, "-o", path], check=True))
@@ -110,7 +113,7 @@ class Layer(unittest.TestCase):
                 program = f"{room}/test_layer.exe"
                 subprocess.run([COMPILER, "-o", program, *objects.values(), "-lws2_32", "-ladvapi32", "-lntdll"], check=True)
                 os.mkdir(f"{room}/empty")
-                ran = wine.run([program, *WORDS, *(it.name for it in ports)], cwd=f"{room}/empty", env=VARIABLES, timeout=cls.patience)
+                ran = wine.run([program, *WORDS, *(it.name for it in ports), *LAST], cwd=f"{room}/empty", env=VARIABLES, timeout=cls.patience)
         finally:
             for port in ports:
                 port.close()

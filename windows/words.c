@@ -79,7 +79,6 @@ void read_words(void)
     asked_wiring = asked("--wiring", true);
 }
 
-#ifndef TRIED
 // what is told behind each help, which is Linux's
 static const char HERE[] = "\nOn Windows a device is COM3, COM3:57600 or tcp:ADDRESS:PORT, in the place of a Unix socket and of stmflash-line.\n"
     "Nothing was run on Windows yet, only under wine.\n";
@@ -108,4 +107,3 @@ int main(void)
         SetConsoleOutputCP(page);
     ExitProcess((UINT)status);
 }
-#endif
