@@ -2,7 +2,9 @@
 otherwise overrides that step. It shares no code with stmflash's simulator, nor with the model by which the companions judge."""
 
 from collections import deque
+import functools
 from itertools import accumulate
+import operator
 
 ACK, NACK, CONNECT = 0x79, 0x1F, 0x7F
 GET, GET_VERSION, GET_ID, READ, GO, WRITE, ERASE, EXTENDED_ERASE = 0x00, 0x01, 0x02, 0x11, 0x21, 0x31, 0x43, 0x44
@@ -31,9 +33,6 @@ class Chip:
         """Whether so many bytes from the address on lie in the flash."""
         return self.base <= address and address + length <= self.base + self.size
 
-    def has_places(self):
-        return self.unique_at is not None or self.size_at is not None
-
     def tried(self):
         """How many real boards with this chip the table says were tried, and how many simulated ones."""
         return self.number % 4, self.number // 4 % 2
@@ -44,9 +43,7 @@ class Chip:
     def of_board(self, unique, kib):
         """The chip of a device with this unique id, and with the pages that lie inside so many KiB; None, or where no page lies
         inside: with all."""
-        inside = self.sizes
-        if kib is not None:
-            inside = [size for start, size in zip(self.starts, self.sizes) if start + size <= 1024 * kib]
+        inside = [size for start, size in zip(self.starts, self.sizes) if kib is None or start + size <= 1024 * kib]
         return Chip(self.number, self.base, inside or self.sizes, self.extended, self.erased, self.unique_at, self.size_at, unique)
 
     def first_pages(self, count):
@@ -54,12 +51,8 @@ class Chip:
 
     def told(self):
         """What the device tells beside its flash, by the address and the length of a read."""
-        found = {}
-        if self.unique_at is not None and self.unique_at[1] == len(self.unique):
-            found[self.unique_at] = self.unique
-        if self.size_at is not None:
-            found[self.size_at, 2] = (self.size // 1024).to_bytes(2, "little")
-        return found
+        found = {self.unique_at: self.unique} if self.unique_at is not None and self.unique_at[1] == len(self.unique) else {}
+        return found | ({(self.size_at, 2): (self.size // 1024).to_bytes(2, "little")} if self.size_at is not None else {})
 
     def part(self, page):
         """The places of a page, counted from the flash's first byte."""
@@ -82,10 +75,7 @@ class Chip:
 
 
 def exclusive_or(numbers):
-    value = 0
-    for number in numbers:
-        value ^= number
-    return value
+    return functools.reduce(operator.xor, numbers, 0)
 
 
 def number(parts):
@@ -140,17 +130,13 @@ class Device:
     def judge(self, rest):
         """What the last byte of the rest makes of it."""
         code = rest[0]
-        if len(rest) == 1:
-            return OPEN
         if len(rest) == 2:
             return self.judge_code(code, rest[1])
-        if code in (ERASE, EXTENDED_ERASE):
+        if len(rest) > 2 and code in (ERASE, EXTENDED_ERASE):
             return self.judge_erase(rest)
         if len(rest) < 7:
             return OPEN
-        if len(rest) == 7:
-            return self.judge_address(rest)
-        return self.judge_read(rest) if code == READ else self.judge_write(rest)
+        return self.judge_address(rest) if len(rest) == 7 else self.judge_read(rest) if code == READ else self.judge_write(rest)
 
     def judge_code(self, code, complement):
         if complement != code ^ 0xFF or code not in self.codes:
@@ -229,10 +215,8 @@ class Device:
         return self.flash[at:at + length]
 
     def write(self, at, data):
-        for byte in data:
-            old = self.flash[at]
-            self.flash[at] = old & byte if self.chip.erased == 0xFF else old | byte
-            at += 1
+        for at, byte in enumerate(data, at):
+            self.flash[at] = self.flash[at] & byte if self.chip.erased == 0xFF else self.flash[at] | byte
 
     def erase(self, rest):
         everything = len(rest) == (4 if rest[0] == ERASE else 5)

@@ -1,5 +1,7 @@
 """Images: HEX texts of docs/FORMATS.md, raw bytes, and the CRC of some. An image is a dict of address to byte."""
 
+import itertools
+
 from hex_text import END, record
 
 SPACES = b"\r\n \t"
@@ -18,72 +20,48 @@ def read_raw(text, start):
     return {start + place: byte for place, byte in enumerate(text)}
 
 
-class Hex:
-    def __init__(self, text):
-        self.text, self.at, self.record, self.image = text, 0, 0, {}
-        self.segment, self.linear = None, 0
-
-    def fault(self, name):
-        return ImageFault("hex record %d: %s" % (self.record, name))
-
-    def byte(self):
-        """The number of the next two digits."""
-        for place in (self.at, self.at + 1):
-            if place >= len(self.text):
-                raise self.fault("short")
-            if self.text[place] not in DIGITS:
-                raise self.fault("bad digit")
-        value = int(self.text[self.at:self.at + 2], 16)
-        self.at += 2
-        return value
-
-    def place(self, offset, index):
-        if self.segment is not None:
-            return self.segment * 16 + (offset + index) % 65536
-        return (self.linear * 65536 + offset + index) % TOP
-
-    def read(self):
-        while True:
-            while self.at < len(self.text) and self.text[self.at] in SPACES:
-                self.at += 1
-            self.record += 1
-            if self.at == len(self.text):
-                raise self.fault("no end")
-            if self.text[self.at] != ord(":"):
-                raise self.fault("no colon")
-            self.at += 1
-            if self.take_record():
-                return self.image
-
-    def take_record(self):
-        """Whether it is the end record."""
-        length = self.byte()
-        record = [length] + [self.byte() for _ in range(length + 4)]
-        offset, kind, data = record[1] << 8 | record[2], record[3], record[4:-1]
-        for name, is_so in (("checksum", sum(record) % 256 != 0), ("type", kind > 5), ("length", LENGTHS.get(kind, length) != length)):
-            if is_so:
-                raise self.fault(name)
-        if kind == 0:
-            for index, byte in enumerate(data):
-                address = self.place(offset, index)
-                if self.image.setdefault(address, byte) != byte:
-                    raise self.fault("conflict")
-        elif kind == 2:
-            self.segment = data[0] << 8 | data[1]
-        elif kind == 4:
-            self.segment = None
-            self.linear = data[0] << 8 | data[1]
-        return kind == 1
-
-
 def read_hex(text):
-    return Hex(text).read()
+    """The image, up to the end record."""
+    image, segment, linear, at = {}, None, 0, 0
+    for count in itertools.count(1):
+        at = len(text) - len(text[at:].lstrip(SPACES))
+
+        def need(is_so, name):
+            if not is_so:
+                raise ImageFault("hex record %d: %s" % (count, name))
+
+        need(at < len(text), "no end")
+        need(text[at] == ord(":"), "no colon")
+        record = bytearray()
+        while len(record) < (record[0] + 5 if record else 1):
+            for place in (at + 1, at + 2):
+                need(place < len(text), "short")
+                need(text[place] in DIGITS, "bad digit")
+            record.append(int(text[at + 1:at + 3], 16))
+            at += 2
+        at += 1
+        offset, kind, data = record[1] << 8 | record[2], record[3], record[4:-1]
+        need(sum(record) % 256 == 0, "checksum")
+        need(kind <= 5, "type")
+        need(LENGTHS.get(kind, len(data)) == len(data), "length")
+        if kind == 1:
+            return image
+        if kind in (2, 4):
+            segment, linear = (int.from_bytes(data, "big"), linear) if kind == 2 else (None, int.from_bytes(data, "big"))
+        for index, byte in enumerate(data if kind == 0 else b""):
+            address = (linear * 65536 + offset + index) % TOP if segment is None else segment * 16 + (offset + index) % 65536
+            need(image.setdefault(address, byte) == byte, "conflict")
 
 
 def write_hex(image, blank=None):
     """The canonical text; with a blank byte the one of what stays where its lines that hold nothing else are left out."""
-    found, upper = [], 0
-    for start, data in lines_of(image):
+    found, upper, lines = [], 0, []
+    # each data record: runs, cut also where the upper sixteen bits change, and then by 16 bytes
+    for address in sorted(image):
+        if not lines or address != lines[-1][0] + len(lines[-1][1]) or len(lines[-1][1]) == 16 or address % 65536 == 0:
+            lines.append((address, bytearray()))
+        lines[-1][1].append(image[address])
+    for start, data in lines:
         if blank is not None and set(data) == {blank}:
             continue
         if start >> 16 != upper:
@@ -91,20 +69,6 @@ def write_hex(image, blank=None):
             found.append(record(4, 0, upper.to_bytes(2, "big")))
         found.append(record(0, start & 0xFFFF, data))
     return b"".join(found) + END
-
-
-def lines_of(image):
-    """The address and bytes of each data record: runs, cut also where the upper sixteen bits change, and then by 16 bytes."""
-    start, data = None, bytearray()
-    for address in sorted(image):
-        if data and (address != start + len(data) or len(data) == 16 or address % 65536 == 0):
-            yield start, bytes(data)
-            data.clear()
-        if not data:
-            start = address
-        data.append(image[address])
-    if data:
-        yield start, bytes(data)
 
 
 def crc(data):

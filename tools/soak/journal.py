@@ -5,8 +5,7 @@ import re
 from image import crc
 
 HEADER = re.compile(rb"stmjournal (?:[12] ([0-9A-F]{4})|3 ([0-9A-F]{4}) ((?:[0-9A-F]{2}){8,32}))")
-NUMBERED = re.compile(rb"(open|erase|program|end|undone) (0|[1-9][0-9]*)")
-PAGE = re.compile(rb"page (0|[1-9][0-9]*) ((?:[0-9A-F]{2})+)")
+LINE = re.compile(rb"(open|erase|program|end|undone|page) (0|[1-9][0-9]*)(?: ((?:[0-9A-F]{2})+))?")
 # the void lines behind a page that is kept, and behind a segment that has ended, in a journal that names its board
 SEAL, LEFT = re.compile(rb"crc ([0-9A-F]{8})!"), re.compile(rb"left (0|[1-9][0-9]*) .*!")
 GREATEST = 65535
@@ -55,8 +54,10 @@ def left(page, held):
 class Kept:
     """A page that a segment keeps: its number, its bytes, the number of its line, and the line of a CRC behind it or None."""
 
+    seal = None
+
     def __init__(self, page, held, line):
-        self.page, self.held, self.line, self.seal = page, held, line, None
+        self.page, self.held, self.line = page, held, line
 
 
 class Segment:
@@ -82,16 +83,15 @@ class Journal:
     def take(self, line):
         """One whole line."""
         self.lines += 1
-        if line.endswith(b"!"):
-            kept = self.stack[-1].kept[-1:] if self.stack and SEAL.fullmatch(line) else []
-            if kept and kept[0].line == self.lines - 1:
-                kept[0].seal = line
-            found = LEFT.fullmatch(line)
-            if found and self.stack and self.stack[-1].state != OPEN:
-                self.stack[-1].left[int(found[1])] = line
-            return
-        if not self.understand(line):
-            raise BadLine(self.lines)
+        if not line.endswith(b"!"):
+            if not self.understand(line):
+                raise BadLine(self.lines)
+        elif self.stack:
+            newest, found = self.stack[-1], LEFT.fullmatch(line)
+            if SEAL.fullmatch(line) and newest.kept and newest.kept[-1].line == self.lines - 1:
+                newest.kept[-1].seal = line
+            if found and newest.state != OPEN:
+                newest.left[int(found[1])] = line
 
     def understand(self, line):
         if self.number is None:
@@ -101,23 +101,22 @@ class Journal:
             self.version, self.number = line[11] - ord("0"), int(found[1] or found[2], 16)
             self.unique, self.header_line = bytes.fromhex(found[3].decode()) if found[3] else None, self.lines
             return True
-        found = PAGE.fullmatch(line)
-        if found:
-            return self.keep(int(found[1]), bytes.fromhex(found[2].decode()))
-        found = NUMBERED.fullmatch(line)
-        if not found or int(found[2]) > GREATEST:
+        found = LINE.fullmatch(line)
+        if not found or int(found[2]) > GREATEST or (found[3] is None) == (found[1] == b"page"):
             return False
         word, value, newest = found[1], int(found[2]), self.stack[-1] if self.stack else None
         if word == b"open":
-            is_right = not self.is_unfinished() and value == self.depth() + 1
-        elif word in (b"erase", b"program"):
-            is_right = newest is not None and newest.keeps(value)
-        else:
-            is_right = newest is not None and value == self.depth() and (word == b"undone" or newest.state == OPEN)
-        if not is_right:
-            return False
-        if word == b"open":
+            if self.is_unfinished() or value != self.depth() + 1:
+                return False
             self.stack.append(Segment())
+            return True
+        if newest is None or word in (b"page", b"end") and newest.state != OPEN:
+            return False
+        # a page is kept once, and no other one is erased or written; the others name the segment
+        if newest.keeps(value) == (word == b"page") if word in (b"page", b"erase", b"program") else value != self.depth():
+            return False
+        if word == b"page":
+            newest.kept.append(Kept(value, bytes.fromhex(found[3].decode()), self.lines))
         elif word == b"end":
             newest.state, newest.intent = ENDED, None
         elif word == b"undone":
@@ -127,12 +126,6 @@ class Journal:
             newest.state = RETURNING if newest.state == ENDED else newest.state
             for page in (1, 257) if value == 1 else (value,):
                 newest.left.pop(page, None)
-        return True
-
-    def keep(self, page, held):
-        if not self.stack or page > GREATEST or self.stack[-1].state != OPEN or self.stack[-1].keeps(page):
-            return False
-        self.stack[-1].kept.append(Kept(page, held, self.lines))
         return True
 
     def depth(self):
@@ -167,31 +160,19 @@ class Journal:
     def add(self, rig, line, chip=None):
         """Adds a line in one append; with a chip before the first segment, the header too. The file adds the CRC behind a page, and a second
         mark where a torn line is closed."""
-        text = b""
-        if self.torn:
-            text += b"!\n"
-        header = header_of(chip) if chip is not None and self.number is None else None
-        if header is not None:
-            text += header + b"\n"
+        lines = [b"!"] * self.torn
+        if chip is not None and self.number is None:
+            lines.append(b"stmjournal %d %04X%s" % (3 if chip.unique else 2, chip.number, b" " * bool(chip.unique) + chip.unique.hex().upper().encode()))
+        lines.append(line)
         begin = len(rig.journal)
         try:
-            rig.append(text + line + b"\n")
+            rig.append(b"".join(it + b"\n" for it in lines))
         finally:
             added = bytes(rig.journal[begin:])
             if added.startswith(b"!\n") and (self.version == 3 or added.startswith(b"!\nstmjournal 3 ")):
                 rig.journal[begin:begin] = b"!"
-        if self.torn:
-            self.lines += 1
-            self.torn = False
-        if header is not None:
-            self.take(header)
-        self.take(line)
-        found = PAGE.fullmatch(line)
-        if found and self.version == 3:
-            rig.journal += seal(bytes.fromhex(found[2].decode())) + b"\n"
-
-
-def header_of(chip):
-    if chip.unique:
-        return b"stmjournal 3 %04X %s" % (chip.number, chip.unique.hex().upper().encode())
-    return b"stmjournal 2 %04X" % chip.number
+        self.torn = False
+        for it in lines:
+            self.take(it)
+        if line.startswith(b"page ") and self.version == 3:
+            rig.journal += seal(self.stack[-1].kept[-1].held) + b"\n"

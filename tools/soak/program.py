@@ -10,6 +10,7 @@ from rig import Rig, Stopped
 import session
 from session import Erase, Fault, Read, Verify, Write
 from use import Use
+import wire
 from wire import WireFault
 
 KINDS = dict(zip(("write-unprotect", "readout-protect", "readout-unprotect"), PROTECTIONS))
@@ -58,8 +59,8 @@ class World:
 
     def ask(self, rig, use):
         """Which board the device is, or None where it isn't asked."""
-        leaves = use.name in ("go", "protect")
-        is_told = session.find(self.table, int(use.number, 16)).has_places()
+        leaves, chip = use.name in ("go", "protect"), session.find(self.table, int(use.number, 16))
+        is_told = chip.unique_at is not None or chip.size_at is not None
         if use.no_board or not is_told and not (leaves and use.board is None):
             if use.board is not None:
                 raise Fault(NO_BOARD)
@@ -93,7 +94,9 @@ class World:
         try:
             check_words(use)
             image = read_images(use, self.files.get("I"))
-            self.check_new(use)
+            # the journal is moved to a name that isn't there yet, none of the others, and can be made
+            if use.to is not None and (use.to in self.files or use.to in others(use.file) or "/" in use.to):
+                raise Fault("cannot write %s" % use.to)
             if use.again is not None:
                 return self.run_again(use, image)
             lines, fault, rig = self.once(use, image)
@@ -101,16 +104,14 @@ class World:
             lines, fault, rig = [], failed, None
         return told(lines, fault, b"", self.note), rig
 
-    def check_new(self, use):
-        """The journal is moved to a name that isn't there yet, none of the others, and can be made."""
-        if use.to is not None and (use.to in self.files or use.to in others(use.file) or "/" in use.to):
-            raise Fault("cannot write %s" % use.to)
-
     def once(self, use, image):
         """One session, and what follows it: the lines of what was done, the fault or none, and the rig or none."""
         rig, lines, self.note = None, [], b""
         try:
-            rig = self.begin(use)
+            session.find(self.table, int(use.number, 16))
+            # what is no journal is refused, and the simulator's files aren't looked at then
+            journal = self.journal_text()
+            rig = Rig(self.device(use), journal, use.stop)
             if use.name == "undo" and not use.trusts:
                 check_kept(rig, use)
             board = self.ask(rig, use)
@@ -118,28 +119,21 @@ class World:
             before = session.load(rig).stack if use.name == "undo" else []
             lines.append(do(rig, table, use, image, self.files))
             self.note = note(use, lines[0], before, "J" in self.files)
-            if use.name == "info" and board is not None:
-                lines.append(tell_board(board, session.find(table, board.number)))
             if use.name == "info":
+                lines.append(b"" if board is None else tell_board(board, session.find(table, board.number)))
                 lines.append(tell_tried(*session.find(table, int(use.number, 16)).tried()))
             if use.name in ("write", "erase"):
                 note_left(rig)
             if use.keeps():
                 lines.append(self.keep(rig, use.to))
             if use.go is not None:
-                session.go(rig, use.go)
+                session.leave(rig, wire.go, use.go)
             fault = None
         except FAULTS as failed:
             fault = failed
         if rig is not None:
             self.store(rig, use.file)
         return lines, fault, rig
-
-    def begin(self, use):
-        """The device and the journal. What is no journal is refused, and the simulator's files aren't looked at then."""
-        session.find(self.table, int(use.number, 16))
-        text = self.journal_text()
-        return Rig(self.device(use), text, use.stop)
 
     def journal_text(self):
         text = self.files.get("J", b"")
@@ -200,10 +194,8 @@ def text(fault):
 
 
 def told(lines, fault, err, note):
-    if fault is None:
-        return 0, b"".join(lines), err + note
-    status = 2 if isinstance(fault, Usage) else 3 if isinstance(fault, Stopped) else 1
-    return status, b"".join(lines), err + b"stmflash: %s\n" % text(fault)
+    status = 0 if fault is None else 2 if isinstance(fault, Usage) else 3 if isinstance(fault, Stopped) else 1
+    return status, b"".join(lines), err + (b"stmflash: %s\n" % text(fault) if status else note)
 
 
 def note(use, line, before, is_there):
@@ -256,25 +248,15 @@ def stand(device, line):
     """Brings a fresh device to where the line says that it stood. Whether it can stand there."""
     if line == b"fresh\n":
         return True
-    device.feed(CONNECT)
-    if line == b"idle\n":
-        rest = b""
-    elif line == b"gone\n":
-        base = device.chip.base.to_bytes(4, "big")
-        for byte in bytes([GO, GO ^ 0xFF]) + base + bytes([base[0] ^ base[1] ^ base[2] ^ base[3]]):
-            device.feed(byte)
-        device.owed.clear()
-        return True
-    else:
-        found = re.fullmatch(rb"rest ((?:[0-9A-F]{2})+)\n", line)
-        if not found:
-            return False
-        rest = bytes.fromhex(found[1].decode())
-    before = bytes(device.flash)
-    for byte in rest:
+    found = re.fullmatch(rb"(?:idle|gone|rest ((?:[0-9A-F]{2})+))\n", line)
+    if not found:
+        return False
+    is_gone, before = line == b"gone\n", bytes(device.flash)
+    rest = bytes(wire.pair(GO) + wire.placed(device.chip.base)) if is_gone else bytes.fromhex((found[1] or b"").decode())
+    for byte in (CONNECT, *rest):
         device.feed(byte)
     device.owed.clear()
-    return device.phase == CONNECTED and device.rest == rest and device.flash == before
+    return is_gone or device.phase == CONNECTED and device.rest == rest and device.flash == before
 
 
 def standing(device):
@@ -368,7 +350,8 @@ def do(rig, table, use, image, files):
     if use.name == "info":
         return tell(*session.info(rig, table))
     if use.name == "read":
-        files[use.out] = read_out(rig, table, use)
+        start, data, erased = read(rig, table, use)
+        files[use.out] = write_hex(read_raw(data, start), erased if use.skip_blank else None) if use.is_hex() else data
         return b""
     if use.name == "crc":
         return b"crc %08X\n" % crc(read(rig, table, use)[1])
@@ -380,10 +363,7 @@ def do(rig, table, use, image, files):
         return b"segment %d: %d pages erased\n" % (segment, count)
     if use.name == "undo":
         return b"undone %d\n" % session.undo(rig, table, count_of(session.load(rig), use), use.trusts)
-    if use.name == "go":
-        session.go(rig, use.address)
-    else:
-        session.protect(rig, KINDS[use.kind])
+    session.leave(rig, *((wire.go, use.address) if use.name == "go" else (wire.protect, KINDS[use.kind])))
     return b""
 
 
@@ -402,31 +382,20 @@ def check_kept(rig, use):
     """The pages that an undo is to give back are as they were kept. What else is the matter with the journal is told behind it."""
     with contextlib.suppress(BadLine):
         journal = Journal(rig.journal)
-        found = journal.damaged(count_of(journal, use))
-        if found is not None:
+        if found := journal.damaged(count_of(journal, use)):
             raise Fault(session.DAMAGED % found)
 
 
 def read(rig, table, use):
     """Where the part begins, its bytes, and what an erased place holds where `info` told it."""
     start, length = use.range or (None, None)
-    chip = None
-    if length is None or use.name == "read" and use.is_hex():
-        chip = session.info(rig, table)[0]
+    chip = session.info(rig, table)[0] if length is None or use.name == "read" and use.is_hex() else None
     if length is None:
-        if start is None:
-            start = chip.base
+        start = chip.base if start is None else start
         if not chip.has(start, 1):
             raise Fault(session.OUT_OF_FLASH)
         length = chip.base + chip.size - start
     return start, session.run(rig, table, [Read(start, length)])[0], chip and chip.erased
-
-
-def read_out(rig, table, use):
-    start, data, erased = read(rig, table, use)
-    if not use.is_hex():
-        return data
-    return write_hex(read_raw(data, start), erased if use.skip_blank else None)
 
 
 def use_image(rig, table, use, image):
@@ -435,9 +404,8 @@ def use_image(rig, table, use, image):
     if use.name == "verify":
         session.run(rig, table, [Verify(image)])
         return b"verified %d bytes\n" % len(image)
-    written = b"segment %d: %d pages written\n"
     if not use.verify:
-        return written % session.run(rig, table, [Write(image)])[0]
+        return b"segment %d: %d pages written\n" % session.run(rig, table, [Write(image)])[0]
     segment, count, again = session.write_and_verify(rig, table, image)
     seen = b"" if again == len(image) else b", %d of them again" % again
-    return written % (segment, count) + b"verified %d bytes%s\n" % (len(image), seen)
+    return b"segment %d: %d pages written\nverified %d bytes%s\n" % (segment, count, len(image), seen)

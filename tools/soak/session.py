@@ -1,5 +1,6 @@
 """The sessions of docs/INSIDE.md: what is refused, what is sent, what is added to the journal, in order."""
 
+import bisect
 from collections import namedtuple
 
 from device import CONNECT, ERASE
@@ -30,10 +31,7 @@ DEVICE = "device does not follow the protocol"
 
 Write, Erase, Verify = namedtuple("Write", "image"), namedtuple("Erase", "pages"), namedtuple("Verify", "image")
 Read = namedtuple("Read", "start length")
-
-
-def changes(command):
-    return isinstance(command, (Write, Erase))
+CHANGES = Write, Erase
 
 
 def load(rig):
@@ -93,15 +91,10 @@ def check_of(journal, chip):
 def misfit(journal, chip):
     """The least line that this chip can't have: a page that it hasn't, or of another size; on a chip with a page 257 page 1 without
     it; a header of version 1 where there are more than 256 pages. None where all fit."""
-    bad = []
-    if chip.pages() > 256 and journal.version == 1:
-        bad.append(journal.header_line)
-    for segment in journal.stack:
-        for kept in segment.kept:
-            fits = kept.page < chip.pages() and len(kept.held) == chip.sizes[kept.page]
-            alone = kept.page == 1 and COMPANION < chip.pages() and not segment.keeps(COMPANION)
-            if not fits or alone:
-                bad.append(kept.line)
+    bad = [journal.header_line] if chip.pages() > 256 and journal.version == 1 else []
+    bad += [kept.line for segment in journal.stack for kept in segment.kept
+            if chip.sizes[kept.page:kept.page + 1] != [len(kept.held)]
+            or kept.page == 1 and COMPANION < chip.pages() and not segment.keeps(COMPANION)]
     return min(bad, default=None)
 
 
@@ -134,16 +127,7 @@ def open_session(rig, table):
 
 def page_of(chip, address):
     """The page that an address of the flash lies in."""
-    offset = address - chip.base
-    for page in range(chip.pages()):
-        if offset < chip.starts[page] + chip.sizes[page]:
-            return page
-    return None
-
-
-def touched(chip, image):
-    """The pages that an image has a byte in, rising."""
-    return sorted({page_of(chip, address) for address in image})
+    return bisect.bisect_right(chip.starts, address - chip.base) - 1
 
 
 def check_inside(chip, command):
@@ -162,8 +146,7 @@ def read_part(rig, chip, start, length):
     taken = b""
     while len(taken) < length:
         address = start + len(taken)
-        page = page_of(chip, address)
-        end = chip.base + chip.starts[page] + chip.sizes[page]
+        end = chip.base + chip.part(page_of(chip, address)).stop
         taken += wire.read(rig, address, min(BLOCK, end - address, length - len(taken)))
     return taken
 
@@ -174,15 +157,9 @@ def read_page(rig, chip, page):
 
 def frames(chip, wanted):
     """How a page that was erased is written: pairs of an offset and bytes."""
-    found = []
-    for offset in range(0, len(wanted), BLOCK):
-        block = wanted[offset:offset + BLOCK]
-        length = BLOCK
-        while length > 0 and block[length - 1] == chip.erased:
-            length -= 1
-        if length > 0:
-            found.append((offset, block[:(length + 3) // 4 * 4]))
-    return found
+    blocks = [(offset, wanted[offset:offset + BLOCK]) for offset in range(0, len(wanted), BLOCK)]
+    lengths = [len(block.rstrip(bytes([chip.erased]))) for _, block in blocks]
+    return [(offset, block[:(length + 3) // 4 * 4]) for (offset, block), length in zip(blocks, lengths) if length > 0]
 
 
 def rewrite(rig, journal, chip, page, wanted):
@@ -218,28 +195,17 @@ def turn(rig, journal, chip, page, content):
     return True
 
 
-def laid(chip, page, image, held):
-    """The image's bytes where it has one, and the page's own elsewhere."""
-    start = chip.base + chip.starts[page]
-    return bytes(image.get(start + place, byte) for place, byte in enumerate(held))
-
-
 def change(rig, journal, chip, command):
-    """A Write or an Erase, as one segment. Its number, and how many pages were changed."""
+    """A Write or an Erase, as one segment. Its number, and how many pages were changed. Of a Write a page has the image's bytes where that has
+    one, and its own elsewhere."""
     rig.begin("open line")
-    segment = journal.depth() + 1
+    segment, count = journal.depth() + 1, 0
     journal.add(rig, b"open %d" % segment, chip)
-    count = 0
-    if isinstance(command, Write):
-        pages = touched(chip, command.image)
-    else:
-        pages = sorted(set(command.pages))
-    for page in pages:
-        if isinstance(command, Write):
-            content = lambda held: laid(chip, page, command.image, held)
-        else:
-            content = lambda held: bytes([chip.erased]) * len(held)
-        count += turn(rig, journal, chip, page, content)
+    is_write = isinstance(command, Write)
+    for page in sorted({page_of(chip, address) for address in command.image} if is_write else set(command.pages)):
+        start = chip.base + chip.starts[page]
+        count += turn(rig, journal, chip, page, lambda held: bytes(
+            command.image.get(start + place, byte) if is_write else chip.erased for place, byte in enumerate(held)))
     look_again(rig, chip)
     rig.begin("end line")
     journal.add(rig, b"end %d" % segment)
@@ -252,8 +218,7 @@ def verify(rig, chip, image):
     for start in sorted(image):
         if start < end:
             continue
-        page = page_of(chip, start)
-        end = min(start + BLOCK, chip.base + chip.starts[page] + chip.sizes[page])
+        end = min(start + BLOCK, chip.base + chip.part(page_of(chip, start)).stop)
         for place, byte in enumerate(wire.read(rig, start, end - start)):
             if image.get(start + place, byte) != byte:
                 raise Fault("differs at %08X" % (start + place))
@@ -277,7 +242,7 @@ def look_again(rig, chip):
 
 
 def do(rig, journal, chip, command):
-    if changes(command):
+    if isinstance(command, CHANGES):
         return change(rig, journal, chip, command)
     if isinstance(command, Verify):
         return verify(rig, chip, command.image)
@@ -287,7 +252,7 @@ def do(rig, journal, chip, command):
 def begin(rig, table, commands):
     """All that can be refused is, before the first is done."""
     journal, chip, _, codes = open_session(rig, table)
-    segments = sum(map(changes, commands))
+    segments = sum(isinstance(command, CHANGES) for command in commands)
     if segments > 0 and chip.erase_code() not in codes:
         raise Fault(NO_ERASE)
     for command in commands:
@@ -314,28 +279,16 @@ def write_and_verify(rig, table, image):
 
 
 def info(rig, table):
-    _, chip, version, codes = open_session(rig, table)
-    return chip, version, codes
-
-
-def settling_byte(intent):
-    if intent is None:
-        return CONNECT
-    word, page = intent
-    return page if word == "erase" and page < 256 else 0x02
+    return open_session(rig, table)[1:]
 
 
 def settle_by(rig, journal, chip):
     """By the journal's intent, as a device of this chip."""
-    intent = journal.intent()
-    byte = settling_byte(intent)
-    limit = wire.LIMIT if intent is None else wire.limit_for(byte, intent[0] == "erase" and chip.erase_code() != ERASE)
-    wire.settle(rig, byte, limit, in_batches=intent is not None)
-
-
-def pages_at_work(journal, page):
-    """That of the intent, and behind page 1 page 257, which the byte that settles a stopped erase of page 1 may erase."""
-    return [page, COMPANION] if page == 1 and journal.stack[-1].keeps(COMPANION) else [page]
+    word, page = journal.intent() or ("", None)
+    if page is None:
+        return wire.settle(rig, CONNECT)
+    byte = page if word == "erase" and page < 256 else 0x02
+    wire.settle(rig, byte, wire.limit_for(byte, word == "erase" and chip.erase_code() != ERASE), in_batches=True)
 
 
 def to_change(journal):
@@ -360,7 +313,8 @@ def undo(rig, table, count, trusts):
     if wire.get_id(rig) != chip.number:
         raise Fault(OTHER_DEVICE)
     confirm(rig, chip)
-    for page in [] if work is None else pages_at_work(journal, work[1]):
+    # behind page 1 also page 257, which the byte that settles a stopped erase of page 1 may erase
+    for page in [] if work is None else [1, COMPANION] if work[1] == 1 and journal.stack[-1].keeps(COMPANION) else [work[1]]:
         kept = next(kept for kept in journal.stack[-1].kept if kept.page == page)
         rewrite(rig, journal, chip, kept.page, kept.held)
     taken = depth if count == 0 else min(count, depth)
@@ -377,17 +331,9 @@ def undo(rig, table, count, trusts):
     return taken
 
 
-def refuse_open(rig):
+def leave(rig, command, given):
+    """By wire.go at an address, or wire.protect with a code."""
     if load(rig).depth() > 0:
         raise Fault(IN_SESSION)
     wire.settle(rig, CONNECT)
-
-
-def go(rig, address):
-    refuse_open(rig)
-    wire.go(rig, address)
-
-
-def protect(rig, code):
-    refuse_open(rig)
-    wire.protect(rig, code)
+    command(rig, given)

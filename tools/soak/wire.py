@@ -37,9 +37,7 @@ def drain(rig):
 def settle(rig, byte, limit=LIMIT, in_batches=False):
     rig.begin("settle")
     drain(rig)
-    left = limit
-    if in_batches or byte != CONNECT:
-        left = settle_in_batches(rig, byte, left)
+    left = settle_in_batches(rig, byte, limit) if in_batches or byte != CONNECT else limit
     while left > 0:
         rig.put(byte)
         left -= 1
@@ -61,10 +59,8 @@ def settle_in_batches(rig, byte, left):
     sent = 0
     while left > 2:
         batch = batch_size(sent, left)
-        for _ in range(batch):
-            rig.put(byte)
-        left -= batch
-        sent += batch
+        put(rig, [byte] * batch)
+        left, sent = left - batch, sent + batch
         if NACK in drain(rig):
             break
     return left
@@ -72,14 +68,10 @@ def settle_in_batches(rig, byte, left):
 
 def connect(rig, byte):
     """The limit is used up: the device is fresh, or gone."""
-    rig.put(CONNECT)
-    expect(rig, ACK)
+    send(rig, [CONNECT])
     drain(rig)
-    rig.put(byte)
-    expect(rig, None)
-    rig.put(byte)
-    expect(rig, NACK)
-    expect(rig, None)
+    put(rig, [byte], None)
+    put(rig, [byte], NACK, None)
 
 
 def expect(rig, reply):
@@ -87,12 +79,18 @@ def expect(rig, reply):
         raise WireFault()
 
 
+def put(rig, data, *replies):
+    """These bytes, and what has to be answered then."""
+    for byte in data:
+        rig.put(byte)
+    for reply in replies:
+        expect(rig, reply)
+
+
 def send(rig, *steps):
     """The steps of a frame: the bytes of each, and its acknowledgement."""
     for step in steps:
-        for byte in step:
-            rig.put(byte)
-        expect(rig, ACK)
+        put(rig, step, ACK)
 
 
 def take(rig):
@@ -143,8 +141,7 @@ def read_unless_refused(rig, address, length):
     """The bytes, or None where the device refuses a step of the frame."""
     rig.begin("board")
     for step in (pair(READ), placed(address), pair(length - 1)):
-        for byte in step:
-            rig.put(byte)
+        put(rig, step)
         reply = rig.get()
         if reply == NACK:
             return None
@@ -173,5 +170,4 @@ def go(rig, address):
 
 def protect(rig, code):
     rig.begin("protect")
-    send(rig, pair(code))
-    expect(rig, ACK)
+    put(rig, pair(code), ACK, ACK)
