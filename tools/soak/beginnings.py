@@ -2,24 +2,24 @@
 
 from device import Chip
 from stories import draw_content
+import wire
 
 SIZES = (256, 256, 256, 512, 768, 1024, 2048)
 COUNTS = (1, 2, 3, 4, 8, 16, 32, 128, 255, 256)
 MORE_COUNTS = COUNTS + (257, 258, 259, 300, 512, 512)
 GREATEST_FLASH = 131072
 TOP = 1 << 32
-
-
-def draw_sizes(chance, extended):
-    count = chance.choice(MORE_COUNTS if extended else COUNTS)
-    if count > 32 or chance.random() < 0.5:
-        return [256 if count > 128 else chance.choice(SIZES[:5])] * count
-    return [chance.choice(SIZES) for _ in range(count)]
+# what a table says of a board that was tried
+TRIED = 'part = "a", version = "22", who = "b", when = "c", verdict = "d", file = "e"'
 
 
 def draw_chip(chance, number):
     extended = chance.random() < 0.5
-    sizes = draw_sizes(chance, extended)
+    count = chance.choice(MORE_COUNTS if extended else COUNTS)
+    if count > 32 or chance.random() < 0.5:
+        sizes = [256 if count > 128 else chance.choice(SIZES[:5])] * count
+    else:
+        sizes = [chance.choice(SIZES) for _ in range(count)]
     if chance.random() < 0.15:
         # a family: 128 pages of which the smaller kinds have 64 or fewer, and the like
         sizes = list(chance.choice(([1024] * 128, [2048] * 64, [4096] * 4 + [16384] * 3 + [65536])))
@@ -97,86 +97,54 @@ def table_text(chance, chips):
             text += "unique = [0x%08X, %d]\n" % chip.unique_at
         if chip.size_at is not None:
             text += "size_at = 0x%08X\n" % chip.size_at
-        text += tried_text(*chip.tried())
+        real, simulated = chip.tried()
+        boards = real * ["{ %s }" % TRIED] + simulated * ["{ %s, simulated = true }" % TRIED]
+        # it may be left out where there is none
+        text += "tried = [%s]\n" % ", ".join(boards) if boards else ""
     return text.encode()
-
-
-def tried_text(real, simulated):
-    """The key of so many boards that were tried. It may be left out where there is none."""
-    texts = "part = \"a\", version = \"22\", who = \"b\", when = \"c\", verdict = \"d\", file = \"e\""
-    boards = real * ["{ %s }" % texts] + simulated * ["{ %s, simulated = true }" % texts]
-    return "tried = [%s]\n" % ", ".join(boards) if boards else ""
 
 
 def draw_flash(chance, chip):
     """None is a missing file."""
     kind = chance.randrange(6)
-    if kind == 0:
-        return None
-    if kind < 3:
-        return draw_content(chance, chip, chip.size)
-    return b"".join(draw_content(chance, chip, size) for size in chip.sizes)
+    return None if kind == 0 else b"".join(draw_content(chance, chip, size) for size in ([chip.size] if kind < 3 else chip.sizes))
 
 
 def draw_rest(chance, chip):
     """What a device may have been left with, by this host or another: the start of some frame; seldom no such thing."""
-    base = chip.base.to_bytes(4, "big")
-    check = base[0] ^ base[1] ^ base[2] ^ base[3]
-    code = chip.erase_code()
-    frames = (
-        bytes([0x11, 0xEE]) + base + bytes([check, 3]),
-        bytes([0x31, 0xCE]) + base + bytes([check, 3, 1, 2, 3]),
-        bytes([code, code ^ 0xFF]) + bytes([0, 0, 0, 0] if chip.extended else [0, 1]),
-        bytes([code, code ^ 0xFF]) + bytes([0, 1, 0, 2] if chip.extended else [3, 1]),
+    base, erase = bytes(wire.placed(chip.base)), bytes(wire.pair(chip.erase_code()))
+    frame = chance.choice((
+        b"\x11\xEE" + base + b"\3",
+        b"\x31\xCE" + base + b"\3\1\2\3",
+        erase + (b"\0\0\0\0" if chip.extended else b"\0\1"),
+        erase + (b"\0\1\0\2" if chip.extended else b"\3\1"),
         bytes([chance.randrange(256)]),
-        chance.randbytes(chance.randrange(1, 5)),
-    )
-    frame = chance.choice(frames)
+        chance.randbytes(chance.randrange(1, 5))))
     return frame[:chance.randrange(1, len(frame) + 1)]
 
 
 def draw_line(chance, chip):
     """None is a missing file, a device that was reset."""
     kind = chance.random()
-    if kind < 0.6:
-        return None
-    if kind < 0.75:
-        return b"idle\n"
-    if kind < 0.8:
-        return b"fresh\n"
-    if kind < 0.805:
-        return b"gone\n"
+    for most, line in ((0.6, None), (0.75, b"idle\n"), (0.8, b"fresh\n"), (0.805, b"gone\n")):
+        if kind < most:
+            return line
     if kind < 0.82:
         return chance.choice((b"rest \n", b"idle", b"rest 1\n", b"", b"rest 11ee\n", b"idle\n\n", b"rest 11EEFF\n"))
     return b"rest %s\n" % draw_rest(chance, chip).hex().upper().encode()
 
 
-def draw_digits(chance, chip):
-    """How a header may end that names a board: as this one, or another, or as none may."""
-    digits = (chip.unique or chance.randbytes(12)).hex().upper().encode()
-    other = b"%02X" % (int(digits[:2], 16) ^ 1) + digits[2:]
-    yield from (digits, other, digits + b"00", digits.lower(), digits[:14], digits + b" ", digits[:-1], digits * 9)
-    yield digits + b"\nopen 1\npage 0 %s\nend 1" % (b"5A" * chip.sizes[0])
-    yield other + b"\nopen 1\npage 0 %s\nerase 0" % (b"5A" * chip.sizes[0])
-
-
 def draw_journal(chance, chip):
     """None is a missing file. Mostly a session begins with no journal."""
-    kind = chance.random()
-    if kind < 0.85:
-        return None
+    kind, one, two, three = chance.random(), *(b"stmjournal %d %04X" % (version, chip.number) for version in (1, 2, 3))
     if kind < 0.92:
-        return b"stmjournal 1 %04X\n" % chip.number
+        return None if kind < 0.85 else one + b"\n"
+    # how a header may end that names a board: as this one, or another, or as none may
+    digits = (chip.unique or chance.randbytes(12)).hex().upper().encode()
+    other, page = b"%02X" % (int(digits[:2], 16) ^ 1) + digits[2:], b"\nopen 1\npage 0 %s" % (b"5A" * chip.sizes[0])
+    ends = (digits, other, digits + b"00", digits.lower(), digits[:14], digits + b" ", digits[:-1], digits * 9, digits + page + b"\nend 1",
+            other + page + b"\nerase 0")
     return chance.choice((
-        b"",
-        b"stmjournal 2 %04X\n" % chip.number,
-        b"stmjournal 2 %04X\n" % (chip.number ^ 1),
-        b"stmjournal 3 %04X\n" % chip.number,
-        *(b"stmjournal 3 %04X %s\n" % (chip.number, digits) for digits in draw_digits(chance, chip)),
-        b"stmjournal 2 %04X\nopen 1\npage 0 FF\nend 1\n" % chip.number,
-        b"stmjournal 2 %04X\nopen 1\npage 1 %s\nend 1\n" % (chip.number, b"00" * chip.sizes[-1]),
-        b"stmjournal 1 %04X\nopen 1\npage 0 %s" % (chip.number, b"FF" * (chip.sizes[0] // 2)),
-        b"stmjournal 2 %04X\nopen 2\n" % chip.number,
-        b"stmjour",
-        b"stmj!\n",
-    ))
+        b"", two + b"\n", b"stmjournal 2 %04X\n" % (chip.number ^ 1), three + b"\n", *(three + b" %s\n" % end for end in ends),
+        two + b"\nopen 1\npage 0 FF\nend 1\n", two + b"\nopen 1\npage 1 %s\nend 1\n" % (b"00" * chip.sizes[-1]),
+        one + b"\nopen 1\npage 0 %s" % (b"FF" * (chip.sizes[0] // 2)), two + b"\nopen 2\n", b"stmjour", b"stmj!\n"))

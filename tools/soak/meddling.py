@@ -9,7 +9,11 @@ def meddle(story):
     """What others do between two uses: a reset of the device, and seldom something that breaks a premise."""
     chance = story.chance
     if "K" in story.world.files and chance.random() < 0.7:
-        put_back(story)
+        story.tell("(the journal that was moved is put back)")
+        story.counts["put back"] += 1
+        story.write("J", story.world.files["K"])
+        story.remove("K")
+        story.before = story.aside
     for name in ("F", "G"):
         # a device that is gone answers nothing before it is reset
         if chance.random() < (0.7 if story.is_gone(name) else 0.2):
@@ -31,22 +35,11 @@ def meddle(story):
         spoil(story)
 
 
-def put_back(story):
-    """The journal that was moved is one again, in the place of what is there."""
-    story.tell("(the journal that was moved is put back)")
-    story.counts["put back"] += 1
-    story.write("J", story.world.files["K"])
-    story.remove("K")
-    story.before = story.aside
-
-
 def lose_power(story):
     """The device loses its power, it may be inside an erase or a write: it is reset, and pages that the unfinished newest segment
     keeps hold any bytes."""
-    chance = story.chance
-    name = story.home
+    chance, name, journal = story.chance, story.home, story.journal()
     chip = story.chips[name]
-    journal = story.journal()
     risked = journal.risked_pages() if journal is not None else []
     lost = [page for page in risked if page < chip.pages() and chance.random() < 0.7]
     held = bytearray(story.flash(name))
@@ -64,8 +57,7 @@ def lose_power(story):
 
 def rot(story):
     """The disk changes a digit of a page that the journal keeps. Where its CRC stands behind it, no undo may give that back."""
-    chance = story.chance
-    text = story.world.files.get("J", b"")
+    chance, text = story.chance, story.world.files.get("J", b"")
     pages = list(re.finditer(rb"(?m)^page [0-9]+ ([0-9A-F]+)$(\ncrc ........!$)?", text))
     if not pages:
         return
@@ -88,23 +80,21 @@ def run_program(story, journal):
         story.counts["changed"] += 1
         story.tell("(a byte is changed from %d on)" % part.start)
         story.before = None
-        change(story, story.home, range(part.start, part.stop))
+        change(story, range(part.start, part.stop))
 
 
-def change(story, name, places):
-    """A byte of a flash at one of these places is another one."""
-    held = bytearray(story.flash(name))
+def change(story, places):
+    """A byte of the flash at one of these places is another one."""
+    held = bytearray(story.flash(story.home))
     held[story.chance.choice(places)] ^= 0x55
-    story.write(name, bytes(held))
+    story.write(story.home, bytes(held))
 
 
 def spoil(story):
-    chance = story.chance
-    name = story.home
+    chance, name, text = story.chance, story.home, story.world.files.get("J", b"")
     kind = chance.randrange(5)
     story.tell("(meddled with, %d)" % kind)
     story.before = None
-    text = story.world.files.get("J", b"")
     if kind == 0:
         story.remove("J")
     elif kind == 1:
@@ -112,7 +102,7 @@ def spoil(story):
     elif kind == 2 and text:
         story.write("J", text[:chance.randrange(len(text))])
     elif kind == 3:
-        change(story, name, range(len(story.flash(name))))
+        change(story, range(len(story.flash(name))))
     else:
         line = beginnings.draw_line(chance, story.chips[name])
         story.remove(name + ".line") if line is None else story.write(name + ".line", line)

@@ -24,11 +24,8 @@ def draw_content(chance, chip, length):
 
 
 def draw_page(chance, chip):
-    if chance.random() < 0.5:
-        page = chance.choice(MARKED_PAGES + (chip.pages() - 1,))
-        if page < chip.pages():
-            return page
-    return chance.randrange(chip.pages())
+    page = chance.choice(MARKED_PAGES + (chip.pages() - 1,)) if chance.random() < 0.5 else chip.pages()
+    return page if page < chip.pages() else chance.randrange(chip.pages())
 
 
 def draw_address(chance, chip):
@@ -36,10 +33,8 @@ def draw_address(chance, chip):
     if chance.random() < 0.03:
         return chance.choice((chip.base - 1, min(chip.base + chip.size, TOP - 1), 0, TOP - 1))
     page = draw_page(chance, chip)
-    start = chip.base + chip.starts[page]
     size = chip.sizes[page]
-    offset = chance.choice((0, size - 1, size - 2, chance.randrange(size), chance.randrange(size), 256 % size))
-    return start + offset
+    return chip.base + chip.starts[page] + chance.choice((0, size - 1, size - 2, chance.randrange(size), chance.randrange(size), 256 % size))
 
 
 def draw_length(chance):
@@ -48,11 +43,8 @@ def draw_length(chance):
 
 def draw_piece(chance, chip, flash, start):
     """Bytes for these addresses: drawn, or those that stand there, with a few changed or none."""
-    length = draw_length(chance)
-    if chance.random() < 0.5:
-        return draw_content(chance, chip, length)
-    at = start - chip.base
-    if at < 0 or at + length > chip.size:
+    length, at = draw_length(chance), start - chip.base
+    if chance.random() < 0.5 or at < 0 or at + length > chip.size:
         return draw_content(chance, chip, length)
     found = bytearray(flash[at:at + length])
     for _ in range(chance.randrange(3) if length > 0 else 0):
@@ -63,32 +55,22 @@ def draw_piece(chance, chip, flash, start):
 def hex_text(chance, pieces):
     """A HEX text of pieces (address, bytes), not always the canonical one."""
     records = []
-    for start, data in pieces:
-        at = 0
+    for address, data in pieces:
         upper = None
-        while at < len(data):
-            address = start + at
+        while data:
             if address >> 16 != upper:
                 upper = address >> 16
                 records.append(record(4, chance.choice((0, 0, 0x1234)), upper.to_bytes(2, "big")))
-            step = min(chance.choice((16, 32, 255, 1)), len(data) - at, 0x10000 - (address & 0xFFFF))
-            records.append(record(0, address & 0xFFFF, data[at:at + step]))
-            at += step
+            step = min(chance.choice((16, 32, 255, 1)), len(data), 0x10000 - (address & 0xFFFF))
+            records.append(record(0, address & 0xFFFF, data[:step]))
+            address, data = address + step, data[step:]
     if chance.random() < 0.1:
         records.append(record(5, 0, chance.randbytes(4)))
-    records.append(END)
-    return spoil(chance, b"".join(write_record(chance, one) for one in records))
-
-
-def write_record(chance, line):
-    text = line.rstrip(b"\n")
-    return (text.lower() if chance.random() < 0.1 else text) + chance.choice((b"\n", b"\n", b"\r\n", b"", b" \t\n"))
-
-
-def spoil(chance, text):
-    """Rarely breaks a text somewhere."""
+    records = [one.rstrip(b"\n") for one in (*records, END)]
+    text = b"".join((one.lower() if chance.random() < 0.1 else one) + chance.choice((b"\n", b"\n", b"\r\n", b"", b" \t\n")) for one in records)
     if chance.random() > 0.06:
         return text
+    # rarely it is broken somewhere
     at = chance.randrange(len(text))
     return chance.choice((text[:at], text[:at] + b"0" + text[at + 1:], text[:at] + b"x" + text[at:], text + b"junk"))
 
@@ -96,12 +78,8 @@ def spoil(chance, text):
 def draw_image(chance, chip, flash):
     """A file, and what else its use says: HEX, or raw bytes with their place or without."""
     if chance.random() < 0.5:
-        pieces = []
-        for _ in range(chance.choice((0, 1, 1, 1, 2, 3))):
-            start = draw_address(chance, chip)
-            data = draw_piece(chance, chip, flash, start)[:TOP - start]
-            pieces.append((start, data))
-        text = hex_text(chance, pieces)
+        starts = (draw_address(chance, chip) for _ in range(chance.choice((0, 1, 1, 1, 2, 3))))
+        text = hex_text(chance, [(start, draw_piece(chance, chip, flash, start)[:TOP - start]) for start in starts])
         given = {"force": True} if chance.random() < 0.02 else {}
         if chance.random() < 0.02:
             given["range"] = (chip.base, None)
@@ -124,9 +102,11 @@ def draw_part(chance, chip):
     if kind == 1 and 0 < left <= 4096:
         return start, None
     length = draw_length(chance)
-    if kind != 2:
-        length = max(min(length, left), 0)
-    return start, length
+    return start, length if kind == 2 else max(min(length, left), 0)
+
+
+def draw_info(*_):
+    return Use("info")
 
 
 def draw_read(chance, chip):
@@ -151,9 +131,7 @@ def draw_erase(chance, chip):
     if chance.random() < 0.1 and chip.pages() <= 8:
         return Use("erase", all=True)
     pages = [draw_page(chance, chip) for _ in range(chance.choice((1, 1, 1, 2, 3)))]
-    if chance.random() < 0.03:
-        pages.append(chip.pages())
-    return Use("erase", pages=pages)
+    return Use("erase", pages=pages + [chip.pages()] * (chance.random() < 0.03))
 
 
 def draw_undo(chance, _):
@@ -162,9 +140,7 @@ def draw_undo(chance, _):
 
 
 def draw_leave(chance, chip):
-    if chance.random() < 0.5:
-        return Use("go", address=draw_address(chance, chip))
-    return Use("protect", kind=chance.choice(sorted(KINDS)))
+    return Use("go", address=draw_address(chance, chip)) if chance.random() < 0.5 else Use("protect", kind=chance.choice(sorted(KINDS)))
 
 
 def draw_sequel(chance, chip, is_gone, name):
@@ -174,8 +150,7 @@ def draw_sequel(chance, chip, is_gone, name):
     if chance.random() < (0.8 if is_gone else 0.12):
         found["again"] = 1 if is_gone else chance.choice((0, 1001, 1, 2, 1000))
     kind = chance.random()
-    if kind < 0.15:
-        found["keep"] = True
+    found["keep"] = kind < 0.15
     if 0.12 < kind < 0.35:
         found["to"] = chance.choice(("K",) * 20 + others(name) + ("none/K",))
     if chance.random() < (0.5 if kind < 0.35 else 0.01):
@@ -214,13 +189,11 @@ def draw_task(chance, chip, flash, unfinished, is_gone, allowed, file):
         name = "write"
     else:
         name = chance.choice(NAMES)
-        if chance.random() < 0.03:
-            name = "leave"
+        name = "leave" if chance.random() < 0.03 else name
     if allowed is not None and name not in allowed:
         name = chance.choice(allowed)
-    drawn = {"info": lambda *_: Use("info"), "read": draw_read, "crc": draw_crc, "erase": draw_erase, "undo": draw_undo, "leave": draw_leave}
-    if name in drawn:
-        return drawn[name](chance, chip), None
+    if name not in ("write", "verify"):
+        return globals()["draw_" + name](chance, chip), None
     text, given = draw_image(chance, chip, flash)
     is_placed = given.get("range") or text.startswith(b":") and not given.get("force")
     if is_placed and chance.random() < 0.2:
