@@ -6,6 +6,7 @@ It plays until there were so many uses of the program, 20,000 without --sessions
 with commas. --jobs is how many stories are played at a time.
 """
 
+import collections
 import functools
 import itertools
 import multiprocessing
@@ -44,32 +45,21 @@ class Story:
     """Two boards of a kind, each with a flash, one journal, and uses of the program one after another."""
 
     def __init__(self, program, seed, index, allowed, room):
-        self.program = program
-        self.name = "%s/%d" % (seed, index)
-        self.allowed = allowed
-        self.room = room
-        self.chance = random.Random(self.name)
-        self.told = []
-        self.counts = dict.fromkeys(COUNTED, 0)
-        self.begin()
-
-    def begin(self):
-        chance = self.chance
+        self.program, self.name, self.allowed, self.room = program, "%s/%d" % (seed, index), allowed, room
+        self.told, self.counts = [], dict.fromkeys(COUNTED, 0)
+        chance = self.chance = random.Random(self.name)
         number = chance.choice((0x0412, 0x0A01, chance.randrange(0x10000)))
         self.kind = beginnings.draw_chip(chance, number)
         chips = [beginnings.draw_chip(chance, (number + step) % 0x10000) for step in range(1, chance.randrange(1, 4))]
         chips.insert(chance.randrange(len(chips) + 1), self.kind)
         files = {"T": beginnings.table_text(chance, chips)}
-        self.world = World(chips, files)
-        self.chips = {}
+        self.world, self.chips = World(chips, files), {}
         for name in BOARDS:
             self.begin_board(name)
         journal = beginnings.draw_journal(chance, self.chips["F"])
-        if journal is not None:
-            files["J"] = journal
+        files |= {} if journal is None else {"J": journal}
         # the board that the segments of the journal are of, and its flash before each, where all the premises of the headline hold
-        self.home = "F"
-        self.aside = None
+        self.home, self.aside = "F", None
         stand = [files.get(name + ".line", b"fresh\n") in (b"fresh\n", b"idle\n") for name in BOARDS]
         self.before = [] if journal is None and all(stand) else None
         for name, held in files.items():
@@ -77,11 +67,9 @@ class Story:
 
     def begin_board(self, name):
         chance = self.chance
-        other = self.chips["F"].unique if self.chips else b""
-        board = beginnings.draw_board(chance, self.kind, other)
+        files, board = self.world.files, beginnings.draw_board(chance, self.kind, self.chips["F"].unique if self.chips else b"")
         try:
-            if board is not None:
-                self.world.files[name + ".board"] = board
+            files |= {} if board is None else {name + ".board": board}
             chip = self.world.chip_of(self.kind.number, name)
         except Fault:
             chip = self.kind.without_places()
@@ -91,9 +79,7 @@ class Story:
             flash += b"\0"
         # the other board is mostly as it was reset, so that the premises hold
         line = beginnings.draw_line(chance, chip) if name == "F" or chance.random() < 0.05 else None
-        for file, held in ((name, flash), (name + ".line", line)):
-            if held is not None:
-                self.world.files[file] = held
+        files |= {file: held for file, held in ((name, flash), (name + ".line", line)) if held is not None}
 
     def path(self, name):
         return os.path.join(self.room, name)
@@ -125,38 +111,29 @@ class Story:
         for _ in range(self.chance.randrange(3, 16)):
             self.use()
             meddling.meddle(self)
-        self.undo()
-
-    def undo(self):
-        """Last, all is undone, however often that is stopped."""
+        # last, all is undone, however often that is stopped
         for _ in range(4):
             journal = self.journal()
             if journal is None or journal.depth() == 0 or (self.allowed is not None and "undo" not in self.allowed):
                 return
             self.use("undo", self.home)
 
-    def draw_name(self, journal):
-        """At which board the next use is: mostly the one that the journal is of; else it is a swap."""
-        if journal is None or journal.number is None:
-            return self.chance.choice(("F", "F", "F", "G"))
-        other = "G" if self.home == "F" else "F"
-        return other if self.chance.random() < 0.22 else self.home
-
     def use(self, only=None, name=None):
         """A use that is drawn, or of this subcommand at this board."""
-        chance = self.chance
-        journal = self.journal()
+        chance, journal = self.chance, self.journal()
         unfinished = journal is not None and journal.is_unfinished()
         allowed = self.allowed if only is None else [only]
-        name = name or self.draw_name(journal)
+        if name is None and (journal is None or journal.number is None):
+            name = chance.choice(("F", "F", "F", "G"))
+        elif name is None:
+            # mostly the board that the journal is of; else it is a swap
+            name = self.home if chance.random() >= 0.22 else "G" if self.home == "F" else "F"
         chip, flash = self.chips[name], self.flash(name)
         if chip.size < self.kind.size and chance.random() < 0.15:
             # as if it had all pages of its kind
             chip, flash = self.kind, flash + bytes([chip.erased]) * (self.kind.size - len(flash))
         use, image = stories.draw_use(chance, chip, flash, unfinished, self.is_gone(name), allowed, name)
-        use.number = "%04X" % self.kind.number
-        if chance.random() < 0.05:
-            use.number = use.number.lower()
+        use.number = ("%04x" if chance.random() < 0.05 else "%04X") % self.kind.number
         if chance.random() < 0.003:
             use.number = "%04X" % (self.kind.number ^ 0x8000)
         if use.again == 1000 and self.chips[name].size < self.kind.size:
@@ -164,10 +141,9 @@ class Story:
             use.again = 3
         # which changes nothing at a simulator in the process
         use.is_fresh = chance.random() < 0.1
-        if image is not None:
-            self.write("I", image)
-        if use.second is not None:
-            self.write("K", use.second[1])
+        for file, held in (("I", image), ("K", use.second and use.second[1])):
+            if held is not None:
+                self.write(file, held)
         if chance.random() < 0.4:
             use.stop = self.draw_stop(use)
         self.compare(use)
@@ -181,20 +157,14 @@ class Story:
         kind = chance.random()
         if kind < 0.2 or not rig.parts:
             return chance.randrange(rig.done + 2)
-        part = chance.randrange(len(rig.parts))
-        start = rig.parts[part][0]
-        if kind < 0.5:
-            return max(0, start + chance.randrange(-3, 12))
-        end = rig.parts[part + 1][0] if part + 1 < len(rig.parts) else rig.done
-        return chance.randrange(start, end + 1)
+        part, begins = chance.randrange(len(rig.parts)), [start for start, _ in rig.parts] + [rig.done]
+        return max(0, begins[part] + chance.randrange(-3, 12)) if kind < 0.5 else chance.randrange(begins[part], begins[part + 1] + 1)
 
     def compare(self, use):
         """The program and the model do this use; all that is left has to be the same."""
         self.tell(" ".join(use.words()))
-        flash = self.flash(use.file)
-        text = self.world.files.get("J", b"")
-        journal = self.journal()
-        (status, out, err), rig = self.world.run(use)
+        flash, text, journal = self.flash(use.file), self.world.files.get("J", b""), self.journal()
+        (status, out, err), _ = self.world.run(use)
         done = subprocess.run([self.program, *use.words()], cwd=self.room, capture_output=True)
         self.same("exit status", status, done.returncode)
         self.same("standard output", out, done.stdout)
@@ -209,11 +179,8 @@ class Story:
                             ("undone", use.name == "undo" and status == 0), ("gone", use.go is not None and self.is_gone(use.file)),
                             ("again", b"again 1 of" in err), ("damaged", b"another CRC" in err), ("told of that", b" left it;" in err)):
             self.counts[name] += is_so
-        if use.name == "protect" and status == 3:
-            # it isn't known what the settling of another board's journal does there
-            self.before = None
-        if use.name == "undo" and use.trusts and journal is not None and journal.damaged(0):
-            # the bytes that rotted are given back, as the word says
+        # it isn't known what the settling of another board's journal does there; and bytes that rotted are given back, as the word says
+        if use.name == "protect" and status == 3 or use.name == "undo" and use.trusts and journal is not None and journal.damaged(0):
             self.before = None
         self.look_elsewhere(use, status, flash, text, journal)
         # what leads back from here, where the journal was moved: as good as the flash is left alone
@@ -259,13 +226,11 @@ class Story:
         """The headline, of the flash alone: what an undo and a write that report success leave."""
         if self.before is None or use.name in ("go", "protect") or use.file != self.home:
             return
-        after = self.journal()
-        depth = after.depth()
+        depth = self.journal().depth()
         if use.name in ("write", "erase") and depth > len(self.before):
             self.before.append(flash)
-        if use.name == "undo" and status == 0 and journal.depth() > 0:
-            if self.flash(use.file) != self.before[depth]:
-                raise Difference("the flash isn't as it was before segment %d" % (depth + 1))
+        if use.name == "undo" and status == 0 and journal.depth() > 0 and self.flash(use.file) != self.before[depth]:
+            raise Difference("the flash isn't as it was before segment %d" % (depth + 1))
         del self.before[depth:]
 
 
@@ -305,14 +270,12 @@ def play(program, seed, allowed, index):
 
 def play_all(stories, sessions):
     """Takes stories up to so many sessions, or a difference. The exit status."""
-    totals = {"stories": 0}
+    totals = collections.Counter()
     for counts, difference in stories:
         if difference is not None:
             print(difference)
             return 1
-        totals["stories"] += 1
-        for name, count in counts.items():
-            totals[name] = totals.get(name, 0) + count
+        totals.update(stories=1, **counts)
         if totals["sessions"] >= sessions:
             break
     print("tools/soak: no difference: " + ", ".join("%d %s" % (count, name) for name, count in totals.items()))

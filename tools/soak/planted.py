@@ -33,66 +33,52 @@ EDITS = (
 )
 
 
-def plant(edit, copy):
-    """Does the replacements of an edit in the copy's crate."""
+def built(edit, room):
+    """The program of a copy of the sources with the replacements of an edit."""
+    copy = os.path.join(room, "copy")
+    shutil.copytree(TOP, copy, ignore=shutil.ignore_patterns("out", "bin", ".git", "soak-difference"))
     for file, old, new in pairs_of(pathlib.Path(TOP, edit).read_text()):
         path = pathlib.Path(copy, *edit.split("/")[:2], file)
         body = path.read_text()
         if body.count(old) != 1:
             sys.exit("%s: the old text doesn't stand once" % edit)
         path.write_text(body.replace(old, new))
+    subprocess.run(["sh", "tools/demo.sh"], cwd=copy, stdout=subprocess.DEVNULL, stderr=subprocess.DEVNULL)
+    program = os.path.join(copy, "bin", "stmflash-unproved")
+    return program if os.path.exists(program) else sys.exit("%s: the program isn't built" % edit)
 
 
-def find(edit):
-    """Whether the soak finds the bug."""
+def behind(name, program, room):
+    """The program behind that fault."""
+    planted = pathlib.Path(room, "planted")
+    planted.write_text('#!/bin/sh\nexec %s "$@"\n' % shlex.join([sys.executable, os.path.join(HERE, "stand_in.py"), name, program]))
+    planted.chmod(0o755)
+    return str(planted)
+
+
+def is_found(name, make):
+    """Whether the soak of a program that is made in a folder ends with a difference; where is told."""
     with tempfile.TemporaryDirectory() as room:
-        copy = os.path.join(room, "copy")
-        shutil.copytree(TOP, copy, ignore=shutil.ignore_patterns("out", "bin", ".git", "soak-difference"))
-        plant(edit, copy)
-        subprocess.run(["sh", "tools/demo.sh"], cwd=copy, stdout=subprocess.DEVNULL, stderr=subprocess.DEVNULL)
-        program = os.path.join(copy, "bin", "stmflash-unproved")
-        if not os.path.exists(program):
-            sys.exit("%s: the program isn't built" % edit)
-        return is_found(os.path.basename(edit), program, room)
-
-
-def is_found(name, program, room):
-    """Whether the soak of this program ends with a difference; where is told."""
-    ran = subprocess.run([sys.executable, HERE, program, "--seed", SEED, "--sessions", "5000"], cwd=room, capture_output=True,
-                         text=True)
-    if ran.returncode == 0:
-        print("%s: NOT FOUND" % name)
-        return False
+        words = [sys.executable, HERE, make(room), "--seed", SEED, "--sessions", "5000"]
+        ran = subprocess.run(words, cwd=room, capture_output=True, text=True)
     told = ran.stdout.splitlines()
-    if len(told) < 3:
-        print("%s: the soak failed: %d, %s" % (name, ran.returncode, ran.stderr))
+    if ran.returncode == 0 or len(told) < 3:
+        print("%s: %s" % (name, "the soak failed: %d, %s" % (ran.returncode, ran.stderr) if ran.returncode else "NOT FOUND"))
         return False
     print("%s: found, %s; %s" % (name, told[1].partition(": ")[2], told[-2]), flush=True)
     return True
 
 
-def find_stand_in(program, name):
-    """Whether the soak finds that fault, before the program."""
-    with tempfile.TemporaryDirectory() as room:
-        planted = os.path.join(room, "planted")
-        with open(planted, "w") as file:
-            words = [sys.executable, os.path.join(HERE, "stand_in.py"), name, program]
-            file.write('#!/bin/sh\nexec %s "$@"\n' % shlex.join(words))
-        os.chmod(planted, 0o755)
-        return is_found(name, planted, room)
-
-
-def find_stand_ins(program, names):
-    with concurrent.futures.ThreadPoolExecutor(len(os.sched_getaffinity(0))) as pool:
-        found = list(pool.map(lambda name: find_stand_in(program, name), names or PLANTED))
-    return 0 if all(found) else 1
-
-
 def main():
-    if sys.argv[1:2] == ["--stand-ins"]:
-        return find_stand_ins(os.path.abspath(sys.argv[2]), sys.argv[3:])
-    edits = [os.path.relpath(edit, TOP) for edit in sys.argv[1:]] or EDITS
-    return 0 if all([find(edit) for edit in edits]) else 1
+    words = sys.argv[1:]
+    if words[:1] == ["--stand-ins"]:
+        program = os.path.abspath(words[1])
+        with concurrent.futures.ThreadPoolExecutor(len(os.sched_getaffinity(0))) as pool:
+            found = list(pool.map(lambda name: is_found(name, lambda room: behind(name, program, room)), words[2:] or PLANTED))
+    else:
+        edits = [os.path.relpath(edit, TOP) for edit in words] or EDITS
+        found = [is_found(os.path.basename(edit), lambda room: built(edit, room)) for edit in edits]
+    return 0 if all(found) else 1
 
 
 if __name__ == "__main__":

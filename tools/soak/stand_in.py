@@ -1,8 +1,10 @@
 """A program that goes wrong in one way, over the right one: `stand_in.py NAME PROGRAM WORDS..`, run by planted.py."""
 
+import contextlib
 import os
 import pathlib
 import re
+import shutil
 import subprocess
 import sys
 
@@ -17,12 +19,8 @@ NAMED = re.compile(rb"stmjournal 3 (....) [0-9A-F]+\n")
 def without(*names):
     """Words that aren't handed on, each with its value where it has one."""
     def edit(words):
-        found = list(words)
-        for name in names:
-            if name in found:
-                at = found.index(name)
-                del found[at:at + (2 if name in VALUED else 1)]
-        return found
+        gone = {at + more for at, word in enumerate(words) if word in names for more in range(1 + (word in VALUED))}
+        return [word for at, word in enumerate(words) if at not in gone]
     return edit
 
 
@@ -38,12 +36,12 @@ def file_as(name, change):
 def left_behind(words, out):
     """The journal stays beside the name that it was moved to."""
     if os.path.exists("K") and "--keep-to" in words and b"kept" in out:
-        store("J", read("K"))
+        shutil.copyfile("K", "J")
     return out
 
 
 def read(name):
-    return pathlib.Path(name).read_bytes() if os.path.exists(name) else None
+    return pathlib.Path(name).read_bytes() if os.path.exists(name) else b""
 
 
 def store(name, held):
@@ -55,7 +53,7 @@ def unnamed(is_so):
     heads = []
 
     def before(words):
-        held = read("J") or b""
+        held = read("J")
         found = NAMED.match(held)
         if found and is_so(held) and words[0] not in ("write", "erase"):
             heads.append(found[0])
@@ -71,10 +69,8 @@ def unnamed(is_so):
 
 
 def is_unfinished(held):
-    try:
+    with contextlib.suppress(BadLine):
         return Journal(held).is_unfinished()
-    except BadLine:
-        return False
 
 
 def with_all_pages():
@@ -96,11 +92,7 @@ def with_all_pages():
 
 def minding_case(words):
     """A board that is wanted in small letters is none."""
-    found = list(words)
-    if "--board" in found:
-        at = found.index("--board") + 1
-        found[at] = re.sub("[a-f]", "0", found[at])
-    return found
+    return [re.sub("[a-f]", "0", word) if before == "--board" else word for before, word in zip(["", *words], words)]
 
 
 def said(old, new):
