@@ -90,9 +90,11 @@ class Simulator(Folder):
     def __exit__(self, *_):
         self.stop()
 
+    def words(self):
+        return [self.program, "sim", "--table", self.table, "--id", self.chip, "--flash", "flash", "--socket", "board", "--clients", "1000000"]
+
     def start(self):
-        words = ["--table", self.table, "--id", self.chip, "--flash", "flash", "--socket", "board", "--clients", "1000000"]
-        self.simulator = subprocess.Popen([self.program, "sim", *words], cwd=self.folder, env={}, stdin=subprocess.DEVNULL)
+        self.simulator = subprocess.Popen(self.words(), cwd=self.folder, env={}, stdin=subprocess.DEVNULL)
         self.wait_for(self.answers)
 
     def stop(self):
@@ -116,7 +118,9 @@ class Simulator(Folder):
             except (FileNotFoundError, ConnectionRefusedError):
                 return False
             client.shutdown(socket.SHUT_WR)
-            return client.recv(1) == b""
+            while client.recv(4096):
+                pass
+            return True
 
     def stored(self):
         """The flash, once what the clients before left is stored."""

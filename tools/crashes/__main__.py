@@ -32,18 +32,14 @@ import race  # noqa: E402
 def record_all(program, stories, pool, folder):
     """Records the stories, those behind a crash of another one last."""
     for is_behind in (False, True):
-        begun = [pool.submit(story.record, program, folder) for story in stories if isinstance(story, BehindCrash) == is_behind]
-        for story in begun:
-            story.result()
+        for begun in [pool.submit(story.record, program, folder) for story in stories if isinstance(story, BehindCrash) == is_behind]:
+            begun.result()
 
 
 def needed(stories, names):
     """The stories of these names, and those that they stand behind."""
     found = {name: stories[name] for name in names}
-    for story in list(found.values()):
-        if isinstance(story, BehindCrash):
-            found[story.other.name] = story.other
-    return list(found.values())
+    return list((found | {story.other.name: story.other for story in found.values() if isinstance(story, BehindCrash)}).values())
 
 
 def try_states(program, states, pool):
@@ -64,10 +60,9 @@ def states_of(stories, count, seed):
     """So many states, of all stories in turn, each once."""
     found = {}
     for number in range(20 * count if stories else 0):
-        if len(found) == count:
-            break
-        state = draw(stories[number % len(stories)], seed, number // len(stories))
-        found.setdefault(state.key(), state)
+        if len(found) < count:
+            state = draw(stories[number % len(stories)], seed, number // len(stories))
+            found.setdefault(state.key(), state)
     return list(found.values())
 
 

@@ -40,25 +40,19 @@ class File:
         return len(self.versions) == 1
 
     def sync(self):
-        self.versions = self.versions[-1:]
-        self.first = None
-
-    def change(self, at, held):
-        self.first = at if self.first is None else min(at, self.first)
-        self.versions.append(held)
+        self.versions, self.first = self.versions[-1:], None
 
     def write(self, at, data):
-        old = self.versions[-1].ljust(at, b"\0")
-        self.change(min(at, len(self.versions[-1])), old[:at] + data + old[at + len(data):])
+        old = self.versions[-1]
+        self.first = min(at, len(old)) if self.first is None else min(at, len(old), self.first)
+        self.versions.append(old[:at].ljust(at, b"\0") + (b"" if data is None else data + old[at + len(data):]))
 
     def cut(self, length):
-        old = self.versions[-1]
-        self.change(min(length, len(old)), old[:length].ljust(length, b"\0"))
+        self.write(length, None)
 
     def lengths(self):
         """The least and the greatest."""
-        found = [len(held) for held in self.versions]
-        return min(found), max(found)
+        return min(map(len, self.versions)), max(map(len, self.versions))
 
     def sectors(self):
         """Those that aren't wholly synced."""
@@ -68,13 +62,9 @@ class File:
         """The bytes behind a crash: a kind for each sector that isn't synced, or the number of the change that it holds."""
         held = bytearray(self.versions[0][:self.sectors().start * self.sector])
         for sector, kind in zip(self.sectors(), kinds, strict=True):
-            part = slice(sector * self.sector, (sector + 1) * self.sector)
-            synced = self.versions[0][part]
-            if kind in (DIGITS, BYTES, LINES) and not synced:
-                held += stale(kind, "%s %d" % (name, sector), self.sector)
-            else:
-                known = synced if kind in (NUL, DIGITS, BYTES, LINES) else self.versions[int(kind)][part]
-                held += known.ljust(self.sector, b"\0")
+            known = self.versions[0 if kind in (NUL, DIGITS, BYTES, LINES) else int(kind)][sector * self.sector:(sector + 1) * self.sector]
+            is_stale = kind in (DIGITS, BYTES, LINES) and not known
+            held += stale(kind, "%s %d" % (name, sector), self.sector) if is_stale else known.ljust(self.sector, b"\0")
         return bytes(held[:length]).ljust(length, b"\0")
 
     def draw(self, chance, kinds, is_hole):
@@ -104,13 +94,9 @@ class Disk:
     """The files of a folder, by numbers, and their names, on the disk and as they were changed since."""
 
     def __init__(self, files, sector=SECTOR):
-        self.sector = sector
-        self.files = {}
-        self.names = {}
-        self.changes = []
-        for name in sorted(files):
-            self.names[name] = len(self.files)
-            self.files[len(self.files)] = File(files[name], sector)
+        self.sector, self.changes = sector, []
+        self.names = {name: number for number, name in enumerate(sorted(files))}
+        self.files = {number: File(files[name], sector) for name, number in self.names.items()}
 
     def now(self):
         """The names as a program sees them."""
@@ -140,16 +126,10 @@ class Disk:
         elif kind == "remove":
             self.changes.append((words[0], None, None))
         elif kind == "sync folder":
-            self.sync_folder(words[0])
-
-    def sync_folder(self, folder):
-        later = []
-        for change in self.changes:
-            if any(name is not None and os.path.dirname(name) == folder for name in change[:2]):
+            synced = [change for change in self.changes if words[0] in [os.path.dirname(name) for name in change[:2] if name is not None]]
+            for change in synced:
                 self.rename(self.names, change)
-            else:
-                later.append(change)
-        self.changes = later
+            self.changes = [change for change in self.changes if change not in synced]
 
     def unsynced(self):
         """The numbers of the files that aren't synced."""

@@ -15,17 +15,15 @@ def without(kind):
 
 def late_sync(events):
     """A file is synced once two more sendings have gone out: in the background, while the program goes on."""
-    found, late = [], []
+    found, late, sent = [], [], 0
     for event in events:
         if event.kind == "sync":
-            late.append([event, LATE])
+            late.append((event, sent + LATE))
             continue
         found.append(event)
-        if event.kind == "send":
-            for waiting in late:
-                waiting[1] -= 1
-            found += [event for event, left in late if left == 0]
-            late = [waiting for waiting in late if waiting[1] > 0]
+        sent += event.kind == "send"
+        found += [event for event, due in late if due == sent]
+        late = [waiting for waiting in late if waiting[1] > sent]
     return found + [event for event, _ in late]
 
 
@@ -50,10 +48,8 @@ PLANTS = {"no-sync": without("sync"), "late-sync": late_sync, "early-lf": early_
 
 def planted(name, stories):
     """The sessions as a program with this fault would have done them."""
-    if name not in PLANTS:
-        return stories
-    found = [copy.copy(story) for story in stories]
+    found = [copy.copy(story) for story in stories] if name in PLANTS else []
     for story in found:
         story.events = PLANTS[name](story.events)
         story.note()
-    return found
+    return found or stories

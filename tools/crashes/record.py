@@ -14,6 +14,8 @@ UNDERSTOOD = """open openat close dup dup2 dup3 fcntl lseek read readv write wri
     rename renameat renameat2 link linkat unlink unlinkat flock socket sendto recvfrom""".split()
 FOREIGN = """creat truncate fallocate sync_file_range sync syncfs copy_file_range sendfile splice pwritev pwritev2 preadv preadv2
     msync mkdir mkdirat rmdir symlink symlinkat mknod mknodat sendmsg recvmsg io_uring_setup""".split()
+# what a write to a descriptor of a kind is, but for a file, and a sync
+TOLD, SYNCED = {"line": "send", "output": "say"}, {"file": "sync", "folder": "sync folder"}
 
 
 class Event:
@@ -57,7 +59,47 @@ class Reader:
         if name in FOREIGN:
             raise Misunderstood("%s(%s)" % (name, words[:200]))
         texts = [bytes.fromhex(text.replace("\\x", "")) for text in TEXT.findall(words)]
-        getattr(self, "do_" + ALIKE.get(name, name))(words, texts, result)
+        data, first = b"".join(texts)[:result], words.split(",")[0]
+        opened = self.open.get(int(first) if first.isdigit() else None, Opened("other"))
+        match name:
+            case "open" | "openat":
+                self.open[result] = self.opened(texts[0], words)
+            case "close":
+                self.open.pop(int(words), None)
+            case "dup" | "dup2" | "dup3":
+                self.open[result] = opened
+            case "fcntl" if "F_DUPFD" in words:
+                self.open[result] = opened
+            case "lseek":
+                opened.at = result
+            case "read" | "readv" | "recvfrom":
+                opened.at += result
+                self.received += data if opened.kind == "line" else b""
+            case "write" | "writev" | "sendto" if opened.kind == "file":
+                at = len(self.disk.files[opened.what].versions[-1]) if opened.appends else opened.at
+                self.add("write", opened.what, at, data)
+                opened.at = at + len(data)
+            case "write" | "writev" | "sendto" if opened.kind in TOLD:
+                self.add(TOLD[opened.kind], data)
+            case "pwrite64" if opened.kind == "file":
+                self.add("write", opened.what, int(words.rsplit(", ", 1)[1]), data)
+            case "ftruncate" if opened.kind == "file":
+                self.add("cut", opened.what, int(words.split(", ")[1]))
+            case "fsync" | "fdatasync" if opened.kind in SYNCED:
+                self.add(SYNCED[opened.kind], opened.what)
+            case "rename" | "renameat" | "renameat2":
+                old, new = map(self.inside, texts)
+                if old is None or new is None or os.path.dirname(old) != os.path.dirname(new):
+                    raise Misunderstood("a rename from folder to folder: %s" % words)
+                self.add("rename", old, new)
+            case "link" | "linkat":
+                self.add("link", *map(self.inside, texts))
+            case "unlink" | "unlinkat" if self.inside(texts[0]) is not None:
+                self.add("remove", self.inside(texts[0]))
+            case "flock":
+                self.add("lock", opened.what, "LOCK_EX" in words)
+            case "socket":
+                self.open[result] = Opened("line")
 
     def add(self, kind, *words):
         event = Event(kind, *words, received=len(self.received))
@@ -71,92 +113,19 @@ class Reader:
         name = os.path.relpath(os.path.join(folder, os.path.basename(name)), self.room)
         return None if name.startswith("..") else name
 
-    def at(self, words):
-        return self.open.get(int(words.split(",")[0]), Opened("other"))
-
-    def do_open(self, words, texts, result):
-        name = self.inside(texts[0])
-        self.open[result] = Opened("other")
+    def opened(self, name, words):
+        """What is opened by this name and these flags."""
+        name = self.inside(name)
         if name is None:
-            return
+            return Opened("other")
         if name not in self.disk.now():
             if "O_CREAT" not in words:
-                self.open[result] = Opened("folder", "" if name == "." else name)
-                return
+                return Opened("folder", "" if name == "." else name)
             self.add("make", name, max(self.disk.files, default=-1) + 1)
         number = self.disk.now()[name]
         if "O_TRUNC" in words:
             self.add("cut", number, 0)
-        self.open[result] = Opened("file", number, "O_APPEND" in words)
-
-    def do_close(self, words, texts, result):
-        self.open.pop(int(words), None)
-
-    def do_dup(self, words, texts, result):
-        self.open[result] = self.at(words)
-
-    def do_fcntl(self, words, texts, result):
-        if "F_DUPFD" in words:
-            self.do_dup(words, texts, result)
-
-    def do_lseek(self, words, texts, result):
-        self.at(words).at = result
-
-    def do_read(self, words, texts, result):
-        opened = self.at(words)
-        opened.at += result
-        if opened.kind == "line":
-            self.received += b"".join(texts)[:result]
-
-    def do_write(self, words, texts, result):
-        opened, data = self.at(words), b"".join(texts)[:result]
-        if opened.kind == "line":
-            self.add("send", data)
-        elif opened.kind == "output":
-            self.add("say", data)
-        elif opened.kind == "file":
-            at = len(self.disk.files[opened.what].versions[-1]) if opened.appends else opened.at
-            self.add("write", opened.what, at, data)
-            opened.at = at + len(data)
-
-    def do_pwrite64(self, words, texts, result):
-        if self.at(words).kind == "file":
-            self.add("write", self.at(words).what, int(words.rsplit(", ", 1)[1]), b"".join(texts)[:result])
-
-    def do_ftruncate(self, words, texts, result):
-        if self.at(words).kind == "file":
-            self.add("cut", self.at(words).what, int(words.split(", ")[1]))
-
-    def do_fsync(self, words, texts, result):
-        opened = self.at(words)
-        if opened.kind == "file":
-            self.add("sync", opened.what)
-        elif opened.kind == "folder":
-            self.add("sync folder", opened.what)
-
-    def do_rename(self, words, texts, result):
-        old, new = map(self.inside, texts)
-        if old is None or new is None or os.path.dirname(old) != os.path.dirname(new):
-            raise Misunderstood("a rename from folder to folder: %s" % words)
-        self.add("rename", old, new)
-
-    def do_link(self, words, texts, result):
-        self.add("link", *map(self.inside, texts))
-
-    def do_unlink(self, words, texts, result):
-        name = self.inside(texts[0])
-        if name is not None:
-            self.add("remove", name)
-
-    def do_flock(self, words, texts, result):
-        self.add("lock", self.at(words).what, "LOCK_EX" in words)
-
-    def do_socket(self, words, texts, result):
-        self.open[result] = Opened("line")
-
-
-ALIKE = {"openat": "open", "dup2": "dup", "dup3": "dup", "readv": "read", "recvfrom": "read", "writev": "write", "sendto": "write",
-         "fdatasync": "fsync", "renameat": "rename", "renameat2": "rename", "linkat": "link", "unlinkat": "unlink"}
+        return Opened("file", number, "O_APPEND" in words)
 
 
 def run(words, room, record, inject=None):

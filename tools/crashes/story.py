@@ -42,18 +42,15 @@ class Story:
         if device == "sim":
             device = "sim:%04X:flash" % self.chip.number
         words = [name, "--table", "table", "--device", device, "--journal", "journal", "--wait", WAIT]
-        size = self.chip.sizes[0]
         if name == "write":
             # over the edge of two pages
-            words += ["-f", "-S", "0x%08x" % (BASE + (1 + int(more[0] == "second")) * size - 40)]
-        return words + list(more)
+            words += ["-f", "-S", "0x%08x" % (BASE + (1 + int(more[0] == "second")) * self.chip.sizes[0] - 40)]
+        return words + more
 
     def files(self):
         """The files that every session has, whatever stood before it."""
-        files = {"table": table(), "out": b"what was read before\n"}
-        for name in ("first", "second"):
-            files[name] = random.Random("%s %s" % (name, self.chip.number)).randbytes(120)
-        return files
+        images = {name: random.Random("%s %s" % (name, self.chip.number)).randbytes(120) for name in ("first", "second")}
+        return {"table": table(), "out": b"what was read before\n", **images}
 
     def prepare(self, program, folder):
         """What stands before the session: the files, with those of the device."""
@@ -64,8 +61,7 @@ class Story:
                 raise Unrecorded("%s: before it, %s: %s" % (self.name, " ".join(use), ran.stderr.decode().strip()))
             self.flashes.append(held(folder)["flash"])
         files = held(folder)
-        if self.tail is not None:
-            files["journal"] = self.tail
+        files |= {} if self.tail is None else {"journal": self.tail}
         if self.pad is not None:
             # a line that counts as nothing
             files["journal"] = b"\0" * ((self.pad - len(files["journal"]) - 2) % 512) + b"!\n" + files["journal"]
@@ -88,7 +84,10 @@ class Story:
         os.makedirs(made)
         os.makedirs(os.path.join(room, "elsewhere"))
         files = self.prepare(program, made)
-        self.device = self.stands(files)
+        self.device = (Served if self.way == BOARD else Device)(self.chip, files.get("flash", self.flashes[0]))
+        if not stand(self.device, files.get("flash.line", b"fresh\n")):
+            raise Unrecorded("%s: no device stands so" % self.name)
+        self.device.owed.clear()
         if self.way == BOARD:
             files = {name: held for name, held in files.items() if not name.startswith("flash")}
         self.start = files
@@ -102,14 +101,6 @@ class Story:
             self.after = held(room)
             self.flash_after = self.checked(reader, room, board)
             self.note()
-
-    def stands(self, files):
-        """The device as it stands before the session."""
-        device = (Served if self.way == BOARD else Device)(self.chip, files.get("flash", self.flashes[0]))
-        if not stand(device, files.get("flash.line", b"fresh\n")):
-            raise Unrecorded("%s: no device stands so" % self.name)
-        device.owed.clear()
-        return device
 
     def use(self, program, room, reader, number, device):
         """One use of the program, recorded."""
@@ -144,23 +135,12 @@ class Story:
             disk.do(event)
             if not disk.is_synced():
                 self.unsynced.append(moment)
-            if event.kind == "write" and event.words[0] == disk.now().get("journal"):
-                if len(disk.files[event.words[0]].sectors()) > 1:
-                    self.crossed.append(moment)
+            if event.kind == "write" and event.words[0] == disk.now().get("journal") and len(disk.files[event.words[0]].sectors()) > 1:
+                self.crossed.append(moment)
 
     def journals(self):
         """The names that the journal has or gets."""
         return ["journal"] + [use[1] for use in self.uses if use[0] == "keep" and len(use) > 1]
-
-    def has_given_up(self, moment):
-        """Whether the journal was removed by then, since its way back was given up."""
-        return ("keep",) in self.uses and any(event.kind == "remove" for event in self.events[:moment])
-
-    def outs(self, is_told):
-        """What OUT may hold: what it held, unless the session has told that it is read, or what was read."""
-        if not any(use[0] == "read" for use in self.uses):
-            return [self.start["out"]]
-        return [self.after["out"]] if is_told else [self.start["out"], self.after["out"]]
 
     def sent(self, moment=None):
         """The bytes of the line until a moment."""

@@ -1,29 +1,35 @@
 """A state that a crash leaves, made anew in a folder, and the undo from there."""
 
+import bisect
 import contextlib
+import itertools
 import os
 import pathlib
 import random
 import re
 import tempfile
+import typing
 
 from board import Board
 from disk import BYTES, DIGITS, LINES, NUL, SECTOR, SECTORS, Disk
 from journal import Journal, is_no_journal
 from stops import call, fault_of
-from story import BOARD, FILE
+from story import BOARD, FILE, Story
 
 # how long an undo waits until the line counts as quiet, in ms: where a reply was later than that, the next time longer
 WAITS = ("40", "300", "2000")
 LATE = ("stmflash: device does not follow the protocol", "stmflash: no answer from the device")
 
 
-class State:
-    """A moment of a recorded session, what a disk with sectors of so many bytes has kept by then, and how many bytes of the line
-    the device got."""
+class State(typing.NamedTuple):
+    """A moment of a recorded session, how many bytes of the line the device got, and what a disk with sectors of so many bytes has
+    kept by then."""
 
-    def __init__(self, story, moment, count, sector, crash):
-        self.story, self.moment, self.count, self.sector, self.crash = story, moment, count, sector, crash
+    story: Story
+    moment: int
+    count: int
+    sector: int
+    crash: str
 
     def key(self):
         return "%s:%d:%d:%d:%s" % (self.story.name, self.moment, self.count, self.sector, self.crash)
@@ -41,10 +47,6 @@ class State:
     def disk(self):
         return disk_at(self.story, self.moment, self.sector)
 
-    def has_lines(self):
-        """Whether lines of a former journal are left somewhere."""
-        return re.search(r"\.%s\b" % LINES, self.crash) is not None
-
 
 def disk_at(story, moment, sector=SECTOR):
     """The disk once so many events were done."""
@@ -56,14 +58,8 @@ def disk_at(story, moment, sector=SECTOR):
 
 def counts_at(story, moment):
     """How many bytes the device has got at the least, since it replied to them, and at the most."""
-    if moment == 0:
-        return 0, 0
-    received = story.events[moment - 1].received
-    replied = least = 0
-    while replied < received:
-        replied += story.replies[least]
-        least += 1
-    return least, len(story.sent(moment))
+    received = story.events[moment - 1].received if moment else 0
+    return bisect.bisect_left([*itertools.accumulate(story.replies, initial=0)], received), len(story.sent(moment))
 
 
 def draw(story, seed, number):
@@ -111,8 +107,9 @@ class Trial:
     def __init__(self, program, state, waits):
         self.program, self.state, self.story, self.waits = program, state, state.story, waits
         self.files, self.names = state.files()
-        self.answered = state.moment == len(self.story.events) or any(
-            event.kind == "say" for event in self.story.events[:state.moment])
+        self.answered = state.moment == len(self.story.events) or any(event.kind == "say" for event in self.story.events[:state.moment])
+        # whether lines of a former journal are left somewhere
+        self.has_lines = re.search(r"\.%s\b" % LINES, state.crash) is not None
 
     def judge(self):
         with tempfile.TemporaryDirectory(dir=top(), prefix="crash-") as folder, contextlib.ExitStack() as beside:
@@ -170,8 +167,13 @@ class Trial:
         journals = [name for name in self.story.journals() if name in self.files]
         self.check_answer(journals)
         if not journals:
-            self.check_without(self.story.has_given_up(self.state.moment))
-            return
+            # nothing was begun that it would be needed for, or its way back was given up
+            is_given_up = ("keep",) in self.story.uses and any(event.kind == "remove" for event in self.story.events[:self.state.moment])
+            flash = self.story.flashes[-1 if is_given_up else 0]
+            if self.flash != flash:
+                raise Bad("there is no journal, and the flash isn't what it was")
+            self.use("info", "journal")
+            self.same(flash, "there is no journal, and info changed the flash")
         # by one name each file
         for name in {self.names[name]: name for name in reversed(journals)}.values():
             self.undo(name)
@@ -182,8 +184,11 @@ class Trial:
             # bytes of a former file stand in the place of its header
             self.refused(name)
             return
-        if self.is_readable(name) and not self.ends_short(name):
-            depth = Journal(self.files[name]).depth()
+        journal = Journal(self.files[name]) if self.is_readable(name) else None
+        # lines of a former journal may have cut a page short, so that it can be read, and is none of the chip
+        kept = [it for segment in journal.stack for it in segment.kept] if journal and self.has_lines else []
+        if journal and all(self.story.chip.sizes[it.page:it.page + 1] == [len(it.held)] for it in kept):
+            depth = journal.depth()
             if depth > 1:
                 self.undone(name, 1, "1")
             left = depth - 1 if depth > 1 else depth
@@ -211,14 +216,9 @@ class Trial:
         ran = self.run("log", "--check", "--journal", name)
         is_read = ran.returncode == 0 and b" bytes behind them\n" in ran.stdout
         said = (ran.stderr or ran.stdout).decode(errors="replace").strip()
-        if not is_read and not (self.state.has_lines() and re.fullmatch(r"stmflash: bad journal line \d+", said)):
+        if not is_read and not (self.has_lines and re.fullmatch(r"stmflash: bad journal line \d+", said)):
             raise Bad("log --check says: %s" % said)
         return is_read
-
-    def ends_short(self, name):
-        """Whether lines of a former journal have cut a page short, so that it can be read, and is none of the chip."""
-        kept = [kept for segment in Journal(self.files[name]).stack for kept in segment.kept]
-        return self.state.has_lines() and any(self.story.chip.sizes[it.page:it.page + 1] != [len(it.held)] for it in kept)
 
     def run(self, *words):
         return call([self.program, *words], self.room)
@@ -257,17 +257,10 @@ class Trial:
         if not found or wanted != int(found[1]):
             raise Bad("undo says: %s, and not undone %s" % (said.strip(), wanted))
 
-    def check_without(self, is_given_up):
-        """There is no journal: nothing was begun that it would be needed for, or it was given up."""
-        flash = self.story.flashes[-1] if is_given_up else self.story.flashes[0]
-        if self.flash != flash:
-            raise Bad("there is no journal, and the flash isn't what it was")
-        self.use("info", "journal")
-        self.same(flash, "there is no journal, and info changed the flash")
-
     def check_answer(self, journals):
-        """What the session has told to be done is on the disk."""
-        if self.files.get("out") not in self.story.outs(self.answered):
+        """What the session has told to be done is on the disk; OUT may hold what it held, unless it has told that it is read, or that."""
+        outs, is_read = (self.story.start["out"], self.story.after["out"]), any(use[0] == "read" for use in self.story.uses)
+        if self.files.get("out") not in outs[is_read and self.answered:1 + is_read]:
             raise Bad("OUT has neither what it had nor what was read")
         if not self.answered:
             return

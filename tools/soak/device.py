@@ -85,9 +85,7 @@ def number(parts):
 
 def named_pages(rest):
     """The pages that a whole erase frame names, its count and its check left away."""
-    if rest[0] == ERASE:
-        return list(rest[3:-1])
-    return [number(rest[at:at + 2]) for at in range(4, len(rest) - 1, 2)]
+    return list(rest[3:-1]) if rest[0] == ERASE else [number(rest[at:at + 2]) for at in range(4, len(rest) - 1, 2)]
 
 
 class Device:
@@ -218,9 +216,12 @@ class Device:
         for at, byte in enumerate(data, at):
             self.flash[at] = self.flash[at] & byte if self.chip.erased == 0xFF else self.flash[at] | byte
 
+    def named_pages(self, rest):
+        """The same, or all pages."""
+        return range(self.chip.pages()) if len(rest) == (4 if rest[0] == ERASE else 5) else named_pages(rest)
+
     def erase(self, rest):
-        everything = len(rest) == (4 if rest[0] == ERASE else 5)
-        for page in range(self.chip.pages()) if everything else named_pages(rest):
+        for page in self.named_pages(rest):
             self.wipe(page)
 
     def wipe(self, page):
