@@ -90,11 +90,11 @@ class Simulator(Folder):
     def __exit__(self, *_):
         self.stop()
 
-    def words(self):
+    def serving(self):
         return [self.program, "sim", "--table", self.table, "--id", self.chip, "--flash", "flash", "--socket", "board", "--clients", "1000000"]
 
     def start(self):
-        self.simulator = subprocess.Popen(self.words(), cwd=self.folder, env={}, stdin=subprocess.DEVNULL)
+        self.simulator = subprocess.Popen(self.serving(), cwd=self.folder, env={}, stdin=subprocess.DEVNULL)
         self.wait_for(self.answers)
 
     def stop(self):
