@@ -44,13 +44,6 @@ class CannotTry(Exception):
     """A check says nothing of its edits."""
 
 
-def edits_of(crate, options):
-    folders = ("wrong-bodies", *["wrong-bodies/by-hand"] * options.by_hand)
-    if options.harmless:
-        folders = ("wrong-bodies/harmless",)
-    return sorted(it for folder in folders for it in glob.glob(f"{crate.folder}/{folder}/*.edit"))
-
-
 class Trial:
     """What is tried of a crate, and what came of it."""
 
@@ -135,10 +128,8 @@ class Trial:
             spare = "; its line `# says nothing` can go" if edit.reason else ""
             by = f" ({', '.join(self.turned.get(edit.name, ()))}{spare})"
             twin = of_twins.get(twins[edit.name].name) if edit.name in twins else None
-            if kind == BAD:
-                self.say(NOT, edit.name, f"BAD EDIT: {why[:200]}")
-            elif kind == PASSED:
-                self.say(NOT, edit.name, "NOT REFUSED")
+            if kind in (BAD, PASSED):
+                self.say(NOT, edit.name, f"BAD EDIT: {why[:200]}" if kind == BAD else "NOT REFUSED")
             elif kind in REFUSED:
                 self.say(WELL, edit.name, f"refused, {kind}{by}: {why[:160]}")
             elif twin and twin[0] == PASSED:
@@ -167,10 +158,9 @@ class Trial:
 def try_crate(crate, edits, is_harmless):
     """Says of each edit of the crate whether it was refused, and returns what each counts as."""
     with tempfile.TemporaryDirectory(prefix="wrong-bodies-") as room:
-        kept = f"{room}/kept"
-        os.mkdir(kept)
-        begin(crate, kept)
-        trial = Trial(crate, kept)
+        os.mkdir(f"{room}/kept")
+        begin(crate, f"{room}/kept")
+        trial = Trial(crate, f"{room}/kept")
         return trial.run_harmless(edits) if is_harmless else trial.run(edits)
 
 
@@ -179,7 +169,8 @@ def main():
     rt.rtlib.guarded()
     share_work()
     crates = [it for it in rt.rtlib.crates_below(os.getcwd()) if not options.crate or it.name in options.crate]
-    edits = {it.name: edits_of(it, options) for it in crates}
+    folders = ("wrong-bodies/harmless",) if options.harmless else ("wrong-bodies", *["wrong-bodies/by-hand"] * options.by_hand)
+    edits = {it.name: sorted(edit for folder in folders for edit in glob.glob(f"{it.folder}/{folder}/*.edit")) for it in crates}
     crates = [it for it in crates if edits[it.name]]
     for below in {it.name: it for crate in crates for it in crate.below()}.values():
         if not options.built and below.build_rlib(["--jobs", "1"], anew=False):

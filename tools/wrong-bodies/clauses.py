@@ -27,26 +27,20 @@ NO_NAME, WHOLE, WITHIN, NO_GOAL = "a clause without a name", "one of several cla
 
 def clauses_of(path, functions):
     """The names of the clauses that a function ensures, as they stand in its source; '' for one without a name."""
-    for it in functions.all:
-        if it.path == path:
-            text = functions.texts[it.file]
-            return ENSURES.findall(text[it.start:body_of(text, it.start) or it.start])
-    return []
+    heads = [functions.texts[it.file][it.start:body_of(functions.texts[it.file], it.start) or it.start] for it in functions.all if it.path == path]
+    return ENSURES.findall(heads[0]) if heads else []
 
 
 def clause_of(finding, functions):
     """What a goal is of: a clause's name, or one of the kinds above."""
     if not finding.goal:
         return NO_GOAL
-    for form, name in OTHERS:
-        if form.search(finding.goal):
-            return name
+    if other := next((name for form, name in OTHERS if form.search(finding.goal)), None):
+        return other
     if clause := CLAUSE.search(finding.goal):
         return clause[1]
-    if finding.path not in functions.paths:
-        return WITHIN
     named = clauses_of(finding.path, functions)
-    return (named[0] or NO_NAME) if len(named) == 1 else WHOLE
+    return WITHIN if finding.path not in functions.paths else (named[0] or NO_NAME) if len(named) == 1 else WHOLE
 
 
 def turned(edit, kind, verdicts, functions):

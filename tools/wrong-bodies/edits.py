@@ -94,12 +94,11 @@ def words_of(text):
 
 def is_one_word(edit):
     """Whether the edit puts one word in the place of another, adds one or takes one away, and leaves all else."""
-    changed = [(words_of(old), words_of(new)) for _, old, new in edit.pairs]
-    changed = [(one, other) for one, other in changed if one != other]
+    changed = [(one, other) for one, other in ((words_of(old), words_of(new)) for _, old, new in edit.pairs) if one != other]
     if len(changed) != 1:
         return False
     before, after = changed[0]
-    same = next((at for at, (one, other) in enumerate(zip(before, after)) if one != other), min(len(before), len(after)))
+    same = len(os.path.commonprefix([before, after]))
     behind = max(len(before), len(after)) - same - 1
     return before[len(before) - behind:] == after[len(after) - behind:] and abs(len(before) - len(after)) <= 1
 
@@ -111,14 +110,13 @@ def ways_of(edit):
 
 def check_twin(edit, twin):
     """Refuses a twin that isn't of its edit's shape."""
-    if twin.functions != edit.functions:
-        raise BadEdit("its twin is of another function")
-    if ways_of(twin) != ways_of(edit):
-        raise BadEdit(f"its twin has other ways through the body: {' '.join(ways_of(twin))}, and it {' '.join(ways_of(edit))}")
-    if all(words_of(old) == words_of(new) for _, old, new in twin.pairs):
-        raise BadEdit("its twin is the body itself")
-    if [words_of(new) for _, _, new in twin.pairs] == [words_of(new) for _, _, new in edit.pairs]:
-        raise BadEdit("its twin is the edit itself")
+    news = [[words_of(new) for _, _, new in it.pairs] for it in (twin, edit)]
+    for is_so, text in (
+            (twin.functions != edit.functions, "is of another function"),
+            (ways_of(twin) != ways_of(edit), f"has other ways through the body: {' '.join(ways_of(twin))}, and it {' '.join(ways_of(edit))}"),
+            ([words_of(old) for _, old, _ in twin.pairs] == news[0], "is the body itself"), (news[0] == news[1], "is the edit itself")):
+        if is_so:
+            raise BadEdit(f"its twin {text}")
 
 
 def put_together(functions, edits):
@@ -145,9 +143,9 @@ def blamed(edits, texts, errors):
     found = {}
     for error in errors:
         at = re.match(r"(?:\./)?(\S+?):(\d+):", error)
-        places = {it.name: [(file, texts[file].count("\n", 0, texts[file].find(new)) + 1) for file, _, new in it.pairs] for it in edits}
-        of_file = [it for it in edits if at and at[1] in [file for file, _ in places[it.name]]]
-        near = [it for it in of_file if (at[1], int(at[2])) in places[it.name]]
+        of_file = [it for it in edits if at and at[1] in [file for file, _, _ in it.pairs]]
+        near = [it for it in of_file if (at[1], int(at[2])) in [
+            (file, texts[file].count("\n", 0, texts[file].find(new)) + 1) for file, _, new in it.pairs]]
         for edit in near or of_file:
             found.setdefault(edit.name, error)
     return found

@@ -56,14 +56,10 @@ def name_of(type_text):
 def names_of(trait_text):
     """A trait and the types that it takes, in one word."""
     trait, _, taken = trait_text.partition("<")
-    depth, parts = 0, [""]
-    for one in taken:
-        depth += (one == "<") - (one == ">")
-        if one == "," and not depth:
-            parts.append("")
-        else:
-            parts[-1] += one
-    return name_of(trait) + "".join(name_of(it) for it in parts if words_of(it))
+    # what they take themselves goes first
+    while taken != (taken := re.sub(r"<[^<>]*>", "", taken)):
+        pass
+    return name_of(trait) + "".join(name_of(it) for it in taken.split(",") if words_of(it))
 
 
 class Functions:
@@ -121,14 +117,10 @@ class Functions:
         it's none that is written in `src`, as what is derived."""
         if path in self.paths:
             return path
-        words = [it.partition("+")[0] for it in path.split("::")]
-        if "fn" in words:
-            # `m::fn::f::call` is the closure that `f` of `m` gives to `call`
-            words.remove("fn")
-            for end in range(len(words) - 1, 0, -1):
-                if "::".join(words[:end]) in self.paths:
-                    return "::".join(words[:end])
-        return None
+        # `m::fn::f::call` is the closure that `f` of `m` gives to `call`
+        before, closure, behind = path.partition("fn::")
+        words = [it.partition("+")[0] for it in (before + behind).split("::")] if closure else []
+        return next((it for end in range(len(words) - 1, 0, -1) if (it := "::".join(words[:end])) in self.paths), None)
 
     def of_cycle(self, path):
         """The functions of a cycle of calls, which the prover names `module::+cycle`."""

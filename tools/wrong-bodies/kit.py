@@ -38,10 +38,9 @@ def taken_by_contract(crate, functions, asked):
     """The functions that a check of those asked takes by their contracts. One of a trait is among them where it has a proof file,
     and one in a cycle of calls isn't."""
     for it in functions.all:
-        at = it.path and proofs_of(crate.folder, it.path)
-        if at and it.path not in asked and not os.path.isdir(re.sub(r"([^/]+)$", r"+\1", at)):
-            if not it.cycle and (not it.is_of_trait or os.path.isdir(at)):
-                yield it.path
+        at = it.path and it.path not in asked and not it.cycle and proofs_of(crate.folder, it.path)
+        if at and not os.path.isdir(re.sub(r"([^/]+)$", r"+\1", at)) and (not it.is_of_trait or os.path.isdir(at)):
+            yield it.path
 
 
 def proofs_of(folder, path):
@@ -50,13 +49,12 @@ def proofs_of(folder, path):
 
 def leave_open(crate, room, path):
     """Puts a hole in the place of a function's proof, which antt then takes by its statement."""
-    folder = proofs_of(room, path)
-    os.makedirs(folder, exist_ok=True)
+    folder = pathlib.Path(proofs_of(room, path))
+    folder.mkdir(parents=True, exist_ok=True)
     for it in OF_A_FUNCTION:
-        if os.path.exists(f"{folder}/{it}"):
-            os.remove(f"{folder}/{it}")
+        (folder / it).unlink(missing_ok=True)
     proof = PROOF.format(crate=crate.name, dots=path.replace("::", "."), name=path.split("::")[-1])
-    pathlib.Path(f"{folder}/Proof.antt").write_text(proof, encoding="utf-8")
+    (folder / "Proof.antt").write_text(proof, encoding="utf-8")
 
 
 def check(crate, functions, texts, asked, kept):
@@ -86,10 +84,11 @@ def check_beside(crate, functions, texts, asked, kept, proved):
         flags = ["--jobs", "1", "--allow-holes", *(it for path in sorted(asked) for it in ("--only", path))]
         words = [rt.rtlib.RATTLE, "check", *crate.words(flags, keeps=False), "--incremental", kept]
         how = {"cwd": room, "stdin": subprocess.DEVNULL, "stdout": subprocess.PIPE, "stderr": subprocess.STDOUT, "errors": "replace"}
-        ran = subprocess.run([*rt.rtlib.guarded(), *words], **how)
-        if ran.returncode == -signal.SIGKILL:
-            # most likely for memory
+        # one that is killed is most likely so for memory
+        for _ in range(2):
             ran = subprocess.run([*rt.rtlib.guarded(), *words], **how)
+            if ran.returncode != -signal.SIGKILL:
+                break
         return ran.stdout, ran.returncode
 
 
@@ -99,19 +98,12 @@ def share_work():
         rt.share_work(False)
 
 
-def work_for(crate):
-    """The folder of what a check of the crate kept, where there is one: of any checkout, where the kit shares them, else of this one."""
-    if hasattr(rt, "work_for"):
-        return rt.work_for(crate)
-    own = f"{crate.folder}/out/incremental"
-    return own if os.path.isdir(own) else None
-
-
 def begin(crate, kept):
-    """Fills the folder with what a check of the crate kept on this machine, where one did."""
+    """Fills the folder with what a check of the crate kept on this machine, where one did: in any checkout, where the kit shares them, else in
+    this one."""
     try:
-        start = work_for(crate)
-        if start:
+        start = rt.work_for(crate) if hasattr(rt, "work_for") else f"{crate.folder}/out/incremental"
+        if start and os.path.isdir(start):
             os.rmdir(kept)
             # by links, where the kit says that it never writes into a file of these
             (rt.linked if hasattr(rt, "linked") else shutil.copytree)(start, kept)

@@ -58,6 +58,5 @@ class Verdicts:
 
     def beside(self, asked, functions):
         """The first line that says of a lemma, or of a function that wasn't asked, that it isn't proved in itself."""
-        of_asked = {it for path in asked for found in self.of_function(path, functions) for it in [found]}
-        strange = [it.line for it in self.findings if it.kind != NAMES and it not in of_asked]
-        return (self.lemmas + strange or [None])[0]
+        of_asked = {it for path in asked for it in self.of_function(path, functions)}
+        return next((line for line in (*self.lemmas, *(it.line for it in self.findings if it.kind != NAMES and it not in of_asked))), None)
