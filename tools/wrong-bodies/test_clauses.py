@@ -36,14 +36,11 @@ class Clauses(Crate):
         return clause_of(Finding(path, ANSWER, goal, "a line"), self.functions)
 
     def test_a_functions_clauses_are_those_above_its_body(self):
-        self.assertEqual(clauses_of("many::many", self.functions), ["honest", "", "stops"])
-        self.assertEqual(clauses_of("Line::call", self.functions), ["said"])
-        self.assertEqual(clauses_of("Line::read", self.functions), [""])
-        self.assertEqual(clauses_of("reading::read", self.functions), [])
-        self.assertEqual(clauses_of("nowhere", self.functions), [])
+        for path, names in {"many::many": ["honest", "", "stops"], "Line::call": ["said"], "Line::read": [""], "reading::read": [], "nowhere": []}.items():
+            self.assertEqual(clauses_of(path, self.functions), names)
 
     def test_a_goal_says_its_clause(self):
-        for goal, clause in (
+        for goal, clause, *path in (
             ("returns-clause-honest", "honest"),
             ("returns-then-not-has_before-clause-given_stops", "given_stops"),
             ("put-requires-clause-fits", "what a callee requires"),
@@ -55,38 +52,29 @@ class Clauses(Crate):
             ("bounds-list-i", "bounds of a number or an index"),
             ("returns", "one of several clauses"),
             ("", "a goal without a name"),
+            # without a clause it is of the function's only one, and of a closure it is of none
+            ("returns-in_ok-put", "said", "Line::call"),
+            ("returns", "a clause without a name", "Line::read"),
+            ("returns", "a closure or a cycle", "reading::fn::read::any+FnMut::call_mut"),
         ):
-            self.assertEqual(self.clause(goal), clause, goal)
-
-    def test_a_goal_without_a_clause_is_the_functions_only_one(self):
-        self.assertEqual(self.clause("returns-in_ok-put", "Line::call"), "said")
-        self.assertEqual(self.clause("returns", "Line::read"), "a clause without a name")
-
-    def test_a_goal_of_a_closure_is_no_clause(self):
-        self.assertEqual(self.clause("returns", "reading::fn::read::any+FnMut::call_mut"), "a closure or a cycle")
-
-    def turned(self, kind, *lines):
-        edit = self.edit("src/many.rt", ("&[]", "&[1]"))
-        return turned(edit, kind, self.said(*lines), self.functions)
+            self.assertEqual(self.clause(goal, *path), clause, goal)
 
     def test_an_edit_turns_each_clause_whose_goal_fails(self):
         at = "./proofs/many/many/Answers.antt:3:1: error: `returns-clause-{}`: the two types differ"
-        said = (at.format("stops"), at.format("honest"), at.format("honest"), "fn tried::many::many: not proved")
-        self.assertEqual(self.turned(ONE_WORD, *said), ["honest", "stops"])
-        self.assertEqual(self.turned(FAILED, *said), ["honest", "stops"])
-
-    def test_values_tell_the_clause_that_they_are_against(self):
-        said = (note("returns-clause-honest"), note("returns-clause-stops", VALUES), "fn tried::many::many: no proof: `search`")
-        self.assertEqual(self.turned(IS_FALSE, *said), ["stops"])
-        self.assertEqual(self.turned(ONE_WORD, *said[::2]), ["honest"])
-
-    def test_a_name_that_went_turns_nothing(self):
-        line = "./proofs/many/many/Answers.antt:3:9: error: `returns-clause-honest`: `c` has no field `if-left-lt2`"
-        self.assertEqual(self.turned(FAILED, line, "fn tried::many::many: not proved"), [])
-
-    def test_another_functions_goal_turns_nothing(self):
-        line = "./proofs/Line/call/Answers.antt:3:9: error: `returns-clause-honest`: the two types differ"
-        self.assertEqual(self.turned(FAILED, line, "fn tried::many::many: no holes"), [])
+        failed = (at.format("stops"), at.format("honest"), at.format("honest"), "fn tried::many::many: not proved")
+        values = (note("returns-clause-honest"), note("returns-clause-stops", VALUES), "fn tried::many::many: no proof: `search`")
+        gone = "./proofs/many/many/Answers.antt:3:9: error: `returns-clause-honest`: `c` has no field `if-left-lt2`"
+        others = "./proofs/Line/call/Answers.antt:3:9: error: `returns-clause-honest`: the two types differ"
+        edit = self.edit("src/many.rt", ("&[]", "&[1]"))
+        for what, kind, said, clauses in (
+            ("one word", ONE_WORD, failed, ["honest", "stops"]),
+            ("more", FAILED, failed, ["honest", "stops"]),
+            ("values tell the clause that they are against", IS_FALSE, values, ["stops"]),
+            ("and without them", ONE_WORD, values[::2], ["honest"]),
+            ("a name that went", FAILED, (gone, "fn tried::many::many: not proved"), []),
+            ("another function's goal", FAILED, (others, "fn tried::many::many: no holes"), []),
+        ):
+            self.assertEqual(turned(edit, kind, self.said(*said), self.functions), clauses, what)
 
     def test_the_score_counts_edits(self):
         self.assertEqual(score([["honest", "stops"], ["honest"], [], ["order"]]), "honest 2, order 1, stops 1")

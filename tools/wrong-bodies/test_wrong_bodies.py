@@ -99,25 +99,18 @@ class Crate(unittest.TestCase):
 
 class Paths(Crate):
     def test_each_function_has_the_provers_path(self):
-        self.assertEqual(
-            {it.path for it in self.functions.all},
-            {"Line::read", "reading::reading", "reading::read", "reading::Line2FromVec::from", "reading::ShownDisplay::fmt",
-             "Line::call"},
-        )
+        self.assertEqual({it.path for it in self.functions.all}, {
+            "Line::read", "reading::reading", "reading::read", "reading::Line2FromVec::from", "reading::ShownDisplay::fmt", "Line::call"})
 
     def test_a_type_that_stands_in_two_modules_leaves_the_path_open(self):
         self.write("src/other.rt", "pub struct Line;\n")
         self.assertIn(None, {it.path for it in Functions(self.folder).all})
 
-    def test_a_closure_belongs_to_its_function(self):
-        self.assertEqual(self.functions.owner("reading::fn::read::any+FnMut::call_mut"), "reading::read")
-
-    def test_a_function_like_its_module_doesnt_own_the_others_in_it(self):
-        self.assertIsNone(self.functions.owner("reading::other"))
-        self.assertEqual(self.functions.owner("reading::read"), "reading::read")
-
-    def test_what_is_derived_belongs_to_no_function(self):
-        self.assertIsNone(self.functions.owner("reading::Line2Debug::fmt"))
+    def test_a_closure_belongs_to_its_function_and_what_is_derived_to_none(self):
+        # nor does a function like its module own the others in it
+        for path, owner in (("reading::fn::read::any+FnMut::call_mut", "reading::read"), ("reading::other", None), ("reading::read", "reading::read"),
+                            ("reading::Line2Debug::fmt", None)):
+            self.assertEqual(self.functions.owner(path), owner, path)
 
 
 class Edits(Crate):
@@ -125,60 +118,37 @@ class Edits(Crate):
         self.assertEqual(self.edit("src/calls.rt", ("self.left < 2", "self.left < 3")).functions, {"Line::call"})
         self.assertEqual(self.edit("src/lib.rt", ("self.left\n".strip(), "self.right")).functions, {"Line::read"})
 
-    def test_an_edit_of_a_contract_is_bad(self):
-        for old, new in (("ensures { result ≡ count }", "ensures { result ≡ most }"), ("count: u32, ", "count: u64, ")):
-            with self.assertRaises(BadEdit):
-                self.edit("src/reading.rt", (old, new))
+    def test_an_edit_of_a_contract_or_beside_src_is_bad(self):
+        for file, old, new in (("src/reading.rt", "ensures { result ≡ count }", "ensures { result ≡ most }"),
+                               ("src/reading.rt", "count: u32, ", "count: u64, "), ("proofs/reading/Answers.antt", "a", "b")):
+            self.assertRaises(BadEdit, self.edit, file, (old, new))
 
-    def test_an_edit_of_a_file_beside_src_is_bad(self):
-        with self.assertRaises(BadEdit):
-            self.edit("proofs/reading/Answers.antt", ("a", "b"))
-
-    def test_one_word(self):
-        for old, new in (
-            ("self.left < 2", "self.left <= 2"),
-            ("Fault::Short", "Fault::Long"),
-            ("self.put(bytes)?;", "self.put(&[])?;"),
-            ("self.left < 2", "!self.left < 2"),
+    def test_one_word_and_more(self):
+        for is_one, file, *pairs in (
+            (True, "calls", ("self.left < 2", "self.left <= 2")),
+            (True, "calls", ("Fault::Short", "Fault::Long")),
+            (True, "calls", ("self.put(bytes)?;", "self.put(&[])?;")),
+            (True, "calls", ("self.left < 2", "!self.left < 2")),
+            (False, "calls", ("self.left < 2", "2 > self.left")),
+            (False, "calls", ("self.put(bytes)?;", "self.put(bytes)?; self.put(bytes)?;")),
+            (False, "calls", ("self.left < 2", "self.left < 1 + 1")),
+            (False, "reading", ("count.min(most)", "most.min(count)")),
+            (False, "calls", ("< 2", "< 3"), ("Short", "Long")),
         ):
-            self.assertTrue(is_one_word(self.edit("src/calls.rt", (old, new))), new)
+            self.assertEqual(is_one_word(self.edit(f"src/{file}.rt", *pairs)), is_one, pairs)
 
-    def test_more_than_one_word(self):
-        for old, new in (
-            ("self.left < 2", "2 > self.left"),
-            ("self.put(bytes)?;", "self.put(bytes)?; self.put(bytes)?;"),
-            ("self.left < 2", "self.left < 1 + 1"),
-        ):
-            self.assertFalse(is_one_word(self.edit("src/calls.rt", (old, new))), new)
-        self.assertFalse(is_one_word(self.edit("src/reading.rt", ("count.min(most)", "most.min(count)"))))
-        self.assertFalse(is_one_word(self.edit("src/calls.rt", ("< 2", "< 3"), ("Short", "Long"))))
-
-    def test_a_twin_has_the_ways_of_its_edit(self):
+    def test_a_twin_has_the_ways_of_its_edit_and_its_function(self):
         edit = self.edit("src/calls.rt", ("self.put(bytes)?;", "self.put(bytes)?; self.put(bytes)?;"))
-        for new, is_well in (
-            ("let _ = bytes; self.put(bytes)?;", False),
-            ("self.see(bytes)?; self.put(bytes)?;", True),
-            ("self.put(bytes)?;", False),
-            ("self.put(bytes)?; self.put(bytes)?;", False),
-        ):
-            twin = self.edit("src/calls.rt", ("self.put(bytes)?;", new), name="one.twin")
-            if is_well:
-                check_twin(edit, twin)
-            else:
-                with self.assertRaises(BadEdit):
-                    check_twin(edit, twin)
-
-    def test_a_twin_is_of_the_same_function(self):
+        for new in ("let _ = bytes; self.put(bytes)?;", "self.put(bytes)?;", "self.put(bytes)?; self.put(bytes)?;"):
+            self.assertRaises(BadEdit, check_twin, edit, self.edit("src/calls.rt", ("self.put(bytes)?;", new), name="one.twin"))
+        check_twin(edit, self.edit("src/calls.rt", ("self.put(bytes)?;", "self.see(bytes)?; self.put(bytes)?;"), name="one.twin"))
         edit = self.edit("src/reading.rt", ("count.min(most)", "most"))
-        with self.assertRaises(BadEdit):
-            check_twin(edit, self.edit("src/calls.rt", ("Fault::Short", "Fault::Long"), name="one.twin"))
+        self.assertRaises(BadEdit, check_twin, edit, self.edit("src/calls.rt", ("Fault::Short", "Fault::Long"), name="one.twin"))
 
     def test_edits_of_one_function_are_tried_one_after_the_other(self):
-        edits = [
-            self.edit("src/calls.rt", ("self.left < 2", "self.left < 3"), name="a.edit"),
-            self.edit("src/calls.rt", ("Fault::Short", "Fault::Long"), name="b.edit"),
-            self.edit("src/reading.rt", ("count.min(most)", "most"), name="c.edit"),
-        ]
+        edits = [self.edit(f"src/{file}.rt", pair, name=f"{name}.edit") for name, file, pair in (
+            ("a", "calls", ("self.left < 2", "self.left < 3")), ("b", "calls", ("Fault::Short", "Fault::Long")),
+            ("c", "reading", ("count.min(most)", "most")))]
         texts, taken, left = put_together(self.functions, edits)
         self.assertEqual([[it.name for it in some] for some in (taken, left)], [["a.edit", "c.edit"], ["b.edit"]])
         self.assertIn("self.left < 3", texts["src/calls.rt"])
@@ -187,15 +157,13 @@ class Edits(Crate):
 
 class Blame(Crate):
     def test_an_error_of_the_front_end_is_of_the_edit_on_its_line(self):
-        edits = [
-            self.edit("src/calls.rt", ("self.left < 2", "self.right < 2"), name="a.edit"),
-            self.edit("src/calls.rt", ("Fault::Short", "Fault::Long"), name="b.edit"),
-        ]
+        edits = [self.edit("src/calls.rt", ("self.left < 2", "self.right < 2"), name="a.edit"),
+                 self.edit("src/calls.rt", ("Fault::Short", "Fault::Long"), name="b.edit")]
         texts = {"src/calls.rt": SOURCES["src/calls.rt"].replace("left < 2", "right < 2").replace("Short", "Long")}
-        self.assertEqual([*blamed(edits, texts, ["src/calls.rt:7:17: error[no-field]: there is no `right`"])], ["a.edit"])
-        self.assertEqual([*blamed(edits, texts, ["src/calls.rt:9:9: error[cannot-infer-type]: no type"])], ["a.edit", "b.edit"])
-        self.assertEqual(blamed(edits, texts, ["src/lib.rt:9:9: error[cannot-infer-type]: no type"]), {})
-        self.assertEqual(blamed(edits, texts, []), {})
+        for errors, names in ((["src/calls.rt:7:17: error[no-field]: there is no `right`"], ["a.edit"]),
+                              (["src/calls.rt:9:9: error[cannot-infer-type]: no type"], ["a.edit", "b.edit"]),
+                              (["src/lib.rt:9:9: error[cannot-infer-type]: no type"], []), ([], [])):
+            self.assertEqual([*blamed(edits, texts, errors)], names, errors)
 
 
 HOLE = "depends on a hole in `Rattle.tried.proofs.reading.read.Proof.read_spec`"
