@@ -53,18 +53,12 @@ PROGRESS = re.compile(r"\r?(Wrote|Wrote and verified|Read|CRC) address 0x[0-9a-f
 
 def lines(result, words):
     """What was printed, without numbers, names, progress, blank lines and the usage."""
-    said = []
-    for stream in ("out", "err"):
-        data = result[stream]
-        if stream == "out" and "-r - " in " ".join(words) + " ":
-            said.append(data.hex())
-            continue
-        for line in PROGRESS.sub("", data.decode(errors="replace")).split("\n"):
-            if line.startswith("Usage:"):
-                break
-            line = line.strip()
-            if line and not LEFT_OUT.match(line):
-                said.append(f"{stream} {NUMBER.sub('#', NAME.sub('()', line))}")
+    is_read = "-r - " in " ".join(words) + " "
+    said = [result["out"].hex()] if is_read else []
+    for stream in ("out", "err")[is_read:]:
+        text = PROGRESS.sub("", result[stream].decode(errors="replace"))
+        told = map(str.strip, re.split("(?m)^Usage:", text)[0].split("\n"))
+        said += [f"{stream} {NUMBER.sub('#', NAME.sub('()', line))}" for line in told if line and not LEFT_OUT.match(line)]
     return said
 
 
@@ -123,17 +117,11 @@ def check_table(found):
     return faults
 
 
-def missing():
-    if shutil.which("stm32flash") is None:
-        return "stm32flash"
-    if subprocess.run(["/usr/bin/python3", "-c", "from serial import Serial"], stderr=subprocess.DEVNULL).returncode:
-        return "python3-serial"
-    return None
-
-
 def main():
     given = words_of(__doc__, sample=len(CALLS), kills=0)
-    if lacking := missing():
+    has_serial = subprocess.run(["/usr/bin/python3", "-c", "from serial import Serial"], stderr=subprocess.DEVNULL).returncode == 0
+    if not has_serial or shutil.which("stm32flash") is None:
+        lacking = "python3-serial" if shutil.which("stm32flash") else "stm32flash"
         print(f"left out: our stm32flash wasn't tried beside the real one, there is no {lacking}")
         return 0
     program, sample = given.program, min(given.sample, len(CALLS))

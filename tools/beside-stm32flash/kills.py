@@ -1,5 +1,6 @@
 """Scripts of stm32flash's words, run unchanged over ours, and killed at random."""
 
+import contextlib
 import os
 import random
 import shlex
@@ -51,18 +52,12 @@ class Play:
             return ["sh", "script", self.room.path("port")]
         return [self.room.path("bin/stm32flash"), "-m", "8n1", *shlex.split(self.script[0]), self.room.path("port")]
 
-    def begin(self):
-        return subprocess.Popen(self.words(), cwd=self.room.folder, env=self.settings, stdin=subprocess.DEVNULL,
-                                stdout=subprocess.DEVNULL, stderr=subprocess.DEVNULL, start_new_session=True)
-
     def call(self, *words):
         """A whole call, or the script: what it said, and the flash then. Its status has to be 0."""
-        if words != ("script",):
-            words = [self.room.path("bin/stm32flash"), "-m", "8n1", *words, self.room.path("port")]
-        ran = subprocess.run(self.words() if words == ("script",) else words, cwd=self.room.folder, env=self.settings,
-                             stdin=subprocess.DEVNULL, capture_output=True, timeout=PATIENCE)
+        called = self.words() if words == ("script",) else [self.room.path("bin/stm32flash"), "-m", "8n1", *words, self.room.path("port")]
+        ran = subprocess.run(called, cwd=self.room.folder, env=self.settings, stdin=subprocess.DEVNULL, capture_output=True, timeout=PATIENCE)
         if ran.returncode:
-            raise Fault(f"{' '.join(words[1:-1]) or words[0]}: {ran.stderr.decode().strip()}")
+            raise Fault(f"{' '.join(called[1:-1])}: {ran.stderr.decode().strip()}")
         return ran.stderr, self.stored()
 
     def stored(self):
@@ -76,7 +71,8 @@ class Play:
 
     def kill(self, moment, whole):
         """Ends the script at this moment: all of its processes, or ours alone where it is a single one."""
-        started = self.begin()
+        started = subprocess.Popen(self.words(), cwd=self.room.folder, env=self.settings, stdin=subprocess.DEVNULL,
+                                   stdout=subprocess.DEVNULL, stderr=subprocess.DEVNULL, start_new_session=True)
         time.sleep(moment)
         if whole or len(self.script) > 1:
             os.killpg(started.pid, signal.SIGKILL)
@@ -105,34 +101,28 @@ class Play:
             rounds += 1
         return AGAIN if again else NEXT if back else UNDO if rounds else NOBODY
 
-    def end(self):
+    def close(self):
         self.board.stop()
         self.room.end()
 
 
 def kill(program, source, script, moment, number):
     """One kill: who gave the flash back, and a fault, or None."""
-    play = Play(program, source, script)
-    try:
-        play.kill(moment, number % 4 > 1)
-        return play.give_back(number % 2 == 1), None
-    except (Fault, OSError, subprocess.SubprocessError) as error:
-        return None, str(error)
-    finally:
-        play.end()
+    with contextlib.closing(Play(program, source, script)) as play:
+        try:
+            play.kill(moment, number % 4 > 1)
+            return play.give_back(number % 2 == 1), None
+        except (Fault, OSError, subprocess.SubprocessError) as error:
+            return None, str(error)
 
 
 def length(program, source, script):
     """How long a script takes that goes through."""
-    play = Play(program, source, script)
-    try:
+    with contextlib.closing(Play(program, source, script)) as play:
         began = time.monotonic()
-        _, flash = play.call("script")
-        if flash != play.wanted():
+        if play.call("script")[1] != play.wanted():
             raise SystemExit(f"FAILED: {script}: its image isn't there")
         return time.monotonic() - began
-    finally:
-        play.end()
 
 
 def kills(pool, program, source, count, seed, show):
