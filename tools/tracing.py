@@ -43,12 +43,10 @@ def places_of(program):
     sections = [struct.unpack_from("<IIQQQQIIQQ", data, start + size * i) for i in range(count)]
     found = {}
     for _, kind, _, _, at, size, link, *_ in sections:
-        if kind == 2:
-            names = sections[link][4]
-            for symbol in range(at, at + size, 24):
-                name, *_, place, _ = struct.unpack_from("<IBBHQQ", data, symbol)
-                end = data.index(0, names + name)
-                found[data[names + name:end].decode(errors="replace")] = place
+        for symbol in range(at, at + size, 24) if kind == 2 else ():
+            name, *_, place, _ = struct.unpack_from("<IBBHQQ", data, symbol)
+            name += sections[link][4]
+            found[data[name:data.index(0, name)].decode(errors="replace")] = place
     if not all(call in found for call in CALLS):
         sys.exit(f"{program} doesn't name {' and '.join(CALLS)}")
     return [found[call] for call in CALLS]
@@ -85,9 +83,8 @@ class Traced:
         with open(f"/proc/{self.process}/maps") as maps:
             whole = os.path.realpath(words[0])
             start = next(int(line.split("-")[0], 16) for line in maps if line.rstrip().endswith(whole))
-        self.kept = {start + place: None for place in places_of(words[0])}
+        self.kept = {start + place: os.pread(self.memory, 1, start + place) for place in places_of(words[0])}
         for place in self.kept:
-            self.kept[place] = os.pread(self.memory, 1, place)
             os.pwrite(self.memory, STOP, place)
 
     def registers(self):

@@ -38,11 +38,8 @@ def blamed(said, top, faults):
         path = os.path.join(top, file if file.startswith("crates/") else f"crates/stmflash/{file}")
         if os.path.exists(path):
             lines = pathlib.Path(path).read_text(encoding="utf-8").split("\n")
-            for at in [*range(int(line) - 1, max(int(line) - 9, -1), -1), *range(int(line), int(line) + 8)]:
-                numbers = re.findall(r"planted::is_on\((\d+)\)", lines[at]) if at < len(lines) else []
-                if numbers:
-                    found |= set(map(int, numbers))
-                    break
+            near = [lines[at] for at in (*range(int(line) - 1, max(int(line) - 9, -1), -1), *range(int(line), int(line) + 8)) if at < len(lines)]
+            found |= set(map(int, next(filter(None, (re.findall(r"planted::is_on\((\d+)\)", it) for it in near)), ())))
     return [it for it in faults if it.number in found]
 
 

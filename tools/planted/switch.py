@@ -134,12 +134,9 @@ def plant(top, faults):
 
 def add_switch(crates, crate):
     """Adds the switch to a crate: its C, its module, and the declaration of that."""
-    top = os.path.join(crates, crate)
-    os.makedirs(os.path.join(top, "c"), exist_ok=True)
+    top = pathlib.Path(crates, crate)
+    (top / "c").mkdir(exist_ok=True)
     for name, text in (("c/planted.c", C), ("src/planted.rt", RATTLE)):
-        pathlib.Path(top, name).write_text(text.replace("NAME", crate))
-    roots = [os.path.join(top, "src", name) for name in ("main.rt", "lib.rt")]
-    root = next(path for path in roots if os.path.exists(path))
-    text = pathlib.Path(root).read_text()
-    at = text.index("\nmod ") + 1
-    pathlib.Path(root).write_text(text[:at] + "mod planted;\n" + text[at:])
+        (top / name).write_text(text.replace("NAME", crate))
+    root = next(filter(pathlib.Path.exists, (top / "src/main.rt", top / "src/lib.rt")))
+    root.write_text(root.read_text().replace("\nmod ", "\nmod planted;\nmod ", 1))
