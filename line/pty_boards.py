@@ -54,11 +54,10 @@ class PtyBoard:
         os.symlink(os.ttyname(slave), unready)
         os.rename(unready, self.name)
         os.close(slave)
-        if self.master is None:
-            self.master = master
-        else:
+        if self.master is not None:
             os.dup2(master, self.master, inheritable=False)
             os.close(master)
+        self.master = master if self.master is None else self.master
 
     def hear(self, count):
         """From now on the board gets so many bytes of its host and no more, as of one that has stopped there; None: all of them."""
@@ -89,20 +88,17 @@ class PtyBoard:
             self.storing = True
             device, self.device = self.device, None
         try:
-            return self.stored(device)
+            if device is not None:
+                device.shutdown(socket.SHUT_RDWR)
+                device.close()
+            with self.connect() as waiting:
+                waiting.settimeout(PATIENCE)
+                waiting.shutdown(socket.SHUT_WR)
+                waiting.recv(1)
+            with open(self.name + ".flash", "rb") as flash:
+                return flash.read()
         finally:
             self.storing = False
-
-    def stored(self, device):
-        if device is not None:
-            device.shutdown(socket.SHUT_RDWR)
-            device.close()
-        with self.connect() as waiting:
-            waiting.settimeout(PATIENCE)
-            waiting.shutdown(socket.SHUT_WR)
-            waiting.recv(1)
-        with open(self.name + ".flash", "rb") as flash:
-            return flash.read()
 
     def carry(self):
         """Hands bytes on both ways. The simulator's client is one that lasts, as the wires of a board last."""
@@ -149,11 +145,9 @@ class PtyBoard:
             device.close()
             return
         time.sleep(len(data) * self.byte_time + self.hold)
-        while data:
-            try:
+        with contextlib.suppress(OSError):
+            while data:
                 data = data[os.write(master, data):]
-            except OSError:
-                return
 
     def pull(self):
         """The board goes, as an adapter that is pulled."""
@@ -176,30 +170,19 @@ class PtyBoard:
 
 def main():
     words = argparse.ArgumentParser(description=__doc__, formatter_class=argparse.RawDescriptionHelpFormatter)
-    words.add_argument("program")
-    words.add_argument("folder")
-    words.add_argument("count", nargs="?", type=int, default=1)
-    words.add_argument("--id", default="0412")
-    words.add_argument("--table")
-    words.add_argument("--baud", type=int)
-    words.add_argument("--hold", type=float, default=0, metavar="MS")
+    for word, how in {"program": {"type": os.path.abspath}, "folder": {}, "count": {"nargs": "?", "type": int, "default": 1}, "--id": {"default": "0412"},
+                      "--table": {}, "--baud": {"type": int}, "--hold": {"type": float, "default": 0, "metavar": "MS"}}.items():
+        words.add_argument(word, **how)
     given = words.parse_args()
     signal.signal(signal.SIGTERM, lambda *_: sys.exit(0))
     os.makedirs(given.folder, exist_ok=True)
-    program = os.path.abspath(given.program)
-    boards = []
-    try:
+    with contextlib.ExitStack() as boards, contextlib.suppress(KeyboardInterrupt):
         for number in range(given.count):
             name = os.path.join(given.folder, f"ttyUSB{number}")
-            boards.append(PtyBoard(program, name, given.id, given.table, given.baud, given.hold / 1000))
+            boards.callback(PtyBoard(given.program, name, given.id, given.table, given.baud, given.hold / 1000).stop)
         print(f"{given.count} boards in {given.folder}", flush=True)
         while True:
             signal.pause()
-    except KeyboardInterrupt:
-        pass
-    finally:
-        for board in boards:
-            board.stop()
 
 
 if __name__ == "__main__":

@@ -25,25 +25,11 @@ class Otherwise(Exception):
     """A byte that no device of the model sends here: what there is to say, and how many bytes came before it."""
 
 
-class Told:
-    """A byte of the flash that a read brings: what is known of it, and when that was."""
-
-    def __init__(self, want, at, age):
-        self.want, self.at, self.age = want, at, age
-
-
-class Answer:
-    """What a step of a question which board it is brings: an acknowledgement, or else a refusal, where none was told before."""
-
-    def __init__(self, is_told):
-        self.is_told = is_told
-
-
-class Tells:
-    """A byte of the answer to such a question."""
-
-    def __init__(self, place, index):
-        self.place, self.index = place, index
+# A byte of the flash that a read brings: what is known of it, where it is, and when that was. What a step of a question which board it is
+# brings: an acknowledgement, or else a refusal, where none was told before. A byte of the answer to such a question.
+Told = collections.namedtuple("Told", "want at age")
+Answer = collections.namedtuple("Answer", "is_told")
+Tells = collections.namedtuple("Tells", "place index")
 
 
 class Watched(Model):

@@ -132,8 +132,7 @@ class Board:
         """Erases a page, and writes it full of bytes that tell their place. No code of a command that changes something stands
         beside its complement among them, so that a board that has lost a byte takes none for a command."""
         self.erase(page)
-        start = self.model.starts[page]
-        for at in range(start, start + self.model.sizes[page], BLOCK):
+        for at in self.blocks(page):
             self.write(at, bytes((at >> 8) + i * 7 + (i >> 4) & 0xFF for i in range(BLOCK)))
 
     # ---- the flash beside the model

@@ -9,21 +9,19 @@ STOP, OPTION, NOTE = "don't use", "an option", "a note"
 
 @dataclasses.dataclass(frozen=True)
 class Row:
+    act: typing.Callable
     name: str
     # what has to hold; which definition or premise rests on it; what comes of it where it doesn't
     holds: str
     rests: str
     harm: str
-    means: str
-    # what a stop inside it is settled by: ask, erase or write
-    intent: str
-    # what it changes
-    changes: str
-    # what a hand has to do for it, or nothing
-    hand: str
-    act: typing.Callable
+    means: str = STOP
+    # what a stop inside it is settled by (ask, erase or write); what it changes; what a hand has to do for it, or nothing
+    intent: str = "ask"
+    changes: str = "nothing"
+    hand: str = ""
 
 
-def row(name, holds, rests, harm, means=STOP, intent="ask", changes="nothing", hand=""):
+def row(*held, **more):
     """Makes a row of the function below it, which tries it and answers what is told of it where it holds."""
-    return lambda act: Row(name, holds, rests, harm, means, intent, changes, hand, act)
+    return lambda act: Row(act, *held, **more)

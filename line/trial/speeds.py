@@ -60,9 +60,8 @@ def tried(words):
 def asked(line, chips):
     answer(line, bytes([CONNECT]), 1)
     answer(line, code(GET), 1)
-    count = take(line, 1)[0]
-    take(line, count + 1)
-    expect(take(line, 1))
+    take(line, take(line, 1)[0] + 1)
+    answer(line, b"", 1)
     told = answer(line, code(GET_ID), 5)
     number = int.from_bytes(told[2:4], "big")
     chip = next((chip for chip in chips if chip["id"] == number), None)
@@ -86,7 +85,8 @@ def answer(line, data, count):
     """So many bytes, of which the first is 79."""
     line.write(data)
     found = take(line, count)
-    expect(found[:1])
+    if found[0] != ACK:
+        raise Fails(f"{found[0]:02X} came, and {ACK:02X} was due")
     return found
 
 
@@ -95,8 +95,3 @@ def take(line, count):
     if len(found) < count:
         raise Fails(f"{len(found)} bytes came, and {count} were due" if found else "no answer")
     return found
-
-
-def expect(found):
-    if found[0] != ACK:
-        raise Fails(f"{found[0]:02X} came, and {ACK:02X} was due")

@@ -40,10 +40,6 @@ def judge(board, found, ended):
     return FOLLOWS, "each row that was tried holds" + (f", but for what hurts no promise: {notes}" if notes else "") + rest
 
 
-def verdict_line(verdict, reason):
-    return {FOLLOWS: f"{verdict}: {reason}", USE_WITH: f"{verdict}: {reason}", DONT_USE: f"{verdict}, because {reason}"}[verdict]
-
-
 def toml(value):
     """A value in TOML."""
     if isinstance(value, bool):

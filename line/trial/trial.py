@@ -169,7 +169,7 @@ class Trial:
         except OSError as error:
             self.say(f"what was found couldn't be written to {self.words.out}: {error.strerror}")
             status = 1
-        self.say(told.verdict_line(verdict, reason))
+        self.say(f"{verdict}{', because' if verdict == told.DONT_USE else ':'} {reason}")
         return status
 
 

@@ -113,36 +113,25 @@ class Trial:
 
     def judge(self):
         with tempfile.TemporaryDirectory(dir=top(), prefix="crash-") as folder, contextlib.ExitStack() as beside:
-            self.room = os.path.join(folder, "room")
-            self.make_room()
-            self.board = None
+            self.room, self.board, first = pathlib.Path(folder, "room"), None, {}
+            (self.room / "elsewhere").mkdir(parents=True)
+            for name, number in sorted(self.names.items()):
+                if number in first:
+                    (self.room / name).hardlink_to(self.room / first[number])
+                else:
+                    (self.room / name).write_bytes(self.files[name])
+                first.setdefault(number, name)
             if self.story.way == BOARD:
                 device, _ = self.story.device_at(self.state.count)
-                self.flash = bytes(device.flash)
                 self.board = beside.enter_context(Board(self.program, os.path.join(folder, "board"), device))
-            else:
-                self.flash = self.files.get("flash", self.erased())
+            self.flash = bytes(device.flash) if self.board else self.held()
             self.check()
-
-    def make_room(self):
-        os.makedirs(os.path.join(self.room, "elsewhere"))
-        first = {}
-        for name, number in sorted(self.names.items()):
-            path = os.path.join(self.room, name)
-            if number in first:
-                os.link(first[number], path)
-            else:
-                first[number] = path
-                pathlib.Path(path).write_bytes(self.files[name])
-
-    def erased(self):
-        return bytes([self.story.chip.erased]) * self.story.chip.size
 
     def use(self, name, journal, *more):
         """What the program said; where a reply came too late for it, it is used again."""
         device = self.board.socket if self.board else "sim:%04X:flash" % self.story.chip.number
         for wait in self.waits:
-            ran = self.run(name, "--table", "table", "--device", device, "--journal", journal, *more, "--wait", wait)
+            ran = call([self.program, name, "--table", "table", "--device", device, "--journal", journal, *more, "--wait", wait], self.room)
             said = ran.stderr.decode(errors="replace").strip()
             if ran.returncode == 0:
                 return ran.stdout.decode(errors="replace")
@@ -154,8 +143,7 @@ class Trial:
         """The flash."""
         if self.board:
             return self.board.stored()
-        path = pathlib.Path(self.room, "flash")
-        return path.read_bytes() if path.exists() else self.erased()
+        return self.read("flash") if (self.room / "flash").exists() else bytes([self.story.chip.erased]) * self.story.chip.size
 
     def same(self, flash, text):
         found = self.held()
@@ -213,15 +201,12 @@ class Trial:
     def is_readable(self, name):
         """Whether an undo reads a journal, as it does unless lines of a former one are left in it. `log --check` refuses none that
         can be read line by line."""
-        ran = self.run("log", "--check", "--journal", name)
+        ran = call([self.program, "log", "--check", "--journal", name], self.room)
         is_read = ran.returncode == 0 and b" bytes behind them\n" in ran.stdout
         said = (ran.stderr or ran.stdout).decode(errors="replace").strip()
         if not is_read and not (self.has_lines and re.fullmatch(r"stmflash: bad journal line \d+", said)):
             raise Bad("log --check says: %s" % said)
         return is_read
-
-    def run(self, *words):
-        return call([self.program, *words], self.room)
 
     def recovered(self, name):
         """What a crash left at a journal's end is cut off by a word that the fault names, and kept beside: nothing that was on the
@@ -249,7 +234,7 @@ class Trial:
         return depth
 
     def read(self, name):
-        return pathlib.Path(self.room, name).read_bytes()
+        return (self.room / name).read_bytes()
 
     def undone(self, name, wanted, *more):
         said = self.use("undo", name, *more)

@@ -70,24 +70,14 @@ class World:
             raise Fault(session.IN_SESSION)
         if use.name != "undo" and journal.is_unfinished():
             raise Fault(session.UNFINISHED)
-        if use.name == "undo" and journal.depth() == 0:
-            return None
-        if leaves and journal.unique is None and use.board is None:
+        if use.name == "undo" and journal.depth() == 0 or leaves and journal.unique is None and use.board is None:
             return None
         board = session.ask_board(rig, self.table)
-        if use.board is not None and not board.unique:
-            raise Fault(NO_BOARD)
-        if use.board is not None and not board.unique.hex().endswith(use.board.lower()):
-            raise Fault(OTHER_BOARD)
+        if use.board is not None and not (board.unique and board.unique.hex().endswith(use.board.lower())):
+            raise Fault(OTHER_BOARD if board.unique else NO_BOARD)
         if leaves and journal.is_of_other(board.unique):
             raise Fault(session.OTHER_BOARD)
         return board
-
-    def store(self, rig, name):
-        self.files[name] = bytes(rig.device.flash)
-        self.files[name + ".line"] = standing(rig.device)
-        if len(rig.journal) > 0:
-            self.files["J"] = bytes(rig.journal)
 
     def run(self, use):
         """The exit status, standard output, standard error, and the rig of the first session, where there was one."""
@@ -122,17 +112,24 @@ class World:
             if use.name == "info":
                 lines.append(b"" if board is None else tell_board(board, session.find(table, board.number)))
                 lines.append(tell_tried(*session.find(table, int(use.number, 16)).tried()))
-            if use.name in ("write", "erase"):
-                note_left(rig)
+            # behind a segment that has ended is what each page that it keeps holds now, in a journal that names its board: no step
+            if use.name in ("write", "erase") and (journal := session.load(rig)).version == 3:
+                for kept in journal.stack[-1].kept:
+                    rig.journal += left(kept.page, bytes(rig.device.flash[rig.device.chip.part(kept.page)])) + b"\n"
             if use.keeps():
-                lines.append(self.keep(rig, use.to))
+                # the journal is removed, or moved; that is no step
+                lines.append(b"kept %d\n" % session.load(rig).depth())
+                self.files |= {} if use.to is None else {use.to: bytes(rig.journal)}
+                self.files.pop("J", None)
+                rig.journal.clear()
             if use.go is not None:
                 session.leave(rig, wire.go, use.go)
             fault = None
         except FAULTS as failed:
             fault = failed
         if rig is not None:
-            self.store(rig, use.file)
+            self.files |= {use.file: bytes(rig.device.flash), use.file + ".line": standing(rig.device)}
+            self.files |= {"J": bytes(rig.journal)} if rig.journal else {}
         return lines, fault, rig
 
     def journal_text(self):
@@ -140,15 +137,6 @@ class World:
         if is_no_journal(text):
             raise Fault("J is no journal: name another, or move it away")
         return text
-
-    def keep(self, rig, name):
-        """The journal is removed, or moved; that is no step."""
-        count = session.load(rig).depth()
-        if name is not None:
-            self.files[name] = bytes(rig.journal)
-        self.files.pop("J", None)
-        rig.journal.clear()
-        return b"kept %d\n" % count
 
     def standing(self):
         """How many segments the journal's file has, and whether the newest is unfinished."""
@@ -163,19 +151,13 @@ class World:
         for turn in range(use.again):
             if lines or not isinstance(fault, WireFault):
                 break
-            why = text(fault)
-            count = max(self.standing()[0] - before, 0)
-            stays, back = None, b"nothing was begun"
+            why, count, stays, back = text(fault), max(self.standing()[0] - before, 0), None, b"nothing was begun"
             if count > 0:
-                undo = Use("undo", count=count, number=use.number, stop=use.stop, file=use.file, board=use.board,
-                           no_board=use.no_board, trusts=use.trusts)
-                _, stays, _ = self.once(undo, None)
+                undo = {name: getattr(use, name) for name in ("number", "stop", "file", "board", "no_board", "trusts")}
+                _, stays, _ = self.once(Use("undo", count=count, **undo), None)
                 back = b"undone" if stays is None else b"not undone: " + text(stays)
             err += b"again %d of %d: %s; %s\n" % (turn + 1, use.again, why, back)
-            if stays is None:
-                lines, fault, _ = self.once(use, image)
-            else:
-                fault = stays
+            lines, fault, _ = self.once(use, image) if stays is None else ([], stays, None)
         if fault is not None and not lines:
             err += stands(before, *self.standing())
         return told(lines, fault, err, self.note), rig
@@ -186,11 +168,8 @@ FAULTS = (Usage, Stopped, WireFault, Fault, ImageFault)
 
 def text(fault):
     """The program's words for a fault."""
-    if isinstance(fault, Usage):
-        return b"usage: %s" % str(fault).encode()
-    if isinstance(fault, Stopped):
-        return b"stopped"
-    return session.DEVICE.encode() if isinstance(fault, WireFault) else str(fault).encode()
+    told = {Usage: "usage: %s" % fault, Stopped: "stopped", WireFault: session.DEVICE}
+    return told.get(type(fault), str(fault)).encode()
 
 
 def told(lines, fault, err, note):
@@ -369,13 +348,6 @@ def do(rig, table, use, image, files):
 
 def count_of(journal, use):
     return session.to_change(journal) if use.to_change else use.count or 0
-
-
-def note_left(rig):
-    """Behind a segment that has ended stands what each page that it keeps holds now, in a journal that names its board: no step."""
-    journal, chip = session.load(rig), rig.device.chip
-    for kept in journal.stack[-1].kept if journal.version == 3 else []:
-        rig.journal += left(kept.page, bytes(rig.device.flash[chip.part(kept.page)])) + b"\n"
 
 
 def check_kept(rig, use):
