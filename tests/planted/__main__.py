@@ -9,6 +9,7 @@ The status is 3 where Go, a protection or an erase of everything came. --list pr
 
 import contextlib
 import os
+import pathlib
 import select
 import signal
 import socket
@@ -64,14 +65,10 @@ class Host:
         self.be_busy(board.behind)
 
     def be_busy(self, seconds):
-        if not seconds:
-            return
         until = time.monotonic() + seconds
-        while (left := until - time.monotonic()) > 0:
-            if not self.hear(left):
-                break
+        while seconds and (left := until - time.monotonic()) > 0 and self.hear(left):
             time.sleep(0.001)
-        if self.board.sets["loses"]:
+        if seconds and self.board.sets["loses"]:
             del self.waiting[1:]
 
     def send(self, replies):
@@ -91,10 +88,7 @@ def main():
     if words.list:
         print("\n".join(DEVIATIONS))
         return 0
-    flash = None
-    if os.path.exists(words.flash):
-        with open(words.flash, "rb") as file:
-            flash = file.read()
+    flash = pathlib.Path(words.flash).read_bytes() if os.path.exists(words.flash) else None
     board = PlantedBoard(int(words.id, 16), [words.size] * words.pages, int(words.erase, 16), DEVIATIONS[words.plant or "none"].sets, flash=flash)
     signal.signal(signal.SIGUSR1, lambda *_: board.reset())
     signal.signal(signal.SIGUSR2, lambda *_: board.lose_power())
@@ -115,8 +109,7 @@ def main():
 
 
 def store(path, board):
-    with open(path + ".unready", "wb") as file:
-        file.write(board.flash)
+    pathlib.Path(path + ".unready").write_bytes(board.flash)
     os.replace(path + ".unready", path)
 
 

@@ -30,14 +30,9 @@ class PlantedBoard(Device):
         codes = [GET, GET_VERSION, GET_ID, READ, 0x21, WRITE, code, 0x63, 0x73, 0x82, 0x92]
         codes += [ERASE if code == EXTENDED_ERASE else EXTENDED_ERASE] if self.sets["lists_both"] else []
         self.codes = [listed for listed in codes if not (self.sets["lists_no_write"] and listed == WRITE)]
-        self.version = 0x31
-        self.is_dead = bool(self.sets["is_silent"])
-        self.reads = 0
-        self.danger = []
-        # seconds of work before the replies to the byte that came, and seconds behind them
-        self.work, self.behind = 0.0, 0.0
-        # the pages of the last erase, which a loss of power may spoil
-        self.at_work = ()
+        self.version, self.is_dead, self.reads, self.danger = 0x31, bool(self.sets["is_silent"]), 0, []
+        # seconds of work before the replies to the byte that came, and behind them; the pages of the last erase, which a loss of power may spoil
+        self.work, self.behind, self.at_work = 0.0, 0.0, ()
 
     def reset(self):
         self.phase, self.is_dead = FRESH, bool(self.sets["is_silent"])
@@ -94,18 +89,14 @@ class PlantedBoard(Device):
         return REFUSED if self.sets["refuses_7f"] and rest[0] == 0x7F else super().judge(rest)
 
     def judge_code(self, code, complement):
-        if code not in self.codes or not self.is_complement(code, complement):
+        bits = (code ^ complement ^ 0xFF).bit_count()
+        is_taken = self.sets["takes_twice"] and code == complement and code in (GET, GET_ID) or bits <= bool(self.sets["any_complement"])
+        if code not in self.codes or not is_taken:
             return self.wrong()
         if code in DANGEROUS:
             self.danger.append(code)
             return DONE
         return REFUSED if code == READ and self.sets["is_protected"] else super().judge_code(code, code ^ 0xFF)
-
-    def is_complement(self, code, complement):
-        wrong = code ^ complement ^ 0xFF
-        if self.sets["takes_twice"] and code == complement and code in (GET, GET_ID):
-            return True
-        return wrong == 0 or bool(self.sets["any_complement"]) and wrong.bit_count() == 1
 
     def do(self, rest):
         if rest[0] not in DANGEROUS:
@@ -162,12 +153,10 @@ class PlantedBoard(Device):
         is_good = fold(rest[7:]) == 0 or bool(self.sets["any_check"])
         if (is_good or self.sets["write_first"]) and not self.can_write(at, len(data)):
             return REFUSED
-        if is_good:
-            self.work += self.sets["late_write"] or 0
-            return DONE
-        if self.sets["write_first"]:
+        self.work += is_good and self.sets["late_write"] or 0
+        if not is_good and self.sets["write_first"]:
             self.write(at, data)
-        return SILENT if self.sets["mute_data"] else REFUSED
+        return DONE if is_good else SILENT if self.sets["mute_data"] else REFUSED
 
     def can_write(self, at, count):
         is_whole = count % (self.sets["write_step"] or 1) == 0 or bool(self.sets["takes_4"]) and count == 4
@@ -196,13 +185,12 @@ class PlantedBoard(Device):
             return OPEN
         # whatever its check is
         said = super().judge_erase(rest[:-1] + bytes([fold(rest[2:-1])]))
-        if said == DONE and fold(rest[2:]) and not self.sets["any_check"]:
-            if self.sets["erase_first"]:
-                self.erase(rest)
-            return REFUSED
-        if said == DONE:
+        is_good = not fold(rest[2:]) or self.sets["any_check"]
+        if said == DONE and is_good:
             self.end_erase(self.pages_of(rest))
-        return said
+        elif said == DONE and self.sets["erase_first"]:
+            self.erase(rest)
+        return said if is_good or said != DONE else REFUSED
 
     def has_page(self, page):
         return super().has_page(page) or bool(self.sets["wraps"] or self.sets["absent_ok"])
@@ -212,17 +200,11 @@ class PlantedBoard(Device):
 
     def erase(self, rest):
         for page in self.pages_of(rest):
-            self.erase_page(page)
-
-    def erase_page(self, page):
-        page += self.sets["shift"] or 0
-        if self.sets["swap"]:
-            page = {1: 2, 2: 1}.get(page, page)
-        self.wipe(page)
-        if self.sets["pair"]:
-            self.wipe(page - 1)
-        if self.sets["wipes"] and page == self.chip.pages() - 1:
-            self.wipe(3)
+            page += self.sets["shift"] or 0
+            page = {1: 2, 2: 1}.get(page, page) if self.sets["swap"] else page
+            beside = [page - 1] * bool(self.sets["pair"]) + [3] * bool(self.sets["wipes"] and page == self.chip.pages() - 1)
+            for wiped in (page, *beside):
+                self.wipe(wiped)
 
     def wipe(self, page):
         if 0 <= page < self.chip.pages() and self.chip.part(page).stop <= self.chip.size:
@@ -231,9 +213,6 @@ class PlantedBoard(Device):
 
     def end_erase(self, pages):
         self.at_work = {page for page in pages if page < self.chip.pages()}
-        if self.sets["early"]:
-            self.behind = self.sets["early"]
-        else:
-            self.work += (self.sets["erase_seconds"] or 0.0) * len(pages)
-        if self.sets["busy_76"]:
-            self.owed.append(0x76)
+        self.behind = self.sets["early"] or self.behind
+        self.work += 0.0 if self.sets["early"] else (self.sets["erase_seconds"] or 0.0) * len(pages)
+        self.owed.extend([0x76] * bool(self.sets["busy_76"]))
