@@ -9,8 +9,7 @@ def record(kind, offset, data):
 
 
 def text_of(data, start, places, width=16):
-    """The records of the data at these places, the first at `start`, in this order; before one whose upper half is another stands one of
-    type 04."""
+    """The records of the data at these places, the first at `start`, in this order; before one whose upper half is another stands one of type 04."""
     lines, upper = [], 0
     for place in places:
         address = start + place

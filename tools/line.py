@@ -52,8 +52,7 @@ class Plain:
 
 
 class Paced(Plain):
-    """Takes as long as a line of this speed does, with 11 bits a byte, and holds what the device sends back so many seconds more, as
-    adapters do."""
+    """Takes as long as a line of this speed does, with 11 bits a byte, and holds what the device sends back so many seconds more, as adapters do."""
 
     def __init__(self, baud, hold=0):
         self.each, self.hold = 11 / baud, hold

@@ -1,8 +1,7 @@
 """A program of which allocations are refused.
 
-A refusal is what the program gets where the system has no memory. The program is traced (ptrace(2), Linux on x86-64), and stopped
-where it calls `rattle_alloc` or `rattle_realloc`, the functions of the kit's C library by which alone it takes memory. Where they
-return with 0 in rax, there was none.
+A refusal is what the program gets where the system has no memory. The program is traced (ptrace(2), Linux on x86-64), and stopped where it calls
+`rattle_alloc` or `rattle_realloc`, the functions of the kit's C library by which alone it takes memory. Where they return with 0 in rax, there was none.
 """
 
 import ctypes

@@ -50,8 +50,7 @@ class Actions:
         self.told.far("Read", part.end, 1, end="Done.\n")
 
     def fetch_file(self, part, path):
-        """Reads raw bytes into a file, whatever its name: by `stmflash read` one that ends in .hex would be a text, and one that isn't
-        UTF-8 no word."""
+        """Reads raw bytes into a file, whatever its name: by `stmflash read` one that ends in .hex would be a text, and one that isn't UTF-8 no word."""
         if as_text(path) == path and not path.lower().endswith(".hex"):
             return self.fetch(part, path)
         unready = f"{path}.{os.getpid()}"
@@ -218,8 +217,7 @@ class Actions:
         return ended
 
     def start(self, address):
-        """Starts a program. What was done stays, and its journal is put aside: as long as the program leaves the flash alone,
-        that can still be undone."""
+        """Starts a program. What was done stays, and its journal is put aside: as long as the program leaves the flash alone, that can still be undone."""
         if self.has_started:
             return True
         self.board.put_aside()

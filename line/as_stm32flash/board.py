@@ -119,8 +119,7 @@ class Board:
         return int(found[1]) if found else 0
 
     def put_aside(self, journal=None):
-        """Ends the journal in use, or another one, and keeps it as the newest that was put aside, unless it has changed nothing;
-        whether it is kept."""
+        """Ends the journal in use, or another one, and keeps it as the newest that was put aside, unless it has changed nothing; whether it is kept."""
         journal = journal or self.journals.live
         if not os.path.exists(journal):
             return False
@@ -217,8 +216,7 @@ class Board:
 
 
 def follow(pipe, show):
-    """The faults that come from a pipe, and the hints behind them, without the words before each; `show` is handed each other
-    line as it comes."""
+    """The faults that come from a pipe, and the hints behind them, without the words before each; `show` is handed each other line as it comes."""
     found = {"stmflash: ": [], "hint: ": []}
     for line in pipe:
         text = line.decode(errors="replace").strip()

@@ -1,5 +1,4 @@
-"""Names of files that were opened for this process, as /dev/stdin and /dev/fd/3: behind one of them any other process has a file of its
-own, or none."""
+"""Names of files that were opened for this process, as /dev/stdin and /dev/fd/3: behind one of them any other process has a file of its own, or none."""
 
 import os
 import stat
@@ -25,8 +24,7 @@ def is_handed(name):
 
 
 def take_output(asked):
-    """A file of this process that -r is to write is standard output, as `-` is, or takes the place of standard input, which such a call
-    doesn't read."""
+    """A file of this process that -r is to write is standard output, as `-` is, or takes the place of standard input, which such a call doesn't read."""
     name = asked.file
     if asked.action == "r" and name == "-" and sys.stdout is None:
         raise Fault("Raw BINARY ERROR: System Error\nstandard output is closed")

@@ -1,5 +1,4 @@
-"""stmflash-line in this process, and the inside of a call for its COMMAND: a child that goes on from here. So neither is another
-start of Python."""
+"""stmflash-line in this process, and the inside of a call for its COMMAND: a child that goes on from here. So neither is another start of Python."""
 
 import mmap
 import os

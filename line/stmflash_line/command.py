@@ -20,8 +20,7 @@ NEXT = f"ended by a signal: {UNDO}"
 
 
 def run(command, path, wait, baud, join):
-    """Runs COMMAND on the socket at this path, and answers its status. Where a signal ends us, or the port goes, it is
-    ended too."""
+    """Runs COMMAND on the socket at this path, and answers its status. Where a signal ends us, or the port goes, it is ended too."""
     child, wake = start(command, path, wait, baud), join.wake
     try:
         until = None

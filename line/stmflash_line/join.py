@@ -13,10 +13,9 @@ class Join:
     """A port and whoever is connected to the socket, one client after another. What comes while nobody is connected is
     dropped, as on a line that nobody listens at. What a client has sent goes out whole, also where it was killed since.
 
-    `entry` is called before the first byte of each client but the one that an `entered` board is for; None: nothing is. A client
-    that has sent nothing for `idle` seconds is let go of; 0: none is. `watch` ends the line at the first reply that isn't due;
-    None: each is handed on. `heard` is told how many seconds each first byte took that came for what was sent last; None: nobody
-    is."""
+    `entry` is called before the first byte of each client but the one that an `entered` board is for; None: nothing is. A client that has sent nothing for
+    `idle` seconds is let go of; 0: none is. `watch` ends the line at the first reply that isn't due; None: each is handed on. `heard` is told how many
+    seconds each first byte took that came for what was sent last; None: nobody is."""
 
     def __init__(self, port, listener, wake, entry=None, entered=False, idle=0, watch=None, heard=None):
         self.port, self.listener, self.wake = port, listener, wake
@@ -61,8 +60,7 @@ class Join:
         self.let_go()
 
     def end_of_patience(self):
-        """When a client that has the line has said nothing for too long; None: never. One whose bytes still wait for the port isn't
-        listened to."""
+        """When a client that has the line has said nothing for too long; None: never. One whose bytes still wait for the port isn't listened to."""
         if not self.idle or self.client is None:
             return None
         if self.out:

@@ -1,5 +1,4 @@
-"""The journals that nobody has named: each board's by its unique id, and for boards that tell none one of each port. stm32flash's words
-have the same."""
+"""The journals that nobody has named: each board's by its unique id, and for boards that tell none one of each port. stm32flash's words have the same."""
 
 import contextlib
 import fcntl
@@ -103,9 +102,8 @@ def state_folder():
 
 
 def name_of(port):
-    """A name that a port has for good: where its adapter is plugged in, as udev says it, or that of its device. A
-    pseudo-terminal is known by the name that it is called by, since its own is another one each time, and a port of another machine
-    by its word, which is no path."""
+    """A name that a port has for good: where its adapter is plugged in, as udev says it, or that of its device. A pseudo-terminal is known by the name that
+    it is called by, since its own is another one each time, and a port of another machine by its word, which is no path."""
     if is_pty(port):
         path = os.path.abspath(port)
         return named_by(os.path.basename(path), path)

@@ -21,8 +21,7 @@ TIMER = "/sys/class/tty/{}/device/latency_timer"
 
 
 def open_port(word, baud):
-    """The port that this word names: ours alone, 8 data bits, even parity, one stop bit, and quick; or one that another machine
-    has."""
+    """The port that this word names: ours alone, 8 data bits, even parity, one stop bit, and quick; or one that another machine has."""
     if word.startswith(FAR):
         # needed by few, and so not loaded by all
         from .far import open_far

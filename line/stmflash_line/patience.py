@@ -1,5 +1,4 @@
-"""How long a reply may take at a port, which a session of stmflash waits in full before its first answer, and behind each batch
-of bytes."""
+"""How long a reply may take at a port, which a session of stmflash waits in full before its first answer, and behind each batch of bytes."""
 
 import math
 import os

@@ -80,8 +80,7 @@ def wait_of(port, given, command):
 
 
 def baud_of(port):
-    """How many bits a second the line has. None where the port may not be the line: a pseudo-terminal has no speed, and a far port's
-    is the far end's."""
+    """How many bits a second the line has. None where the port may not be the line: a pseudo-terminal has no speed, and a far port's is the far end's."""
     return None if hold(port.name) is None else port.baud
 
 

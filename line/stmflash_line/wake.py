@@ -10,8 +10,7 @@ ENDING = (signal.SIGTERM, signal.SIGINT, signal.SIGHUP)
 
 
 class Wake:
-    """Signals as something to wait for: those that end us, and that COMMAND has ended. One that was ignored when we began
-    stays so."""
+    """Signals as something to wait for: those that end us, and that COMMAND has ended. One that was ignored when we began stays so."""
 
     def __init__(self):
         self.reader, writer = os.pipe2(os.O_NONBLOCK | os.O_CLOEXEC)

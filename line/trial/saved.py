@@ -11,8 +11,7 @@ PASSES = 3
 
 
 def store(path, data):
-    """Makes the file, which isn't there yet, and answers once it and its name are on the disk. One that has a part of it alone isn't
-    left."""
+    """Makes the file, which isn't there yet, and answers once it and its name are on the disk. One that has a part of it alone isn't left."""
     try:
         with open(path, "xb") as file:
             try:

@@ -66,8 +66,7 @@ class Trial:
             raise Refused("nothing was changed")
 
     def stop(self, number, _):
-        """A signal ends the row that is tried, and no other one is tried then; what was changed is still put back. A later one ends
-        everything."""
+        """A signal ends the row that is tried, and no other one is tried then; what was changed is still put back. A later one ends everything."""
         now = time.monotonic()
         if self.signalled is not None:
             if now - self.signalled < ONE_SIGNAL:

@@ -85,8 +85,7 @@ class Play:
         self.board.renew()
 
     def give_back(self, again):
-        """The next call, which is the script again or one that is to do nothing, and as many undos as are wanted then: who gave
-        the flash back."""
+        """The next call, which is the script again or one that is to do nothing, and as many undos as are wanted then: who gave the flash back."""
         said, flash = self.call("script") if again else self.call()
         if again and flash != self.wanted():
             raise Fault("the script went through again, and its image isn't there")

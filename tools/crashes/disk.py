@@ -1,10 +1,9 @@
 """What a crash of the PC leaves of files, by what a session did to them until then.
 
-It is what POSIX lets a file system leave, as docs/GATE.md tells it. A sector that isn't there as it was written holds what it held on the
-disk: the synced bytes and NUL, or what an earlier write left and NUL; one without a synced byte may hold bytes of a former file instead.
-The length is anything from the least to the greatest that the file had since its sync: behind its data, or ahead of them. Names are
-changed or aren't, each by itself; a rename within a folder is done whole or not at all. The sync of a file doesn't put its name on the
-disk. Not made are bytes that rot, and a folder that is lost.
+It is what POSIX lets a file system leave, as docs/GATE.md tells it. A sector that isn't there as it was written holds what it held on the disk: the synced
+bytes and NUL, or what an earlier write left and NUL; one without a synced byte may hold bytes of a former file instead. The length is anything from the least
+to the greatest that the file had since its sync: behind its data, or ahead of them. Names are changed or aren't, each by itself; a rename within a folder is
+done whole or not at all. The sync of a file doesn't put its name on the disk. Not made are bytes that rot, and a folder that is lost.
 """
 
 import os

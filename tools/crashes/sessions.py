@@ -13,8 +13,7 @@ SMALL, PLAIN, EXTENDED, LARGE, ZEROS = 0x0A03, 0x0412, 0x0A02, 0x0A05, 0x0A06
 FIRST, SECOND, ERASE = ("write", "first"), ("write", "second"), ("erase", "1", "3")
 # where a line begins in its sector, so that it lies in that and in the next; and where a tail ends in front of a header
 CROSSED, HEADER = 508, 497
-# how many bytes of a sector the header of a new journal, `open` and what follows it take, and how many of one a page's lines: of one that
-# names its board too
+# how many bytes of a sector the header of a new journal, `open` and what follows it take, and how many of one a page's lines: of one that names its board too
 HEADS, PAGES = (25, 90), (8, 22)
 
 

@@ -12,8 +12,7 @@ from disk import Disk
 from record import Reader, run
 from stops import BASE, CHIPS, board_of, call, table
 
-# how long a recorded session waits until the line counts as quiet, in ms, and how often one is recorded anew that a busy machine
-# was too late for
+# how long a recorded session waits until the line counts as quiet, in ms, and how often one is recorded anew that a busy machine was too late for
 WAIT, TRIES = "300", 4
 BOARD, FILE = "board", "file"
 

@@ -22,8 +22,7 @@ LATE = ("stmflash: device does not follow the protocol", "stmflash: no answer fr
 
 
 class State(typing.NamedTuple):
-    """A moment of a recorded session, how many bytes of the line the device got, and what a disk with sectors of so many bytes has
-    kept by then."""
+    """A moment of a recorded session, how many bytes of the line the device got, and what a disk with sectors of so many bytes has kept by then."""
 
     story: Story
     moment: int
@@ -209,9 +208,8 @@ class Trial:
         return is_read
 
     def recovered(self, name):
-        """What a crash left at a journal's end is cut off by a word that the fault names, and kept beside: nothing that was on the
-        disk for sure, but for the beginning of a line. Of several segments the newest is undone by that. Answers how many
-        there are."""
+        """What a crash left at a journal's end is cut off by a word that the fault names, and kept beside: nothing that was on the disk for sure, but for the
+        beginning of a line. Of several segments the newest is undone by that. Answers how many there are."""
         left = self.files[name]
         try:
             raise Bad("undo reads what it can't: %s" % self.use("undo", name))

@@ -30,8 +30,7 @@ def digest(top, faults):
 
 
 def blamed(said, top, faults):
-    """The faults in the lines that a build tells of: each whose switch stands there, or in the lines before, up to one that has any, or in
-    those behind."""
+    """The faults in the lines that a build tells of: each whose switch stands there, or in the lines before, up to one that has any, or in those behind."""
     found = set()
     for file, line in set(TOLD.findall(said)):
         # those of the program's own crate are told from there

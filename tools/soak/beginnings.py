@@ -32,8 +32,7 @@ def draw_chip(chance, number):
 
 
 def draw_places(chance, base, end):
-    """Where it tells its unique id and its size, or one of them: mostly somewhere else, also at an edge of the flash, or at one
-    place."""
+    """Where it tells its unique id and its size, or one of them: mostly somewhere else, also at an edge of the flash, or at one place."""
     def draw(length):
         drawn = (0x1FFFF7E8, 0x1FFFF7E0, 0, base - length, end, TOP - length, chance.randrange(TOP - length))
         return chance.choice([at for at in drawn if at + length <= TOP and (at + length <= base or end <= at)])

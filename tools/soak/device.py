@@ -41,8 +41,7 @@ class Chip:
         return Chip(self.number, self.base, self.sizes, self.extended, self.erased)
 
     def of_board(self, unique, kib):
-        """The chip of a device with this unique id, and with the pages that lie inside so many KiB; None, or where no page lies
-        inside: with all."""
+        """The chip of a device with this unique id, and with the pages that lie inside so many KiB; None, or where no page lies inside: with all."""
         inside = [size for start, size in zip(self.starts, self.sizes) if kib is None or start + size <= 1024 * kib]
         return Chip(self.number, self.base, inside or self.sizes, self.extended, self.erased, self.unique_at, self.size_at, unique)
 

@@ -36,8 +36,7 @@ def meddle(story):
 
 
 def lose_power(story):
-    """The device loses its power, it may be inside an erase or a write: it is reset, and pages that the unfinished newest segment
-    keeps hold any bytes."""
+    """The device loses its power, it may be inside an erase or a write: it is reset, and pages that the unfinished newest segment keeps hold any bytes."""
     chance, name, journal = story.chance, story.home, story.journal()
     chip = story.chips[name]
     risked = journal.risked_pages() if journal is not None else []

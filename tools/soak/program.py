@@ -207,8 +207,7 @@ def others(name):
 
 
 def read_board(text):
-    """What a simulator's file says of its board: its unique id or no byte, and how many KiB its flash has, or None. None where it
-    says something else."""
+    """What a simulator's file says of its board: its unique id or no byte, and how many KiB its flash has, or None. None where it says something else."""
     if len(text) > 256:
         return None
     unique, kib = b"", None

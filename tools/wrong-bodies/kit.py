@@ -58,9 +58,8 @@ def leave_open(crate, room, path):
 
 
 def check(crate, functions, texts, asked, kept):
-    """Checks these functions with these texts in place of the crate's own, and every other one taken by its contract: what was
-    said, and the status. What is checked is kept in a folder for the next check. A function that the prover doesn't know by its path
-    is proved there as ever."""
+    """Checks these functions with these texts in place of the crate's own, and every other one taken by its contract: what was said, and the status. What is
+    checked is kept in a folder for the next check. A function that the prover doesn't know by its path is proved there as ever."""
     proved = set()
     while True:
         said, status = check_beside(crate, functions, texts, asked, kept, proved)
@@ -99,8 +98,7 @@ def share_work():
 
 
 def begin(crate, kept):
-    """Fills the folder with what a check of the crate kept on this machine, where one did: in any checkout, where the kit shares them, else in
-    this one."""
+    """Fills the folder with what a check of the crate kept on this machine, where one did: in any checkout, where the kit shares them, else in this one."""
     try:
         start = rt.work_for(crate) if hasattr(rt, "work_for") else f"{crate.folder}/out/incremental"
         if start and os.path.isdir(start):

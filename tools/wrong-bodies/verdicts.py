@@ -3,9 +3,8 @@
 import collections
 import re
 
-# In order of what they say of a function's contract: values at which a goal of the function is false; a goal that no answer and
-# no search proves; an answer that doesn't prove its goal; and what says nothing of it, as a name that went or a callee that isn't
-# proved.
+# In order of what they say of a function's contract: values at which a goal of the function is false; a goal that no answer and no search proves; an answer
+# that doesn't prove its goal; and what says nothing of it, as a name that went or a callee that isn't proved.
 FALSE, OPEN, ANSWER, NAMES = "false", "open", "answer", "names"
 
 # The path is the prover's, without the crate; the goal is '' where the line names none.
