@@ -17,11 +17,8 @@ class Figures:
     something, was answered. The processor time is the host's own, as the system counts it; the time by the clock is since here."""
 
     def __init__(self):
-        self.began = time.monotonic()
-        self.out = 0
-        self.into = 0
-        self.turns = 0
-        self.asked = False
+        self.began, self.asked = time.monotonic(), False
+        self.out = self.into = self.turns = 0
 
     def sent(self, count):
         self.out += count
@@ -33,8 +30,8 @@ class Figures:
         self.asked = False
 
     def store(self, path, used):
-        figures = {"out": self.out, "in": self.into, "turns": self.turns}
-        figures |= {"processor": used.ru_utime + used.ru_stime, "clock": time.monotonic() - self.began}
+        figures = {"out": self.out, "in": self.into, "turns": self.turns, "processor": used.ru_utime + used.ru_stime,
+                   "clock": time.monotonic() - self.began}
         with open(path, "w", encoding="ascii") as told:
             json.dump(figures, told)
 

@@ -29,13 +29,6 @@ import plants  # noqa: E402
 import race  # noqa: E402
 
 
-def record_all(program, stories, pool, folder):
-    """Records the stories, those behind a crash of another one last."""
-    for is_behind in (False, True):
-        for begun in [pool.submit(story.record, program, folder) for story in stories if isinstance(story, BehindCrash) == is_behind]:
-            begun.result()
-
-
 def needed(stories, names):
     """The stories of these names, and those that they stand behind."""
     found = {name: stories[name] for name in names}
@@ -88,7 +81,10 @@ def run(given, stories, pool, folder):
     name, *key = given.only.split(":") if given.only else [None]
     counts = race.BYTES if name is None else (int(key[0]),) if name == race.NAME else ()
     chosen = needed(stories, [] if name == race.NAME else [name] if name else drawn(stories, given.seed))
-    record_all(given.program, chosen, pool, folder)
+    # those behind a crash of another one last
+    for is_behind in (False, True):
+        for begun in [pool.submit(story.record, given.program, folder) for story in chosen if isinstance(story, BehindCrash) == is_behind]:
+            begun.result()
     planted = plants.planted(given.plant, chosen)
     if given.only and not counts:
         states = [State.of({story.name: story for story in planted}, given.only)]

@@ -55,12 +55,6 @@ def disk_at(story, moment, sector=SECTOR):
     return disk
 
 
-def counts_at(story, moment):
-    """How many bytes the device has got at the least, since it replied to them, and at the most."""
-    received = story.events[moment - 1].received if moment else 0
-    return bisect.bisect_left([*itertools.accumulate(story.replies, initial=0)], received), len(story.sent(moment))
-
-
 def draw(story, seed, number):
     """A state of a story. The second is of its end. Every other one is of a moment at which bytes of the journal in several
     sectors aren't on the disk, each such moment in turn; the last of these sectors is there, and something before it isn't, or it alone isn't."""
@@ -75,7 +69,9 @@ def draw(story, seed, number):
         moment = chance.choice(story.unsynced)
     else:
         moment = chance.randrange(len(story.events) + 1)
-    least, most = counts_at(story, moment)
+    # how many bytes the device has got at the least, since it replied to them, and at the most
+    received = story.events[moment - 1].received if moment else 0
+    least, most = bisect.bisect_left([*itertools.accumulate(story.replies, initial=0)], received), len(story.sent(moment))
     count = chance.choice((most, most, least, chance.randint(least, most)))
     sector = SECTORS[number // 4 % len(SECTORS)]
     return State(story, moment, count, sector, disk_at(story, moment, sector).draw(chance, kinds, is_hole))

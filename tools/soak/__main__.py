@@ -74,7 +74,9 @@ class Story:
         except Fault:
             chip = self.kind.without_places()
         self.chips[name] = chip
-        flash = beginnings.draw_flash(chance, chip)
+        kind = chance.randrange(6)
+        sizes = [chip.size] if kind < 3 else chip.sizes
+        flash = b"".join(beginnings.draw_content(chance, chip, size) for size in sizes) if kind else None
         if flash is not None and chance.random() < 0.005:
             flash += b"\0"
         # the other board is mostly as it was reset, so that the premises hold

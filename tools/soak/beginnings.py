@@ -103,12 +103,6 @@ def table_text(chance, chips):
     return text.encode()
 
 
-def draw_flash(chance, chip):
-    """None is a missing file."""
-    kind = chance.randrange(6)
-    return None if kind == 0 else b"".join(draw_content(chance, chip, size) for size in ([chip.size] if kind < 3 else chip.sizes))
-
-
 def draw_rest(chance, chip):
     """What a device may have been left with, by this host or another: the start of some frame; seldom no such thing."""
     base, erase = bytes(wire.placed(chip.base)), bytes(wire.pair(chip.erase_code()))

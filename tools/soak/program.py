@@ -111,7 +111,10 @@ class World:
             self.note = note(use, lines[0], before, "J" in self.files)
             if use.name == "info":
                 lines.append(b"" if board is None else tell_board(board, session.find(table, board.number)))
-                lines.append(tell_tried(*session.find(table, int(use.number, 16)).tried()))
+                real, simulated = session.find(table, int(use.number, 16)).tried()
+                # last, of a chip whose entry has the key
+                told_of = b"tried on %s board%s\n" % (b"%d" % real if real else b"no", b"s" if real > 1 else b"" if real else b" yet")
+                lines.append(told_of if real + simulated else b"")
             # behind a segment that has ended is what each page that it keeps holds now, in a journal that names its board: no step
             if use.name in ("write", "erase") and (journal := session.load(rig)).version == 3:
                 for kept in journal.stack[-1].kept:
@@ -306,21 +309,10 @@ def tell(chip, version, codes):
 
 def tell_board(board, chip):
     """What `info` prints behind that, where the device was asked."""
-    found = b""
-    if board.unique:
-        found += b"board %s\n" % board.unique.hex().upper().encode()
-    if board.kib is not None:
-        size = 1024 * board.kib
-        beside = ", more than the pages" if size > chip.size else ", less than the pages" if size < chip.size else ""
-        found += b"flash %d KiB%s\n" % (board.kib, beside.encode())
-    return found
-
-
-def tell_tried(real, simulated):
-    """What `info` prints last, of a chip whose entry has the key."""
-    if real + simulated == 0:
-        return b""
-    return b"tried on %s board%s\n" % (b"%d" % real if real else b"no", b"s" if real > 1 else b"" if real else b" yet")
+    size = 1024 * (board.kib or 0)
+    beside = b", more than the pages" if size > chip.size else b", less than the pages" if size < chip.size else b""
+    return (b"board %s\n" % board.unique.hex().upper().encode() if board.unique else b"") + (
+        b"" if board.kib is None else b"flash %d KiB%s\n" % (board.kib, beside))
 
 
 def do(rig, table, use, image, files):

@@ -25,53 +25,40 @@ def limit_for(byte, extended):
 
 def drain(rig):
     taken = []
-    while True:
-        byte = rig.get()
-        if byte is None:
-            return taken
+    while (byte := rig.get()) is not None:
         taken.append(byte)
         if len(taken) > DRAINED:
             raise WireFault()
+    return taken
 
 
 def settle(rig, byte, limit=LIMIT, in_batches=False):
     rig.begin("settle")
     drain(rig)
-    left = settle_in_batches(rig, byte, limit) if in_batches or byte != CONNECT else limit
-    while left > 0:
+    sent, is_refused = 0, not in_batches and byte == CONNECT
+    while not is_refused and limit - sent > 2:
+        batch = batch_size(sent, limit - sent)
+        put(rig, [byte] * batch)
+        sent += batch
+        is_refused = NACK in drain(rig)
+    for _ in range(limit - sent):
         rig.put(byte)
-        left -= 1
         reply = rig.get()
         if reply is not None:
             drain(rig)
         if reply == NACK:
             return
-    connect(rig, byte)
+    # the limit is used up: the device is fresh, or gone
+    put(rig, [CONNECT], ACK)
+    drain(rig)
+    put(rig, [byte], None)
+    put(rig, [byte], NACK, None)
 
 
 def batch_size(sent, left):
     if sent < BATCH or left <= 2 * BATCH:
         return min(BATCH, left - 2)
     return min(BEGINNING - BATCH if sent < BEGINNING else LARGE_BATCH, left - BATCH)
-
-
-def settle_in_batches(rig, byte, left):
-    sent = 0
-    while left > 2:
-        batch = batch_size(sent, left)
-        put(rig, [byte] * batch)
-        left, sent = left - batch, sent + batch
-        if NACK in drain(rig):
-            break
-    return left
-
-
-def connect(rig, byte):
-    """The limit is used up: the device is fresh, or gone."""
-    send(rig, [CONNECT])
-    drain(rig)
-    put(rig, [byte], None)
-    put(rig, [byte], NACK, None)
 
 
 def expect(rig, reply):

@@ -79,10 +79,8 @@ class Functions:
         text = self.texts[file]
         for found in HEADER.finditer(text):
             above = text[:found.start()]
-            attributes = above[above.rfind("\n\n") + 1:]
-            cycle = CYCLE.findall(attributes)
             path, is_of_trait = self.path_of(file, found)
-            yield Function(path, file, found.start(), cycle[-1] if cycle else None, is_of_trait)
+            yield Function(path, file, found.start(), (CYCLE.findall(above[above.rfind("\n\n") + 1:]) or [None])[-1], is_of_trait)
 
     def path_of(self, file, header):
         """The path of the function with that header, None where it can't be told, and whether it is of a trait."""
