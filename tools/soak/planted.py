@@ -18,7 +18,7 @@ import tempfile
 
 HERE = os.path.dirname(os.path.abspath(__file__))
 TOP = os.path.dirname(os.path.dirname(HERE))
-sys.path.append(os.path.join(TOP, "tools", "wrong-bodies"))
+sys.path += [os.path.join(TOP, "tools", "wrong-bodies"), os.path.join(TOP, "tools")]
 
 from edits import pairs_of
 from stand_in import PLANTED
