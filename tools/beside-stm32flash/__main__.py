@@ -14,6 +14,7 @@ progress. docs/SWITCH.md has a row for each call that differs: the rows have to 
 Left out, with a word, where Debian's stm32flash or python3-serial isn't installed.
 """
 
+import collections
 import concurrent.futures
 import os
 import pathlib
@@ -64,21 +65,14 @@ def lines(result, words):
 
 def differences(first, theirs, ours, words):
     """What differs: `status A B`, `flash`, or `rest` where ours has left what theirs has erased, and `text`."""
-    found = set()
-    if theirs["status"] != ours["status"]:
-        found.add(f"status {theirs['status']} {ours['status']}")
-    if theirs["flash"] != ours["flash"]:
-        places = [i for i in range(SIZE) if theirs["flash"][i] != ours["flash"][i]]
-        rest = all(theirs["flash"][i] == 0xFF and ours["flash"][i] == first[i] for i in places)
-        # a page that ours has left as it was, whole, wasn't written by it
-        pages = {i // PAGE_SIZE for i in places}
-        written = all(first[n * PAGE_SIZE:(n + 1) * PAGE_SIZE] != ours["flash"][n * PAGE_SIZE:(n + 1) * PAGE_SIZE] for n in pages)
-        found.add("rest" if rest and written else "flash")
-    if theirs["read"] != ours["read"]:
-        found.add("read")
-    if lines(theirs, words) != lines(ours, words):
-        found.add("text")
-    return found
+    places = [i for i in range(SIZE) if theirs["flash"][i] != ours["flash"][i]]
+    rest = all(theirs["flash"][i] == 0xFF and ours["flash"][i] == first[i] for i in places)
+    # a page that ours has left as it was, whole, wasn't written by it
+    pages = [slice(at, at + PAGE_SIZE) for at in {i // PAGE_SIZE * PAGE_SIZE for i in places}]
+    written = all(first[page] != ours["flash"][page] for page in pages)
+    return {what for what, differs in (
+        (f"status {theirs['status']} {ours['status']}", theirs["status"] != ours["status"]), ("rest" if rest and written else "flash", bool(places)),
+        ("read", theirs["read"] != ours["read"]), ("text", lines(theirs, words) != lines(ours, words))) if differs}
 
 
 def compare(program, source, call, show):
@@ -96,25 +90,17 @@ def compare(program, source, call, show):
         room.end()
 
 
-def told():
-    """What docs/SWITCH.md says of each call: the calls are the first column of its table, what differs the second."""
-    found = {}
-    part = pathlib.Path(TOP, "docs", "SWITCH.md").read_text(encoding="utf-8").split("\n## What differs\n")[1].split("\n## ")[0]
-    for row in re.findall(r"^\| (`.*?) \| ([^|]*) \|", part, re.M):
-        for call in re.findall("`([^`]*)`", row[0]):
-            found.setdefault(call, set()).update(part.strip() for part in row[1].split(","))
-    return found
-
-
 def check_table(found):
-    """Each fault of the table: a row too many, one too few, another difference."""
-    rows = told()
-    faults = [f"{call}: is in the table, and isn't tried" for call in rows if call not in CALLS]
-    for call, kinds in found.items():
-        if kinds != rows.get(call, set()):
-            wanted = sorted(rows.get(call, ())) or "nothing"
-            faults.append(f"{call}: differs in {sorted(kinds) or 'nothing'}, and the table says {wanted}")
-    return faults
+    """Each fault of docs/SWITCH.md, whose table has calls in its first column, and in the second what differs: a row too many, one too few,
+    another difference."""
+    rows = collections.defaultdict(set)
+    part = pathlib.Path(TOP, "docs", "SWITCH.md").read_text(encoding="utf-8").split("\n## What differs\n")[1].split("\n## ")[0]
+    for calls, kinds in re.findall(r"^\| (`.*?) \| ([^|]*) \|", part, re.M):
+        for call in re.findall("`([^`]*)`", calls):
+            rows[call].update(kind.strip() for kind in kinds.split(","))
+    return [f"{call}: is in the table, and isn't tried" for call in rows if call not in CALLS] + [
+        f"{call}: differs in {sorted(kinds) or 'nothing'}, and the table says {sorted(rows.get(call, ())) or 'nothing'}"
+        for call, kinds in found.items() if kinds != rows.get(call, set())]
 
 
 def main():
