@@ -94,23 +94,17 @@ class Story:
         reader = Reader(room, Disk(files))
         with contextlib.ExitStack() as beside:
             board = beside.enter_context(Board(program, os.path.join(folder, "board"), self.device)) if self.way == BOARD else None
-            for number in range(len(self.uses)):
-                self.use(program, room, reader, number, board.socket if board else "sim")
+            for number, use in enumerate(self.uses):
+                words, killed = self.words(use, board.socket if board else "sim"), self.kill is not None and number == 0
+                reader.begin()
+                ran = run([program, *words], room, os.path.join(folder, "record"), "fsync:signal=KILL:when=%d" % self.kill if killed else None)
+                reader.read(pathlib.Path(folder, "record").read_text(encoding="ascii"))
+                if ran.returncode not in ((-9, 137) if killed else (0,)):
+                    raise Unrecorded("%s: %s: status %d: %s" % (self.name, " ".join(words), ran.returncode, ran.stderr.decode().strip()))
             self.events = reader.events
             self.after = held(room)
             self.flash_after = self.checked(reader, room, board)
             self.note()
-
-    def use(self, program, room, reader, number, device):
-        """One use of the program, recorded."""
-        words = self.words(self.uses[number], device)
-        killed = self.kill is not None and number == 0
-        record = os.path.join(room, "..", "record")
-        reader.begin()
-        ran = run([program, *words], room, record, "fsync:signal=KILL:when=%d" % self.kill if killed else None)
-        reader.read(pathlib.Path(record).read_text(encoding="ascii"))
-        if ran.returncode not in ((-9, 137) if killed else (0,)):
-            raise Unrecorded("%s: %s: status %d: %s" % (self.name, " ".join(words), ran.returncode, ran.stderr.decode().strip()))
 
     def checked(self, reader, room, board):
         """The flash behind the session, where its record has all that it did."""

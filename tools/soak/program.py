@@ -102,8 +102,11 @@ class World:
             # what is no journal is refused, and the simulator's files aren't looked at then
             journal = self.journal_text()
             rig = Rig(self.device(use), journal, use.stop)
-            if use.name == "undo" and not use.trusts:
-                check_kept(rig, use)
+            # the pages that an undo is to give back are as they were kept; what else is the matter with the journal is told behind it
+            with contextlib.suppress(BadLine):
+                kept = Journal(rig.journal)
+                if use.name == "undo" and not use.trusts and (found := kept.damaged(count_of(kept, use))):
+                    raise Fault(session.DAMAGED % found)
             board = self.ask(rig, use)
             table = self.table if board is None else board.table(self.table)
             before = session.load(rig).stack if use.name == "undo" else []
@@ -339,14 +342,6 @@ def do(rig, table, use, image, files):
 
 def count_of(journal, use):
     return session.to_change(journal) if use.to_change else use.count or 0
-
-
-def check_kept(rig, use):
-    """The pages that an undo is to give back are as they were kept. What else is the matter with the journal is told behind it."""
-    with contextlib.suppress(BadLine):
-        journal = Journal(rig.journal)
-        if found := journal.damaged(count_of(journal, use)):
-            raise Fault(session.DAMAGED % found)
 
 
 def read(rig, table, use):

@@ -60,7 +60,13 @@ def ask_board(rig, table):
     journal = load(rig)
     if journal.is_unfinished():
         chip = find(table, journal.number)
-        check_unasked(journal, chip)
+        # it fits some board of the chip: its unique id has the length that such boards tell, and its lines fit all pages or, where boards tell
+        # their size, the first 257 or 256
+        if journal.unique is not None and len(journal.unique) != (0 if chip.unique_at is None else chip.unique_at[1]):
+            raise Fault(OTHER_BOARD)
+        lines = [misfit(journal, part) for part in ([chip] if chip.size_at is None else [chip, chip.first_pages(257), chip.first_pages(256)])]
+        if None not in lines:
+            raise Fault("bad journal line %d" % lines[0])
         settle_by(rig, journal, chip)
     else:
         wire.settle(rig, CONNECT)
@@ -96,18 +102,6 @@ def misfit(journal, chip):
             if chip.sizes[kept.page:kept.page + 1] != [len(kept.held)]
             or kept.page == 1 and COMPANION < chip.pages() and not segment.keeps(COMPANION)]
     return min(bad, default=None)
-
-
-def check_unasked(journal, chip):
-    """An unfinished journal fits some board of the chip: its unique id has the length that such boards tell, and its lines fit all pages
-    or, where boards tell their size, the first 257 or 256."""
-    told = 0 if chip.unique_at is None else chip.unique_at[1]
-    if journal.unique is not None and len(journal.unique) != told:
-        raise Fault(OTHER_BOARD)
-    parts = [chip] if chip.size_at is None else [chip, chip.first_pages(257), chip.first_pages(256)]
-    lines = [misfit(journal, part) for part in parts]
-    if None not in lines:
-        raise Fault("bad journal line %d" % lines[0])
 
 
 def open_session(rig, table):

@@ -18,14 +18,9 @@ def judge(edit, verdicts, functions):
     found = [it for path in sorted(edit.functions) for it in verdicts.of_function(path, functions)]
     lines = {kind: [it.line for it in found if it.kind == kind] for kind in (FALSE, OPEN, ANSWER, NAMES)}
     failed = lines[ANSWER] + lines[OPEN]
-    if lines[FALSE]:
-        return IS_FALSE, lines[FALSE][0]
-    if failed and is_one_word(edit) and not lines[NAMES]:
-        return ONE_WORD, failed[0]
-    if failed:
-        return FAILED, failed[0]
-    if lines[NAMES]:
-        return GONE, lines[NAMES][0]
+    for came, said in ((IS_FALSE, lines[FALSE]), (ONE_WORD if is_one_word(edit) and not lines[NAMES] else FAILED, failed), (GONE, lines[NAMES])):
+        if said:
+            return came, said[0]
     if all(verdicts.is_proved(path) for path in edit.functions):
         return PASSED, ""
     said = [verdicts.of[path] for path in sorted(edit.functions) if path in verdicts.of]
