@@ -47,6 +47,7 @@ class Story:
     def __init__(self, program, seed, index, allowed, room):
         self.program, self.name, self.allowed, self.room = program, "%s/%d" % (seed, index), allowed, room
         self.told, self.counts = [], dict.fromkeys(COUNTED, 0)
+        self.tell = self.told.append
         chance = self.chance = random.Random(self.name)
         number = chance.choice((0x0412, 0x0A01, chance.randrange(0x10000)))
         self.kind = beginnings.draw_chip(chance, number)
@@ -105,9 +106,6 @@ class Story:
 
     def is_gone(self, name):
         return self.world.files.get(name + ".line") == b"gone\n"
-
-    def tell(self, text):
-        self.told.append(text)
 
     def play(self):
         for _ in range(self.chance.randrange(3, 16)):

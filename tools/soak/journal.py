@@ -26,19 +26,15 @@ class BadLine(Exception):
         self.line = line
 
 
-def is_begun(line):
-    """What stopped appends of a header leave: a beginning of one, which may be nothing, and NUL and `!` alone behind it."""
-    line = line.rstrip(b"\0!")
-    return any(len(line) <= len(header) and HEADER.fullmatch(line + header[len(line):]) for header in HEADERS)
-
-
 def is_no_journal(text):
-    """By the first line that isn't void, where there is one; else by whether all of it may be a header that was begun."""
+    """By the first line that isn't void, where there is one; else by whether all of it may be what stopped appends of a header leave: a
+    beginning of one, which may be nothing, and NUL and `!` alone behind it."""
     lines = bytes(text).split(b"\n")
     for line in lines[:-1]:
         if not line.endswith(b"!"):
             return not line.startswith(b"stmjournal ")
-    return not all(map(is_begun, lines))
+    begun = [line.rstrip(b"\0!") for line in lines]
+    return not all(any(len(line) <= len(header) and HEADER.fullmatch(line + header[len(line):]) for header in HEADERS) for line in begun)
 
 
 def seal(held):

@@ -124,17 +124,6 @@ def page_of(chip, address):
     return bisect.bisect_right(chip.starts, address - chip.base) - 1
 
 
-def check_inside(chip, command):
-    if isinstance(command, Erase):
-        inside = all(page < chip.pages() for page in command.pages)
-    elif isinstance(command, Read):
-        inside = command.length == 0 or chip.has(command.start, command.length)
-    else:
-        inside = all(chip.has(address, 1) for address in command.image)
-    if not inside:
-        raise Fault(OUT_OF_FLASH)
-
-
 def read_part(rig, chip, start, length):
     """Any part of the flash, in blocks of at most 256 bytes that stay within a page."""
     taken = b""
@@ -250,7 +239,12 @@ def begin(rig, table, commands):
     if segments > 0 and chip.erase_code() not in codes:
         raise Fault(NO_ERASE)
     for command in commands:
-        check_inside(chip, command)
+        if isinstance(command, Read):
+            inside = command.length == 0 or chip.has(command.start, command.length)
+        else:
+            inside = all(page < chip.pages() for page in command.pages) if isinstance(command, Erase) else all(chip.has(at, 1) for at in command.image)
+        if not inside:
+            raise Fault(OUT_OF_FLASH)
     if journal.depth() + segments > DEEPEST:
         raise Fault(FULL)
     confirm(rig, chip)

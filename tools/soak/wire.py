@@ -144,10 +144,7 @@ def program(rig, address, data):
 
 def erase_page(rig, extended, page):
     rig.begin("erase frame")
-    if extended:
-        send(rig, pair(EXTENDED_ERASE), [0, 0, *checked([page >> 8, page & 0xFF])])
-    else:
-        send(rig, pair(ERASE), [0, *checked([page])])
+    send(rig, *((pair(EXTENDED_ERASE), [0, 0, *checked([page >> 8, page & 0xFF])]) if extended else (pair(ERASE), [0, *checked([page])])))
 
 
 def go(rig, address):

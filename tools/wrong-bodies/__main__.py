@@ -146,12 +146,9 @@ class Trial:
         came = self.try_all(edits)
         for edit in edits:
             kind, why = came[edit.name]
-            if kind == PASSED:
-                self.say(SAME, edit.name, "proved, as it is to be")
-            elif kind in (FAILED, GONE):
-                self.say(SILENT, edit.name, f"says nothing, {kind}: {why[:160]}")
-            else:
-                self.say(FALSELY, edit.name, f"{'REFUSED' if kind in REFUSED else 'NOT TRIED'}, {kind}: {why[:160]}")
+            counts = SAME if kind == PASSED else SILENT if kind in (FAILED, GONE) else FALSELY
+            word = "says nothing" if counts == SILENT else "REFUSED" if kind in REFUSED else "NOT TRIED"
+            self.say(counts, edit.name, "proved, as it is to be" if counts == SAME else f"{word}, {kind}: {why[:160]}")
         return self.told
 
 
