@@ -77,7 +77,7 @@ class Story:
         self.chips[name] = chip
         kind = chance.randrange(6)
         sizes = [chip.size] if kind < 3 else chip.sizes
-        flash = b"".join(beginnings.draw_content(chance, chip, size) for size in sizes) if kind else None
+        flash = b"".join(stories.draw_content(chance, chip, size) for size in sizes) if kind else None
         if flash is not None and chance.random() < 0.005:
             flash += b"\0"
         # the other board is mostly as it was reset, so that the premises hold

@@ -1,7 +1,6 @@
 """What a story begins with: a chip, a table, and files, drawn from its source of chance."""
 
 from device import Chip
-from stories import draw_content
 import wire
 
 SIZES = (256, 256, 256, 512, 768, 1024, 2048)
