@@ -1,16 +1,18 @@
 """Rows: cases that are told as text, and how they are played (tests/stated.rows and tests/uses.rows say how one is written)."""
 
+import concurrent.futures
 import os
 import re
 import resource
 import shlex
 import shutil
+import time
 
 from place import COUNTING, WAIT, Said, is_slow, is_unproved, program, text_in
 from served import Served
 
-# a part of a file's bytes, and how often it comes
-PART = re.compile(r'("(?:[^"\\]|\\.)*"|[0-9A-F]+|(?:counting|digits)(?::\d+:\d+)?|segments)(?:\*(\d+))?')
+# a part of a file's bytes, and how often it comes; and how many of all before it are left
+PART = re.compile(r'("(?:[^"\\]|\\.)*"|<[\d+-]+|[0-9A-F]+|(?:counting|digits)(?::\d+:\d+)?|segments)(?:\*(\d+))?')
 
 # what stands in what a call prints and says: all of it as a regular expression; its first line, and its last
 FORMS = {"prints": ("out", "{}"), "says": ("err", "{}"), "first": ("err", "{}\n.*"), "last": ("err", "(.*\n)?{}\n"), "line": ("out", "(.*\n)?{}\n.*")}
@@ -37,12 +39,25 @@ def bytes_of(told):
     parts = PART.findall(told)
     if PART.sub("", told).strip():
         raise ValueError(f"no bytes: {told}")
-    return b"".join(part(one) * int(times or 1) for one, times in parts)
+    made = b""
+    for one, times in parts:
+        made = made[:count_of(one[1:])] if one.startswith("<") else made + part(one) * int(times or 1)
+    return made
+
+
+def count_of(told):
+    """A number, or what is added to one and taken from it."""
+    return sum(map(int, re.findall(r"[+-]?\d+", told)))
 
 
 def named(text, names):
     """A text with what its names in capitals stand for."""
     return re.sub(r"\$([A-Z]+)", lambda it: names.get(it[1], it[0]), text)
+
+
+def odd(text):
+    """A text with each character that is told by its number."""
+    return re.sub(r"\{x([0-9A-F]+)\}", lambda it: chr(int(it[1], 16)), text)
 
 
 def spread(title, lines):
@@ -52,7 +67,8 @@ def spread(title, lines):
         yield title, [(*line.split(" ", 1), "")[:2] for line in lines]
         return
     _, names, values = lines.pop(at).split(" ", 2)
-    for value in values.split(" | "):
+    runs = [(value, re.match(r"(\d+)\.\.(\d+)(?= |$)", value)) for value in values.split(" | ")]
+    for value in (f"{it}{value[run.end():]}" if run else value for value, run in runs for it in (range(int(run[1]), int(run[2]) + 1) if run else (0,))):
         given = dict(zip(names.split("/"), value.split(" / ")))
         yield from spread(f"{title} ({value})", [named(line, given) for line in lines])
 
@@ -92,6 +108,9 @@ class Rows(Served):
     def placed(self, told):
         """A line with what its names in braces stand for."""
         return told.replace("{here}", self.folder).replace("{bad}", "\udcff")
+
+    def path(self, name):
+        return super().path(odd(name))
 
     def put(self, name, data):
         """Stores a file; None: neither a file nor a folder is there."""
@@ -138,12 +157,16 @@ class Rows(Served):
 
         checks = f"allocator_may_return_null=1:max_allocation_size_mb={most // 2000000}" if most else ""
         variables = {**self.variables, **({"ASAN_OPTIONS": checks} if checks else {})}
-        said = self.call(*shlex.split(re.sub(r"(?<!\S)@(\w{4})(?!\S)", at, words)), before=limit, variables=variables, given=self.given)
+        began = time.monotonic()
+        words = map(odd, shlex.split(re.sub(r"(?<!\S)@(\w{4})(?!\S)", at, words)))
+        said = self.call(*words, before=limit, variables=variables, given=self.given)
+        self.seconds = time.monotonic() - began
         said = said._replace(out=re.sub(rb'(?<="milliseconds":)\d+', b"0", said.out or b""), err=re.sub(rb", \d+ s left", b"", said.err or b""))
         return said._replace(err=re.sub(rb"(?m)^==\d+==.*\n", b"", said.err)) if checks else said
 
     def expect(self, due, sign, told):
         """What is due of a call, with one line more; None: its words are refused."""
+        told = odd(told)
         if sign == "=":
             return None if told == "usage" else due._replace(status=int(told))
         if sign in ("out", "err"):
@@ -213,13 +236,15 @@ class Rows(Served):
         elif sign == "lists":
             self.assertEqual(sorted(os.listdir(self.path(name))), sorted(more))
         elif sign == "set":
-            self.variables = dict(word.split("=", 1) for word in shlex.split(told))
+            self.variables = dict(odd(word).split("=", 1) for word in shlex.split(told))
         elif sign == "reads":
             self.given = bytes_of(told)
         elif sign == "has":
             self.assertFile(name, bytes_of(rest))
         elif sign == "shows":
             self.assertRegex(self.held(name).decode(), rf"(?s)\A{rest}\Z")
+        elif sign == "raw":
+            self.assertRegex(self.raw(name).decode(errors="replace"), rf"(?s)\A{rest}\Z")
         elif sign == "notes":
             self.noted[name] = self.held(name)
         elif sign == "stays":
@@ -245,6 +270,9 @@ class Rows(Served):
                 self.assertEqual(line.recv(1), b"")
         elif sign == "nobody":
             self.assertRaises(BlockingIOError, self.listener.accept)
+        elif sign == "took":
+            self.assertGreaterEqual(self.seconds, float(name))
+            self.assertLess(self.seconds, float(*more))
         elif sign == "memory":
             self.memory = int(told)
         elif sign == "~":
@@ -262,8 +290,36 @@ class Rows(Served):
                 self.begin()
                 self.play(lines)
 
+    def play_apart(self, found, at_once=12):
+        """The same, so many at once, each by a test of its own."""
+        def play(lines):
+            test = type(self)(self._testMethodName)
+            try:
+                test.setUp()
+                test.begin()
+                test.play(lines)
+                test.tearDown()
+            finally:
+                assert test.doCleanups(), "what the case has begun doesn't end"
+
+        with concurrent.futures.ThreadPoolExecutor(at_once) as pool:
+            for title, played in [(title, pool.submit(play, lines)) for title, lines in found]:
+                with self.subTest(title=title):
+                    played.result()
+
 
 def in_parts(kind, page, count):
     """Makes so many tests of a page, each of some of its cases."""
     for number in range(count):
         setattr(kind, f"test_{page.split('.')[0]}_{number}", lambda self, number=number: self.play_all([*cases(page)][number::count]))
+
+
+def each_named(kind, page, how=Rows.play_all):
+    """Makes a test of each title of a page, named by it, of the case or the cases that it has."""
+    def play(title):
+        return lambda self: how(self, [(it, lines) for it, lines in cases(page) if it == title or it.startswith(f"{title} (")])
+
+    for block in re.sub(r"(?m)^#.*\n", "", text_in("tests", page)).strip().split("\n\n"):
+        if not block.startswith(("let ", "begin\n")):
+            title = block.split("\n")[0]
+            setattr(kind, "test_" + re.sub(r"\W+", "_", title.replace("'", "")), play(title))

@@ -5,12 +5,15 @@ import typing
 
 from place import is_slow, text_in
 from test_chips import CHIPS, chip_of, flash_of
-from test_greeting import SPEED, Undoing
+from test_greeting import Undoing
 from refusing import BASE, erase, write_to
 
 # pages whose settling bytes are FF and 02; larger ones take long
 LATE_PAGES, LARGE = (255, 511), 4096
 HEAD = "\n[[chip]]\n"
+CALL = "undo --table table --device stand --journal journal --wait 300 --give-up 5 --baud 115200 1"
+# by what is told of each
+STOPS = {}
 ENTRIES = {number: HEAD + text for number, text in zip(CHIPS, text_in("chips.toml").split(HEAD)[1:])}
 
 
@@ -35,6 +38,9 @@ class ChipStop(typing.NamedTuple):
         kept = flash_of(self.chip)[self.place()].hex().upper()
         intents = f"erase {self.page}\n" + f"program {self.page}\n" * (self.command == "write")
         return f"stmjournal 2 {self.chip}\nopen 1\npage {self.page} {kept}\n{intents}".encode()
+
+    def refused(self):
+        return 2 if self.command == "write" or self.page > 255 else self.page
 
     def stands(self):
         """The flash and the line that are left; a reset leaves nothing of a frame but what a whole one has done."""
@@ -61,17 +67,18 @@ def stops():
 
 
 class FirstContact(Undoing):
-    def undone(self, room, stop):
-        self.store(f"{room}/table", ENTRIES[stop.chip].encode())
-        self.begin(room, stop, True)
-        said, sent = self.undo(room, stop.chip, *SPEED)
-        self.assertTold(said, "undone 1\n")
-        self.assertFile(f"{room}/flash", flash_of(stop.chip))
-        # connected by the first byte, it refuses the second pair's, so that one batch is enough
-        byte = 2 if stop.command == "write" or stop.page > 255 else stop.page
-        self.assertEqual(sent[:258], b"\x7f" + bytes(257 * [byte]))
+    def does(self, sign, told, name, *more):
+        if sign == "stopped":
+            stop = STOPS[told]
+            self.store_all({"table": ENTRIES[stop.chip].encode(), **dict(zip(("flash", "flash.line"), stop.stands())), "journal": stop.journal()})
+        elif sign == "back":
+            self.assertFile("flash", flash_of(name))
+        else:
+            super().does(sign, told, name, *more)
 
     def test_each_chip(self):
-        cases = [(stop,) for stop in stops()]
-        self.assertGreater(len(cases), 20)
-        self.each_apart(cases, self.undone)
+        STOPS.update((str(stop), stop) for stop in stops())
+        self.assertGreater(len(STOPS), 20)
+        # connected by the first byte, it refuses the second pair's, so that one batch is enough
+        self.play_apart([(told, [("stopped", told), ("$", CALL), (">", "undone 1"), ("back", stop.chip), ("sent", f"7F {stop.refused():02X}*257")])
+                         for told, stop in STOPS.items()])

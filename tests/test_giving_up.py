@@ -31,13 +31,6 @@ KINDS = {"silent": be_silent, "deaf": be_deaf, "echo": echo, "noisy": be_noisy, 
 
 
 class Played(Rows):
-    def call(self, *words, **how):
-        began = time.monotonic()
-        try:
-            return super().call(*words, **how)
-        finally:
-            self.seconds = time.monotonic() - began
-
     def late(self, last, seconds, *is_once):
         """How long is held back what follows a piece that came."""
         waits, last = itertools.count(), None if last == "any" else bytes.fromhex(last)
@@ -48,9 +41,6 @@ class Played(Rows):
             Peer(self, "peer", KINDS[name])
         elif sign == "late":
             self.delayed(self.late(name, *more))
-        elif sign == "took":
-            self.assertGreaterEqual(self.seconds, float(name))
-            self.assertLess(self.seconds, float(*more))
         else:
             super().does(sign, told, name, *more)
 

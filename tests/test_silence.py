@@ -30,7 +30,7 @@ def time_of(process, kind=RECEIVE_TIME):
         return in_ms(memory.read(TIME.size))
 
 
-class Silence(Rows):
+class Timed(Rows):
     def set_nothing(self):
         super().set_nothing()
         self.clock = self.changes = None
@@ -51,7 +51,7 @@ class Silence(Rows):
                 for noted, kind in ((self.times, RECEIVE_TIME), (self.writes, SEND_TIME)):
                     noted += [it for it in [time_of(process, kind)] if it is not None]
 
-            return syncs.call(self.folder, words, held=SETSOCKOPT, at=note)[0]
+            return syncs.call(self.folder, words, held=SETSOCKOPT, at=note, env=how["variables"])[0]
 
     def note_vain(self, told):
         now = None
@@ -102,6 +102,10 @@ class Silence(Rows):
             (self.assertLessEqual if more[:-1] else self.assertEqual)(self.times.count(int(name)), int(more[-1]), self.times)
         else:
             super().does(sign, told, name, *more)
+
+
+class Silence(Timed):
+    """Each case of silence.rows."""
 
 
 in_parts(Silence, "silence.rows", 4)
