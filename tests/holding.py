@@ -11,7 +11,7 @@ import shutil
 import signal
 
 import syncs
-from rows import Rows
+from rows import Rows, count_of
 
 
 def files_up_to(size):
@@ -26,6 +26,8 @@ def files_up_to(size):
 
 
 class Held(Rows):
+    before, streams, how = None, {}, {}
+
     def set_nothing(self):
         super().set_nothing()
         self.before, self.streams, self.how, self.turns = None, {}, {}, {}
@@ -38,23 +40,26 @@ class Held(Rows):
             else:
                 self.does(sign, told, *told.split(" "))
 
-    def call(self, *words, before, variables, given):
+    def call(self, *words, before=None, variables=None, given=None, **more):
         if self.how:
             said, self.synced = syncs.call(self.folder, words, at=self.turn, env=variables, **self.how)
             return said
         with contextlib.ExitStack() as files:
             streams = {stream: files.enter_context(open(self.path(name), "ab")) for stream, name in self.streams.items()}
-            return super().call(*words, before=self.before or before, variables=variables, given=given, **streams)
+            return super().call(*words, before=self.before or before, variables=variables, given=given, **more, **streams)
 
     def does(self, sign, told, name, *more):
         if sign == "room":
-            self.before = files_up_to(int(told))
+            self.before = files_up_to(count_of(told))
         elif sign == "closes":
             self.before = functools.partial(os.close, int(told))
         elif sign == "stream":
             self.streams[name] = more[0]
         elif sign in ("lock", "share"):
-            self.enterContext(self.locked(told, fcntl.LOCK_EX if sign == "lock" else fcntl.LOCK_SH))
+            self.lock = self.enterContext(contextlib.ExitStack())
+            self.lock.enter_context(self.locked(told, fcntl.LOCK_EX if sign == "lock" else fcntl.LOCK_SH))
+        elif sign == "unlock":
+            self.lock.close()
         elif sign == "holds":
             self.how["held"] = getattr(syncs, name.upper())
         elif sign == "fails":

@@ -1,4 +1,5 @@
-"""When a segment was begun, and with the images of which files: what a journal that names its board says, and what `log` tells of it."""
+"""When a segment was begun, and with the images of which files: what a journal that names its board says, and what `log` tells of it
+(tests/begun.rows)."""
 
 import datetime
 import json
@@ -8,13 +9,12 @@ import shutil
 import subprocess
 import unittest
 
-from place import PATIENCE, Place, had, program
+from place import PATIENCE, program
+from holding import Held
+from rows import each_named
 from telling import TABLE
-from holding import files_up_to
-from test_disk import FULL
 
 BOARD = {"flash.board": b"unique 00112233445566778899AABB\n"}
-HEAD = b"stmjournal 3 0410 00112233445566778899AABB\n"
 # a clock that stands, for a program that is started with this in LD_PRELOAD
 CLOCK = r"""
 #include <stdlib.h>
@@ -30,7 +30,7 @@ int clock_gettime(clockid_t which, struct timespec *now) {
 """
 
 
-class Noted(Place):
+class Noted(Held):
     begins = {"table": TABLE, **BOARD, "flash": bytes(131072), "image": b"one", "other image!": b"two"}
 
     def at(self, name, *words, **how):
@@ -42,6 +42,16 @@ class Noted(Place):
 
 
 class Begun(Noted):
+    def does(self, sign, told, name, *more):
+        if sign == "newest":
+            self.newest = self.notes()[-1]
+        elif sign == "carried":
+            self.assertEqual(self.notes(), [self.newest])
+        elif sign == "length":
+            self.assertEqual(len(self.raw(name)), int(*more))
+        else:
+            super().does(sign, told, name, *more)
+
     def log(self):
         return self.call("log", "--journal", "journal").out.decode().splitlines()
 
@@ -64,57 +74,8 @@ class Begun(Noted):
                                 {"state": "ended", "segment": 2, "pages": [3, 9], "images": [], "time": times[1] + "Z"}])
         self.assertWell(self.at("undo"))
 
-    def test_what_stays_of_a_journal(self):
-        """`keep --last` carries it over under the new number; an undo's segment leaves none, and the next one has its own."""
-        for image in (b"1", b"2", b"3"):
-            self.store(f"image-{image.decode()}", image)
-            self.assertWell(self.at("write", "-f", "-S", "0x08000000", f"image-{image.decode()}"))
-        newest = self.notes()[2]
-        self.assertWell(self.call("keep", "--journal", "journal", "--last", "1"))
-        self.assertEqual(self.notes(), [newest])
-        self.assertIn("  image image-3", self.log())
-        self.assertWell(self.at("undo", "1"))
-        self.assertWell(self.at("erase", "7"))
-        self.assertEqual([line for line in self.log() if line.startswith("  image")], [])
 
-    def test_a_stop_right_behind(self):
-        """It stands there before the first page is kept; a session that changes nothing and one that is refused before its segment add none."""
-        self.assertEqual(self.at("write", "image", "--stop", "4000").status, 3)
-        self.assertTrue(self.notes()[0].endswith(b"!\nimage image!\n"), self.raw("journal")[:200])
-        self.store("journal", None)
-        self.assertEqual(self.at("write", "-f", "-S", "0x08800000", "image").status, 1)
-        self.assertFalse(self.is_there("journal"))
-
-    def test_a_full_disk(self):
-        """At each byte of it: the session ends before it keeps a page, says why, and is undone once there is room."""
-        self.assertWell(self.at("write", "image"))
-        first = len(HEAD + b"open 1\n")
-        lines = len(self.notes()[0])
-        for more in (0, 1, 26, 27, 28, lines - 1):
-            with self.subTest(more=more):
-                self.store_all({"journal": None, "flash": bytes(131072)})
-                said = self.at("write", "image", before=files_up_to(first + more))
-                self.assertFault(said, "journal failed", hint=FULL, flash=bytes(131072))
-                self.assertEqual(len(self.raw("journal")), first + more)
-                self.assertTold(self.at("undo"), "undone 1\n", had(1, left=0), flash=bytes(131072))
-
-    def test_names(self):
-        """What isn't printed is escaped; a name that has no room is left out, and those behind it that have are told."""
-        wide, odd = "w" * 153, "a\nb\x1b"
-        for name in (wide, odd):
-            self.store(name, b"x")
-        self.assertWell(self.at("write", f"{wide}@0x08000000", f"{odd}@0x08000400", "image@0x08000800"))
-        self.assertEqual(self.notes()[0].split(b"\n", 1)[1], b"image a\\nb\\x1b!\nimage image!\n")
-        fits = "f" * 152
-        self.store_all({fits: b"y", "journal": None})
-        self.assertWell(self.at("write", f"{fits}@0x08000000"))
-        self.assertEqual(self.notes()[0].split(b"\n", 1)[1], b"image " + fits.encode() + b"!\n")
-
-    def test_the_states(self):
-        for behind, state in ((b"", "open"), (b"end 1\n", "ended"), (b"end 1\nerase 5\n", "returning")):
-            self.store("journal", HEAD + b"open 1\npage 5 00\n" + behind)
-            told = json.loads(self.call("log", "--journal", "journal", "--json").out)["segments"]
-            self.assertEqual(told, [{"state": state, "segment": 1, "pages": [5], "images": []}])
+each_named(Begun, "begun.rows")
 
 
 @unittest.skipIf(shutil.which("gcc") is None or not os.path.exists("/usr/include/stdio.h"), "gcc or libc6-dev is not installed")

@@ -5,7 +5,9 @@ import random
 
 from place import BAD, COUNTING, HEADER, Place
 from telling import kept, sum_of
-from test_log import EMPTY, FOLLOWED
+
+# a journal to follow by hand, of which tests/log.rows says what `log` tells at each byte
+TEXT = b"stmjournal 1 0412\nopen 1\npage 5 FF0A\nerase 5\nprogram 5\nend 1\nopen 2\npage 5 00!\nundone 2\nerase 5\nprogram 5\nundone 1\n"
 
 
 def page(number, line, data):
@@ -42,11 +44,10 @@ class Check(Place):
 
     def test_tells_each_state(self):
         """Cut at each byte, and with zeros where a crash of the PC kept none of them, it says what is there: none is refused."""
-        text = b"".join(line + b"\n" for line, _ in FOLLOWED)
-        told = [EMPTY] + ["id 0412\n" + after for _, after in FOLLOWED]
-        for count in range(len(text) + 1):
-            begun = text[:count]
-            logged = told[begun.count(b"\n")]
+        for count in range(len(TEXT) + 1):
+            begun = TEXT[:count]
+            self.store("journal", begun)
+            logged = self.call("log", "--journal", "journal").out.decode()
             self.each((begun, begun + b"\0" * 7), lambda held, logged=logged: self.assertCheck(held, expected(held, logged)))
 
     def test_tells_each_page(self):

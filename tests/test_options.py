@@ -1,27 +1,18 @@
-"""What the options of a device do, and which words can't be done."""
+"""What the options of a device do, and which words can't be done (tests/options.rows)."""
 
 import os
 import signal
 import socket
 
-from place import Place, each_of, files, is_unproved
+from holding import Held
+from place import files, is_unproved
+from rows import each_named
 
 SUBCOMMANDS = ("info", "read", "crc", "write", "verify", "erase", "undo", "log", "keep", "go", "protect", "sim")
 CANNOT = b"stmflash: cannot write standard output\n"
 
 
-class Options(Place):
-    def test_says_help_and_usage(self):
-        told = self.call("--help")
-        self.assertWell(told)
-        self.assertGreater(len(told.out), 100)
-        for name in SUBCOMMANDS:
-            self.assertIn(f"\n  {name} ".encode(), told.out)
-        self.assertUsage(self.use("protect", "all"))
-        self.assertUsage(self.call("read", "OUT"))
-        self.assertUsage(self.call())
-        self.assertFault(self.use("go", "08"), "usage: bad number 08", 2)
-
+class Options(Held):
     def test_tells_its_version(self):
         self.assertTold(self.call("--version"), f"stmflash 0.2.0, {'not proved' if is_unproved() else 'proved by rattle logic dac8208d650f15bf'}\n")
         for name in SUBCOMMANDS:
@@ -30,18 +21,6 @@ class Options(Place):
                 self.assertWell(told)
                 self.assertGreater(len(told.out), 200)
                 self.assertIn(f"Usage: stmflash {name} ".encode(), told.out)
-
-    def test_words_are_text(self):
-        self.each(((b"\xff",), (b"info", b"--table", b"table\xff"), (b"\xff", b"--help")),
-                  lambda *words: self.assertFault(self.call(*(os.fsdecode(word) for word in words)), "usage: the words are not text", 2))
-
-    @each_of((("--help",), ("--version",), ("erase", "--help"), ("info", *files()), ("info", *files(), "--raw"), ("read", *files(), "-"),
-              ("erase", *files(), "5"), ("undo", *files()), ("log", "--journal", "journal"), ("keep", "--journal", "journal")))
-    def test_a_standard_output_that_is_full_is_told(self, *words):
-        """Whatever is printed, and though all else was done."""
-        with open("/dev/full", "wb") as out:
-            said = self.call(*words, stdout=out)
-        self.assertEqual((said.status, said.err), (1, CANNOT))
 
     def written(self, words, is_fault=False):
         """What a use writes on standard output, or on standard error: each writing apart."""
@@ -86,3 +65,6 @@ class Options(Place):
                 self.assertFault(self.use("erase", "5", device=name), f"cannot connect {name}", hint=port)
         self.each((".", "table", "absent"), lambda name: self.assertFault(self.use("erase", "5", device=name), f"cannot connect {name}"))
         self.assertEqual(sorted(os.listdir(self.folder)), ["port", "table"])
+
+
+each_named(Options, "options.rows")

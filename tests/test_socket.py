@@ -1,35 +1,88 @@
-"""Both ends of a socket: a served simulator and a plain client, the program and a plain device, and the two together (tests/served.rows has each byte)."""
+"""Both ends of a socket: a served simulator and a plain client, the program and a plain device, and the two together
+(tests/socket.rows; tests/served.rows has each byte)."""
 
 import contextlib
 import errno
 import os
+import shlex
 import signal
 import socket
 import threading
 import time
 
 import syncs
+from holding import Held
 from place import HEAD, PATIENCE, WAIT, ZEROS, files, first_of, readable, served, with_page
-from rows import Rows, cases
-from served import Served, relay
+from rows import cases, each_named
+from served import relay
 
 ID = bytes([0x79, 0x01, 0x04, 0x12, 0x79])
-# a chip that is stored fast
-SMALL_TABLE = b'[[chip]]\nid = 0x412\nbase = 0x08000000\npages = [[2, 256]]\nerase = "page"\n'
 
 
-class Answers(Rows):
+class Peers(Held):
+    """Either end, which is told as text."""
+
+    changed = None
+
+    def call(self, *words, **how):
+        """Runs the program; where that is said its board's replies have other bytes on their way."""
+        if self.changed is None:
+            return super().call(*words, **how)
+        (old, new), self.changed = self.changed, None
+        with self.between(lambda replies: replies.replace(old, new)):
+            return super().call(*words, **how)
+
+    def hang_up(self, words, turns, end):
+        """Starts a call, at a device that ends the line behind so many turns; what it said."""
+        listener = self.listen("device")
+        host = self.start(*shlex.split(words))
+        device, _ = listener.accept()
+        with device:
+            device.settimeout(PATIENCE)
+            if turns > 0:
+                self.assertEqual(device.recv(1), b"\x7f")
+            if turns > 1:
+                device.sendall(b"\x79")
+            device.shutdown(end)
+            return self.ended(host)
+
     def does(self, sign, told, name, *more):
         if sign == "quiet":
             self.assertEqual(readable([self.joined], 0.2), [])
+        elif sign == "changes":
+            self.changed = [bytes.fromhex(it) for it in (name, *more)]
+        elif sign == "clients":
+            for _ in range(int(name)):
+                self.leave(self.connect())
+        elif sign == "killed":
+            self.simulator.kill()
+            self.simulator.communicate()
+            self.assertTrue(self.is_there("board"))
+        elif sign == "joins":
+            self.joined = self.reach("board")
+        elif sign == "ended":
+            self.joined.close()
+            self.joined = None
+            self.assertFault(self.ended(self.simulator), told)
+            self.assertFalse(self.is_there("board"))
+        elif sign == "quietly":
+            self.leave(self.joined)
+            self.joined = None
+            self.assertSilent(self.ended(self.simulator))
+        elif sign == "datagrams":
+            self.enterContext(socket.socket(socket.AF_UNIX, socket.SOCK_DGRAM)).bind(self.path(name))
+        elif sign == "hangs":
+            self.assertFault(self.hang_up(" ".join(more[1:]), int(name), getattr(socket, f"SHUT_{more[0]}")), "line failed")
         else:
             super().does(sign, told, name, *more)
 
+
+class Answers(Peers):
     def test_each_case(self):
         self.play_all(cases("served.rows"))
 
 
-class Socket(Served):
+class Socket(Peers):
     def test_a_page_that_is_lost_under_the_program_ends_it(self):
         """Behind the first byte of an undo, which has read the journal by then, blanks stand in place of a page's digits: nothing
         is erased or written, and the undo succeeds once the digits are there again."""
@@ -53,14 +106,6 @@ class Socket(Served):
         self.store("journal", journal)
         self.assertTold(self.use("undo", "--wait", WAIT, device="board"), "undone 1\n")
         self.assertServed(holds=(ZEROS, b"idle\n"))
-
-    def test_tells_a_version_in_two_digits(self):
-        """A device of a version below 10."""
-        self.serve(1)
-        with self.between(lambda replies: replies.replace(b"\x22\x00\x01", b"\x05\x00\x01")):
-            said = self.use("info", "--raw", "--wait", WAIT, device="stand")
-        self.assertWell(said)
-        self.assertIn(b"\nversion 05\n", said.out)
 
     def test_serves_a_client_however_long(self):
         """120,000 bytes, sent without waiting for an answer, and 300,000 that are taken late, beside stops by signals: none is
@@ -128,68 +173,6 @@ class Socket(Served):
         self.assertFalse(sender.is_alive())
         self.assertServed(client)
 
-    def test_serves_as_many_clients_as_were_asked_for(self):
-        self.store("table", SMALL_TABLE)
-        self.serve(1001)
-        for _ in range(1000):
-            self.leave(self.connect())
-        client = self.connect()
-        self.assertReplies(client, b"\x7f", b"\x79")
-        self.assertServed(client)
-
-    def test_a_line_that_ends_is_told(self):
-        """A device that hangs up, or sends nothing more and still takes what is sent: at once, after a byte, and after it has answered."""
-        listener = self.listen("board")
-        for turns in range(3):
-            for end in (socket.SHUT_RDWR, socket.SHUT_WR):
-                with self.subTest(turns=turns, end=end):
-                    host = self.start("erase", *files("board"), "--wait", WAIT, "5")
-                    device, _ = listener.accept()
-                    with device:
-                        device.settimeout(PATIENCE)
-                        if turns > 0:
-                            self.assertEqual(device.recv(1), b"\x7f")
-                        if turns > 1:
-                            device.sendall(b"\x79")
-                        device.shutdown(end)
-                        self.assertFault(self.ended(host), "line failed")
-                    self.assertFile("journal", None)
-
-    def test_takes_over_a_dead_socket(self):
-        """A socket that a killed simulator left is made anew; one on which somebody listens stays, as does any other file."""
-        self.serve(1)
-        self.simulator.kill()
-        self.simulator.communicate()
-        self.assertTrue(self.is_there("board"))
-        self.serve(2)
-        client = self.connect()
-        self.assertFault(self.call(*served(flash="other")), "cannot connect board")
-        self.assertReplies(client, b"\x7f", b"\x79")
-        # the one that was refused had asked whether somebody listens, which took the second turn
-        self.assertServed(client, other=None)
-
-    def test_a_store_that_fails_is_told(self):
-        """The flash's file can't be made where another one stands in its place."""
-        self.store("flash", ZEROS)
-        self.serve(1)
-        os.mkdir(self.path("room"))
-        os.rename(self.path("flash"), self.path("room/flash"))
-        os.mkdir(self.path("flash"))
-        client = self.connect()
-        client.close()
-        self.assertFault(self.ended(self.simulator), "cannot write flash")
-        self.assertFalse(self.is_there("board"))
-        os.rmdir(self.path("flash"))
-
-    def test_another_socket_stays(self):
-        """What stands in its place at the end was made by somebody else."""
-        self.serve(1)
-        client = self.connect()
-        os.remove(self.path("board"))
-        self.store("board", b"another")
-        self.leave(client)
-        self.assertSilent(self.ended(self.simulator), board=b"another")
-
     def test_a_stop_by_a_signal_is_no_end(self):
         """SIGSTOP and SIGCONT while a client is waited for, while a byte of one is, and while the program waits for a reply."""
         self.store("flash", ZEROS)
@@ -215,9 +198,5 @@ class Socket(Served):
             os.kill(process.pid, number)
             time.sleep(0.03)
 
-    def test_a_socket_of_another_kind_stays(self):
-        """One of datagrams, which somebody has: only one on which nobody listens is removed."""
-        with socket.socket(socket.AF_UNIX, socket.SOCK_DGRAM) as other:
-            other.bind(self.path("other"))
-            self.assertFault(self.call(*served("0412", at="other")), "cannot connect other")
-            self.assertTrue(self.is_there("other"))
+
+each_named(Socket, "socket.rows")
