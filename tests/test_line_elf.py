@@ -1,13 +1,13 @@
-"""ELF files in stmflash-line and stm32flash's words: written as what they load, by objcopy, and never as raw bytes unasked."""
+"""ELF files in stmflash-line and stm32flash's words: written as what they load, by objcopy, and never as raw bytes unasked
+(tests/elf.rows)."""
 
 import shutil
 import struct
 import unittest
 
-from boards import LINE
-from place import COUNTING, ERASED
-from test_line_journals import Unnamed
-from test_stm32flash_words import TELLING, Words
+from place import COUNTING
+from rows import bytes_of, each_named
+from test_stm32flash_words import Told
 
 CODE = b"\xde\xad\xbe\xef" * 5
 WRITTEN = COUNTING[:1024] + CODE + COUNTING[1024 + len(CODE):]
@@ -27,58 +27,18 @@ def elf(address=0x08000400, data=CODE):
 
 
 @unittest.skipIf(shutil.which("objcopy") is None, "binutils is not installed")
-class InTheLine(Unnamed):
-    begins = {**Unnamed.begins, "fw.elf": elf()}
+class InTheLine(Told):
+    """A test for each title of elf.rows."""
 
-    def test_what_it_loads_is_written_and_compared(self):
-        """Also where its name ends as a place of an image does."""
-        board = self.telling()
-        shutil.copy(self.path("fw.elf"), self.path("fw@0x08000400"))
-        said = self.short("ttyUSB0", "write", "-v", "fw@0x08000400")
-        self.assertEqual((said.status, said.out), (0, b"segment 1: 1 pages written\nverified 20 bytes\n"))
-        self.assertRegex(said.err.decode().splitlines()[0], "^stmflash-line: fw@0x08000400: as HEX, by (arm-none-eabi-)?objcopy$")
-        self.assertEqual(board.store(), WRITTEN)
-        self.assertIn(b"\nimage fw@0x08000400!\n", self.raw(self.journal()))
-        self.assertEqual(self.short("ttyUSB0", "--", self.path("bin/stmflash"), "verify", "fw.elf").out, b"verified 20 bytes\n")
+    wait = "500"
 
-    def test_raw_bytes_are_asked_for_by_a_flag(self):
-        board = self.telling(flash=ERASED)
-        for flag in ("-f", "-vf", "-fv"):
-            self.assertEqual(self.short("ttyUSB0", "write", flag, "fw.elf").status, 0)
-        self.assertTrue(board.store().startswith(elf()))
-
-    def test_without_objcopy_the_line_to_type_is_told(self):
-        end = self.plain()
-        said = self.line("ttyUSB0", "write", "fw.elf", line=(LINE,), **self.settings(PATH=self.path("bin")))
-        self.assertLineFault(said, "fw.elf: is ELF, and there is no objcopy (sudo apt install binutils); where there is one: "
-                                   "objcopy -O ihex fw.elf fw.hex")
-        self.assertNothingSent(end)
-
-    def test_one_that_loads_nothing_or_is_bad_is_refused(self):
-        self.plain()
-        for data, text in ((elf(data=b""), "it loads nothing"), (b"\x7fELF" + b"\x01" * 60, "objcopy: ")):
-            self.store("fw.elf", data)
-            said = self.short("ttyUSB0", "write", "fw.elf")
-            self.assertEqual((said.status, said.out), (1, b""))
-            self.assertIn(f"stmflash-line: fw.elf: is ELF, and makes no HEX: {text}", said.err.decode().replace("arm-none-eabi-", ""))
+    def does(self, sign, told, name, *more):
+        if sign == "elf":
+            self.store(name, elf(int(more[0], 16), bytes_of(" ".join(more[1:]))))
+        elif sign == "starts":
+            self.assertTrue(self.given_board.store().startswith(self.held(name)))
+        else:
+            super().does(sign, told, name, *more)
 
 
-class Streams(Unnamed):
-    def test_what_can_be_read_but_once_is_stmflashs_to_read(self):
-        """A pipe is written whole, and a port that was taken for an image is refused."""
-        board = self.telling()
-        started = self.start("ttyUSB0", "write", "-v", "/dev/stdin", reads=True, **self.settings())
-        self.assertEqual(self.ended(started, CODE)[:2], (0, b"segment 1: 1 pages written\nverified 20 bytes\n"))
-        self.assertEqual(board.store(), CODE + COUNTING[len(CODE):])
-        self.assertFault(self.short("ttyUSB0", "write", "--journal", "one", "fw.bin", "/dev/ptmx"), "cannot read /dev/ptmx")
-
-
-@unittest.skipIf(shutil.which("objcopy") is None, "binutils is not installed")
-class InTheWords(Words):
-    def test_what_it_loads_is_written(self):
-        self.store_all({"fw.elf": elf(), "table": TELLING})
-        board = self.telling()
-        said = self.leaves(board, WRITTEN, "-w", "fw.elf", "-v")
-        self.assertIn(b"\nimage fw.elf!\n", self.raw(self.journal_of("A1")))
-        self.assertRegex(said.out.decode(), "\nUsing Parser : Intel HEX, by (arm-none-eabi-)?objcopy of ELF\nLocation     : 0x8000400\n")
-        self.leaves(board, COUNTING, "--undo")
+each_named(InTheLine, "elf.rows")

@@ -5,14 +5,13 @@ import os
 import re
 import shlex
 import shutil
-import subprocess
 from unittest import mock
 
 from boards import LINE, Named, OnPorts
-from place import COUNTING, PATIENCE, SIZE, TOP, text_in
+from place import COUNTING, SIZE, TOP, text_in
 from rows import cases, in_parts
 from stmflash_line import asking, journals
-from test_stm32flash_words import TELLING, WORDS
+from test_stm32flash_words import TELLING
 
 BOARD = 12 * "A1"
 # runs the companion on a machine that has these ports, each with what it is; those of USB have a number of their maker
@@ -84,24 +83,6 @@ class Journals(Unnamed):
         self.assertEqual(said, (0, " ".join(["info --raw --json --quiet --journal none", *of_line])))
         self.store("asked", b"#!/bin/sh\necho no JSON\n")
         self.assertRaisesRegex(journals.Fault, "asked: what it says of the board isn't understood; ", asking.ask, words, "none", lambda begin: begin(self.settings()).wait())
-
-    def test_stm32flash_and_it_share_them(self):
-        for byte in ("A1", None):
-            with self.subTest(byte=byte):
-                board = self.telling(byte)
-
-                def words(*given):
-                    return subprocess.run([WORDS, "-m", "8n1", *given, "ttyUSB0"], cwd=self.folder, env=self.settings(), timeout=PATIENCE,
-                                          capture_output=True, check=False).returncode
-
-                self.assertEqual(words("-w", "fw.bin"), 0)
-                self.assertEqual(self.short("ttyUSB0", "undo").out, b"undone 1\n")
-                self.assertEqual(board.store(), COUNTING)
-                self.assertEqual(self.short("ttyUSB0", "write", "fw.bin").status, 0)
-                self.assertEqual(words("--undo"), 0)
-                self.assertEqual(board.store(), COUNTING)
-                board.stop()
-                self.remove("ttyUSB0.flash.board") if byte else None
 
     def test_which_are_stopped(self):
         """By the last line that is whole and isn't void. What ended isn't locked: its board's next call would be refused meanwhile."""

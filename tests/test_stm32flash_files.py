@@ -1,8 +1,6 @@
-"""line/stm32flash: the files of -r and -w that were opened for the call, links and pipes, the tables of chips, and where the journals
-of a port stand."""
+"""line/stm32flash: raw bytes into names of HEX, the tables of chips, and where the journals of a port stand."""
 
 import os
-import threading
 import tomllib
 from unittest import mock
 
@@ -11,56 +9,6 @@ from place import COUNTING, ERASED, TABLE, TOP, program
 from test_stm32flash_words import NEW, Words, places
 from stmflash_line import tables
 from as_stm32flash import actions, tools
-
-
-class Handed(Words):
-    """Files by names as /dev/stdin and /dev/fd/3, which are other ones, or none, in a process below."""
-
-    def test_what_is_written(self):
-        board = self.flash(COUNTING)
-        os.symlink("/dev/stdin", self.path("linked"))
-        # which by stmflash is a place of an image
-        os.symlink("image", self.path("to@0x08000400"))
-        # and one whose bytes come but once
-        os.mkfifo(self.path("pipe"))
-        threading.Thread(target=self.store, args=("pipe", b"new"), daemon=True).start()
-        with open(self.path("image"), "rb") as image:
-            for name in ("/dev/stdin", "/dev/fd/0", f"/dev/fd/{image.fileno()}", f"/proc/self/fd/{image.fileno()}", "linked", "to@0x08000400", "pipe"):
-                with self.subTest(name=name):
-                    self.leaves(board, NEW, "-w", name, "-v", stdin=image, pass_fds=[image.fileno()])
-                    self.leaves(board, COUNTING, "--undo")
-
-    def test_a_form_that_is_refused_of_a_file(self):
-        """Also where its bytes come by a pipe, or a part of them is to be written; standard input as - is raw bytes, whatever they are."""
-        board = self.flash(COUNTING)
-        elf = b"\x7fELF" + b"\x01" * 60
-        self.store("elf", elf)
-        part = ("-S", "0x08000000:16")
-        for words in (("-w", "/dev/stdin"), ("-w", "elf"), ("-w", "elf", *part), ("-w", "/dev/stdin", *part)):
-            with self.subTest(words=words):
-                # objcopy takes files alone, and not this one
-                self.refused(b"ERROR: elf: is ELF, and " if words[1] == "elf" else b"image is not raw: ELF\n", words=words, given=elf)
-        self.assertEqual(board.store(), COUNTING)
-        self.leaves(board, elf + COUNTING[64:], "-w", "-", given=elf)
-        self.leaves(board, elf + COUNTING[64:1024] + elf + COUNTING[1088:], "-w", "/dev/stdin", "-f", "-S", "0x08000400", given=elf)
-
-    def test_what_is_read(self):
-        self.flash(COUNTING)
-        part = ("-S", "0x08000000:1000")
-        for name in ("/dev/stdout", "/proc/self/fd/1"):
-            self.assertEqual(self.well("-r", name, *part).out, COUNTING[:1000])
-        self.assertEqual(self.well("-r", "/dev/stderr", *part).err, COUNTING[:1000])
-        with open(self.path("out"), "wb") as out:
-            out.write(b"\x00" * 2000)
-            out.flush()
-            said = self.well("-r", f"/dev/fd/{out.fileno()}", *part, pass_fds=[out.fileno()])
-        self.assertFile("out", COUNTING[:1000])
-        self.assertIn(b"Memory read\n", said.out)
-        # what stands there already is another's
-        self.store("all", b"before")
-        with open(self.path("all"), "ab") as out:
-            self.well("-r", "/dev/stdout", *part, stdout=out)
-        self.assertFile("all", b"before" + COUNTING[:1000])
 
 
 class Hex(Words):

@@ -12,12 +12,13 @@ import shutil
 import signal
 import subprocess
 import sys
+import threading
 import unittest
 from unittest import mock
 
 from boards import REAL, Named, OnPorts, default_signals, pty_boards
 from place import COUNTING, PATIENCE, TABLE, TOP, Place, Said, program, readable, text_in
-from rows import Rows, bytes_of, cases, in_parts
+from rows import Rows, bytes_of, cases, each_named, in_parts
 
 import image
 from stmflash_line import journals as places
@@ -89,32 +90,57 @@ class Words(Named):
         return os.path.join(".local", "state", "stmflash", "journals", 12 * byte + ".journal")
 
 
-class Played(Words, OnPorts):
+class Told(Words, OnPorts):
     """Cases that are told as text (tests/stm32flash.rows says how)."""
 
-    unsaid = None
+    unsaid, how, opened = None, {}, None
+
+    def set_nothing(self):
+        super().set_nothing()
+        self.how, self.opened = {}, None
 
     def placed(self, told):
-        return super().placed(told).replace("{port}", self.folder_of_port())
+        return super().placed(told).replace("{port}", self.folder_of_port()).replace("{fd}", str(self.opened))
 
     def run_words(self, words):
         words = shlex.split(words)
         if words[0] == "stmflash-line":
-            return self.line(*words[1:], **self.settings(**self.variables))
-        return self.words(*words, port=None, given=self.given, **self.variables)
+            return self.ended(self.start(*words[1:], reads=self.given is not None, **self.settings(**self.variables)), self.given)
+        return self.words(*words, port=None, given=self.given, **self.variables, **self.how)
 
     def does(self, sign, told, name, *more):
         if sign == "keep":
             self.keep(name, bytes_of(told.partition(" ")[2]))
+        elif sign == "stream":
+            self.how[name] = self.enterContext(open(self.path(*more), "rb" if name == "stdin" else "ab"))
+        elif sign == "opened":
+            file = self.enterContext(open(self.path(name), *more))
+            file.seek(0, os.SEEK_END)
+            self.opened, self.how["pass_fds"] = file.fileno(), [file.fileno()]
+        elif sign == "closes":
+            self.how["preexec_fn"] = lambda: [os.close(int(it)) for it in (name, *more)]
+        elif sign == "once":
+            # bytes that come but once
+            os.mkfifo(self.path(name))
+            writing = threading.Thread(target=self.store, args=(name, bytes_of(" ".join(more))))
+            writing.start()
+            self.addCleanup(writing.join)
         elif sign == "kept":
             self.assertEqual(sorted({*os.listdir(self.path(self.folder_of_port()))} - {"last"}), told.split())
         else:
             super().does(sign, told, name, *more)
 
+
+class Played(Told):
     def test_each_call(self):
         self.play_all(cases("stm32flash.rows"))
 
 
+class Doing(Told):
+    """Files that are opened, closed or full: a test for each title."""
+
+
+each_named(Doing, "handed.rows")
 in_parts(Played, "back.rows", 2)
 in_parts(Played, "ports.rows", 2)
 in_parts(Played, "unchanged.rows", 2)
@@ -142,42 +168,6 @@ class Refusals(Words):
         shutil.copy("/bin/true", self.path("stmflash"))
         with mock.patch.dict(os.environ, PATH=self.path("bin")):
             self.assertEqual(tools.find_program(self.folder, "stmflash"), self.path("stmflash"))
-
-
-class Doing(Words):
-    def test_nobody_who_reads_stops_nothing(self):
-        """A full disk, and files that were closed: all is done, also what an earlier call has left."""
-        board = self.flash(COUNTING)
-
-        def close():
-            os.close(1)
-            os.close(2)
-
-        for number, before in enumerate((None, close)):
-            self.keep("journal", STOPPED.encode())
-            with self.subTest(number=number), open("/dev/full", "wb") as full:
-                self.leaves(board, b"new" + BACK[3:], "-w", "image", "-v", stdout=full, stderr=full, preexec_fn=before)
-                self.leaves(board, BACK, "--undo")
-        with open("/dev/full", "wb") as full:
-            said = self.words("--log", stdout=full)
-            # what is read is no text that may be lost
-            for more in ({"stdout": full}, {"preexec_fn": lambda: os.close(1)}):
-                self.refused(b"standard output", words=("-r", "-"), **more)
-        self.assertEqual((said.status, said.err), (1, b""))
-
-    def test_a_closed_input_is_no_image(self):
-        self.plain()
-        for name in ("-", "/dev/stdin"):
-            said = self.words("-w", name, preexec_fn=lambda: os.close(0))
-            self.assertEqual((said.status, said.err), (1, b"Intel HEX ERROR: System Error\nstandard input is closed\n"))
-
-    def test_a_file_that_is_open_gets_nothing_where_a_call_is_refused(self):
-        self.keep("journal", STOPPED.encode())
-        self.store("held", b"before")
-        self.flash(COUNTING)
-        with open(self.path("held"), "ab") as held:
-            self.refused(b"stm32flash --undo ttyUSB0 undoes that\n", words=("-r", f"/dev/fd/{held.fileno()}"), pass_fds=[held.fileno()])
-        self.assertFile("held", b"before")
 
 
 class TakingBack(Words):

@@ -11,6 +11,7 @@ import os
 import pty
 import random
 import re
+import shlex
 import signal
 import subprocess
 import sys
@@ -21,8 +22,8 @@ import tomllib
 import unittest
 
 from boards import LINE, PYTHON, LinePlace, default_signals
-from place import PATIENCE, TOP, Place, Said, readable, text_in
-from rows import in_parts
+from place import PATIENCE, TOP, Place, Said, readable, served, text_in
+from rows import Rows, bytes_of, each_named, in_parts
 from served import Served
 from started import Started
 
@@ -142,35 +143,6 @@ class TrialPlace(Served):
         self.assertEqual((said.status, said.err), (status, b""), said.out.decode())
 
 
-class Simulators(TrialPlace):
-    def holds_on(self, number, size, erased=b"\xff"):
-        """Each row that needs no hand holds on a chip of the table, and its flash is as it was."""
-        self.store("table", text_in("chips.toml").encode())
-        before = random.Random(number).randbytes(size // 3 * 2).ljust(size, erased)
-        self.store("flash", before)
-        self.serve(1, number=number)
-        said = self.trial("--device", "board", *QUICK)
-        self.assertServed()
-        self.assertStatus(said, 0)
-        found, verdict = rows_of(said)
-        self.assertEqual(names_of(found, "differs"), set())
-        self.assertEqual(names_of(found, "not tried"), {"size-register", "map", "reset-in-frame", "fresh-other", "power"})
-        self.assertTrue(verdict.startswith(f"{FOLLOWS}: "), verdict)
-        self.assertTrue(self.held("flash") == self.held("saved") == before, "the flash isn't what it was")
-
-    def test_0412(self):
-        self.holds_on("0412", 32768)
-
-    def test_0440(self):
-        self.holds_on("0440", 65536)
-
-    def test_0A01(self):
-        self.holds_on("0A01", 65536)
-
-    def test_0416_which_erases_to_00(self):
-        self.holds_on("0416", 131072, b"\x00")
-
-
 class Boards(Place):
     """Each planted board, and none."""
 
@@ -219,42 +191,6 @@ def faults(deviation, said, board_status, before, after):
         (before != after and not deviation.is_lasting, "its flash isn't what it was")) if is_so]
 
 
-class Terminal(TrialPlace):
-    """Trials that may ask: on a pseudo-terminal."""
-
-    def answer(self, skipped, *answers):
-        """Runs a trial whose questions are answered; its status, and what it said."""
-        call = (sys.executable, TRIAL, *SAVED, "--device", "board", "--skip", skipped, *QUICK[1:])
-        status, said, left = at_terminal(self.folder, answers, *call)
-        self.assertEqual(left, [], said)
-        return status, said
-
-    def test_it_asks_once_and_no_changes_nothing(self):
-        for text, due in ((b"no\n", 2), (b"\n", 2), (b"yes\n", 0)):
-            with self.subTest(text=text), self.planted() as board:
-                status, said = self.answer("power,reset-in-frame,fresh-other", (b"yes or no:", lambda: None, text))
-                self.assertEqual((status, board.wait(PATIENCE)), (due, 0), said)
-                self.assertEqual(self.is_there("saved"), due == 0)
-                self.assertEqual(self.is_there("trial.toml"), due == 0)
-
-    def test_power_is_taken_by_hand(self):
-        for name, due in (("none", 0), ("power-spoils-all", 1)):
-            with self.subTest(name=name), self.planted(name) as board:
-                def lose(board=board):
-                    # it has to have heard what was sent
-                    time.sleep(0.5)
-                    board.send_signal(signal.SIGUSR2)
-                    time.sleep(0.2)
-
-                status, said = self.answer("reset-in-frame,fresh-other", (b"yes or no:", lambda: None, b"yes\n"), (b"power now", lose, b"\n"))
-                self.assertEqual((status, board.wait(PATIENCE)), (due, 0), said)
-                self.assertRegex(said, r"power +" + ("differs" if due else "holds"))
-                if due:
-                    self.assertIn("don't use, because power: a way back doesn't lead back", said)
-                self.assertTrue(self.held("flash") == self.held("saved"))
-            self.remove("saved", "flash", "trial.toml")
-
-
 class Words(TrialPlace):
     def test_what_is_found_replaces_no_other_file(self):
         """A link and a pipe stay, and so does whatever has a name of that kind; a name that is no text is told as far as it is one."""
@@ -297,25 +233,6 @@ class Ports(LinePlace):
     begins = {"ttyUSB0.flash": before}
     # rows before the first change that take their time
     BEFORE = "loss-up,read-again,refuse-pair,settle-ask,pause"
-
-    def assertHolds(self, said, board):
-        self.assertEqual((said.status, said.err), (0, b""), said.out)
-        self.assertEqual(names_of(rows_of(said)[0], "differs"), set())
-        self.assertTrue(self.held("saved") == board.store() == self.before)
-
-    def test_under_the_line(self):
-        """As the line's command; the board's way stands in STMFLASH_DEVICE, and its status is handed on."""
-        board = self.board()
-        self.assertHolds(self.line("ttyUSB0", "--", sys.executable, TRIAL, *self.WORDS), board)
-        said = self.line("ttyUSB0", "--", sys.executable, TRIAL, *self.WORDS)
-        self.assertEqual((said.status, said.out), (2, b""))
-
-    def test_it_opens_the_port(self):
-        board = self.board()
-        self.assertHolds(self.line("--port", "ttyUSB0", *self.WORDS, line=(TRIAL,), STMFLASH_DEVICE="none"), board)
-        said = self.line("--port", "none", *self.WORDS, "--save", "other", line=(TRIAL,))
-        self.assertEqual((said.status, said.out), (2, b""))
-        self.assertTrue(said.err.endswith(b"stmflash-trial: stmflash-line didn't open the port; it tells why and what to do above\n"), said.err)
 
     def interrupted(self, *call):
         """Runs a trial on a terminal at which Ctrl-C is pressed in the midst of its changes; its status, and what it said. One that had
@@ -396,19 +313,59 @@ class FastBoard:
         return b""
 
 
-class Played(Started):
+class Asked(Started):
+    """Each case of trial.rows, and of tried.rows."""
+
+    def set_nothing(self):
+        super().set_nothing()
+        self.answers = []
+
+    def placed(self, told):
+        return super().placed(told).replace("{python}", sys.executable).replace("{trial}", TRIAL).replace("{top}", TOP)
+
+    def run_words(self, words):
+        """Runs a call; on a terminal where something is answered there."""
+        if not self.answers:
+            return super().run_words(words)
+        status, said, left = at_terminal(self.folder, self.answers, PYTHON, TRIAL, *shlex.split(words)[1:])
+        self.assertEqual(left, [], said)
+        return Said(status, said.encode(), b"")
+
+    def lose_power(self):
+        # it has to have heard what was sent
+        time.sleep(0.5)
+        self.board_there.send_signal(signal.SIGUSR2)
+        time.sleep(0.2)
+
     def does(self, sign, told, name, *more):
         if sign == "planted":
             self.board_there = self.enterContext(planted(self.folder, name, "--pages", str(PAGES)))
+        elif sign == "simulated":
+            self.simulator = Place.start(self, *served(name, table="chips"), "--clients", "2")
+            self.leave(self.reach("board", self.simulator))
         elif sign == "over":
             self.assertEqual(self.board_there.wait(PATIENCE), 0)
         elif sign == "fast":
             FastBoard(self, int(name), int(*more))
+        elif sign in ("answers", "loses"):
+            question, text = told.split(" = ")
+            self.answers.append((question.encode(), self.lose_power if sign == "loses" else lambda: None, bytes_of(text)))
+        elif sign == "same":
+            self.assertTrue(self.held(name) == self.held(*more), f"{told} differ")
         else:
             super().does(sign, told, name, *more)
 
 
+class Played(Asked):
+    """The first, in parts."""
+
+
+class Tried(Asked):
+    """The second, a test for each title."""
+
+
 in_parts(Played, "trial.rows", 2)
+each_named(Tried, "tried.rows", Rows.play_apart)
 
 
 class Told(TrialPlace):
@@ -429,11 +386,6 @@ class Told(TrialPlace):
             for word in ("D7", "d7", "215", "/", "kept-here", "found.toml", "kill"):
                 self.assertNotIn(word, text)
             self.clear("kept-here")
-
-    def test_the_file_that_cannot_be_written(self):
-        said = self.tried("none", "--out", "none/found.toml", "--only-read", *QUICK)
-        self.assertEqual(said.status, 1)
-        self.assertIn("couldn't be written to none/found.toml: No such file or directory\n", said.out.decode())
 
     def test_the_table_of_the_page(self):
         """It has of each row its name, what has to hold, and what it means where it differs; nothing else."""
