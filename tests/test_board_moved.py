@@ -25,57 +25,19 @@ class Late(Stand):
         super().reply(data)
 
 
-def refusing(step):
-    """One that refuses each read of its board at this step of the frame: the command, or the count."""
-    class Refusing(Stand):
-        reads = 0
-
-        def command(self, came):
-            self.reads += came == READ
-            if step == 0 and came == READ and self.reads <= 2:
-                self.reply(NACK)
-            else:
-                super().command(came)
-
-        def count(self, came, told):
-            self.reply(NACK)
-            self.step = self.command
-
-    return Refusing
-
-
-def refusing_again(step):
-    """One that tells its board before the session, and refuses the second question at this step: command, address, or count."""
-    class RefusingAgain(Stand):
-        def command(self, came):
-            if step == 0 and came == READ and len(self.asked) == 2:
-                self.reply(NACK)
-            else:
-                super().command(came)
-
-        def address(self, came):
-            if step == 1 and len(self.asked) == 2:
-                self.told[UNIQUE_AT] = None
-            super().address(came)
-
-        def count(self, came, told):
-            if step == 2 and len(self.asked) == 3:
-                self.reply(NACK)
-                self.step = self.command
-            else:
-                super().count(came, told)
-
-    return RefusingAgain
-
-
-def garbling(number, data):
-    """One that says this in the place of one of its answers, counted from 0, of which board it is."""
+def garbling(numbers, data):
+    """One that says this in the place of some of its answers, counted from 0, of which board it is; a refusal ends the frame."""
     class Garbling(Stand):
-        replies = 0
+        replies, is_refused = 0, False
 
         def reply(self, right):
-            super().reply(data if self.replies == number else right)
-            self.replies += 1
+            is_one = self.replies in numbers
+            super().reply(data if is_one else right)
+            self.replies, self.is_refused = self.replies + 1, is_one and data == NACK
+
+        def heard(self, came):
+            if self.is_refused:
+                self.step, self.is_refused = self.command, False
 
     return Garbling
 
@@ -140,7 +102,7 @@ MOMENTS = {
     "behind the last frame of two segments": lambda stand, came: stand.ids == 4,
     "inside a frame": lambda stand, came: False,
 }
-KINDS = {"stands": lambda: Stand, "late": lambda: Late, "mute": lambda: Mute, "refuses": refusing, "refuses-again": refusing_again, "garbles": garbling}
+KINDS = {"stands": Stand, "late": Late, "mute": Mute}
 
 
 class BoardMoved(telling.Asked):
@@ -152,7 +114,7 @@ class BoardMoved(telling.Asked):
 
     def does(self, sign, told, name, *more):
         if sign == "kind":
-            self.kind = KINDS[name](*map(int, more[:1]), *map(bytes.fromhex, more[1:]))
+            self.kind = KINDS[name] if name in KINDS else garbling([int(it) for it in more[0].split(",")], bytes.fromhex(more[1]))
         elif sign == "moves":
             self.moment = told.split(" / ")
         else:
