@@ -4,10 +4,8 @@ import os
 import random
 
 from place import BAD, COUNTING, HEADER, Place
+from rows import bytes_of, cases
 from telling import kept, sum_of
-
-# a journal to follow by hand, of which tests/log.rows says what `log` tells at each byte
-TEXT = b"stmjournal 1 0412\nopen 1\npage 5 FF0A\nerase 5\nprogram 5\nend 1\nopen 2\npage 5 00!\nundone 2\nerase 5\nprogram 5\nundone 1\n"
 
 
 def page(number, line, data):
@@ -44,10 +42,10 @@ class Check(Place):
 
     def test_tells_each_state(self):
         """Cut at each byte, and with zeros where a crash of the PC kept none of them, it says what is there: none is refused."""
-        for count in range(len(TEXT) + 1):
-            begun = TEXT[:count]
-            self.store("journal", begun)
-            logged = self.call("log", "--journal", "journal").out.decode()
+        states = [dict(lines) for title, lines in cases("log.rows") if title.startswith("tells each state")]
+        self.assertGreater(len(states), 100)
+        for state in states:
+            begun, logged = bytes_of(state["file"].partition(" ")[2]), bytes_of(state["out"]).decode()
             self.each((begun, begun + b"\0" * 7), lambda held, logged=logged: self.assertCheck(held, expected(held, logged)))
 
     def test_tells_each_page(self):
