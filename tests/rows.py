@@ -281,8 +281,11 @@ class Rows(Served):
             raise ValueError(f"no sign: {sign}")
 
     def play_all(self, found):
-        """Plays cases, or each of a page."""
+        """Plays cases, or each of a page; of the title alone that STMFLASH_ROW is, where it is set."""
+        alone = os.environ.get("STMFLASH_ROW")
         for title, lines in found:
+            if alone not in (None, title.replace(" ", "_")):
+                continue
             # (what runs a program of another processor is refused memory itself, and reads the program)
             if program().endswith("-under-qemu") and any(sign == "memory" or told == "lseek" for sign, told in lines):
                 continue

@@ -201,6 +201,14 @@ class Mutants(unittest.TestCase):
         for number in range(20):
             self.assertIn(len(names - {it.name for it in mutants.sampled([make("program", f"new {number}"), *faults], 12, "a")}), (0, 1))
 
+    def test_of_a_block_there_is_one_by_the_seed_and_none_by_hand(self):
+        mutants = script("tools", "mutants")
+        make = lambda block, number: mutants.planted.Fault("program", f"{block} {number}", "x.rt", 0, 0, "", "", block, "named" * (block == "c"))
+        faults = [make(block, number) for block in "abc" for number in range(50)]
+        one, other = ({it.name for it in mutants.of_blocks(faults, seed)} for seed in "12")
+        self.assertEqual((sorted(it[0] for it in one), len(one | other)), (["a", "b"], 4))
+        self.assertEqual(one, {it.name for it in mutants.of_blocks([it for it in faults[::-1] if it.name not in other], "1")})
+
     def test_a_fault_is_looked_for_by_the_test_that_found_it_and_then_by_some_that_reach_it(self):
         mutants = script("tools", "mutants")
         looking = mutants.Looking.__new__(mutants.Looking)
@@ -211,7 +219,6 @@ class Mutants(unittest.TestCase):
         self.assertEqual([looking.tests_of(it) for it in (fault, fault._replace(name="other"), fault._replace(test="named"))], [["c", "a", "b"], ["a", "b"], ["named"]])
         # what was recorded isn't there any more, or was there not yet
         self.assertEqual(looking.reaching(fault), [*"abcd", "a.new"])
-        self.assertEqual([it for it in looking.parts(["a", "b", "c", "d"]) if it], [["a"], ["b", "c"], ["d"]])
 
 
 class KeptModule(Room):

@@ -20,6 +20,8 @@ from planted import TOP, switch
 sys.path.insert(0, os.path.join(TOP, "tools", "wrong-bodies"))
 
 KEPT = os.path.join(TOP, "bin", "planted")
+# for so many faults it is worth two minutes that the program is twenty times as quick, and for those that are none of its own
+MANY = 200
 # where a fault of the code is told
 TOLD = re.compile(r"((?:crates/\w+/)?src/[\w/]+\.rt):(\d+)")
 
@@ -42,7 +44,7 @@ def blamed(said, top, faults):
     return [it for it in faults if it.number in found]
 
 
-def link(top, room, program):
+def link(top, room, program, level):
     """Builds the program of a tree without checks on memory, which take twenty times as long; what is said where that can't be."""
     import retarget
     from kit import rt
@@ -51,7 +53,7 @@ def link(top, room, program):
     if module is None:
         return said
     made, clang = os.path.join(room, "program.o"), f"{rt.KIT}/toolchain/bin/clang"
-    subprocess.run([clang, "--no-default-config", "-O0", "-fPIE", "-w", "-c", "-o", made, module], check=True)
+    subprocess.run([clang, "--no-default-config", level, "-fPIE", "-w", "-c", "-o", made, module], check=True)
     switches = sorted(glob.glob(os.path.join(top, "crates", "*", "c", "planted.c")))
     subprocess.run(["cc", "-O2", "-pie", "-o", program, made, *switches, f"{rt.KIT}/c/libos_c.a", f"{rt.KIT}/c/liblibc_c.a"], check=True)
     return None
@@ -74,7 +76,7 @@ def build(faults, name):
                 top = os.path.join(room, "top")
                 shutil.copytree(sound, top)
                 refused += switch.plant(top, [it for it in faults if it not in refused])
-                said = link(top, room, program + ".made")
+                said = link(top, room, program + ".made", "-O0" if 0 < len(faults) < MANY else "-O1")
                 if said is None:
                     break
                 more = [it for it in blamed(said, top, faults) if it not in refused]

@@ -60,7 +60,7 @@ def record(room, jobs):
         os.link(program, path)
         with copies.one() as top:
             begun = time.monotonic()
-            failed = trees.run(top, path, [test], LIMIT)
+            failed = trees.run(top, path, test, LIMIT)
             took, numbers = time.monotonic() - begun, set()
             for file in (f"{path}.reached", os.path.join(top, "noted")):
                 with contextlib.suppress(FileNotFoundError):

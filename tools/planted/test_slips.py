@@ -125,14 +125,16 @@ class Slips(unittest.TestCase):
         other = inner._replace(end=6, number=3)
         self.assertEqual(switch.place(text, [outer, other]), ("if !crate::planted::is_on(1) { a(b); }\n", [other]))
 
-    def test_a_test_that_cannot_run_here_is_left_out(self):
+    def test_a_test_that_cannot_run_here_is_left_out_and_a_row_that_fails_is_named_and_played_alone(self):
         with tempfile.TemporaryDirectory() as top:
             os.mkdir(f"{top}/tests")
             with open(f"{top}/tests/test_some.py", "w", encoding="utf-8") as file:
-                file.write("import unittest\nclass Some(unittest.TestCase):\n    @unittest.skip('no tool')\n    def test_one(self): pass\n    def test_two(self): pass\n")
-            one, both = "test_some.Some.test_one", "test_some.Some"
-            for test in (one, both):
-                self.assertIsNone(trees.run(top, "none", [test], 60))
+                file.write("import os, unittest\nclass Some(unittest.TestCase):\n    @unittest.skip('no tool')\n    def test_one(self): pass\n    def test_two(self): pass\n"
+                           "class Rows(unittest.TestCase):\n    def test(self):\n        with self.subTest(title='a row (1)'): assert os.environ.get('STMFLASH_ROW') == 'b'\n")
+            one, both, row = "test_some.Some.test_one", "test_some.Some", "STMFLASH_ROW=a_row_(1) test_some.Rows.test"
+            for test in (one, both, "STMFLASH_ROW=b test_some.Rows.test"):
+                self.assertIsNone(trees.run(top, "none", test, 60))
+            self.assertEqual([trees.run(top, "none", test, 60)[0] for test in (row.split()[1], row)], [row, row])
         self.assertEqual({one, both} & trees.left_out, {one})
 
     def test_numbers_are_told_as_ranges(self):

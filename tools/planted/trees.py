@@ -1,8 +1,10 @@
 """Where faults stand while tests look for them: copies of the tree with one fault at a time, or the program with one switched on."""
 
+import compileall
 import contextlib
 import os
 import pathlib
+import py_compile
 import queue
 import re
 import shutil
@@ -14,7 +16,6 @@ import time
 
 from planted import TOP
 
-UNPROVED = os.path.join(TOP, "bin", "stmflash-unproved")
 # the program that `rt ci` leaves, without which the package of stm32flash's words can't be tried
 PROVED = os.path.join(TOP, "crates", "stmflash", "out", "stmflash")
 # what no test of the companions, layers and packages looks at, and of it what a package is made by
@@ -50,12 +51,16 @@ class Trees:
     """Copies of the tree, each for one fault at a time."""
 
     def __init__(self, room, count):
-        self.room, self.free = room, queue.Queue()
-        for number in range(count):
-            top = os.path.join(room, f"tree{number}")
-            shutil.copytree(TOP, top, ignore=shutil.ignore_patterns(*LEFT_OUT), symlinks=True)
-            os.makedirs(os.path.join(top, os.path.dirname(TEXT)))
-            shutil.copy2(os.path.join(TOP, TEXT), os.path.join(top, TEXT))
+        self.free = queue.Queue()
+        tops = [os.path.join(room, f"tree{number}") for number in range(count)]
+        shutil.copytree(TOP, tops[0], ignore=shutil.ignore_patterns(*LEFT_OUT), symlinks=True)
+        os.makedirs(os.path.join(tops[0], os.path.dirname(TEXT)))
+        shutil.copy2(os.path.join(TOP, TEXT), os.path.join(tops[0], TEXT))
+        # half of what a call takes is to compile its modules; what a module is of is looked at by its text, and not by its time
+        compileall.compile_dir(tops[0], quiet=2, invalidation_mode=py_compile.PycInvalidationMode.CHECKED_HASH)
+        for top in tops[1:]:
+            shutil.copytree(tops[0], top, symlinks=True)
+        for top in tops:
             self.free.put(top)
 
     @contextlib.contextmanager
@@ -67,17 +72,17 @@ class Trees:
             self.free.put(top)
 
     @contextlib.contextmanager
-    def having(self, fault, program=UNPROVED):
-        """A tree with this fault, or with none, and the program."""
+    def having(self, fault):
+        """A tree with this fault, or with none."""
         with self.one() as top:
             if fault is None or fault.group == "program":
-                yield top, program
+                yield top
                 return
             path = os.path.join(top, fault.file)
             text = pathlib.Path(path).read_text(encoding="utf-8")
             try:
                 pathlib.Path(path).write_text(text[:fault.start] + fault.new + text[fault.end:], encoding="utf-8")
-                yield top, program
+                yield top
             finally:
                 pathlib.Path(path).write_text(text, encoding="utf-8")
 
@@ -119,29 +124,25 @@ def call(words, folder, program, limit, given=()):
             ran.communicate()
 
 
-def run(top, program, tests, limit):
-    """Runs tests in a tree, one after the other, up to one that fails: that one's name and what it said, "" where it can't be told; or None.
-    A test's name may have its folder before it, or variables, and may stand for all of a class or a module; one that begins with sh is a
-    call of that."""
-    until, calls = time.monotonic() + limit, {}
-    for test in tests:
-        *given, name = test.split()
-        key = test if given[:1] == ["sh"] else (name.rpartition("/")[0] or "tests", *given)
-        calls.setdefault(key, []).append(name.rpartition("/")[2])
-    for key, names in calls.items():
-        if isinstance(key, str):
-            words, place, given = [*key.split(), program if "--unproved" in key else PROVED], top, ()
-        else:
-            words, place, given = [sys.executable, "-B", "-m", "unittest", "-f", *names], os.path.join(top, key[0]), key[1:]
-        said, status = call(words, place, program, max(1, until - time.monotonic()), [it.split("=", 1) for it in given])
-        if said is None:
-            return "", "hangs"
-        counts = re.findall(r"^Ran (\d+) tests?|skipped=(\d+)", said, re.M)
-        if len(counts) == 2 and counts[0][0] == counts[1][1]:
-            left_out.update(test for test in tests if test.endswith(tuple(names)))
-        if status and isinstance(key, str):
-            return key, said
-        if status:
-            name = next((line.split(" (")[1].split(")")[0] for line in said.splitlines() if line.startswith(("FAIL: ", "ERROR: ")) and " (" in line), "")
-            return name and " ".join([*given, ("" if key[0] == "tests" else key[0] + "/") + name]), said
-    return None
+def run(top, program, test, limit):
+    """Runs a test in a tree: None where it passes, or the name of what failed, "" where it can't be told, and what it said. A page of rows
+    is named with the row that failed, which a variable tells it. A test's name may have its folder before it, or variables, and may stand
+    for all of a class or a module; one that begins with sh is a call of that."""
+    *given, name = test.split()
+    folder, _, name = name.rpartition("/")
+    words, place = [sys.executable, "-B", "-m", "unittest", "-f", name], os.path.join(top, folder or "tests")
+    if is_call := given[:1] == ["sh"]:
+        words, place, given = [*test.split(), program if "--unproved" in test else PROVED], top, []
+    said, status = call(words, place, program, limit, [it.split("=", 1) for it in given])
+    if said is None:
+        return "", "hangs"
+    counts = re.findall(r"^Ran (\d+) tests?|skipped=(\d+)", said, re.M)
+    if len(counts) == 2 and counts[0][0] == counts[1][1]:
+        left_out.add(test)
+    if not status or is_call:
+        return (test, said) if status else None
+    failed = re.search(r"^(?:FAIL|ERROR): \S+ \((.*?)\)(?: \(title='([^'\\]*)'\)$)?", said, re.M)
+    if failed is None:
+        return "", said
+    row = [f"STMFLASH_ROW={failed[2].replace(' ', '_')}"] if failed[2] and not given else []
+    return " ".join([*given, *row, folder + "/" * bool(folder) + failed[1]]), said
