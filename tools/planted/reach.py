@@ -6,6 +6,7 @@ Those come first whose names have words of the fault's, or whose modules have it
 """
 
 import os
+import pathlib
 import re
 
 TOP = os.path.dirname(os.path.dirname(os.path.dirname(os.path.abspath(__file__))))
@@ -76,9 +77,9 @@ class Reach:
         return sorted((self.tests[it] for it in found), key=lambda test: (-len(words & words_of(test)) - 2 * self.has(test, texts), self.seconds[test]))
 
     def has(self, test, texts):
-        """Whether the module of a test has one of these texts."""
+        """Whether the module of a test has one of these texts, or a page that it plays."""
         module = test.split(".")[0]
         if texts and module not in self.modules:
-            with open(os.path.join(TOP, "tests", module + ".py"), encoding="utf-8") as source:
-                self.modules[module] = source.read()
+            own = pathlib.Path(TOP, "tests", module + ".py").read_text(encoding="utf-8")
+            self.modules[module] = own + "".join(pathlib.Path(TOP, "tests", page).read_text(encoding="utf-8") for page in re.findall(r'"(\w+\.rows)"', own))
         return any(text in self.modules[module] for text in texts)
