@@ -141,8 +141,8 @@ def run(top, program, test, limit):
         left_out.add(test)
     if not status or is_call:
         return (test, said) if status else None
-    failed = re.search(r"^(?:FAIL|ERROR): \S+ \((.*?)\)(?: \(title='([^'\\]*)'\)$)?", said, re.M)
+    failed = re.search(r"^(?:FAIL|ERROR): \S+ \((.*?)\)(?: \(title=(['\"])([^\\]*)\2\)$)?", said, re.M)
     if failed is None:
         return "", said
-    row = [f"STMFLASH_ROW={failed[2].replace(' ', '_')}"] if failed[2] and not given else []
+    row = [f"STMFLASH_ROW={failed[3].replace(' ', '_')}"] if failed[3] and not given else []
     return " ".join([*given, *row, folder + "/" * bool(folder) + failed[1]]), said
