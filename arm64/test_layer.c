@@ -166,6 +166,7 @@ static void test_open_dir(void)
     while (held < sizeof refused / sizeof *refused && rattle_open_dir_at(at, refused[held].name) == -1 && errno == refused[held].error)
         held++;
     HOLDS(alarm(0) != 0 && held == sizeof refused / sizeof *refused); HOLDS(dup(at) == through && close(through) == 0);
+    HOLDS(rattle_open_dir_at(-1, ".") == -1 && errno == EBADF);
     for (size_t k = 0; k < sizeof refused / sizeof *refused; k++)
         unlinkat(at, refused[k].name, 0);
     HOLDS(close(at) == 0 && rmdir(place) == 0);
