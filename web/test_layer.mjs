@@ -54,6 +54,7 @@ function machine({ words = ['stmflash'], variables = {}, store = new Store([]), 
 {
   const { memory } = machine(), calls = clockCalls(memory, { now: () => 1999.5, timeOrigin: 1.8e12 }), at = (which) => [calls.clock_gettime(which, 8n), memory.view().getBigInt64(8, true), memory.view().getBigInt64(16, true)];
   holds('the steady clock', at(1), [0, 1n, 999500000n]); holds('the time of day', at(0), [0, 1800000001n, 999500000n]);
+  clockCalls(memory, { now: () => 1999.9999999998 }).clock_gettime(1, 8n); holds('the last of a second', memory.view().getBigInt64(16, true), 999999999n);
 }
 
 const [CREATE, EXCLUSIVE, TRUNCATE, APPEND] = [0x40, 0x80, 0x200, 0x400];
@@ -140,7 +141,7 @@ function port() {
     const board = port(), line = new Line(board, 9600, undefined, undefined, stop); let count = 0;
     const send = (size) => thrownBy(() => line.send(Uint8Array.from({ length: size }, () => ++count)));
     for (const sends of connections) await line.connect().then(() => sends.forEach(send)).then(() => line.close());
-    holds('a stop, behind so many bytes of all sends and connections', [line.ended, line.sent, board.sent], ['stopped', stop, [1, 2, 3, 4, 5, 6].slice(0, stop)]);
+    line.end('closed'); holds('a stop, behind so many bytes of all sends and connections', [line.ended, line.sent, board.sent], ['stopped', stop, [1, 2, 3, 4, 5, 6].slice(0, stop)]);
   }
   const adapter = (usbVendorId, usbProductId) => ({ getInfo: () => ({ usbVendorId, usbProductId }) }), [one, other, same] = [adapter(1, 2), adapter(1, 3), adapter(1, 2)];
   const chosen = (...ports) => { const it = thrownBy(() => portOf(ports, one.getInfo())); return ports.includes(it) ? ports.indexOf(it) : it.message.slice(0, 12); };

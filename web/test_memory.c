@@ -75,6 +75,10 @@ static void grows(void)
     rattle_realloc(one.p, 5000, 90000, 1);
     holds("a block that is left by one that grows is taken again", rattle_alloc(4900, 1).p == one.p);
     rattle_dealloc(other.p);
+    struct tried grown = rattle_realloc(rattle_alloc(2 << 20, 1).p, 2 << 20, 3 << 20, 1), behind = rattle_alloc(2 << 20, 1);
+    rattle_dealloc(grown.p);
+    holds("and so is one that grew where it was, by all that it has", rattle_alloc(3 << 20, 1).p == grown.p);
+    rattle_dealloc(behind.p);
     struct tried none = rattle_alloc(0, 8), another = rattle_alloc(0, 8);
     holds("no bytes have an address too", none.ok && another.ok && none.p != another.p);
 }
