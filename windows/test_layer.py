@@ -39,10 +39,10 @@ INSTEAD = {"FlushFileBuffers": "flush", "SetFileInformationByHandle": "set", "Mo
            "GetFinalPathNameByHandleW": "final", "GetFileAttributesW": "attributes", "GetFileInformationByHandle": "information",
            "QueryPerformanceCounter": "counter", "QueryPerformanceFrequency": "frequency", "GetSystemTimePreciseAsFileTime": "day", "ReadFile": "read",
            "GetConsoleMode": "mode", "SetConsoleMode": "console", "GetConsoleOutputCP": "page", "SetConsoleOutputCP": "pages", "ExitProcess": "exit", "WSAPoll": "poll",
-           "__wgetmainargs": "words"}
+           "__wgetmainargs": "words", "freeaddrinfo": "freed"}
 VARIABLES = {"FIRST": "one", "EMPTY": "", **{f"SAID_{it}": os.strerror(it) for it in range(1, 112)}}
 ASKED_BITS = termios.CSIZE | termios.CSTOPB
-WORDS = ["--wiring", "none", "--baud=9600", "word", "", "zwei Wörter", "--wirings=x", "a\\b", "--baud", "57600", "--wiring=none", "-h", "end"]
+WORDS = ["--wiring", "none", "--baud=9600", "word", "", "zwei Wörter", "--wirings=x", "a\\b", "--baud", "57600", "--wiring=none", "help", "end"]
 LAST = ["--wiring", "dtr-reset,rts-boot0", "--wiring"]
 FAULTS = list(slips.read(pathlib.Path(f"{HERE}/slips").read_text(encoding="utf-8")))
 
