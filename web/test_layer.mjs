@@ -53,8 +53,7 @@ function machine({ words = ['stmflash'], variables = {}, store = new Store([]), 
 
 {
   const { memory } = machine(), calls = clockCalls(memory, { now: () => 1999.5, timeOrigin: 1.8e12 }), at = (which) => [calls.clock_gettime(which, 8n), memory.view().getBigInt64(8, true), memory.view().getBigInt64(16, true)];
-  holds('the steady clock', at(1), [0, 1n, 999500000n]); holds('the time of day', at(0), [0, 1800000001n, 999500000n]);
-  clockCalls(memory, { now: () => 1999.9999999998 }).clock_gettime(1, 8n); holds('the last of a second', memory.view().getBigInt64(16, true), 999999999n);
+  holds('the steady clock', at(1), [0, 1n, 999500000n]); holds('the time of day', at(0), [0, 1800000001n, 999500000n]); clockCalls(memory, { now: () => 1999.9999999998 }).clock_gettime(1, 8n); holds('the last of a second', memory.view().getBigInt64(16, true), 999999999n);
 }
 
 const [CREATE, EXCLUSIVE, TRUNCATE, APPEND] = [0x40, 0x80, 0x200, 0x400];

@@ -109,15 +109,12 @@ static BOOL WINAPI tried_set(HANDLE handle, FILE_INFO_BY_HANDLE_CLASS what, void
 {
     static wchar_t path[PATH_ROOM];
     struct { DWORD flags; HANDLE root; DWORD length; wchar_t name[1]; } *renamed = value;
-    if (what != 21 && what != 22)
-        return SetFileInformationByHandle(handle, what, value, size);
+    if (what != 21 && what != 22) return SetFileInformationByHandle(handle, what, value, size);
     SetLastError(ERROR_INVALID_PARAMETER);
-    if (!has_posix || (what == 22 && (renamed->flags & 0x40) && !is_new))
-        return FALSE;
+    if (!has_posix || (what == 22 && (renamed->flags & 0x40) && !is_new)) return FALSE;
     posix_flags = what == 22 ? renamed->flags : *(DWORD *)value;
     FILE_DISPOSITION_INFO remove = {.DeleteFile = posix_flags & 1};
-    if (what == 21)
-        return SetFileInformationByHandle(handle, FileDispositionInfo, &remove, sizeof remove);
+    if (what == 21) return SetFileInformationByHandle(handle, FileDispositionInfo, &remove, sizeof remove);
     if (renamed->root != NULL || renamed->length != wcslen(renamed->name) * sizeof(wchar_t) || GetFinalPathNameByHandleW(handle, path, PATH_ROOM, 0) == 0)
         return FALSE;
     renamed_at = flushes;
@@ -137,8 +134,7 @@ static DWORD WINAPI tried_security(HANDLE handle, SE_OBJECT_TYPE kind, SECURITY_
     BOOL ignored;
     if (list == NULL || security != ERROR_SUCCESS)
         return security != ERROR_SUCCESS ? security : GetSecurityInfo(handle, kind, what, owner, group, entries, more, rights);
-    if (!HOLDS(ConvertStringSecurityDescriptorToSecurityDescriptorW(list, SDDL_REVISION_1, rights, NULL)))
-        return ERROR_INVALID_ACL;
+    if (!HOLDS(ConvertStringSecurityDescriptorToSecurityDescriptorW(list, SDDL_REVISION_1, rights, NULL))) return ERROR_INVALID_ACL;
     GetSecurityDescriptorOwner(*rights, owner, &ignored);
     GetSecurityDescriptorDacl(*rights, &ignored, entries, &ignored);
     *entries = is_listed ? *entries : NULL;
@@ -178,8 +174,7 @@ static void WINAPI tried_exit(UINT status)
         none = table[1], table[0] = table[1] = table[2] = NULL, SetStdHandle(STD_INPUT_HANDLE, NULL);
     else
         table[1] = none;
-    if (page_count < 6 && wrong == 0)
-        main();
+    if (page_count < 6 && wrong == 0) main();
     if (HOLDS(bytes != 0 && said[bytes - 1] == '\n' && memcmp(said, "\nOn Windows a device is COM3", 28) == 0 && strcmp(asked_wiring, "dtr-reset,rts-boot0") == 0 && sysv_rattle_arg(13, NULL, 0) == -1))
         printf("%d of %d hold\n", tried_so_far, tried_so_far);
     ExitProcess(wrong != 0);
@@ -191,8 +186,7 @@ static void WINAPI tried_day(FILETIME *day) { ticks == 0 ? GetSystemTimePreciseA
 
 static void WINAPI tried_sleep(DWORD millis)
 {
-    if (millis != 0 && millis != 50)
-        snprintf(signals + strlen(signals), sizeof signals - strlen(signals), "%lu ", millis);
+    if (millis != 0 && millis != 50) snprintf(signals + strlen(signals), sizeof signals - strlen(signals), "%lu ", millis);
     naps += millis == 50;
     Sleep(millis == 50 ? nap : 0);
 }
@@ -233,8 +227,7 @@ static struct statx told(const char *name, int flags)
 {
     struct statx found;
     memset(&found, 0x55, sizeof found);
-    if (sysv_statx(-100, name, flags, 0xfff, &found) < 0)
-        memset(&found, 0, sizeof found);
+    if (sysv_statx(-100, name, flags, 0xfff, &found) < 0) memset(&found, 0, sizeof found);
     return found;
 }
 
@@ -251,8 +244,7 @@ static void test_errors(void)
         {ERROR_INVALID_PARAMETER, 22}, {ERROR_BAD_PATHNAME, 22}, {ERROR_NEGATIVE_SEEK, 22}, {ERROR_TOO_MANY_OPEN_FILES, 24}, {ERROR_FILE_TOO_LARGE, 27}, {ERROR_DISK_FULL, 28},
         {ERROR_HANDLE_DISK_FULL, 28}, {1295, 28}, {ERROR_WRITE_PROTECT, 30}, {ERROR_BROKEN_PIPE, 32}, {ERROR_NO_DATA, 32}, {ERROR_FILENAME_EXCED_RANGE, 36}, {ERROR_DIR_NOT_EMPTY, 39},
         {WSAEAFNOSUPPORT, 97}, {WSAEADDRINUSE, 98}, {WSAEACCES, 98}, {WSAECONNRESET, 104}, {WSAECONNABORTED, 104}, {WSAETIMEDOUT, 110}, {WSAECONNREFUSED, 111}};
-    for (size_t i = 0; i < sizeof same / sizeof *same; i++)
-        FAILS(fail_of(same[i].windows), same[i].error);
+    for (size_t i = 0; i < sizeof same / sizeof *same; i++) FAILS(fail_of(same[i].windows), same[i].error);
     // what each is in words, and one that nobody knows; and where there is no room for all
     static const int more[] = {1, 21, 29, 88};
     for (size_t i = 0; i < sizeof same / sizeof *same + 4; i++) {
@@ -279,8 +271,7 @@ static void test_memory(void)
     HOLDS(!none.ok && none.p != NULL && empty.ok && empty.p != NULL);
     struct tried stays = sysv_rattle_alloc(40, 8), beside = (memset(stays.p, 5, 40), sysv_rattle_realloc(stays.p, 40, (size_t)1 << 62, 8));
     HOLDS(!beside.ok && beside.p != NULL && ((char *)stays.p)[39] == 5 && sysv_rattle_alloc(40, 8).p != stays.p);
-    for (int i = 0; i < 64; i++)
-        one[i] = (char)i;
+    for (int i = 0; i < 64; i++) one[i] = (char)i;
     HOLDS(sysv_memcpy(other, one, 64) == other && sysv_memcmp(one, other, 64) == 0 && sysv_bcmp(one, other, 64) == 0);
     HOLDS(sysv_memmove(one + 3, one, 32) == one + 3 && memcmp(one + 3, other, 32) == 0 && one[2] == 2 && one[35] == 35);
     HOLDS(sysv_memmove(one, one + 3, 40) == one && memcmp(one, other, 32) == 0 && memcmp(one + 33, other + 36, 7) == 0);
@@ -359,8 +350,7 @@ static void test_paths(void)
     FAILS(sysv_link("b", "CON"), 22); FAILS(sysv_rattle_open_dir_at(-100, "CON"), 22); FAILS(sysv_readlink("b", name, 9), 22); HOLDS(sysv_realpath("CON", real) == NULL && sysv_rattle_errno() == 22);
     HOLDS(!widen("", path) && sysv_rattle_errno() == 2);
     static const char *const taken[] = {"console", "com", "com10x", "COMB.journal", "auxiliary.txt", "C:/x", "NUL", "CON1", "com0", "xCON", "con_", "//?/C:/x", "CON/x"};
-    for (size_t i = 0; i < sizeof taken / sizeof *taken; i++)
-        HOLDS(widen(taken[i], path));
+    for (size_t i = 0; i < sizeof taken / sizeof *taken; i++) HOLDS(widen(taken[i], path));
     HOLDS(widen("C:/a/../b", path) && wcscmp(path, L"C:\\b") == 0); HOLDS(widen("//server/share/x", path) && wcscmp(path, L"\\\\server\\share\\x") == 0);
     memset(name, 'y', 400);
     memcpy(name, "//server/share/", 15);
@@ -416,8 +406,7 @@ static void test_paths(void)
     for (int i = 0; i < 5; i++) {
         HOLDS(is_port(ports[i])); FAILS(sysv_statx(-100, ports[i], 0, 0, &none), 2);
     }
-    for (int i = 0; i < 6; i++)
-        HOLDS(!is_port(others[i]));
+    for (int i = 0; i < 6; i++) HOLDS(!is_port(others[i]));
     static const char *const streams[] = {"/dev/stdin", "/dev/stdout", "/dev/stderr", "/dev/fd/0", "/dev/fd/1", "/dev/fd/2"};
     for (int i = 0; i < 6; i++)
         HOLDS(standard_of(streams[i]) == i % 3 && sysv_open(streams[i], 0, 0) == 3 && table[3] == table[i % 3] && sysv_close(3) == 0 && table[i % 3] != NULL && (told(streams[i], 0).mode & 0170000) == 0020000);
@@ -482,12 +471,10 @@ static void test_files(void)
     FAILS(sysv_lseek(folder, 0, 0), 29); FAILS(sysv_read(folder, buf, 1), 21); HOLDS(folder == 3 && !sysv_isatty(folder) && sysv_close(folder) == 0);
     // 512 numbers, and what has none is closed
     int last = 0, count = 0;
-    for (int number; (number = sysv_open("one", 0, 0)) >= 0; count++)
-        last = number;
+    for (int number; (number = sysv_open("one", 0, 0)) >= 0; count++) last = number;
     HOLDS(sysv_rattle_errno() == 24 && last == 511 && count == 509);
     FAILS(sysv_fcntl(last, 1030, 3), 24); FAILS(sysv_open("/dev/stdin", 0, 0), 24); HOLDS(sysv_lseek(last, 0, 2) == 3 && at(0) != NULL && at(512) == NULL && at(-1) == NULL);
-    for (int number = 3; number < 512; number++)
-        HOLDS(sysv_close(number) == 0);
+    for (int number = 3; number < 512; number++) HOLDS(sysv_close(number) == 0);
     HOLDS(sysv_unlink("one") == 0);
     int nothing = sysv_open("NUL", 1, 0);
     HOLDS(nothing == 3 && (most = 1, sysv_write(nothing, "xy", 2)) == 1 && (most = -1, sysv_write(nothing, "xy", 2)) == 2); FAILS(sysv_lseek(nothing, 0, 0), 29); HOLDS(sysv_close(nothing) == 0);
@@ -660,8 +647,7 @@ static void test_tcp(void)
     int server = sysv_socket(1, 1, 0), port = 20000 + (int)(GetCurrentProcessId() * 37 + GetTickCount()) % 20000;
     FAILS(sysv_socket(2, 1, 0), 97);
     static const char *const bad[] = {"tcp:", "tcp:127.0.0.1", "tcp:127.0.0.1:", "tcp:127.0.0.1:x", "tcp::9"};
-    for (int i = 0; i < 5; i++)
-        FAILS(by_name(sysv_connect, server, bad[i]), 22);
+    for (int i = 0; i < 5; i++) FAILS(by_name(sysv_connect, server, bad[i]), 22);
     FAILS(by_name(sysv_bind, server, "COM1"), 97); FAILS(sysv_connect(server, who, 2), 88); FAILS(sysv_connect(server, who, 130), 88); FAILS(by_name(sysv_connect, 99, "x"), 9); FAILS(sysv_listen(99, 1), 9);
     FAILS(sysv_accept4(99, who, &length, 0), 9); FAILS(sysv_accept4(server, who, &length, 0), 88); FAILS(sysv_setsockopt(99, 1, 20, buf, 16), 9); FAILS(sysv_send(99, buf, 1, 0), 9); FAILS(sysv_recv(server, buf, 1, 0), 88);
     FAILS(by_name(sysv_bind, server, "board"), 97); FAILS(by_name(sysv_connect, server, "board"), 2); FAILS(sysv_listen(server, 1), 88);
@@ -717,8 +703,7 @@ static void test_port(const char *port, const char *other)
     ULONGLONG begun = GetTickCount64();
     HOLDS(sysv_write(line, "e", 1) == 1); FAILS(sysv_read(line, buf, 16), 11); HOLDS(GetTickCount64() - begun >= 100 && GetTickCount64() - begun < 60000);
     wait_for(line, 20);
-    for (came = CE_RXOVER; came <= CE_BREAK; came *= 2)
-        FAILS(sysv_read(line, buf, 16), 5);
+    for (came = CE_RXOVER; came <= CE_BREAK; came *= 2) FAILS(sysv_read(line, buf, 16), 5);
     // several that come at once are taken in order, as many as there is room for; a wrong one among them, or behind them, ends the line
     wait_for(line, 60000);
     for (int i = came = 0, n = 0, reads = 0; i < 4; i++, n = 0) {
