@@ -132,7 +132,7 @@ class Slips(unittest.TestCase):
                 file.write("import os, unittest\nclass Some(unittest.TestCase):\n"
                            "    @unittest.skip('no tool')\n    def test_one(self): pass\n    def test_two(self): pass\n"
                            "class Rows(unittest.TestCase):\n    def test(self):\n"
-                           "        with self.subTest(title='a row (1)'): assert os.environ.get('STMFLASH_ROW') == 'b'\n")
+                           "        with self.subTest(title='a row (1)'): assert os.environ.get('STMFLASH_ROW') == 'b', \"(title='c')\"\n")
             one, both, row = "test_some.Some.test_one", "test_some.Some", "STMFLASH_ROW=a_row_(1) test_some.Rows.test"
             for test in (one, both, "STMFLASH_ROW=b test_some.Rows.test"):
                 self.assertIsNone(trees.run(top, "none", test, 60))

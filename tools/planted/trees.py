@@ -141,7 +141,7 @@ def run(top, program, test, limit):
         left_out.add(test)
     if not status or is_call:
         return (test, said) if status else None
-    failed = re.search(r"^(?:FAIL|ERROR): \S+ \((.*?)\)(?: \(title=(['\"])([^\\]*)\2\)$)?", said, re.M)
+    failed = re.search(r"^(?:FAIL|ERROR): \S+ \((.*?)\)(?: \(title=(['\"])([^\\\n]*)\2\)$)?", said, re.M)
     if failed is None:
         return "", said
     row = [f"STMFLASH_ROW={failed[3].replace(' ', '_')}"] if failed[3] and not given else []
