@@ -322,7 +322,9 @@ def each_named(kind, page, how=Rows.play_all):
     def play(title):
         return lambda self: how(self, [(it, lines) for it, lines in cases(page) if it == title or it.startswith(f"{title} (")])
 
+    titles = {}
     for block in re.sub(r"(?m)^#.*\n", "", text_in("tests", page)).strip().split("\n\n"):
         if not block.startswith(("let ", "begin\n")):
-            title = block.split("\n")[0]
-            setattr(kind, "test_" + re.sub(r"\W+", "_", title.replace("'", "")), play(title))
+            name = "test_" + re.sub(r"\W+", "_", (title := block.split("\n")[0]).replace("'", ""))
+            assert titles.setdefault(name, title) == title, f"two titles of {page} make {name}"
+            setattr(kind, name, play(title))

@@ -5,11 +5,9 @@ import contextlib
 import fcntl
 import os
 
-from place import PATIENCE, WAIT, Place, Said, files
+from place import PATIENCE, WAIT, ZEROS, Place, Said
 from rows import Rows, bytes_of, each_named
 from served import relay
-
-ZEROS = bytes(32768)
 
 
 def full_pipe():
