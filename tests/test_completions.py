@@ -16,7 +16,7 @@ FOLDER = os.path.join(TOP, "packaging", "completions")
 KINDS = {"write-unprotect", "readout-protect", "readout-unprotect"}
 # prints each text that may be typed before each word that is offered behind it
 BASH = """. "$1"; shift; for typed; do COMP_WORDS=($typed); [[ $typed != *" " ]] || COMP_WORDS+=(""); COMP_CWORD=$((${#COMP_WORDS[@]} - 1))
-"_${COMP_WORDS[0]//-/_}"; for it in "${COMPREPLY[@]}"; do echo "$typed: $it"; done; done"""
+by=($(complete -p "${COMP_WORDS[0]}")); "${by[-2]}"; for it in "${COMPREPLY[@]}"; do echo "$typed: $it"; done; done"""
 FISH = 'for it in $argv[1..3]; source $it; end; for typed in $argv[4..]; for it in (complete -C "$typed"); echo "$typed: $it"; end; end'
 # the same of what zsh is told; and an option there, with what stands behind it, if anything does
 ZSH = """_arguments() { print -rl -- "$typed: "${^@}; }; _describe() { print -rl -- "$typed: "${(P)^2}; }

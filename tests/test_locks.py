@@ -4,13 +4,14 @@
 import os
 
 import syncs
-from place import COUNTING, HEADER, WAIT, Said, each_of, files, new
+from place import COUNTING, HEADER, WAIT, each_of, files, new
 from served import Served, relay
 from test_check import counted
 
 # how many times two programs are started together, without a journal and with one; 100 are run by hand
 ROUNDS = int(os.environ.get("ROUNDS", "2"))
 BUSY = (b"stmflash: journal is in use\n", b"stmflash: simulator file is in use\n")
+HELD = "another program has journal: wait until it ends"
 # what is started together, a test each, so that they run side by side
 UNDO = ("undo",)
 RACES = {
@@ -70,7 +71,7 @@ class Locks(Served):
         self.assertTold(self.hold(self.words_on("erase", "5"), at=come)[0], "segment 1: 1 pages erased\n")
         self.assertEqual(len(came), 2)
         for other in came:
-            self.assertFault(other, "journal is in use")
+            self.assertFault(other, "journal is in use", hint=HELD)
         self.assertTold(self.use("undo"), "undone 1\n", flash=COUNTING)
 
     @each_of((None, b""))
@@ -117,7 +118,7 @@ class Locks(Served):
                 self.store("journal", made)
                 with line, self.connect() as board:
                     sent = relay(line, board)
-                self.assertEqual(self.ended(host), Said(1, b"", BUSY[0]))
+                self.assertFault(self.ended(host), "journal is in use", hint=HELD)
                 self.assertNotIn(b"\x43\xbc", sent)
                 self.assertFile("journal", made)
                 self.remove("journal")

@@ -78,6 +78,12 @@ class Packaging(unittest.TestCase):
         self.addCleanup(running.kill)
         for _ in ("anew", "over itself"):
             subprocess.run(["make", "install", "PREFIX=/opt/ours", f"DESTDIR={folder}", f"BINARY={program()}"], cwd=TOP, check=True, capture_output=True, umask=0o077)
+        for name in ("stmflash", "stmflash-line", "stmflash-trial"):
+            # (what runs one of another processor finds it by the name that it has here)
+            if name != "stmflash" or not program().endswith("-under-qemu"):
+                ran = subprocess.run([os.path.join(top, "bin", name), "--help"], capture_output=True, text=True, timeout=60)
+                self.assertEqual((ran.returncode, ran.stderr), (0, ""))
+                self.assertIn(f"{name} ", ran.stdout)
         wanted = {to + name: pathlib.Path(TOP, it).read_bytes() for to, of in INSTALLED.items() for name, it in copies(of)}
         wanted |= {f"share/bash-completion/completions/stmflash{it}": "stmflash" for it in ("-line", "-trial")}
         unit = "lib/systemd/system/stmflash-line@.service"
@@ -88,12 +94,6 @@ class Packaging(unittest.TestCase):
             if not os.path.isdir(path):
                 held[os.path.relpath(path, top)] = os.readlink(path) if os.path.islink(path) else pathlib.Path(path).read_bytes()
         self.assertEqual([it for it in {*held, *wanted} if held.get(it) != wanted.get(it)], [])
-        for name in ("stmflash", "stmflash-line", "stmflash-trial"):
-            # (what runs one of another processor finds it by the name that it has here)
-            if name != "stmflash" or not program().endswith("-under-qemu"):
-                ran = subprocess.run([os.path.join(top, "bin", name), "--help"], capture_output=True, text=True, timeout=60)
-                self.assertEqual((ran.returncode, ran.stderr), (0, ""))
-                self.assertIn(f"{name} ", ran.stdout)
 
     def test_a_tagged_adapter_is_nobody_elses(self):
         """ModemManager leaves it alone, whoever sits there may use it, and it is quick."""
@@ -187,6 +187,9 @@ class Packaging(unittest.TestCase):
         self.assertEqual([fields[name] for name in ("Provides", "Conflicts", "Replaces")], ["stm32flash (= 0.7)", "stm32flash", "stm32flash"])
         self.assertTrue(os.access(f"{tree}/usr/bin/stm32flash", os.X_OK))
         self.assertEqual(os.listdir(f"{tree}/usr/share/man/man1"), ["stmflash-as-stm32flash.1.gz"])
+        shutil.copytree(os.path.join(TOP, "line", "stmflash_line"), f"{tree}/usr/share/stmflash/stmflash_line")
+        ran = subprocess.run([f"{tree}/usr/bin/stm32flash", "-h"], capture_output=True, text=True, timeout=60)
+        self.assertEqual((ran.returncode, ran.stderr.partition(" [")[0]), (0, "Usage: stm32flash"))
 
     def release(self, clone, folder, *programs, env=None):
         """As from the folder beside it, in another zone of time. Nothing is left elsewhere."""

@@ -26,6 +26,9 @@ pub enum Behind<'f> {
     /// The same of the journal of this name.
     #[error("a crash of the PC may have left it: undo 1 --recover --journal {0} cuts it off, and keeps it beside")]
     UnsyncedEndIn(&'f str),
+    /// The journal of this name is in use.
+    #[error("another program has {0}: wait until it ends")]
+    InUse(&'f str),
     /// The device is a port, of this name.
     #[error("serial ports want stmflash-line {0} -- stmflash .. (no --device)")]
     Port(&'f str),
@@ -40,24 +43,16 @@ impl<'f> Behind<'f> {
             (Failure::JournalRescued(file), _) => Some(Behind::Rescued(file)),
             (Failure::UnsyncedEnd(_), _) => Some(Behind::UnsyncedEnd),
             (Failure::UnsyncedEndIn(name, _), _) => Some(Behind::UnsyncedEndIn(name)),
+            (Failure::JournalInUse(name), _) => Some(Behind::InUse(name)),
             (Failure::IsPort(name), _) => Some(Behind::Port(name)),
-            (_, Some(hint)) => Behind::told(hint.of(failure)),
+            (_, Some(hint)) => hint.of(failure).map(|it| Behind::Hint(it)),
             _ => None,
         }
     }
 
     /// What is to be done behind what was done.
     pub fn done(hint: Option<Hint>) -> Option<Behind<'f>> {
-        match hint {
-            Some(hint) => Behind::told(hint.of_done()),
-            None => None,
-        }
-    }
-
-    fn told(hint: Option<Hint>) -> Option<Behind<'f>> {
-        match hint {
-            Some(hint) => Some(Behind::Hint(hint)),
-            None => None,
-        }
+        let Some(hint) = hint else { return None };
+        hint.of_done().map(|it| Behind::Hint(it))
     }
 }

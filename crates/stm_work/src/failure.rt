@@ -89,9 +89,9 @@ pub enum Failure<'a> {
     /// The file of a simulator's line can't be written.
     #[error("cannot write {0}.line")]
     CannotWriteLine(&'a str),
-    /// Another program has the journal.
+    /// Another program has the journal of this name.
     #[error("journal is in use")]
-    JournalInUse,
+    JournalInUse(&'a str),
     /// The journal's file has bytes, and is no journal.
     #[error("{0} is no journal: name another, or move it away")]
     NoJournal(&'a str),
@@ -238,7 +238,7 @@ impl<'a> Failure<'a> {
     /// Why the journal of this name can't be used.
     pub fn of_journal(why: Unusable, name: &'a str) -> Failure<'a> {
         match why {
-            Unusable::InUse => Failure::JournalInUse,
+            Unusable::InUse => Failure::JournalInUse(name),
             Unusable::Unlockable(e) => Failure::CannotLock(name, Reason(e)),
             Unusable::NoJournal => Failure::NoJournal(name),
             Unusable::NotTrusted(doubt) => Failure::NotTrusted(name, doubt),

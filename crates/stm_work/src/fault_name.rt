@@ -21,7 +21,7 @@ impl Failure<'_> {
             Failure::NoOutput(_) | Failure::IsOpened(_) | Failure::IsJournal(_) => "cannot_write",
             Failure::OutLeads(_) | Failure::ErrLeads(_) | Failure::OtherFileSystem(_) =>
                 "cannot_write",
-            Failure::JournalInUse => "journal_in_use",
+            Failure::JournalInUse(_) => "journal_in_use",
             Failure::NoJournal(_) => "no_journal",
             Failure::NotTrusted(..) => "not_trusted",
             Failure::PageDamaged(..) => "page_damaged",
