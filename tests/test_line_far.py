@@ -1,7 +1,6 @@
 """stmflash-line on ports that another machine has: over pyserial's far end, a plain connection of ours (tests/far.rows), and ser2net."""
 
 import concurrent.futures
-import contextlib
 import os
 import random
 import re
@@ -36,13 +35,6 @@ class FarPlace(LinePlace):
         """The companion told this of a port, line by line, and ended so."""
         self.assertEqual(said, Said(status, out, "".join(f"stmflash-line: {url or self.url}: {text}\n" for text in texts).encode()))
 
-    def listen_as(self, name):
-        """An other end of ours, and its whole name with the number of its port."""
-        listener = socket.create_server(("127.0.0.1", 0))
-        self.addCleanup(listener.close)
-        listener.settimeout(PATIENCE)
-        return listener, f"{name}:{listener.getsockname()[1]}"
-
 
 class Played(Started):
     def test_each_case(self):
@@ -59,22 +51,6 @@ class Rfc2217(FarPlace):
         self.addCleanup(started.kill)
         self.url = f"rfc2217://127.0.0.1:{started.stdout.readline().decode().strip()}"
         return started
-
-    def test_one_that_floods_it_with_questions(self):
-        """Its answers are never taken: that ends the line, in one text."""
-        listener, url = self.listen_as("rfc2217://127.0.0.1")
-        started = self.start(url, "--", "sleep", "1000")
-        end, _ = listener.accept()
-        with end:
-            end.settimeout(0.5)
-            # IAC WILL, of an option that nobody has
-            while started.poll() is None:
-                with contextlib.suppress(OSError):
-                    end.sendall(b"\xff\xfb\x63" * 20000)
-            said = self.ended(started)
-        self.assertEqual((said.status, said.out), (1, b""))
-        self.assertEqual(len(said.err.splitlines()), 1, said.err)
-        self.assertTrue(said.err.startswith(f"stmflash-line: {url}: ".encode()), said.err)
 
     def test_an_error_that_is_told_of_ends_the_line(self):
         self.far_end()
@@ -99,10 +75,9 @@ class Ser2net(FarPlace):
         self.boards, urls, text = [], [], "%YAML 1.1\n---\n"
         for kind, name, accepter in (("rfc2217", "a", "telnet(rfc2217),tcp"), ("socket", "b", "tcp")):
             self.boards.append(self.board(name, flash=COUNTING))
-            listener, url = self.listen_as(f"{kind}://127.0.0.1")
-            listener.close()
-            urls.append(url)
-            port = url.rpartition(":")[2]
+            with socket.create_server(("127.0.0.1", 0)) as listener:
+                port = listener.getsockname()[1]
+            urls.append(f"{kind}://127.0.0.1:{port}")
             text += f"connection: &{name}\n  accepter: {accepter},127.0.0.1,{port}\n  connector: serialdev,{self.path(name)},9600n81,local\n"
         self.store("ser2net.yaml", text.encode())
         started = subprocess.Popen(["ser2net", "-n", "-c", self.path("ser2net.yaml"), "-P", self.path("ser2net.pid")],

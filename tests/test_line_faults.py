@@ -42,18 +42,22 @@ class Faults(LinePlace):
         with open(self.path("ttyUSB0"), "rb+", buffering=0):
             self.assertUnusable("ttyUSB0", f"ttyUSB0: busy: {name_of(os.getpid())} has it")
         self.assertSilent(self.line("ttyUSB0", "--", "true"))
+        # one whose name is no text
+        words = ["sh", "-c", 'printf "a\\377" > /proc/$$/comm; exec 3<> "$0"; echo; read it', self.path("ttyUSB0")]
+        with subprocess.Popen(words, stdin=subprocess.PIPE, stdout=subprocess.PIPE) as held:
+            held.stdout.readline()
+            self.assertUnusable("ttyUSB0", f"ttyUSB0: busy: a\ufffd (process {held.pid}) has it")
 
     def test_held_is_held_for_others(self):
         """Who opens the port while it is ours is refused, and afterwards isn't; root may always."""
         self.plain()
-        script = "import os, sys, errno\ntry: os.open(sys.argv[1], os.O_RDWR | os.O_NOCTTY)\n" \
-                 "except OSError as e: print(errno.errorcode[e.errno])\nelse: print('open')"
+        # Linux: TIOCGEXCL
+        script = "import array, fcntl, os, sys\nheld = array.array('i', [9])\nfcntl.ioctl(os.open(sys.argv[1], os.O_RDWR | os.O_NOCTTY), 0x80045440, held)\nprint(held[0])"
         words = [sys.executable, "-c", script, self.path("ttyUSB0")]
         holder = self.serve()
-        if os.geteuid() != 0:
-            self.assertEqual(subprocess.run(words, capture_output=True).stdout, b"EBUSY\n")
+        self.assertEqual(subprocess.run(words, capture_output=True).stdout, b"1\n" if os.geteuid() == 0 else b"")
         self.assertEqual(end_with(holder, signal.SIGTERM), 0)
-        self.assertEqual(subprocess.run(words, capture_output=True).stdout, b"open\n")
+        self.assertEqual(subprocess.run(words, capture_output=True).stdout, b"0\n")
 
     def test_no_permission(self):
         """The group that would have it is named, and who has to join it."""
@@ -70,16 +74,22 @@ class Faults(LinePlace):
             os.chmod(self.path("temporary"), 0o777)
             user = pwd.getpwuid(NOBODY).pw_name
 
-            def before():
+            def before(number=NOBODY):
                 os.setgroups([])
                 os.setgid(NOBODY)
-                os.setuid(NOBODY)
+                os.setuid(number)
 
         told = f"no permission; group {group} has it: sudo adduser {user} {group}, and log in again"
         self.assertUnusable("ttyUSB0", "ttyUSB0: " + told, line=("line",), before=before)
+        if before:
+            # one of whom the system has no name
+            self.assertUnusable("ttyUSB0", "ttyUSB0: " + told.replace(user, "YOU"), line=("line",), before=lambda: before(4242))
         os.chmod(self.path("ttyUSB0"), 0o000)
         owner = pwd.getpwuid(place.st_uid).pw_name
         self.assertUnusable("ttyUSB0", f"ttyUSB0: no permission; only {owner} has it", line=("line",), before=before)
+        # a folder in which nothing can be made is passed over
+        os.chmod(self.path("ttyUSB0"), 0o666)
+        self.assertSilent(self.line("ttyUSB0", "--", "true", line=("line",), before=before, TMPDIR="/proc", TEMP=self.path("temporary")))
 
 
 class Ending(unittest.TestCase):

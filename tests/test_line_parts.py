@@ -63,9 +63,18 @@ class FarBytes(unittest.TestCase):
         for events, read in (((b"a", b"b"), (b"ab", 0)), ((b"c", None, b"d"), (b"", 1)), ((b"e",), (b"e", 0)), ((None,), (b"", 1))):
             for byte in events:
                 put(byte) if byte else port.inbox.put_error()
-            self.assertEqual(port.read(), read)
-        port.client = mock.Mock(**{"send_break.side_effect": ValueError})
+            self.assertEqual((readable([port.descriptor], 0), port.read()), ([port.descriptor], read))
+        port.client = mock.Mock(**{"send_break.side_effect": ValueError, "write.side_effect": OSError})
         self.assertRaisesRegex(faults.Fault, "^PORT: has no BRK; ", port.move, "brk", True)
+        self.assertRaises(faults.Gone, port.write, b"a")
+        port.inbox.put(None)
+        self.assertRaises(faults.Gone, port.move, "brk", True)
+
+    def test_a_connection_that_is_full_takes_nothing_nor_one_that_ended(self):
+        port, _, end = self.of(far.SocketPort)
+        self.assertEqual(min(port.write(bytes(65536)) for _ in range(99)), 0)
+        end()
+        self.assertRaises(faults.Gone, port.write, b"a")
 
     def test_a_signal_ends_the_wait_for_what_goes_out_there(self):
         port, wake = far.FarPort("a far port", 1), mock.Mock(number=None)
@@ -98,6 +107,11 @@ class Beginning(unittest.TestCase):
             for error, is_left in ((ConnectionRefusedError, True), (TimeoutError, False), (None, False)):
                 made.return_value.__enter__.return_value.connect.side_effect = error
                 self.assertEqual((error, sockets.is_left("board")), (error, is_left))
+        with socket.socket(socket.AF_UNIX) as listener, socket.socket(socket.AF_UNIX) as first:
+            listener.bind(place := f"\0stmflash-{os.getpid()}")
+            listener.listen(0)
+            first.connect(place)
+            self.assertFalse(sockets.is_left(place), "one more would wait")
 
     def test_a_folder_that_cant_be_made(self):
         with mock.patch.object(sockets.os, "mkdir", side_effect=OSError(errno.ENOSPC, "No space left on device", "/tmp/it")):
@@ -412,6 +426,10 @@ class BadBytes(unittest.TestCase):
             self.assertTrue(join.from_client())
         self.assertEqual([name for name, _, _ in port.mock_calls], ["send_rest", "enter", "forget", "write", "write"])
         self.assertEqual((join.out, join.into), (b"", b""))
+        # where a signal ends that, nothing goes out
+        port.enter.side_effect, join.is_first = lambda: setattr(join.wake, "number", signal.SIGTERM), True
+        self.client.sendall(b"?")
+        self.assertEqual((join.from_client(), join.client, port.write.call_count), (False, None, 2))
 
     def test_how_long_each_answer_took(self):
         """From the last byte that went out on, for the first that comes: what comes unasked is told of nobody."""
@@ -452,10 +470,3 @@ class BadBytes(unittest.TestCase):
         self.join.client = ours
         self.assertEqual(self.take(b"\xffc"), "")
         self.assertEqual(self.client.recv(100), b"\xffc")
-
-    def test_a_client_that_takes_nothing(self):
-        said, end = "", time.monotonic() + PATIENCE
-        while not said and time.monotonic() < end:
-            said = self.take(60000 * b"a")
-        self.assertRegex(said, r"\Astmflash-line: PORT: [0-9]+ bytes came that nobody took\n\Z")
-        self.assertIsNone(self.join.client)

@@ -118,24 +118,25 @@ class Latency(LinePlace):
 
     def hasten(self, *numbers):
         """What is said, and the timer behind it; `numbers` are what it tells, where it keeps what it will."""
-        self.store("adapter.timer", b"16\n")
+        os.makedirs(self.path("adapter/device"), exist_ok=True)
+        self.store("adapter/device/latency_timer", b"16\n")
         asked, told = mock.Mock(), mock.Mock(side_effect=numbers or None, wraps=opening.read_number)
-        with contextlib.redirect_stderr(io.StringIO()) as said, mock.patch.object(opening, "TIMER", self.path("{}.timer")), \
+        with contextlib.redirect_stderr(io.StringIO()) as said, mock.patch.object(opening, "TTY", self.folder), \
                 mock.patch.object(opening, "read_number", told), mock.patch.object(os.path, "realpath", {"PORT": "/dev/adapter"}.get):
             opening.hasten(asked, "PORT")
         asked.set_low_latency_mode.assert_called_once_with(True)
-        return said.getvalue(), self.held("adapter.timer")
+        return said.getvalue(), self.held("adapter/device/latency_timer")
 
     def test_a_timer_that_can_be_set_and_one_that_is_quick(self):
         self.assertEqual((self.hasten(), self.hasten(2)), (("", b"1"), ("", b"16\n")))
 
     def test_one_that_stays_is_told(self):
         self.assertEqual(self.hasten(16, 16, 16)[0], f"stmflash-line: PORT: holds bytes back for 16 ms, which makes it slow; "
-                         f"as root: echo 1 > {self.path('adapter.timer')}\n")
+                         f"as root: echo 1 > {self.path('adapter/device/latency_timer')}\n")
 
     def test_a_port_without_one(self):
         for fault in (OSError(errno.ENOTTY, ""), ValueError(), NotImplementedError(), termios.error(errno.EINVAL, "")):
             asked = mock.Mock(**{"set_low_latency_mode.side_effect": fault})
-            with contextlib.redirect_stderr(io.StringIO()) as said, mock.patch.object(opening, "TIMER", self.path("none")):
+            with contextlib.redirect_stderr(io.StringIO()) as said, mock.patch.object(opening, "TTY", self.path("none")):
                 opening.hasten(asked, "PORT")
             self.assertEqual(said.getvalue(), "")

@@ -120,10 +120,6 @@ class Inbox:
         with contextlib.suppress(BlockingIOError):
             os.write(self.writer, b".")
 
-    def qsize(self):
-        """Nothing that pyserial could drop: `forget` does."""
-        return 0
-
     def take(self):
         """What came, how many errors were told of, and whether it is the last."""
         with contextlib.suppress(BlockingIOError):
@@ -218,9 +214,8 @@ def open_rfc2217(word, baud):
     except ValueError:
         raise Fault(f"{word}: doesn't take {baud} baud with 8 data bits and even parity; --baud names another speed") from None
     except OSError as error:
-        # pyserial's own fault stands before the system's
-        cause = error.__context__
-        why = cause.strerror if isinstance(cause, OSError) and not isinstance(cause, serial.SerialException) else None
+        # pyserial's own fault stands before the system's, and has no such text
+        why = getattr(error.__context__, "strerror", None)
         raise Fault(f"{word}: {f'{why}; {THERE}' if why else 'speaks no RFC 2217; the bytes of a port alone are socket://HOST:PORT'}") from None
     client.is_whole, client._read_buffer = True, inbox
     mask = rfc2217.TelnetSubnegotiation(client, "linestate", rfc2217.SET_LINESTATE_MASK, rfc2217.SERVER_SET_LINESTATE_MASK)

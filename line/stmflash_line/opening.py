@@ -10,14 +10,12 @@ import time
 
 from .faults import Fault, number_of, refused, say
 from .holders import holders, who_may
-from .patience import PTY_MAJORS
+from .patience import PTY_MAJORS, TIMER, TTY
 from .port import Port
 
 MISSING = "python3-serial isn't there: apt install python3-serial"
 # how the name of a port begins that another machine has
 FAR = ("rfc2217://", "socket://")
-# Linux: how long an adapter of FTDI holds bytes back, in milliseconds
-TIMER = "/sys/class/tty/{}/device/latency_timer"
 
 
 def open_port(word, baud):
@@ -123,7 +121,7 @@ def hasten(port, name):
     """Asks the driver to hand bytes on at once. One that holds them back all the same is told, since it takes long."""
     with contextlib.suppress(OSError, ValueError, NotImplementedError, termios.error):
         port.set_low_latency_mode(True)
-    timer = TIMER.format(os.path.basename(os.path.realpath(name)))
+    timer = os.path.join(TTY, os.path.basename(os.path.realpath(name)), "device", TIMER)
     with contextlib.suppress(OSError, ValueError):
         if read_number(timer) > 2:
             with contextlib.suppress(OSError), open(timer, "w", encoding="ascii") as held:

@@ -14,8 +14,6 @@ ASKS_CODES = bytes([GET, GET ^ 0xFF])
 ASKS_ID = bytes([GET_ID, GET_ID ^ 0xFF])
 # what a read of one byte brings, which `00 FF` may end too
 SHORT = 2
-# the protections that are answered by two ACKs; what comes of them is left open
-PROTECTIONS = (0x73, 0x82, 0x92)
 # what each list of codes has
 NEEDED, ERASES = {0x00, 0x02, 0x11, 0x31}, {0x43, 0x44}
 NAMES = {0x00: "Get", 0x02: "Get ID", 0x11: "Read Memory", 0x21: "Go", 0x31: "Write Memory", 0x43: "Erase Memory", 0x44: "Extended Erase"}
@@ -79,7 +77,7 @@ class Watched(Model):
             return False, [ACK]
         # a protection, or a code that the model doesn't know
         self.is_open = True
-        return True, [ACK, ACK] if code in PROTECTIONS else []
+        return True, []
 
     def judge(self, rest):
         if rest[0] == GO and len(rest) > 2:
