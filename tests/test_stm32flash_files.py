@@ -5,7 +5,7 @@ import tomllib
 from unittest import mock
 
 from boards import pty_boards
-from place import COUNTING, ERASED, TABLE, TOP, program
+from place import COUNTING, ERASED, TABLE, TOP, program, text_in
 from test_stm32flash_words import NEW, Words, places
 from stmflash_line import tables
 from as_stm32flash import actions, tools
@@ -59,11 +59,11 @@ class Tables(Words):
                                 ({"XDG_CONFIG_HOME": "other"}, [users, beside]), ({"HOME": "."}, [beside]), ({"STMFLASH_TABLE": "named"}, ["named"])):
             with self.subTest(settings=settings), mock.patch.dict(os.environ, {**none, **settings}), mock.patch.object(tables, "MACHINES", self.path("none")):
                 self.assertEqual(tools.find_tables(self.path("bin")), found)
-        with mock.patch.dict(os.environ, none), mock.patch.object(tables, "MACHINES", self.path("table")):
+        with mock.patch.dict(os.environ, none), mock.patch.object(tables, "MACHINES", self.path("table")), mock.patch.object(tools, "TABLES", (self.path("image"),)):
             self.assertEqual(tools.find_tables(self.path("bin")), [users, self.path("table"), beside])
             os.makedirs("share/stmflash")
             self.store("share/stmflash/chips.toml", TABLE)
-            self.assertEqual(tools.find_tables(self.path("bin"))[2:], [self.path("share/stmflash/chips.toml")])
+            self.assertEqual([tools.find_tables(it)[2:] for it in (self.path("bin"), "/none/bin")], [[self.path("share/stmflash/chips.toml")], [self.path("image")]])
         # stmflash-line names the one beside it where stmflash finds none, with those that go over it
         self.store("machines", b"\xef\xbb\xbf" + TABLE.replace(b"412", b"416"))
         for more, found in (({}, [0x412]), ({"MACHINES": self.path("machines")}, [0x416, 0x412]), ({"MACHINES": beside}, [0x412]), ({"MACHINES": users}, None),
@@ -71,6 +71,7 @@ class Tables(Words):
             with mock.patch.multiple(tables, **{"MACHINES": "/none", "TABLES": (), "BESIDE": beside, **more}), mock.patch.dict(os.environ, none, HOME="/none"):
                 name = tables.handed_on()
                 self.assertEqual((more, name and [it["id"] for it in tables.entries(name)]), (more, found or ""))
+        self.assertEqual([it for it in (tables.MACHINES, *tables.TABLES) if it not in text_in("stmflash.1")], [])
 
     def test_what_is_handed_on_is_the_same(self):
         entries = tables.entries(os.path.join(TOP, "chips.toml"))
@@ -87,7 +88,7 @@ class Standing(Words):
         self.addCleanup(os.chdir, here)
         for folder in (here, self.folder):
             os.chdir(folder)
-            names.add(name_of("socket://pc01:2217"))
+            names.add(name_of("socket://pc01:2217/"))
         self.assertEqual(len(names), 1)
         self.assertNotIn(name_of("socket://pc01:2218"), names)
         self.assertNotIn(name_of("rfc2217://pc01:2217"), names)

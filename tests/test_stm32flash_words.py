@@ -420,15 +420,14 @@ class Parts(Place):
             child = line.Child(lambda: signal.pause(), {}, tied())
             self.assertRaises(subprocess.TimeoutExpired, child.wait, 0.01)
             end(child)
-            child.wait()
-            self.assertEqual(child.returncode, -number)
+            # and once it has ended nobody's, who may have its number
+            self.assertEqual((child.wait(), end(child), child.returncode), (None, None, -number))
         with mock.patch.object(line.os, "fork", side_effect=BlockingIOError):
             self.assertRaises(OSError, line.Child, body, {}, tied())
         self.assertEqual(signal.pthread_sigmask(signal.SIG_BLOCK, ()), set())
-        with contextlib.redirect_stderr(io.StringIO()):
+        with mock.patch.object(sys, "excepthook", lambda kind, *_: self.store("told", kind.__name__.encode())):
             child = line.Child(lambda: 1 // 0, {}, tied())
-        child.wait(PATIENCE)
-        self.assertEqual(child.returncode, 1)
+        self.assertEqual((child.wait(PATIENCE), child.returncode, self.held("told")), (None, 1, b"ZeroDivisionError"))
 
     def test_the_slowest_answer_up_to_now_is_told(self):
         for heard in ((), *itertools.permutations((0.25, 0.5, 3.0))):

@@ -65,10 +65,6 @@ def rows_of(said):
     return found, lines[-1] if lines else ""
 
 
-def names_of(found, result):
-    return {name for name, held in found.items() if held == result}
-
-
 @contextlib.contextmanager
 def planted(folder, name, *words):
     """A planted board on the socket `board` of a folder, whose flash is the file `flash`."""
@@ -139,9 +135,6 @@ class TrialPlace(Served):
             self.assertEqual(board.wait(PATIENCE), 0)
         return said
 
-    def assertStatus(self, said, status):
-        self.assertEqual((said.status, said.err), (status, b""), said.out.decode())
-
 
 class Boards(Place):
     """Each planted board, and none."""
@@ -158,7 +151,7 @@ class Boards(Place):
             before = self.held(f"{folder}/flash")
             said = run(self.path(folder), "--device", "board", *SAVED, *QUICK, "--reset", f"kill -USR1 {board.pid}", *deviation.words)
             status = board.wait(PATIENCE)
-        return [f"{name}, erased by {code}: {fault}" for fault in faults(deviation, said, status, before, self.held(f"{folder}/flash"))]
+        return [f"{name}, erased by {code}: {fault}" for fault in faults(deviation, said, status, before, self.held(f"{folder}/flash"), code)]
 
     def try_all(self, boards):
         boards = [board for board in boards if not SOME or board[0] in SOME]
@@ -178,15 +171,16 @@ class Boards(Place):
         self.try_all([(name, "43") for name in (names if IS_LONG else some)])
 
 
-def faults(deviation, said, board_status, before, after):
+def faults(deviation, said, board_status, before, after, code):
     found, verdict = rows_of(said)
-    differ = names_of(found, "differs")
+    differ = {name for name, held in found.items() if held == "differs"}
     return [fault for is_so, fault in (
         (said.err, f"it said {said.err.decode()}"),
         (board_status != 0, f"the board ended with {board_status}: what is never sent was sent"),
         (deviation.rows and not differ & set(deviation.rows), f"not found: {sorted(differ)} differ"),
         (not deviation.rows and differ, f"{sorted(differ)} differ"),
         (not verdict.startswith(deviation.verdict), f"its verdict is {verdict!r}"),
+        *((True, f"{it!r} isn't told, but {said.out.decode()}") for it in deviation.told if code == "44" and it not in said.out.decode()),
         (said.status != (0 if deviation.verdict == FOLLOWS else 1), f"the status is {said.status}"),
         (before != after and not deviation.is_lasting, "its flash isn't what it was")) if is_so]
 
@@ -201,8 +195,8 @@ class Words(TrialPlace):
         self.addCleanup(os.close, reader)
         for name, held in (("link", lambda: self.held("real")), ("pipe", lambda: os.read(reader, 1 << 16))):
             words = ("--only-read", "--part", b"a\xffb", "--out", name, "--save", b"saved \xff" + name.encode(), *QUICK[1:])
-            said = self.tried("none", *words, PYTHONIOENCODING="utf-8:strict")
-            self.assertStatus(said, 0)
+            said = self.tried("none", *words, PYTHONIOENCODING="utf-8:strict", LC_ALL="C", PYTHONCOERCECLOCALE="0", PYTHONUTF8="0")
+            self.assertEqual((said.status, said.err), (0, b""), said.out.decode())
             self.assertEqual(tomllib.loads(held().decode())["part"], "a\ufffdb")
             self.assertRegex(said.out.decode(), rf"saved in (saved \\udcff{name}): .* `stmflash write -v -f '\1'`")
         self.assertTrue(os.path.islink(self.path("link")))
@@ -211,14 +205,15 @@ class Words(TrialPlace):
 
     def test_a_part_of_the_flash_is_no_file(self):
         """A disk that has no room for all of it, and a signal; what came meanwhile under that name is another's. And one that is whole is on the disk, with its name."""
-        text = "import resource, faults, saved; resource.setrlimit(resource.RLIMIT_FSIZE, (4096, 4096))\n" \
-               "def cut(it):\n    print(sys.argv[2], saved.os.path.isdir(f'/proc/self/fd/{it}'))\n    if sys.argv[2] == '1': raise faults.Ended('a signal')\nsaved.os.fsync = cut\n" \
-               "try:\n    saved.store(sys.argv[1], bytes(int(sys.argv[2])))\nexcept faults.Ended as ended:\n    print(ended)"
+        text = "import resource, faults, saved, trial; resource.setrlimit(resource.RLIMIT_FSIZE, (4096, 4096))\n" \
+               "def cut(it):\n    print(sys.argv[2], saved.os.path.isdir(f'/proc/self/fd/{it}') or saved.os.fstat(it).st_size)\n    if sys.argv[2] == '1': raise faults.Ended('a signal')\nsaved.os.fsync = cut\n" \
+               "try:\n    trial.write_anew(sys.argv[1], 8192 * 'a') if sys.argv[2] == 'text' else saved.store(sys.argv[1], bytes(int(sys.argv[2])))\n" \
+               "except (faults.Ended, OSError) as ended:\n    print(ended)"
         self.store("came", b"kept")
-        for name, size, why, held in (("part", "8192", "the flash couldn't be saved: File too large", None), ("cut", "1", "1 False\na signal", None),
-                                      ("came", "1", "the flash couldn't be saved: File exists", b"kept"), ("whole", "2", "2 False\n2 True", bytes(2))):
+        for name, size, why, held in (("part", "8192", "the flash couldn't be saved: File too large", None), ("cut", "1", "1 1\na signal", None), ("cut", "text", "[Errno 27] File too large", None),
+                                      ("came", "1", "the flash couldn't be saved: File exists", b"kept"), ("whole", "2", "2 2\n2 True", bytes(2))):
             self.assertEqual(of_modules(text, self.path(name), size), why + "\n")
-            self.assertEqual(self.held(name), held)
+            self.assertEqual((self.held(name), [it for it in os.listdir(self.folder) if "." in it]), (held, []))
 
     def test_progress(self):
         said, count = self.tried("silent", "--progress", *QUICK), len(row_names())
@@ -321,10 +316,12 @@ class Asked(Started):
         self.answers = []
 
     def placed(self, told):
-        return super().placed(told).replace("{python}", sys.executable).replace("{trial}", TRIAL).replace("{top}", TOP)
+        return super().placed(told).replace("{python}", sys.executable).replace("{trial}", TRIAL).replace("{top}", TOP).replace("{pid}", str(getattr(getattr(self, "board_there", None), "pid", "")))
 
     def run_words(self, words):
         """Runs a call; on a terminal where something is answered there."""
+        if words == "parts":
+            return Said(0, of_modules(PARTS, FOLDER).encode(), b"")
         if not self.answers:
             return super().run_words(words)
         status, said, left = at_terminal(self.folder, self.answers, PYTHON, TRIAL, *shlex.split(words)[1:])
@@ -416,23 +413,24 @@ def of_modules(text, *words, status=0):
 
 PARTS = """
 from types import SimpleNamespace as Of
-import builtins, glob, itertools, line as ways, re, rows_asking, rows_ending, rows_reading, settling, socket, speeds, told, trial
+import builtins, glob, itertools, line as ways, re, rows_asking, rows_changing, rows_ending, rows_reading, rows_stopping, saved, settling, socket, speeds, told, trial
 from board import Board
+from model import Model
 from settling import limit_of
 made = Board.__new__(Board)
-made.words, made.compare = Of(pages=(5,)), lambda pages=None: [9, 2, 5]
+made.words, made.compare, made.other, made.page = Of(pages=(5,)), lambda pages=None: [2] if pages else [9, 2, 5], 5, 5
 def tell(act, of):
     try: print(act(of))
     except Exception as fault: print(type(fault).__name__, fault, getattr(of, 'harm', ''), sep='; ')
-tell(lambda it: it.expect('it'), made)
-for saved, wrong in ((None, []), (b'', []), (b'', [3])):
-    tell(rows_reading.read_again.act, Of(saved=saved, compare=lambda _: wrong, model=Of(starts=[0]), words=Of(pages=[]), harm=''))
-print(limit_of(Of(code=0x44, page=7), 'erase'))
+tell(lambda it: it.expect('it', [2]), made)
+for kept, wrong in ((None, []), (b'', []), (b'', [3])):
+    tell(rows_reading.read_again.act, Of(saved=kept, compare=lambda _: wrong, model=Of(starts=[0]), words=Of(pages=[]), harm=''))
+print(limit_of(Of(code=0x44, page=7), 'erase'), made.both())
 ids = [it for held in rows_reading.SIZE_REGISTERS.values() for it in held]
 print(len(ids) - len({*ids}))
 asking = trial.Trial.__new__(trial.Trial)
-asking.words, asking.board = Of(yes=False, only_read=False, save='saved', pages=[1]), Of(model=True)
-asking.progress = Of(clear=lambda: None)
+asking.words, asking.progress = Of(yes=False, only_read=False, save='saved', pages=[1], skip=(), patient=False), Of(clear=lambda: None)
+asking.board = Of(model=True, saved=b'', is_touched=True, harm=None, usual_time=lambda _: 11)
 for answer in (' Yes ', 'no'):
     builtins.input = lambda _: answer
     tell(lambda it: it.ask(), asking)
@@ -446,12 +444,14 @@ for held in itertools.product(itertools.product((False, True), repeat=2), repeat
     of_line.model, of_line.page, of_line.code, of_line.expect = Of(forget=forgotten.append), 3, 0x44, lambda _: None
     try: odd = not settling.cut_and_settle(of_line, [[], []], 'erase')
     except settling.Odd: odd = True
-    print(held, odd, len(of_line.facts), len(forgotten)) if (odd, len(of_line.facts), len(forgotten)) != (
-        not (held[0][0] and held[1][0]), any(it[1] for it in held), sum(it != (True, False) for it in held)) else None
+    print(held, odd, of_line.facts, len(forgotten)) if (odd, of_line.facts, len(forgotten)) != (
+        not (held[0][0] and held[1][0]), {'loses_while_busy': True} if any(it[1] for it in held) else {}, sum(it != (True, False) for it in held)) else None
+asking.dead, asking.broken, trial.recover = None, Of(intent='erase'), lambda _, intent: print(intent)
+for row in (trial.BACK, Of(name='x', changes='x')): tell(lambda it: it.need(row), asking)
 asking.need = asking.regain = lambda row: None
 def unasked(): raise settling.Differs('a byte came')
-asking.board.hush = unasked
-tell(lambda it: it.outcome(Of(act=lambda _: 'well', means='x', name='x')).result, asking)
+asking.board.hush, asking.ended, well = unasked, None, Of(act=lambda _: 'well', means='x', name='x')
+for trial.TOLD in ((), (well,)): tell(lambda it: (it.tried(well).result, it.may_end), asking)
 slow = Of(options={}, refusal=None)
 for named, count in (([], 32), ([], 1), ([], 256), ([], 257), ([3, 7], 32), ([255], 300), ([256], 300), ([32], 32)):
     tell(lambda it: rows_asking.choose_pages(named, it), count)
@@ -484,16 +484,47 @@ for fault in (ways.Refused, KeyboardInterrupt, ways.Ended):
     ways.Line.open = opened
     try: ways.Line(Of(port='P'))
     except fault: print(glob.glob(made[-1]))
-for seconds in (1, 0.3, 61): rows_ending.need_wait(slow, seconds) or print(slow)
+for seconds in (1.0004, 0.3, 61): rows_ending.need_wait(slow, seconds) or print(slow)
 rows_ending.put_back, rows_ending.is_back = lambda it, _: it.changed, lambda it, page: page not in it.left
 for changed, left, harm in (([], [], ''), ([1], [], ''), ([1, 7], [7], ''), ([1, 7], [], ''), ([1, 7], [], 'x')):
     tell(rows_ending.give_back.act, Of(changed=changed, left=left, harm=harm, words=Of(pages=[1])))
 for given in (Of(wiring='W', reset=''), Of(wiring='', reset='R'), Of(wiring='', reset='')):
     speeds.Line, speeds.asked, done, given.chips = lambda _: Of(reset=lambda: done.append('reset'), close=lambda: done.append('closed')), lambda *_: done.append('asked'), [], ()
-    speeds.tried(given)
-    print(*done)
+    speeds.tried(given) or print(*done)
 slow.refusal = None
 for row in (rows_reading.save, rows_ending.reply_time): print(*told.judge(slow, [told.Found(row, told.DIFFERS, '', row.means)], 'a signal'), sep='; ')
+def contacted(*came):
+    left, of = iter([*came, *[b''] * 12]), Of(wait=0.05, drain=bytes, greeting=b'y', options={}, was_contacted=False, refusal=None)
+    of.line = Of(write=len, read=lambda *_: next(left))
+    tell(rows_asking.contact.act, of) or print(of.was_contacted, of.greeting, of.options, of.refusal)
+for came in ((b'', b'\x1f'), (b'y', b'', b'\x1f'), (b'y', b'y', b'\x1f'), (b'y', b'yy', b'\x1f'), (b'y.', b'', b'\x1f'), (b'yy', b'', b'\x1f'), 12 * (b'.',)): contacted(*came)
+for act, of in ((rows_asking.get_version.act, Of(codes=[0])), (rows_reading.size_register.act, Of(model=Of(number=1))), (Board.hush, Of(line=Of(read=lambda *words: print(*words) or b'y'), wait=1)), (Board.drain, Of(line=Of(read=print), wait=1)), (rows_asking.quiet.act, Of(line=Of(read=print))),
+                (rows_reading.read_sizes.act, Of(page=0, model=Of(starts=[0], sizes=[1024]), read=lambda at, count: ([1] * count, [2] * count)))): tell(act, of)
+for came in (b'', b'ab'): tell(lambda it: speeds.take(it, 3), Of(read=lambda *_: came))
+for frame in ('21DE', '43BCFF', '44BBFFFF'): tell(lambda it: [*map(it.feed, bytes.fromhex(frame))], Model(0x440, known[0], 1, [0x21, 0x43, 0x44]))
+sent = []
+said = Of(model=Of(starts=[0]), page=0, code=0x44, step=sent.append, address=lambda at, flip=0: [flip], erase_frame=lambda page, flip=0: [flip], put=id, hush=int, erase=int, fill=int,
+          talk=lambda name, data, *_: sent.append(data), expect=lambda *_: 0, both=list, line=Of(reset=int, read=lambda *_: b'.'), connect=int, words=Of(every_byte=True), blocks=lambda _: [0, 256], write=lambda at, data: print(at, len(data)), usual_time=lambda _: 0.05)
+for row in (rows_asking.refuse_address, rows_asking.refuse_complement, rows_changing.refuse_erase): row.act(said)
+print(sent == [*(it for code in (0x11, 0x31) for bit in range(8) for it in (code, [1 << bit])), *([code, code ^ 0xFF ^ 1 << bit] for code in (0, 2, 0x11, 0x31, 0x44) for bit in range(8)), 0x44, [1], 0x44, [0x40]])
+rows_stopping.cut_and_settle, rows_changing.time = lambda _, cuts, intent: (len(cuts), intent), Of(monotonic=itertools.cycle((0, 0.4)).__next__)
+for act in (rows_stopping.settle_write.act, rows_changing.ack_late.act, rows_changing.write_gap.act): tell(act, said)
+for count in (1, 256): said.model.sizes, said.code = [1] * count, 0x43; tell(rows_changing.page_absent.act, said)
+for said.code, facts in ((0x43, {}), (0x44, {'loses_while_busy': True})):
+    said.facts, said.options, said.model.sizes = {'erase_seconds': 1.0, **facts}, {}, [1, 1]
+    tell(rows_ending.erase_time.act, said) or print(said.options)
+said.model.reset, rows_stopping.need_reset, sent[:] = int, lambda _: None, []
+rows_stopping.fresh_other.act(said) or print(sent)
+booted = ways.Line.__new__(ways.Line)
+booted.words, booted.taken, booted.buffer, (booted.socket, far_end) = Of(reset='true'), 0, bytearray(b'old'), socket.socketpair()
+far_end.send(b'boot') and booted.reset() or print(booted.buffer, booted.read(1, 0, 0))
+ways.time, ways.os.environ['PATH'] = Of(monotonic=itertools.count().__next__, sleep=lambda _: print('slept')), ''
+for act in (lambda: ways.connect('/none', None), lambda: ways.start_companion(Of(folder='/none', port='P', baud=1, wiring=''), 'S')): tell(lambda _: act(), None)
+rows_reading.time, saved.rewrite, saved.is_back = Of(monotonic=itertools.count(0, 100).__next__), differs, lambda *_: False
+tell(rows_reading.save.act, Of(model=Of(size=8192), read=lambda at, count: (bytes(count), 0), progress=Of(show=id), words=Of(patient=False, save='')))
+saved.put_page_back(Of(compare=print), 5, lambda _, intent: print(intent))
+lost = settling.Settling(Of(wait=0.05, put=lambda it: [0x1F] * (it[0] == 0x7F), byte_time=0, progress=Of(show=id), drain=lambda: print('drained') or b'', model=Of(rest=[]), line=Of(read=lambda *words: print(*words) or b'\x1f')), 2, 16)
+lost.has_lost = True; lost.send(1); lost.byte = 0x7F; print(lost.run())
 """
 
 # each row, and each call that changes something, on a board of the model whose line ends where the flash was changed first
@@ -502,7 +533,7 @@ from types import SimpleNamespace as Of
 import itertools, board, rows, rows_asking, rows_reading, saved
 from faults import Differs, Ended, NotTried
 from model import Model
-codes, chip, changed = [0, 1, 2, 0x11, 0x31, 0x44], {'id': 0x440, 'base': 0x08000000, 'pages': [[4, 1024]], 'erase': 'extended'}, set()
+codes, chip, changed = [0, 1, 2, 0x11, 0x31, 0x44], {'id': 0x440, 'base': 0x08000000, 'pages': [[2, 1024], [4, 512]], 'erase': 'extended'}, set()
 rows_asking.time.sleep, rows_asking.BATCHES, rows_reading.saved.store = lambda _: None, (256,), lambda *_: None
 words = Of(wait=50, baud=115200, pages=[1, 3], map=True, pause=0, every_byte=False, patient=False, by_hand=True, save='', chips=[chip])
 def model():
@@ -516,7 +547,7 @@ def line_to(device, look):
             came.extend(it or 0 for it in device.feed(byte))
             look()
     return Of(write=write, read=lambda count, *_: bytes(came.pop(0) for _ in range(min(count, len(came)))), drop=came.clear, reset=device.reset, can_reset=lambda: True)
-calls = [(row.name, row.act, row.changes) for row in rows.ROWS if row not in rows.TOLD and row is not rows.BACK]
+calls = [(row.name, row.act, row.changes if row.intent != 'ask' else 'nothing') for row in rows.ROWS if row not in rows.TOLD and row is not rows.BACK]
 calls += [(name, lambda it, name=name, words=words: getattr(it, name)(*words), 'P') for name, words in (('erase', (3,)), ('write', (3072, b'abcd')), ('fill', (1,)))]
 for erased_from in (4096, 2048):
     before = [it % 251 if it < erased_from else 255 for it in range(4096)]
@@ -545,6 +576,7 @@ for blocks in itertools.product(((1, 1), (255, 1), (2, 1), (255, 255), (2, 255))
     is_erased = any(now not in (255, due) for now, due in blocks)
     due = [0x44] * is_erased + [0x31] * (sum(due != 255 and (is_erased or now != due) for now, due in blocks) + 2 * is_erased)
     if device.flash != kept or [code for code in done if code != 0x11] != due: print(blocks, done)
+it.fill(1) or print(len({bytes(device.flash[at:at + 256]) for at in range(1024, 2048, 256)}))
 """
 # each way to give these words, with a terminal and without
 FLAGS = """
@@ -572,37 +604,10 @@ class Parts(unittest.TestCase):
     def test_what_is_changed_was_noted_before(self):
         """It is put back whatever ends the trial then; and a row that says that it changes nothing doesn't."""
         # and these change something on boards that do otherwise alone
-        self.assertEqual(of_modules(FIRST_CHANGE), "erased-byte refuse-complement refuse-pair\n")
+        self.assertEqual(of_modules(FIRST_CHANGE), "erased-byte refuse-complement refuse-pair\n4\n")
 
     def test_words_beside_one_another(self):
         self.assertEqual(of_modules(FLAGS), "272\n")
-
-    def test_what_they_answer(self):
-        self.assertEqual(of_modules(PARTS, FOLDER).splitlines(), [
-            "Differs; it: page 2, 5, 9 has other bytes than it should; page 2, 9 was changed, and wasn't named",
-            "NotTried; the flash wasn't saved; ", "None",
-            "Differs; page 3 has other bytes when it is read again; what is read can't be trusted", "3606", "0", "None", "Refused; nothing was changed; ",
-            # what is due is waited for, and what isn't belongs to the row before it
-            "0 2 2", "1 2 2", "2 places, 2 bytes at most", "differs",
-            # the last two pages without a word, and never 255, whose settling byte means everything
-            "[30, 31]", "[0]", "[253, 254]", "[254, 256]", "[3, 7]", "Refused; --pages: this chip has no such page; give 0 to 299, but for 255; ",
-            "[256]", "Refused; --pages: this chip has no such page; give 0 to 31, but for 255; ",
-            # a port that has gone behind a reset ends the trial: nobody says that nothing was changed
-            "Ended; the port has gone; ", "Ended; the line was closed; ", "Ended; the line ended: Broken pipe; ",
-            "Ended; the command of --reset failed; ", "Ended; nobody was there to do it; ",
-            "0440, 4 pages", "Differs; each time another id; ", "Differs; id 0441 isn't in the table; ",
-            "Differs; the table says that 43 erases, and the board doesn't list it; ",
-            "Ended; the board can't be settled: reset it; ", "Ended; the board answers no more, also behind a reset; ", "None",
-            # what takes the time of an erase is no reply
-            "True; erase; get behind an erase",
-            # a port that isn't opened leaves no folder, whatever ended that
-            "[]", "[]", "[]",
-            # the longest wait that a row needs; and what a row found goes before a signal
-            *2 * ["namespace(options={'wait': 1000}, refusal=None)"], "namespace(options={'wait': 60000}, refusal='it is too slow for any --wait')",
-            # what was put back is as it was, and no other page was another; and before each speed the board is reset, also by a hand
-            "None", "None", "Differs; page 7 isn't as it was: write the saved file; ", "Differs; page 7 was changed, and wasn't named; it is as it was again; ", "None",
-            "asked closed", "reset asked closed", "reset asked closed",
-            "don't use; save: the journal can't keep a page", "don't use; the trial wasn't ended: a signal"])
 
 
 class Companion(Place):
@@ -741,7 +746,7 @@ class Ends(TrialPlace):
         self.assertTrue(self.held("flash") == self.before)
 
     def test_a_signal_ends_a_row_in_its_midst(self):
-        with self.planted():
+        with self.planted("version-of-2-bytes"):
             started = self.started(*QUICK[3:], "--only-read", "--progress", "--pause", "60")
             until_told(self, started, b": pause\n")
             self.until_it_waits(started)

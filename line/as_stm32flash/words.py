@@ -91,7 +91,7 @@ def take(asked, name, value):
             first, second = (ACTIONS.get(action, "--" + action) for action in (asked.action, name))
             raise Fault(f'ERROR: Invalid options !\n\tCan\'t execute "{first}" and "{second}" at the same time.')
         asked.action = name
-        asked.file = value if name in "rw" else ""
+        asked.file = value
     elif name in FLAGS:
         setattr(asked, FLAGS[name], True)
     elif name in TAKERS:

@@ -71,8 +71,7 @@ class Board:
             got += self.line.read(len(due) - 1, 2 + len(due) * self.byte_time, 2)
         if len(got) != len(due) or any(want not in (None, byte) for want, byte in zip(due, got)):
             got += self.drain()
-            sent = f"{len(data)} bytes" if name == "write" else frame_told(data)
-            raise Differs(f"{name}: behind {sent} came {told(got)}, and not {told([x or 0 for x in due])}")
+            raise Differs(f"{name}: behind {frame_told(data)} came {told(got)}, and not {told([x or 0 for x in due])}")
         return got
 
     def note_time(self, name, seconds):

@@ -119,7 +119,7 @@ class Trial:
         if self.board.model:
             recover(self.board, row.intent)
         elif row is not QUIET and not (row is CONTACT and self.board.was_contacted):
-            self.dead = self.dead or "no device of the model"
+            self.dead = "no device of the model"
 
     def need(self, row):
         """NotTried where a row can't be tried here, or isn't to be."""

@@ -14,18 +14,13 @@ FOLLOWS = "follows the model"
 
 @dataclasses.dataclass(frozen=True)
 class Deviation:
-    # in words, for docs/TRIAL.md
     does: str
-    # what of the planted board it sets
     sets: dict
-    # the rows of which one has to differ; the verdict
     rows: typing.Tuple[str, ...]
     verdict: str
-    # whether the flash can't be put back by a host, since the deviation itself forbids it
+    told: typing.Tuple[str, ...] = ()
     is_lasting: bool = False
-    # further words of the trial that finds it
     words: typing.Tuple[str, ...] = ()
-    # whether its trial takes minutes
     is_long: bool = False
 
 

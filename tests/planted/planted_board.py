@@ -45,7 +45,7 @@ class PlantedBoard(Device):
     def lose_power(self):
         """The page at work holds anything then."""
         self.reset()
-        for page in [*self.at_work, *([2] if self.sets["spoils"] else [])]:
+        for page in [*self.at_work, *([2] if self.sets["spoils"] and self.at_work else [])]:
             self.flash[self.chip.part(page)] = random.Random(2).randbytes(self.chip.sizes[page])
 
     def feed(self, byte):
@@ -170,6 +170,7 @@ class PlantedBoard(Device):
             data += bytes(-len(data) % 8)
         if self.sets["spills"]:
             data += data[:8]
+        self.at_work = ()
         super().write(at, data[:self.chip.size - at])
 
     def judge_erase(self, rest):
