@@ -106,6 +106,8 @@ def call(words, folder, program, limit, given=()):
     """What a call of tests says, or None where it didn't end in time, and its status; with these variables."""
     # where a program is, the tests make files that others may not meet
     with tempfile.TemporaryDirectory(prefix="planted-") as room:
+        # a test of rights goes there as another user
+        os.chmod(room, 0o755)
         # a package that is tried needn't be small
         variables = {"WINEPREFIX": f"{TOP}/bin/wine", **os.environ, "STMFLASH": program, "STMFLASH_PATIENCE": PATIENCE, "TMPDIR": room,
                      "DPKG_DEB_COMPRESSOR_LEVEL": "0", **dict(given)}
