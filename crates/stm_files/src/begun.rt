@@ -157,7 +157,7 @@ impl Begun {
         let line = self.line.as_slice();
         if let Some(digits) = line.strip_prefix(b"open ") {
             self.segment = number_of(digits);
-            let first = self.segment.unwrap_or(0);
+            let first = self.segment.unwrap_or(u32::MAX);
             self.notes.retain(|note| note.segment < first);
         } else if let (Some(segment), Some(words)) = (self.segment, words_of(line)) {
             let words = Vec::from_slice(self.alloc, words)?;
