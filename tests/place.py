@@ -171,9 +171,9 @@ class Place(unittest.TestCase):
 
     def beside(self, listener, serve):
         """Serves at a listener in a thread of its own. It has ended before the listener is closed, whatever comes: else it might take
-        another's for it, of the same number."""
+        another's for it, of the same number. What it serves may be closed under it: a socket that was has no number."""
         def run():
-            with contextlib.suppress(OSError):
+            with contextlib.suppress(OSError, ValueError):
                 serve()
 
         def end():

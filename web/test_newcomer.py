@@ -3,6 +3,8 @@
 import os
 import pathlib
 import random
+import socket
+import subprocess
 import tempfile
 import time
 import unittest
@@ -11,6 +13,8 @@ from browser import PATIENCE, Browser
 from served_page import READY, SEED, Served
 
 SIZE = 12 * 1024
+# what a program of Python does at its beginning: what nobody keeps is collected at once
+COLLECTS = "import gc, itertools, threading\nthreading.Thread(target=lambda: any(gc.collect() < 0 for _ in itertools.count()), daemon=True).start()\n"
 
 
 class Newcomer(unittest.TestCase):
@@ -76,3 +80,17 @@ class Newcomer(unittest.TestCase):
         self.press(tab, "Compare with the board")
         self.see(tab, "Done: The board has just these bytes.")
         tab.close()
+
+    def test_a_client_that_is_gone_is_served_to_its_end(self):
+        """Each byte that is answered shows a board that the one before has left; nobody keeps a client's task but the server."""
+        room = pathlib.Path(self.enterContext(tempfile.TemporaryDirectory(prefix="stmflash-newcomer-")))
+        (room / "sitecustomize.py").write_text(COLLECTS)
+        with Served("--socket", f"{room}/line", stderr=subprocess.PIPE, env={**os.environ, "PYTHONPATH": str(room)}) as server:
+            for sent in (b"\x7f", b"\0\xff", b"\2\xfd"):
+                with socket.socket(socket.AF_UNIX) as client:
+                    client.settimeout(PATIENCE)
+                    client.connect(f"{room}/line")
+                    client.sendall(sent)
+                    self.assertEqual(client.recv(1), b"\x79")
+        with server.process.stderr as said:
+            self.assertEqual(said.read(), "")
