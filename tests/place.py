@@ -40,10 +40,9 @@ ERASED = b"\xff" * SIZE
 ZEROS = b"\x00" * SIZE
 # a flash whose byte i is i modulo 251
 COUNTING = bytes(i % 251 for i in range(SIZE))
-# how journals of chip 0412 begin, and those that keep page 5; and one whose second line isn't one
+# how journals of chip 0412 begin, and those that keep page 5
 HEADER = b"stmjournal 2 0412\n"
 HEAD = HEADER + b"open 1\npage 5 "
-BAD = b"stmjournal 1 0412\nopen 2\n"
 # a board's unique id
 UNIQUE = "2B0035000A51363034393332"
 # what is told behind a fault of what came

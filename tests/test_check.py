@@ -1,9 +1,8 @@
 """What `log --check` tells of a journal: all of its lines, and each page that it keeps with its CRC."""
 
-import os
 import random
 
-from place import BAD, COUNTING, HEADER, Place
+from place import COUNTING, HEADER, Place
 from rows import bytes_of, cases
 from telling import kept, sum_of
 
@@ -83,11 +82,3 @@ class Check(Place):
         self.assertIn(b"page 5, line 3, 1024 bytes, " + before, self.check().out)
         self.use("undo")
         self.assertEqual(self.use("crc", *part).out, before)
-
-    def test_refuses_what_log_refuses(self):
-        self.assertFault(self.check(), "cannot read journal")
-        self.store("journal", BAD)
-        self.assertFault(self.check(), "bad journal line 2")
-        os.remove(self.path("journal"))
-        os.mkdir(self.path("journal"))
-        self.assertFault(self.check(), "cannot read journal")
