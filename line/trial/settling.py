@@ -46,7 +46,7 @@ class Settling:
         self.board, self.byte, self.limit = board, byte, limit
         self.count = self.misses = 0
         self.is_same, self.has_lost = True, False
-        # a reply that is due may be late on a busy machine: for the first of some, and for one behind another
+        # a reply that is due may be late on a busy machine: until one failed to come, and for one behind another since
         self.patience, self.gap = max(board.wait, 2), max(board.wait, 0.7)
 
     def run(self):
@@ -77,7 +77,7 @@ class Settling:
         if due:
             # behind 43 BC a page is named as often as its number says
             work = 2 + board.usual_time("erase") * (len(board.model.sizes) + 2) if ACK in due else 0
-            got = board.line.read(len(due), self.patience + work + took, self.gap)
+            got = board.line.read(len(due), self.patience + work + took, self.gap if self.has_lost or not self.is_same else self.patience)
             got += board.line.read(4096, 0.002, board.wait)
         else:
             # nothing is due, unless the board has done otherwise already
