@@ -8,9 +8,11 @@ import subprocess
 
 from boards import LinePlace
 from place import COUNTING, PATIENCE, TOP, WAIT, Place, program, text_in
-from test_image import HEX
 from test_packaging import INSTALLED
 from test_plain import MANUALS, plain
+
+# four bytes at the flash's first address
+HEX = b":020000040800F2\r\n:0400000001020304F2\r\n:00000001FF\r\n"
 
 
 def page(name="README.md"):
