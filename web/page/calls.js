@@ -102,6 +102,7 @@ export async function run(words, how = {}) {
     const all = onBoard ? [words[0], '--table', $('kind').value ? '/chip.toml' : '/chips.toml', '--device', DEVICE, '--baud', String(baud), ...fresh, ...words.slice(1)] : words;
     // what is sent from here on counts: the board isn't fresh any more
     if (onBoard) $('fresh').checked = false;
+    const told = ask('run', { words: all, line: onBoard ? { ...state.line, baud, wiring, stopAt, plan: state.plan } : undefined });
     if (!isQuiet) {
       say('step', 'Connecting');
       $('bar').removeAttribute('value');
@@ -110,7 +111,7 @@ export async function run(words, how = {}) {
       $('told').hidden = true;
       $('said').append(`> stmflash ${all.join(' ')}\n`);
     }
-    answer = await ask('run', { words: all, line: onBoard ? { ...state.line, baud, wiring, stopAt, plan: state.plan } : undefined });
+    answer = await told;
   } else answer = { ...none, err: 'stmflash: no port was chosen\n' };
   state.busy = false;
   $('doing').hidden = true;

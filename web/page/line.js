@@ -162,11 +162,10 @@ export class SocketPort {
   }
 
   async open() {
-    const socket = new WebSocket(this.url);
+    const socket = this.socket = new WebSocket(this.url);
     let count = 0;
     socket.binaryType = 'arraybuffer';
     await new Promise((resolve, reject) => { socket.onopen = resolve; socket.onerror = reject; });
-    this.socket = socket;
     const anew = () => { this.readable = new ReadableStream({ cancel: anew, start: (into) => {
       let isOver = false;
       const over = (/** @type {() => void} */ how) => { if (!isOver) how(); isOver = true; };
