@@ -28,10 +28,11 @@ class Files(Place):
         os.close(theirs)
 
     def test_a_pipe_that_nobody_reads_is_refused_at_once(self):
-        """Before anything is asked of a device that doesn't answer; also where its reader has gone."""
+        """Before anything is asked of a device that doesn't answer, also where its reader has gone; one that is full is none such."""
         os.mkfifo(self.path("pipe"))
         self.assertFault(self.use("read", "pipe", device="absent-board"), f"cannot write pipe: {NO_OUTPUT}")
-        reader = os.open(self.path("pipe"), os.O_RDONLY | os.O_NONBLOCK)
+        reader = os.open(self.path("pipe"), os.O_RDWR | os.O_NONBLOCK)
+        os.write(reader, bytes(1 << 16))
         self.assertFault(self.use("read", "pipe", device="absent-board"), "cannot connect absent-board")
         os.close(reader)
         self.assertFault(self.use("read", "pipe", device="absent-board"), f"cannot write pipe: {NO_OUTPUT}")
@@ -51,8 +52,7 @@ class Files(Place):
         os.close(theirs)
 
     def test_new_files_are_their_users_alone(self):
-        """The journal holds what was in the flash, and FILE what is. OUT is as the process's mask lets it be, and what is there
-        keeps its mode."""
+        """The journal and FILE hold bytes of a flash. OUT is as the process's mask lets it be, and what is there keeps its mode."""
         for mask in (0o022, 0):
             with self.subTest(mask=mask):
                 self.clear("flash", "flash.line", "journal", "out")
