@@ -61,7 +61,7 @@ class Held(Rows):
         elif sign == "unlock":
             self.lock.close()
         elif sign == "holds":
-            self.how["held"] = getattr(syncs, name.upper())
+            self.how["held"] = [getattr(syncs, it.upper()) for it in (name, *more)]
         elif sign == "fails":
             self.how |= {"fails": range(100) if name == "all" else int(name), **{"error": getattr(errno, it) for it in more}}
         elif sign == "at":
