@@ -21,7 +21,7 @@ from place import PATIENCE, Said, program
 LIBC = ctypes.CDLL(None, use_errno=True)
 PR_SET_NO_NEW_PRIVS, SYS_SECCOMP = 38, 317
 # the calls that are held
-WRITE, LSEEK, CONNECT, FLOCK, FSYNC, FTRUNCATE, RENAME, LINK, UNLINK, OPEN, ACCEPT, STATX = 1, 8, 42, 73, 74, 77, 82, 86, 87, 257, 288, 332
+LSEEK, CONNECT, FLOCK, FSYNC, FTRUNCATE, RENAME, LINK, UNLINK, OPEN, ACCEPT, STATX = 8, 42, 73, 74, 77, 82, 86, 87, 257, 288, 332
 # of calls that name a file by its path: which of their words is its address
 PATH_AT = {RENAME: 0, LINK: 0, UNLINK: 0, OPEN: 1, STATX: 1, 263: 1, 264: 1, 265: 1}
 # a program for 64-bit ARM, which has none of rename(2), link(2) and unlink(2), does the same by renameat(2), linkat(2) and
