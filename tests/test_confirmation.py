@@ -22,14 +22,14 @@ class Confirmation(Rows):
 
     def call(self, *words, before, variables, given):
         here, there = pty.openpty()
-        process = Place.start(self, *words, before=before, variables=variables, **dict.fromkeys(self.streams, there))
+        before = (lambda: os.dup2(os.open("/proc/self/fd/0", os.O_RDONLY), 2)) if "unwritable" in self.streams else before
+        process = Place.start(self, *words, before=before, variables=variables, **dict.fromkeys(self.streams[:2], there))
         os.close(there)
         shown = b""
         if self.typed is not None:
             shown = self.shown_until(here, b"[y/N] ")
             os.write(here, self.typed)
-        said = self.ended(process)
-        shown += self.shown_until(here)
+        said, shown = self.ended(process), shown + self.shown_until(here)
         os.close(here)
         return said._replace(err=shown + (said.err or b""))
 
