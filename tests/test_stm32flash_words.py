@@ -396,7 +396,7 @@ class Parts(Place):
                 self.fail("the inside goes on")
 
     def test_the_inside_is_as_a_program_that_was_started(self):
-        """It has no file but the three, no handler of its parent's, its settings, and the status of its body."""
+        """It has no file but the three, no handler of its parent's, ignores what that does, as behind nohup, and has its settings and its body's status."""
         for number in (*line.SIGNALS, signal.SIGCHLD):
             self.addCleanup(signal.signal, number, signal.signal(number, lambda *_: None))
         reader, writer = os.pipe2(os.O_NONBLOCK)
@@ -422,11 +422,13 @@ class Parts(Place):
             end(child)
             # and once it has ended nobody's, who may have its number
             self.assertEqual((child.wait(), end(child), child.returncode), (None, None, -number))
-        with mock.patch.object(line.os, "fork", side_effect=BlockingIOError):
-            self.assertRaises(OSError, line.Child, body, {}, tied())
+        with mock.patch.object(line.os, "fork", side_effect=BlockingIOError(11, "no room")), mock.patch("stmflash_line.wake.Wake"), \
+                mock.patch("stmflash_line.session.use_port", lambda given, _: given.command({})), contextlib.redirect_stderr(io.StringIO()) as told:
+            self.assertEqual((line.use("P", 9600, None, None, body), told.getvalue()), (1, "stmflash-line: stm32flash: no room\n"))
         self.assertEqual(signal.pthread_sigmask(signal.SIG_BLOCK, ()), set())
+        signal.signal(signal.SIGHUP, signal.SIG_IGN)
         with mock.patch.object(sys, "excepthook", lambda kind, *_: self.store("told", kind.__name__.encode())):
-            child = line.Child(lambda: 1 // 0, {}, tied())
+            child = line.Child(lambda: 1 // (signal.getsignal(signal.SIGHUP) != signal.SIG_IGN), {}, tied())
         self.assertEqual((child.wait(PATIENCE), child.returncode, self.held("told")), (None, 1, b"ZeroDivisionError"))
 
     def test_the_slowest_answer_up_to_now_is_told(self):

@@ -19,11 +19,10 @@ def leave(actions):
             if not actions.start(actions.start_address()):
                 told.line("Reset failed.")
                 return 1
-            told.line("Reset done.")
         else:
             told.lines(sequence.lines(played))
-            told.line("Reset done.")
-            return 0
+        told.line("Reset done.")
+        return 0
     if played is not None:
         told.lines(sequence.lines(played))
     return 0
