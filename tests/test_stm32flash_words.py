@@ -417,7 +417,7 @@ class Parts(Place):
         self.assertEqual((child.poll(), child.returncode), (40, 40))
         self.assertNotEqual(os.environ.get("STMFLASH_DEVICE"), "board")
         for end, number in ((line.Child.terminate, signal.SIGTERM), (line.Child.kill, signal.SIGKILL)):
-            child = line.Child(lambda: signal.pause(), {}, tied())
+            child = line.Child(lambda: readable([], PATIENCE / 10), {}, tied())
             self.assertRaises(subprocess.TimeoutExpired, child.wait, 0.01)
             end(child)
             # and once it has ended nobody's, who may have its number
