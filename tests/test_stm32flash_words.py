@@ -293,7 +293,7 @@ class Parts(Place):
         with mock.patch.object(patience, "hold", lambda _: 1):
             for given in (None, ""):
                 self.assertEqual([patience.wait(given, "a", baud) for baud in (4000000, 115200, 57600, 9600)], [100, 103, 152, 641])
-            self.assertEqual(patience.wait("77", "a", 115200), 77)
+            self.assertEqual([patience.wait(given, "a", 115200) for given in ("77", "60000")], [77, 60000])
             self.assertRaises(Fault, patience.wait, "soon", "a", 115200)
         with mock.patch.object(patience, "hold", lambda _: None):
             self.assertEqual(patience.wait(None, "a", 115200), 500)
@@ -405,7 +405,7 @@ class Parts(Place):
         self.addCleanup(signal.set_wakeup_fd, signal.set_wakeup_fd(writer))
 
         def body():
-            has_files = os.path.exists(f"/proc/self/fd/{writer}")
+            has_files = any(os.path.exists(f"/proc/self/fd/{end}") for end in (reader, writer))
             handlers = [signal.getsignal(number) for number in (signal.SIGTERM, signal.SIGHUP, signal.SIGCHLD)]
             is_free = not signal.pthread_sigmask(signal.SIG_BLOCK, ())
             is_plain = handlers == 3 * [signal.SIG_DFL] and signal.getsignal(signal.SIGINT) == signal.default_int_handler

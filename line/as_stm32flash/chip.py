@@ -32,9 +32,9 @@ class Chip:
         return self.base <= address < self.end
 
     def page_from(self, address):
-        """The number of the page that begins at an address, the count of pages at the flash's end; None elsewhere."""
+        """The number of the page that begins at an address of the flash, the count of pages at its end; None elsewhere."""
         at = bisect.bisect_left(self.starts, address)
-        return at if at < len(self.starts) and self.starts[at] == address else None
+        return at if self.starts[at] == address else None
 
     def lines(self):
         """What is told of it."""

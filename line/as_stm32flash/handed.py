@@ -13,7 +13,7 @@ LINKS = 40
 def is_handed(name):
     """Whether a name leads to an open file of this process."""
     for _ in range(LINKS):
-        folder = os.path.realpath(os.path.dirname(os.path.abspath(name)))
+        folder = os.path.realpath(os.path.dirname(name))
         if folder.startswith("/proc/"):
             return True
         path = os.path.join(folder, os.path.basename(name))

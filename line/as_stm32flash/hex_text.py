@@ -78,4 +78,4 @@ def moved(pieces, by, end):
 
 def record(kind, offset, data):
     whole = bytes([len(data)]) + offset.to_bytes(2, "big") + bytes([kind]) + data
-    return b":" + (whole + bytes([-sum(whole) % 256])).hex().upper().encode("ascii") + b"\n"
+    return b":" + (whole + bytes([-sum(whole) % 256])).hex().encode("ascii") + b"\n"

@@ -16,7 +16,7 @@ KEPT = "STM32FLASH_IMAGE_KEPT"
 
 
 class Image:
-    """An image. `start` is its own address, or None, `size` the count of its bytes from the first to the last, and `path` a file
+    """An image. `start` is where it lies, 0: where the flash begins, `size` the count of its bytes from the first to the last, and `path` a file
     that can be read again and holds it; None where there is none. `maker` is the program that made HEX of it, or None."""
 
     def __init__(self, words):
@@ -33,7 +33,7 @@ class Image:
         self.pieces = hex_text.read(self.text) if is_hex and self.text else []
         start, end = hex_text.span(self.pieces) if is_hex else (0, len(self.text))
         # a text whose addresses begin at 0 is placed as raw bytes are
-        self.own, self.start = start, words.address or start or None
+        self.own, self.start = start, words.address or start
         self.size = end - start if words.length is None else min(end - start, words.length)
         self.is_whole = self.size == end - start
 

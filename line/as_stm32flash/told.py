@@ -30,7 +30,7 @@ class Told:
             if done:
                 page, turn, count = int(done[1]), int(done[3]), int(done[4])
                 word = what[0] if done[2] == "written" else what[-1]
-                at = min(chip.starts[min(page + 1, len(chip.starts) - 1)], part.end)
+                at = min(chip.starts[page + 1], part.end)
                 self.far(word, at, turn / count, stream)
         return show
 
