@@ -45,10 +45,7 @@ class Chip:
 
 def read_table(paths):
     """The chips of these tables, by their ids: each is that of the first table that has it."""
-    chips = {}
-    for path in reversed(paths):
-        chips |= read_one(path)
-    return chips
+    return {number: chip for path in reversed(paths) for number, chip in read_one(path).items()}
 
 
 def read_one(path):

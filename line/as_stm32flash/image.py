@@ -51,8 +51,7 @@ class Image:
             if self.is_whole and place == self.own:
                 return [], None if self.path else self.text
             return [], hex_text.moved(self.pieces, place - self.own, place + self.size)
-        options = ["-S", f"0x{place:08X}", *["-f"] * (force or self.is_input)]
-        return options, None if self.is_whole and self.path else self.text[:self.size]
+        return ["-S", f"0x{place:08X}", *["-f"] * (force or self.is_input)], None if self.is_whole and self.path else self.text[:self.size]
 
 
 def read_file(name, opened=None):

@@ -30,16 +30,16 @@ class Journals(journals.Journals):
 
     def numbered(self, word):
         try:
-            found = [name for name in os.listdir(self.folder) if re.fullmatch(word + "-[0-9]{6}", name)]
+            found = [name for name in os.listdir(self.folder) if re.fullmatch(word + "-[0-9]{6,}", name)]
         except FileNotFoundError:
             return []
         except OSError as error:
             raise Fault(f"ERROR: {self.folder}: {error.strerror}; {journals.KEPT_THERE}") from None
-        return [os.path.join(self.folder, name) for name in sorted(found)]
+        return [os.path.join(self.folder, name) for name in sorted(found, key=order)]
 
     def next_kept(self):
         """A number that none has, also of those that were ended: they were kept under the same."""
-        last = max((int(path[-6:]) for path in (*self.kept(), *self.numbered("ended"))), default=0)
+        last = max((order(path)[1] for path in (*self.kept(), *self.numbered("ended"))), default=0)
         return os.path.join(self.folder, f"kept-{last + 1:06d}")
 
     def end_keeping(self):
@@ -57,9 +57,7 @@ class Journals(journals.Journals):
                 if remove(path):
                     note(f"no more than {KEPT} journals stay {owner}: {path} was removed")
         newest = {held[0]: owner for owner, held in kept.items()}
-        rest = sorted(path for held in ended.values() for path in held[:KEPT])
-        rest += sorted(path for held in kept.values() for path in held[1:KEPT])
-        rest += sorted(newest)
+        rest = sorted((path for held in (*ended.values(), *kept.values()) for path in held[:KEPT]), key=lambda path: (path in newest, order(path)))
         sizes = [size_of(path) for path in rest]
         count, used = len(rest), sum(sizes)
         # the very newest stays, whatever it has
@@ -85,7 +83,7 @@ class Journals(journals.Journals):
         for path in self.kept():
             owner = owner_of(path)
             if owner.may_be(own):
-                name = os.path.join(self.folder, f"ended-{path[-6:]}")
+                name = os.path.join(self.folder, f"ended-{order(path)[1]:06d}")
                 rename(path, name)
                 ended[name] = owner
         self.drop_old()
@@ -97,6 +95,12 @@ class Journals(journals.Journals):
 
     def is_large(self):
         return self.size() > LARGE
+
+
+def order(path):
+    """The word of a journal that was put aside, and its number: behind a million it has more digits."""
+    word, _, number = path.rpartition("-")
+    return word, int(number)
 
 
 def size_of(path):
