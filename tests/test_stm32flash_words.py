@@ -408,7 +408,7 @@ class Parts(Place):
             has_files = any(os.path.exists(f"/proc/self/fd/{end}") for end in (reader, writer))
             handlers = [signal.getsignal(number) for number in (signal.SIGTERM, signal.SIGHUP, signal.SIGCHLD)]
             is_free = not signal.pthread_sigmask(signal.SIG_BLOCK, ())
-            is_plain = handlers == 3 * [signal.SIG_DFL] and signal.getsignal(signal.SIGINT) == signal.default_int_handler
+            is_plain = handlers == 3 * [signal.SIG_DFL] and signal.getsignal(signal.SIGINT) == signal.default_int_handler and signal.set_wakeup_fd(-1) == -1
             return 40 + has_files + 2 * (not is_plain) + 4 * (not is_free) + 8 * (os.environ != {"STMFLASH_DEVICE": "board"})
 
         with mock.patch.dict(os.environ, STMFLASH_DEVICE="other", STMFLASH_BAUD="other's"):

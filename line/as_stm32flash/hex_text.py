@@ -69,10 +69,8 @@ def moved(pieces, by, end):
         at += by
         data = data[:max(0, end - at)]
         while data:
-            # a record ends where the upper 16 bits of an address change
-            count = min(len(data), 32, 65536 - at % 65536)
-            lines += [record(4, 0, (at >> 16).to_bytes(2, "big")), record(0, at % 65536, data[:count])]
-            at, data = at + count, data[count:]
+            lines += [record(4, 0, (at >> 16).to_bytes(2, "big")), record(0, at % 65536, data[:32])]
+            at, data = at + 32, data[32:]
     return b"".join([*lines, record(1, 0, b"")])
 
 
