@@ -68,9 +68,8 @@ def moved(pieces, by, end):
     for at, data in pieces:
         at += by
         data = data[:max(0, end - at)]
-        while data:
-            lines += [record(4, 0, (at >> 16).to_bytes(2, "big")), record(0, at % 65536, data[:32])]
-            at, data = at + 32, data[32:]
+        if data:
+            lines += [record(4, 0, (at >> 16).to_bytes(2, "big")), record(0, at % 65536, data)]
     return b"".join([*lines, record(1, 0, b"")])
 
 
