@@ -281,13 +281,14 @@ class Parts(Place):
                 mock.patch.object(call.tools, "find", lambda _: tools.Tools("stmflash", "chips")), \
                 mock.patch.object(call.chips, "read_table", lambda _: {}), \
                 mock.patch.object(call.Journals, "make", lambda _: None), \
-                mock.patch.dict(os.environ, STM32FLASH_GPIO_CHIP="chip"), contextlib.redirect_stdout(io.StringIO()):
-            for words in (("-b", "115200"), ("-i", "-rts,dtr:rts"), ("-i", "-rts,dtr"), ("-c", "-i", "-rts,dtr:rts"),
-                          ("-c", "-i", "rts,4"), ("-i", "rts,4")):
+                mock.patch.dict(os.environ), contextlib.redirect_stdout(io.StringIO()):
+            for chip, *words in (("chip", "-b", "115200"), ("chip", "-i", "-rts,dtr:rts"), ("chip", "-i", "-rts,dtr"), ("chip", "-c", "-i", "-rts,dtr:rts"),
+                                 ("chip", "-c", "-i", "rts,4"), ("chip", "-i", "rts,4"), ("", "-i", "rts,4")):
+                os.environ["STM32FLASH_GPIO_CHIP"] = chip
                 call.outside("here", [*words, "/dev/ttyUSB0"])
         self.assertEqual(asked, [("/dev/ttyUSB0", 115200, None, None),
                                  *(("/dev/ttyUSB0", 57600, boot, None) for boot in ("-rts,dtr:rts", "-rts,dtr", ":rts", "")),
-                                 ("/dev/ttyUSB0", 57600, "rts,4", "chip")])
+                                 ("/dev/ttyUSB0", 57600, "rts,4", "chip"), ("/dev/ttyUSB0", 57600, "rts,4", None)])
 
     def test_the_wait_is_what_is_known_of_the_port(self):
         with mock.patch.object(patience, "hold", lambda _: 1):
@@ -335,7 +336,8 @@ class Parts(Place):
 
         for name in ("read", "write", "erase", "go"):
             self.assertEqual(waits(("info", name), 0.0032), [("info", 103), (name, 50)])
-        self.assertEqual(waits(("info", "read", "read"), 0.0101), [("info", 103), ("read", 64), ("read", 64)])
+            self.assertEqual(waits(("info", name), 0.0032, fails=(1, 3)), [("info", 103), ("info", 500), (name, 50), (name, 500)])
+        self.assertEqual(waits(("info", "read", "write", "erase", "go"), 0.0101), [("info", 103), ("read", 64), ("write", 64), ("erase", 64), ("go", 64)])
         # never longer than it would be, and as long as it would be where nothing was measured
         for slowest in (0.05, 0):
             self.assertEqual(waits(("info", "read"), slowest), [("info", 103), ("read", 103)])

@@ -50,7 +50,7 @@ class Actions:
         self.told.far("Read", part.end, 1, end="Done.\n")
 
     def fetch_file(self, part, path):
-        """Reads raw bytes into a file, whatever its name: by `stmflash read` one that ends in .hex would be a text, and one that isn't UTF-8 no word."""
+        """Reads raw bytes into a file, which keeps its mode, whatever its name: by `stmflash read` .hex would be a text, and what isn't UTF-8 no word."""
         if as_text(path) == path and not path.lower().endswith(".hex"):
             return self.fetch(part, path)
         unready = f"{path}.{os.getpid()}"
@@ -59,6 +59,7 @@ class Actions:
                 with open(path, "wb") as file:
                     return self.fetch(part, "-", out=file)
             with open(unready, "xb") as file:
+                os.chmod(unready, os.stat(path if os.path.exists(path) else unready).st_mode)
                 self.fetch(part, "-", out=file)
                 os.fsync(file)
             os.replace(unready, path)
@@ -74,20 +75,18 @@ class Actions:
         try:
             self.board.use("read", "-S", part.word(), *words, show=show, **more)
         except Failed as fault:
-            at = f"Failed to read memory at address 0x{part.start:08x}, target write-protected?"
-            raise Fault(f"{at}\n{fault}") from None
+            raise Fault(f"Failed to read memory at address 0x{part.start:08x}, target write-protected?\n{fault}") from None
 
     def sum(self):
         """The CRC, of what is read: the number that the chip's own unit has for it."""
         from .crc import crc
         part = parts.of(self.words, self.chip)
         self.told.line("CRC computation")
-        if part.start % 4 or part.end % 4:
+        if part.end % 4:
             raise Fault("Start and end addresses must be 4 byte aligned\nFailed to read CRC")
-        held = os.memfd_create("read")
-        with open(held, "rb") as file:
+        with open(os.memfd_create("read"), "rb") as file:
             try:
-                self.fetch(part, "-", what="CRC", stream=self.told.errors, out=held)
+                self.fetch(part, "-", what="CRC", stream=self.told.errors, out=file)
             except Fault as fault:
                 raise Fault(f"{fault}\nFailed to read CRC") from None
             self.told.far("CRC", part.end, 1, self.told.errors, end="Done.\n")
@@ -103,8 +102,7 @@ class Actions:
         place = image.start or self.chip.base
         part = parts.Part(place, place + image.size)
         if not self.chip.holds(place) or part.end > self.chip.end:
-            told = f"ERROR: the image, 0x{part.start:08x} to 0x{part.end:08x}, doesn't lie in the flash"
-            raise Fault(f"{told}, 0x{self.chip.base:08x} to 0x{self.chip.end:08x}")
+            raise Fault(f"ERROR: the image, 0x{part.start:08x} to 0x{part.end:08x}, doesn't lie in the flash, 0x{self.chip.base:08x} to 0x{self.chip.end:08x}")
         for option, value in (("-s", self.words.page), ("-e", self.words.pages)):
             if value is not None:
                 note(f"{option} says nothing here: just the pages that the image touches are erased, and the rest of them stays")
@@ -132,8 +130,7 @@ class Actions:
         """Where a program is started when all else is done; None where none is."""
         if self.words.start_at is not None:
             return self.words.start_at or self.chip.base
-        by_go = self.words.reset and self.words.action not in ("u", "j", "k") and self.words.leave() is None
-        return self.chip.base if by_go else None
+        return self.chip.base if self.words.reset and self.words.leave() is None else None
 
     def write_once(self, image, part, what, *sequel):
         options, data = image.at(part.start, self.words.force)

@@ -58,11 +58,10 @@ class Board:
             self.wait, self.hint = max(self.wait, UNKNOWN), ""
             return self.session(name, words, self.wait, **more)
 
-    def session(self, name, words, wait, show=None, out=subprocess.PIPE, files=(), journal=None):
-        """One session; what it printed, unless that goes to the descriptor `out`. `show` is called with each line of its
+    def session(self, name, words, wait, show=None, out=None, files=(), journal=None):
+        """One session; what it printed, unless that goes to the file `out`. `show` is called with each line of its
         progress; `files` are descriptors that it may read; `journal` is another one than that in use."""
-        common = ["--table", self.tools.table, "--journal", journal or self.journals.live, "--wait", str(wait)]
-        common += ["--progress" if show else "--quiet"]
+        common = ["--table", self.tools.table, "--journal", journal or self.journals.live, "--wait", str(wait), "--progress" if show else "--quiet"]
         self.is_at_rest = False
         printed = self.run([name, *common, *words], show, out, (*files, *self.tools.files))
         # a program that was started isn't the bootloader
@@ -80,16 +79,18 @@ class Board:
                     raise
                 time.sleep(0.05)
 
-    def run_once(self, words, show=None, out=subprocess.PIPE, files=()):
-        with subprocess.Popen([self.tools.stmflash, *words], env=self.settings, stdin=subprocess.DEVNULL, pass_fds=files,
-                              stdout=out, stderr=subprocess.PIPE, preexec_fn=tied()) as started:
-            try:
-                # what is printed to a pipe is a few lines, and has room there
-                told, hints = follow(started.stderr, show)
-                printed = started.stdout.read().decode(errors="replace") if started.stdout else ""
-            except BaseException:
-                started.terminate()
-                raise
+    def run_once(self, words, show=None, out=None, files=()):
+        # a pipe that nobody reads meanwhile has no room for a long log
+        with open(os.memfd_create("printed"), "rb") as held:
+            with subprocess.Popen([self.tools.stmflash, *words], env=self.settings, stdin=subprocess.DEVNULL, pass_fds=files,
+                                  stdout=held if out is None else out, stderr=subprocess.PIPE, preexec_fn=tied()) as started:
+                try:
+                    told, hints = follow(started.stderr, show)
+                except BaseException:
+                    started.terminate()
+                    raise
+            held.seek(0)
+            printed = held.read().decode(errors="replace")
         if started.returncode:
             text = told[-1] if told else f"stmflash ended with status {started.returncode}"
             # nobody has named it
