@@ -173,7 +173,7 @@ class Board:
     def take_from_other(self):
         """The same while a command was stopped in the one in use, if that is sure to be another board's; whether it is."""
         other, own = owner_of(self.journals.live), self.ask_owner()
-        if other.board is None or own is None or self.is_of_port and own.may_be(other):
+        if own is None or self.is_of_port and own.may_be(other):
             return False
         self.hint = ""
         self.take_own()

@@ -23,8 +23,8 @@ from .told import VERSION, Told, note, put
 RESETS = "STM32FLASH_RESETS"
 # the chip of the GPIO lines that -i moves, where it isn't the first
 CHIP = "STM32FLASH_GPIO_CHIP"
-# why a journal is refused that is another's
-OTHERS = ("journal belongs to another device", "journal is of another board")
+# why a journal is refused that names another board; one that names none may be the board's that is there
+OTHER = "journal is of another board"
 NEWEST = "the newest write or erase at this port"
 # what a hint says to type
 HINTED = re.compile(r"\b(undo (1 )?--|protect )")
@@ -218,7 +218,7 @@ def leave_other(board, fault):
     """Takes the journal of the board that is there where this fault says that the one in use, in which something was stopped, is
     another's, and it is sure to be; whether it did."""
     left = board.journals.live
-    if str(fault) not in OTHERS or not board.take_from_other():
+    if str(fault) != OTHER or not board.take_from_other():
         return False
     note(f"that was another board: what was stopped is undone first when it is back at any port; its journal is {left}")
     return True
