@@ -63,7 +63,7 @@ class FarBytes(unittest.TestCase):
         for events, read in (((b"a", b"b"), (b"ab", 0)), ((b"c", None, b"d"), (b"", 1)), ((b"e",), (b"e", 0)), ((None,), (b"", 1))):
             for byte in events:
                 put(byte) if byte else port.inbox.put_error()
-            self.assertEqual((readable([port.descriptor], 0), port.read()), ([port.descriptor], read))
+            self.assertEqual((readable([port.descriptor], 0), port.read(), readable([port.descriptor], 0)), ([port.descriptor], read, []))
         port.client = mock.Mock(**{"send_break.side_effect": ValueError, "write.side_effect": OSError})
         self.assertRaisesRegex(faults.Fault, "^PORT: has no BRK; ", port.move, "brk", True)
         self.assertRaises(faults.Gone, port.write, b"a")

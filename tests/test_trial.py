@@ -460,6 +460,7 @@ gone.words, gone.companion, gone.buffer, (gone.socket, _) = Of(reset='', port='P
 def closed(): raise ways.Refused('the port has gone')
 gone.open = closed
 for act in (gone.reset, lambda: gone.read(1, 9, 9), lambda: gone.write(b'a')): tell(lambda _: act(), None)
+gone.socket, far_end = socket.socketpair(); gone.socket.send(b'a'); far_end.close(); tell(lambda _: gone.take(), None)
 def nobody(_): raise EOFError
 builtins.input = nobody
 for gone.words in (Of(reset='false', port='P', wiring='W'), Of(reset='', port='P', wiring='')): tell(lambda _: gone.reset(), None)
@@ -500,7 +501,7 @@ def contacted(*came):
 for came in ((b'', b'\x1f'), (b'y', b'', b'\x1f'), (b'y', b'y', b'\x1f'), (b'y', b'yy', b'\x1f'), (b'y.', b'', b'\x1f'), (b'yy', b'', b'\x1f'), 12 * (b'.',)): contacted(*came)
 for act, of in ((rows_asking.get_version.act, Of(codes=[0])), (rows_reading.size_register.act, Of(model=Of(number=1))), (Board.hush, Of(line=Of(read=lambda *words: print(*words) or b'y'), wait=1)), (Board.drain, Of(line=Of(read=print), wait=1)), (rows_asking.quiet.act, Of(line=Of(read=print))),
                 (rows_reading.read_sizes.act, Of(page=0, model=Of(starts=[0], sizes=[1024]), read=lambda at, count: ([1] * count, [2] * count)))): tell(act, of)
-for came in (b'', b'ab'): tell(lambda it: speeds.take(it, 3), Of(read=lambda *_: came))
+for came in (b'', b'ab', b'abc'): tell(lambda it: speeds.answer(it, b'', 3), Of(write=len, read=lambda *_: came))
 for frame in ('21DE', '43BCFF', '44BBFFFF'): tell(lambda it: [*map(it.feed, bytes.fromhex(frame))], Model(0x440, known[0], 1, [0x21, 0x43, 0x44]))
 sent = []
 said = Of(model=Of(starts=[0]), page=0, code=0x44, step=sent.append, address=lambda at, flip=0: [flip], erase_frame=lambda page, flip=0: [flip], put=id, hush=int, erase=int, fill=int,

@@ -61,10 +61,7 @@ def put(stream, text):
 
 
 def number_of(error):
-    """The system's number of a fault, which pyserial puts now here, now there."""
-    while error is not None:
-        for number in (getattr(error, "errno", None), *error.args[:1]):
-            if isinstance(number, int):
-                return number
+    """The system's number of a fault, which pyserial's own may have, or the one before it."""
+    while error is not None and not isinstance(next(iter(error.args), None), int):
         error = error.__context__
-    return None
+    return error and error.args[0]
