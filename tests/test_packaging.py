@@ -149,8 +149,8 @@ class Packaging(unittest.TestCase):
         given = pathlib.Path(shutil.copy(program().removesuffix("-under-qemu"), self.folder()))
         held = given.stat().st_mtime_ns
         fields, tree = self.packed("deb", "--unproved", given.name, folder=given.parent)
-        told = [fields[it] for it in ("Package", "Conflicts", "Replaces")] + re.findall(r"^ .*\. (.* was proved .*)$", text_in(tree, "DEBIAN/control"), re.M)
-        self.assertEqual([*told, given.stat().st_mtime_ns], ["stmflash-unproved", "stmflash", "stmflash", "Nothing was proved of this program.", held])
+        told = [fields[it] for it in ("Package", "Source", "Conflicts", "Replaces")] + re.findall(r"^ .*\. (.* was proved .*)$", text_in(tree, "DEBIAN/control"), re.M)
+        self.assertEqual([*told, given.stat().st_mtime_ns], ["stmflash-unproved", *3 * ["stmflash"], "Nothing was proved of this program.", held])
         packed = pathlib.Path(tree, "usr/bin/stmflash").read_bytes()
         self.assertNotIn(b".comment", packed[-20000:])
         newest = max(re.findall(rb"GLIBC_([0-9.]+)\0", packed), key=lambda it: [int(part) for part in it.split(b".")]).decode()
