@@ -446,7 +446,7 @@ for held in itertools.product(itertools.product((False, True), repeat=2), repeat
     except settling.Odd: odd = True
     print(held, odd, of_line.facts, len(forgotten)) if (odd, of_line.facts, len(forgotten)) != (
         not (held[0][0] and held[1][0]), {'loses_while_busy': True} if any(it[1] for it in held) else {}, sum(it != (True, False) for it in held)) else None
-asking.dead, asking.broken, trial.recover = None, Of(intent='erase'), lambda _, intent: print(intent)
+asking.dead, asking.broken, trial.recover = None, Of(intent='erase'), lambda it, intent: print(it is asking.board, intent)
 for row in (trial.BACK, Of(name='x', changes='x')): tell(lambda it: it.need(row), asking)
 asking.need = asking.regain = lambda row: None
 def unasked(): raise settling.Differs('a byte came')
