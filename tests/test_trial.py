@@ -508,8 +508,8 @@ said = Of(model=Of(starts=[0]), page=0, code=0x44, step=sent.append, address=lam
           talk=lambda name, data, *_: sent.append(data), expect=lambda *_: 0, both=list, line=Of(reset=int, read=lambda *_: b'.'), connect=int, words=Of(every_byte=True), blocks=lambda _: [0, 256], write=lambda at, data: print(at, len(data)), usual_time=lambda _: 0.05)
 for row in (rows_asking.refuse_address, rows_asking.refuse_complement, rows_changing.refuse_erase): row.act(said)
 print(sent == [*(it for code in (0x11, 0x31) for bit in range(8) for it in (code, [1 << bit])), *([code, code ^ 0xFF ^ 1 << bit] for code in (0, 2, 0x11, 0x31, 0x44) for bit in range(8)), 0x44, [1], 0x44, [0x40]])
-rows_stopping.cut_and_settle, rows_changing.time = lambda _, cuts, intent: (len(cuts), intent), Of(monotonic=itertools.cycle((0, 0.4)).__next__)
-for act in (rows_stopping.settle_write.act, rows_changing.ack_late.act, rows_changing.write_gap.act): tell(act, said)
+rows_stopping.cut_and_settle, rows_changing.time = lambda _, cuts, intent: (len(cuts), intent), Of(monotonic=itertools.cycle((0, 0.4, *3 * (0, 1))).__next__)
+for act in (rows_stopping.settle_write.act, *2 * [rows_changing.ack_late.act], rows_changing.write_gap.act): tell(act, said)
 for count in (1, 256): said.model.sizes, said.code = [1] * count, 0x43; tell(rows_changing.page_absent.act, said)
 for said.code, facts in ((0x43, {}), (0x44, {'loses_while_busy': True})):
     said.facts, said.options, said.model.sizes = {'erase_seconds': 1.0, **facts}, {}, [1, 1]
