@@ -106,7 +106,7 @@ class Beginning(unittest.TestCase):
         with mock.patch.object(sockets.socket, "socket") as made:
             for error, is_left in ((ConnectionRefusedError, True), (TimeoutError, False), (None, False)):
                 made.return_value.__enter__.return_value.connect.side_effect = error
-                self.assertEqual((error, sockets.is_left("board")), (error, is_left))
+                self.assertEqual((error, sockets.is_left("board"), made.return_value.__enter__.return_value.settimeout.called), (error, is_left, True))
         with socket.socket(socket.AF_UNIX) as listener, socket.socket(socket.AF_UNIX) as first:
             listener.bind(place := f"\0stmflash-{os.getpid()}")
             listener.listen(0)

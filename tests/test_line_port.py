@@ -36,7 +36,7 @@ class Calls(unittest.TestCase):
             for patched, fault, call in (("os.read", plain, self.port.read), ("os.write", plain, lambda: self.port.write(b"a")),
                                          ("termios.tcflush", of_termios, self.port.forget),
                                          ("termios.tcdrain", of_termios, lambda: self.port.drain(mock.Mock(number=None)))):
-                with self.subTest(number=number, patched=patched), mock.patch(patched, side_effect=fault), self.assertRaises(Gone):
+                with self.subTest(number=number, patched=patched), mock.patch(patched, side_effect=[fault]), self.assertRaises(Gone):
                     call()
             for fault in (plain, of_termios):
                 with self.subTest(number=number, fault=fault), self.assertRaises(Gone):
