@@ -1,6 +1,6 @@
 // What the program asks of each function of windows/*.c, tried. It is linked with the layer, of which test_layer.py puts some of Windows'
 // functions into the hands of this file, and called in an empty folder as
-//   FIRST=one EMPTY= SAID_N=.. test_layer WORDS COM5 COM6 --wiring dtr-reset,rts-boot0 --wiring
+//   FIRST=one EMPTY= SAID_N=.. test_layer WORDS COM5 COM6 --wiring=dtr-reset,rts-boot0 --wiring
 // with a text of Linux for each fault N, and the words of test_layer.py. It prints what doesn't hold, and its status says whether all does.
 #include "layer.h"
 #include <aclapi.h>
@@ -767,6 +767,6 @@ __attribute__((sysv_abi)) int rattle_main(void)
         table[i] = NULL, numbered(made(A_FILE, CreateFileW(L"NUL", GENERIC_READ | GENERIC_WRITE, SHARED, NULL, OPEN_EXISTING, 0, NULL)), i);
     CLOSES(test_errors()); CLOSES(test_memory()); CLOSES(test_words()); CLOSES(test_clock()); CLOSES(test_paths()); CLOSES(test_files()); CLOSES(test_rights());
     CLOSES(test_locks_and_syncs()); CLOSES(test_names(true)); CLOSES(test_names(false)); CLOSES(test_folder()); CLOSES(test_tcp());
-    CLOSES(test_port(__argv[__argc - 5], __argv[__argc - 4]));
+    CLOSES(test_port(__argv[__argc - 4], __argv[__argc - 3]));
     return bytes = 0, 7; // (so no help is told)
 }

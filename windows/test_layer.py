@@ -43,7 +43,7 @@ INSTEAD = {"FlushFileBuffers": "flush", "SetFileInformationByHandle": "set", "Mo
 VARIABLES = {"FIRST": "one", "EMPTY": "", **{f"SAID_{it}": os.strerror(it) for it in range(1, 112)}}
 ASKED_BITS = termios.CSIZE | termios.CSTOPB
 WORDS = ["--wiring", "none", "--baud=9600", "word", "", "zwei Wörter", "--wirings=x", "a\\b", "--baud", "57600", "--wiring=none", "help", "end"]
-LAST = ["--wiring", "dtr-reset,rts-boot0", "--wiring"]
+LAST = ["--wiring=dtr-reset,rts-boot0", "--wiring"]
 FAULTS = list(slips.read(pathlib.Path(f"{HERE}/slips").read_text(encoding="utf-8")))
 
 # how many go on at once, which mostly wait; those whose names begin so, or all; how many of these, if not all; and by which seed
