@@ -7,6 +7,11 @@ from place import PATIENCE, Place, read_some, readable
 from rows import Rows, bytes_of, cases
 
 
+def is_asked(lines):
+    """Whether somebody answers, or could but for what shows the question."""
+    return "typed" in lines or "unwritable" in lines.get("terminal", "")
+
+
 class Confirmation(Rows):
     def set_nothing(self):
         super().set_nothing()
@@ -44,10 +49,10 @@ class Confirmation(Rows):
         self.play_all(case for case in cases("confirmation.rows") if which(case[0], dict(case[1])))
 
     def test_what_is_answered(self):
-        self.played(lambda _, lines: "typed" in lines)
+        self.played(lambda _, lines: is_asked(lines))
 
     def test_faults_of_the_words_come_first(self):
         self.played(lambda title, _: title.startswith("faults of the words"))
 
     def test_nobody_is_asked(self):
-        self.played(lambda title, lines: "typed" not in lines and not title.startswith("faults of the words"))
+        self.played(lambda title, lines: not is_asked(lines) and not title.startswith("faults of the words"))
