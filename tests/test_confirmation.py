@@ -7,11 +7,6 @@ from place import PATIENCE, Place, read_some, readable
 from rows import Rows, bytes_of, cases
 
 
-def is_asked(lines):
-    """Whether somebody answers, or could but for what shows the question."""
-    return "typed" in lines or "unwritable" in lines.get("terminal", "")
-
-
 class Confirmation(Rows):
     def set_nothing(self):
         super().set_nothing()
@@ -46,13 +41,14 @@ class Confirmation(Rows):
         return shown
 
     def played(self, which):
-        self.play_all(case for case in cases("confirmation.rows") if which(case[0], dict(case[1])))
+        """Plays cases by their titles, and by whether somebody answers, or could but for what shows the question."""
+        self.play_all(case for case in cases("confirmation.rows") if which(case[0], any(sign == "typed" or told.endswith("unwritable") for sign, told in case[1])))
 
     def test_what_is_answered(self):
-        self.played(lambda _, lines: is_asked(lines))
+        self.played(lambda _, is_asked: is_asked)
 
     def test_faults_of_the_words_come_first(self):
         self.played(lambda title, _: title.startswith("faults of the words"))
 
     def test_nobody_is_asked(self):
-        self.played(lambda title, lines: not is_asked(lines) and not title.startswith("faults of the words"))
+        self.played(lambda title, is_asked: not is_asked and not title.startswith("faults of the words"))
