@@ -101,6 +101,8 @@ class Dates(Noted):
                     self.assertTime(int(when.timestamp()), b"time " + when.strftime("%Y-%m-%dT%H:%M:%SZ!\n").encode())
         self.assertTime(int(datetime.datetime(2026, 1, 1, tzinfo=datetime.timezone.utc).timestamp()) - 1, b"")
         self.assertTime(0, b"")
+        # a day past the year 9999 is its last
+        self.assertTime(253402300800, b"time 9999-12-31T00:00:00Z!\n")
 
     def assertTime(self, seconds, line):
         self.store("journal", None)

@@ -176,6 +176,14 @@ class Line(Watching):
         self.assertRefused(said, relay, f"{last ^ 0xFF:02X} stands at {at:08X}, and {last:02X} was read or written there before")
         self.assertLeadsBack()
 
+    def test_what_is_let_go_lists_its_codes_again(self):
+        """Behind a journal that is kept: one that lists another code by then isn't let go."""
+        words = "write", "-f", "--keep", "--go", "0x08000000", "image"
+        # the fourth code from the end; behind it Get is acknowledged, 7F refused, and Go and its address acknowledged
+        said, relay = self.through(*words, "--watch", wrong=self.clean(*words)[1] - 8)
+        self.assertRefused(said, relay, "no device with its chip lists the codes that it lists", b"segment 1: 3 pages written\nkept 1\n", "(.*\n)*")
+        self.assertNotIn(b"\x21\xde", relay.sent())
+
     def test_without_a_watch_none_of_them_is_seen(self):
         """What is read wrong is taken for what stands there."""
         _, came, _ = self.clean("crc")
