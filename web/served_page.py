@@ -30,7 +30,7 @@ JOURNAL = f"{UNIQUE}.journal"
 # pages of 1,024 bytes that an image has
 PAGES = 5
 READY = "document.body?.dataset.ready === 'yes' && !stmflash.state.busy"
-QUIET = "!stmflash.state.busy && document.getElementById('doing').hidden"
+QUIET = "!stmflash.state.busy && !stmflash.state.isAtWork && document.getElementById('doing').hidden"
 
 
 def wait():

@@ -1,6 +1,6 @@
 // The journals, board by board: what each says, its undo and its end, its download, and one that is taken over.
 // @ts-check
-import { ENDING, FOLDER, NEW, ask, board, run, shows, state, whyNot, withName } from './calls.js';
+import { ENDING, FOLDER, NEW, ask, board, inOneRow, run, shows, state, whyNot, withName } from './calls.js';
 import { $, button, element, isSure, option, save, say, tell } from './elements.js';
 
 /** What a journal says, line by line.
@@ -37,19 +37,26 @@ async function download(name) {
   save(name, bytes);
 }
 
-/** Tells what came of a run, and looks what the journals say now.
+/** Tells what came of a run, and then looks what the journals say now.
  * @param {any} it @param {string[]} done */
-export async function end(it, done) {
-  await journals();
+export const end = (it, done) => inOneRow(async () => {
+  await list();
   const more = it.error || !state.isKept ? state.names.map((/** @type {string} */ name) => button(`Download ${name}`, () => download(name))) : [];
   if (it.status === 0 && !it.error) tell('good', done, more);
   else tell('bad', whyNot(it).length ? whyNot(it) : ['The program ended.'], more);
+  await journals();
   return it;
+});
+
+/** Which journals there are. */
+async function list() {
+  const { names } = await ask('list');
+  state.names = names.filter((/** @type {string} */ it) => it.endsWith(ENDING)).sort();
 }
 
 export async function journals() {
-  const { names } = await ask('list'), rows = [];
-  state.names = names.filter((/** @type {string} */ it) => it.endsWith(ENDING)).sort();
+  const rows = [];
+  await list();
   state.unfinished = [];
   for (const name of state.names) {
     const { lines, isBad } = await says(name), board = name.slice(0, -ENDING.length), isUndone = lines.some((it) => it.startsWith('0 can be'));
