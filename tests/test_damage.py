@@ -1,11 +1,11 @@
-"""A page that a journal keeps, of which the disk has changed a digit (tests/damage.rows): each digit, and lines of a CRC that are none."""
+"""A page that a journal keeps, of which the disk has changed a digit (tests/damage.rows): each digit, and one that changes while a write is undone."""
 
 import random
 
 import telling
-from place import UNIQUE, Said, each_of
+from place import UNIQUE, Said
 from rows import Rows, cases
-from telling import kept, left, sum_of
+from telling import kept, left
 
 SIZE = 256
 COUNTING = bytes(i % 251 for i in range(16 * SIZE))
@@ -71,31 +71,6 @@ class Damage(telling.Told):
                     given = bytes.fromhex(rotted.split(b"page %d " % page)[1].split(b"\n")[0].decode())
                     self.assertFile("flash", COUNTING[:page * SIZE] + given + COUNTING[(page + 1) * SIZE:])
                     self.store_all({"flash": flash, "flash.line": line})
-
-    def test_what_is_no_such_line(self):
-        """One that a crash has cut, whatever it says, of another form, or not directly behind its page; only the whole one counts."""
-        begun, wrong, right = HEAD + b"open 1\n" + kept(3, part(3), has_sum=False), b"crc 00000000!\n", f"crc {sum_of(part(3))}!\n".encode()
-        others = [b"crc %s!\n" % it for it in (b"0000000", b"000000000", b"0000000g", b"0000000a", b" 0000000")]
-        tails = [wrong[:count] + tail for count in range(len(wrong)) for tail in (b"", bytes(7))]
-        for behind in (*tails, *others, wrong.upper(), b"!\n" + wrong, b"erase 3\n" + wrong, right, right + wrong):
-            with self.subTest(behind=behind):
-                mark = b"" if behind.endswith(b"\n") or not behind else b"!!\n"
-                self.store("journal", begun + behind)
-                said, journal = self.at("undo"), self.held("journal")
-                self.assertTold(said, "undone 1\n", flash=COUNTING)
-                self.assertTrue(journal.startswith(begun + behind + mark), journal[-40:])
-        self.store("journal", begun + wrong)
-        self.assertRefused(3, 1, "undo")
-
-    @each_of(range(600, 4000, 200))
-    def test_old_digits_make_no_line_whole(self, steps):
-        """Those of a former journal behind a torn CRC: a second mark closes it, so that an undo which was stopped goes on."""
-        torn = HEAD + b"open 1\n" + kept(3, part(3)) + b"erase 3\n" + kept(5, part(5), has_sum=False) + b"crc 0BADC0DE"
-        begun = COUNTING[:3 * SIZE] + SIZE * b"\xff" + COUNTING[4 * SIZE:]
-        self.store_all({"flash": begun, "flash.line": None, "journal": torn})
-        self.at("undo", "--stop", str(steps))
-        self.assertEqual(self.at("undo").status, 0)
-        self.assertFile("flash", COUNTING)
 
     def test_a_write_that_is_done_again(self):
         """The undo of one that was broken off compares too: its page rots as it is erased, and the line is cut as it is to be written."""
