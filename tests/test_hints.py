@@ -1,12 +1,13 @@
 """What is told of a device that refuses, says nothing, something else, or just what it hears (tests/hints.rows)."""
 
+from hostile import Answering, be_silent, echo
 from place import COUNTING
 from refusing import SIZES, OnBoard
 from rows import in_parts
-from test_giving_up import be_silent, echo, hiss
+from test_giving_up import hiss
 
 from deviations import DEVIATIONS
-from planted_board import PlantedBoard
+from planted_board import GET_ID, PlantedBoard
 
 
 class Other(PlantedBoard):
@@ -30,18 +31,9 @@ class Busy(Other):
         super().acknowledge()
 
 
-class Counted(Other):
+def counted(count):
     """A board whose id has so many bytes."""
-
-    def __init__(self, count):
-        super().__init__("none")
-        self.count = count
-
-    def answer(self, code):
-        if code == 0x02:
-            self.owed.extend([self.count - 1, *self.count * [4], 0x79])
-        else:
-            super().answer(code)
+    return Answering(code=GET_ID, told=f"{count - 1:02X} 04*{count} 79")
 
 
 def print_on(line, ending):
@@ -55,7 +47,7 @@ def reply(line, ending):
 
 
 class Hints(OnBoard):
-    kinds = {**OnBoard.kinds, "other": Other, "busy": Busy, "counted": Counted, "echo": echo, "silent": be_silent, "hisses": hiss,
+    kinds = {**OnBoard.kinds, "other": Other, "busy": Busy, "counted": counted, "echo": echo, "silent": be_silent, "hisses": hiss,
              "prints": print_on, "replies": reply, "closes": lambda line, _: line.recv(1)}
 
 
