@@ -1,5 +1,5 @@
 """The first byte of an undo at a socket is 7F, which a chip that was reset takes its speed from: once, and the journal says so first
-(tests/greeting.rows)."""
+(tests/greeting.rows); and devices that were stopped in the midst of a frame, or reset, settled over a socket (tests/settling.rows)."""
 
 import socket
 import threading
@@ -8,6 +8,7 @@ from place import PATIENCE, served
 from refusing import BASE, stopped
 from rows import Rows, bytes_of, each_named
 from served import relay
+from test_silence import Timed
 
 from device import Chip
 
@@ -78,3 +79,10 @@ class Greeting(Undoing):
 
 
 each_named(Greeting, "greeting.rows", Rows.play_apart)
+
+
+class Settling(Timed):
+    """A test for each title."""
+
+
+each_named(Settling, "settling.rows")
