@@ -123,20 +123,6 @@ class Waiting(Served):
         self.assertIn(first, range(4, int(2 * (time.monotonic() - began)) + 2))
         self.assertLess(second, first)
 
-    def test_what_answers_now_and_then_is_not_silent(self):
-        """However long it takes until it is given up: each byte counts anew."""
-        came = []
-
-        def mutter(line, ending):
-            while len(came) < 5 and not ending.wait(1):
-                line.sendall(b"\x55")
-                came.append(1)
-
-        Peer(self, "late", mutter)
-        said = self.call(*self.words("info", "--progress", "--wait", "100", "--give-up", "20"))
-        self.assertEqual((said.status, said.out, len(came)), (1, b"", 5), said.err)
-        self.assertNotIn(b"no answer yet", said.err)
-
     def test_a_signal_leaves_what_to_do(self):
         """The last that a terminal shows of a write that Ctrl-C ended at a page's erase; and it is what undoes all."""
         flash = bytes(range(256)) * 512
