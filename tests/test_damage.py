@@ -3,14 +3,12 @@
 import random
 
 import telling
-from place import UNIQUE, Said
+from place import UNIQUE, WAIT, Said, files
 from rows import Rows, cases
-from telling import kept, left
 
 SIZE = 256
 COUNTING = bytes(i % 251 for i in range(16 * SIZE))
 TOLD = {telling.UNIQUE_AT: bytes.fromhex(UNIQUE), telling.SIZE_AT: None}
-HEAD = f"stmjournal 3 0410 {UNIQUE}\n".encode()
 DAMAGED = "page {} of segment {} has another CRC in the journal than when it was kept; undo by a copy of the journal, or --trust-journal"
 CHECK = ("log", "--check", "--journal", "journal")
 BEGINS = {"table": telling.TABLE.replace(b"[[128, 1024]]", b"[[16, 256]]"), "flash": COUNTING, "image": b"an image",
@@ -19,22 +17,10 @@ BEGINS = {"table": telling.TABLE.replace(b"[[128, 1024]]", b"[[16, 256]]"), "fla
 ROTS, ALL = 250, (("undo",), ("undo", "-v"), ("undo", "0"), ("undo", "2"))
 
 
-def part(page):
-    return COUNTING[page * SIZE:(page + 1) * SIZE]
-
-
-def erased(number, *pages):
-    """The lines of an erase of these pages."""
-    lines = b"".join(kept(page, part(page)) + b"erase %d\n" % page for page in pages)
-    return b"open %d\n%send %d\n" % (number, lines, number) + left(dict.fromkeys(pages, b"\xff" * SIZE))
-
-
-def rotten(journal, *pages, chance=random):
-    """A journal of which a digit of each of these pages is another one."""
-    for page in pages:
-        at = journal.index(b"page %d " % page) + 7 + chance.randrange(2 * SIZE)
-        journal = journal[:at] + bytes([chance.choice([it for it in b"0123456789ABCDEF" if it != journal[at]])]) + journal[at + 1:]
-    return journal
+def rotten(journal, page, chance=random):
+    """A journal of which a digit of this page is another one."""
+    at = journal.index(b"page %d " % page) + 7 + chance.randrange(2 * SIZE)
+    return journal[:at] + bytes([chance.choice([it for it in b"0123456789ABCDEF" if it != journal[at]])]) + journal[at + 1:]
 
 
 class Pages(Rows):
@@ -45,27 +31,18 @@ class Pages(Rows):
 class Damage(telling.Told):
     begins = BEGINS
 
-    def two_segments(self):
-        """Pages 3 and 5 are erased, and then pages 7 and 9: the journal of that."""
-        for number, pages in enumerate((("3", "5"), ("7", "9")), 1):
-            self.assertTold(self.at("erase", *pages), f"segment {number}: 2 pages erased\n")
-        self.assertFile("journal", HEAD + erased(1, 3, 5) + erased(2, 7, 9))
-        return self.held("journal")
-
-    def assertRefused(self, page, segment, *words, **more):
-        """Nothing is changed."""
-        before = {name: self.held(name) for name in ("flash", "flash.line", "journal")}
-        self.assertFault(self.at(*words, **more), DAMAGED.format(page, segment), **before)
-
     def test_each_rotten_digit_is_told(self):
-        whole, chance, flash, line = self.two_segments(), random.Random(1), self.held("flash"), self.held("flash.line")
+        """Of two segments, of pages 3 and 5 and of pages 7 and 9: nothing is changed."""
+        for pages in (("3", "5"), ("7", "9")):
+            self.assertWell(self.at("erase", *pages))
+        chance, flash, line, whole = random.Random(1), self.held("flash"), self.held("flash.line"), self.held("journal")
         for number in range(ROTS):
             page, segment = chance.choice(((3, 1), (5, 1), (7, 2), (9, 2)))
-            rotted = rotten(whole, page, chance=chance)
+            rotted, fault = rotten(whole, page, chance), DAMAGED.format(page, segment)
             with self.subTest(number=number, page=page):
                 self.store("journal", rotted)
-                self.assertRefused(page, segment, *ALL[number % len(ALL)])
-                self.assertFault(self.call(*CHECK), DAMAGED.format(page, segment), journal=rotted)
+                self.assertFault(self.at(*ALL[number % len(ALL)]), fault, holds=(flash, line), journal=rotted)
+                self.assertFault(self.call(*CHECK), fault, journal=rotted)
                 if number % 10 == 0:
                     self.assertTold(self.at("undo", "--trust-journal"), "undone 2\n")
                     given = bytes.fromhex(rotted.split(b"page %d " % page)[1].split(b"\n")[0].decode())
@@ -79,7 +56,8 @@ class Damage(telling.Told):
                 if came == b"\x43\xbc":
                     self.store("journal", rotten(self.raw("journal"), 0))
 
-        said = self.run_on(lambda it: telling.serve_one(self, it, "flash", TOLD, True, Rotting), "write", "--again", "1", "image")
+        words = ("write", *files("board"), "--wait", WAIT, "--again", "1", "image")
+        said = telling.run_beside(self, lambda it: telling.serve_one(self, it, "flash", TOLD, True, Rotting), *words)
         fault = DAMAGED.format(0, 1)
         self.assertEqual(said, Said(1, b"", f"again 1 of 1: line failed; not undone: {fault}\n"
                                     f"stands: segment 1 is unfinished, undo first\nstmflash: {fault}\n".encode()))
