@@ -24,6 +24,8 @@ RUNS = {
 }
 CHIPS = {number: Chip(int(number, 16), 0x08000000, [size for count, size in runs for _ in range(count)], kind == "extended", 0xFF)
          for number, (kind, runs) in RUNS.items()}
+TABLE = "".join(f'[[chip]]\nid = 0x{chip}\nbase = 0x08000000\npages = {runs}\nerase = "{kind}"\n' for chip, (kind, runs) in RUNS.items())
+FLASHES = {number: bytes(i % 251 for i in range(chip.size)) for number, chip in CHIPS.items()}
 # how many undos go on at once; of how many devices one was reset, and of how many pages one is tried where all take long
 AT_ONCE, RESET_ONE_IN, SLOW_ONE_IN = 4, 8, 8
 # a page is large from so many bytes on, and behind page 1 the page of this number may be erased
@@ -56,16 +58,12 @@ def some_stops(chance):
 
 
 class EveryPage(Place):
-    def setUp(self):
-        super().setUp()
-        entries = (f'[[chip]]\nid = 0x{chip}\nbase = 0x08000000\npages = {runs}\nerase = "{kind}"\n' for chip, (kind, runs) in RUNS.items())
-        self.store("table", "".join(entries).encode())
-        self.flashes = {number: bytes(i % 251 for i in range(chip.size)) for number, chip in CHIPS.items()}
+    begins = {"table": TABLE.encode()}
 
     def undo(self, number, stop):
         """What is wrong behind an undo; None: nothing."""
         flash, journal = f"flash-{number}", f"journal-{number}"
-        before, chip = self.flashes[stop.chip], CHIPS[stop.chip]
+        before, chip = FLASHES[stop.chip], CHIPS[stop.chip]
         pages = [stop.page] + [COMPANION] * (stop.page == 1 and COMPANION < chip.pages())
         left, line, kept = stopped(chip, before, "erase", stop.page, stop.sent, beside=pages[1:])
         self.store_all({flash: left, flash + ".line": b"fresh\n" if stop.is_reset else line, journal: kept})
