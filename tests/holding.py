@@ -11,7 +11,8 @@ import shutil
 import signal
 
 import syncs
-from rows import Rows, count_of
+from place import Place, Said
+from rows import Rows, bytes_of, count_of
 
 
 def files_up_to(size):
@@ -53,6 +54,15 @@ class Held(Rows):
             self.before = files_up_to(count_of(told))
         elif sign == "closes":
             self.before = functools.partial(os.close, int(told))
+        elif sign == "humble":
+            # root may write all the same, but for a process that never gets CAP_DAC_OVERRIDE
+            self.before = functools.partial(syncs.LIBC.prctl, 24, 1, 0, 0, 0)
+        elif sign == "mask":
+            self.addCleanup(os.umask, os.umask(int(told, 8)))
+        elif sign == "logs":
+            self.assertEqual(Place.call(self, "log", "--journal", "journal"), Said(0, bytes_of(told), b""))
+        elif sign == "refused":
+            self.assertFault(Place.call(self, name, *more), "journal is in use", hint="another program has journal: wait until it ends")
         elif sign == "stream":
             self.streams[name] = more[0]
         elif sign in ("lock", "share"):

@@ -5,9 +5,9 @@ import socket
 import time
 
 from place import COUNTING as FLASH
+from rows import bytes_of
 
-from planted_board import ACK, ERASE, FRESH, GET, GET_ID, NACK, READ, WRITE, PlantedBoard
-
+from planted_board import ERASE, FRESH, NACK, PlantedBoard
 
 
 class Line:
@@ -81,10 +81,13 @@ class Slowly(Board):
 
 
 class Saying(Board):
-    """Says to a byte what `says` makes of it, and of the call that gives the replies."""
+    """Says the same `byte` to each; or it echoes each before its replies, or says these so many `times`."""
+
+    byte, echoes, times = None, 0, 1
 
     def feed(self, byte):
-        return self.says(byte, super().feed)
+        replies = super().feed(byte)
+        return bytes([byte]) * self.echoes + replies * self.times if self.byte is None else bytes([self.byte])
 
 
 class Closing(Board):
@@ -151,7 +154,7 @@ class Answering(Board):
 
     def answer(self, code):
         self.has_answered |= code == self.code
-        self.owed.extend(self.told) if code == self.code else super().answer(code)
+        self.owed.extend(bytes_of(self.told)) if code == self.code else super().answer(code)
 
     def say(self, line, replies, ending):
         line.sendall(replies)

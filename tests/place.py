@@ -6,8 +6,6 @@ The program is the one that the variable STMFLASH names; without it, the one tha
 
 import contextlib
 import fcntl
-import functools
-import json
 import os
 import pathlib
 import select
@@ -45,11 +43,8 @@ HEADER = b"stmjournal 2 0412\n"
 HEAD = HEADER + b"open 1\npage 5 "
 # a board's unique id
 UNIQUE = "2B0035000A51363034393332"
-# what is told behind a fault of what came
+# what is told of a board that says nothing
 SILENT = "nothing came: is the board in its bootloader, with power?"
-ECHO = "the line echoes: are RX and TX joined?"
-NOISE = "bytes came that are no answer: is the board in its bootloader, is the speed right?"
-BUSY = "the board says that it is busy (76): wait, and try again; stmflash can't use one that says so each time"
 
 
 def program():
@@ -93,40 +88,6 @@ class Said(typing.NamedTuple):
     err: bytes
 
 
-def told_by(said):
-    """What a line of JSON tells, but for the journal and the time, which each answer of a device has."""
-    return {name: told for name, told in json.loads(said.out).items() if name not in ("journal", "milliseconds")}
-
-
-def lacks(name):
-    """The note on an undo by a journal that isn't there."""
-    return f"journal {name} isn't there"
-
-
-def each_of(cases):
-    """Makes a test of what it does for a case: for each of these, as `each` of a place."""
-    cases = list(cases)
-
-    def of(does):
-        @functools.wraps(does)
-        def test(self):
-            self.each(cases, functools.partial(does, self))
-
-        return test
-
-    return of
-
-
-def had(*segments, left):
-    """The note on an undo of these, which changed nothing."""
-    return f"segment{'s' * (len(segments) > 1)} {', '.join(map(str, segments))} had changed nothing; {left} more can be undone"
-
-
-def new(segment):
-    """The note on a write or an erase that changed nothing."""
-    return f"segment {segment} changed nothing: there is nothing new to undo"
-
-
 class Place(unittest.TestCase):
     """A test with a folder of its own, in which a table stands, and what else it begins with. All names of files are names in it."""
 
@@ -159,6 +120,11 @@ class Place(unittest.TestCase):
     def add(self, name, data):
         with open(self.path(name), "ab") as file:
             file.write(data)
+
+    def script(self, name, text):
+        """Stores a script of the shell's."""
+        self.store(name, f"#!/bin/sh\n{text}\n".encode())
+        os.chmod(self.path(name), 0o755)
 
     def listen(self, name):
         listener = socket.socket(socket.AF_UNIX, socket.SOCK_STREAM)
@@ -264,11 +230,6 @@ class Place(unittest.TestCase):
         """Runs a subcommand on a device, with these further words."""
         return self.call(name, *files(device, journal), *words, **how)
 
-    def use_image(self, name, image, *words, device="sim:0412:flash"):
-        """Runs a subcommand on an image of these bytes, with these words before its name."""
-        self.store("image", image)
-        return self.use(name, *words, "image", device=device)
-
     def each(self, cases, does):
         """Does this for each case, and names the one that fails; one of several parts is so many words."""
         for case in cases:
@@ -280,11 +241,6 @@ class Place(unittest.TestCase):
         told = f"stmflash: {text}\n" + (f"hint: {hint}\n" if hint else "")
         self.assertEqual(said, Said(status, b"", told.encode()))
         self.assertFiles({**dict(zip(SIMULATOR, holds)), **files})
-
-    def assertUsage(self, said):
-        """`clap` refused the words."""
-        self.assertEqual((said.status, said.out), (2, b""))
-        self.assertGreater(len(said.err), 10)
 
     def assertTold(self, said, text, note=None, holds=(), **files):
         """All was done, and just this was said, with a note or without one. The simulator's files and others hold these bytes then."""
@@ -310,11 +266,6 @@ class Place(unittest.TestCase):
         """Each of these files, by its name, holds just these bytes, or isn't there."""
         for name, data in files.items():
             self.assertFile(name, data)
-
-    def assertHolds(self, flash, line):
-        """The simulator's files hold these bytes and this line."""
-        self.assertFiles(dict(zip(SIMULATOR, (flash, line))))
-
 
 def readable(ends, patience):
     """Those of these sockets or descriptors from which something can be read, or which have ended, within so many seconds. Beside those

@@ -24,6 +24,23 @@ def erase(*pages, width=1):
     return (b"\x43\xbc" if width == 1 else b"\x44\xbb") + body + bytes([check(body)])
 
 
+def frame_of(chip, command, page, data=b""):
+    """The frame of an erase of a page, or of a write of these bytes at its beginning."""
+    return write_to(chip.base - BASE + chip.part(page).start, data) if command == "write" else erase(page, width=1 + chip.extended)
+
+
+def stopped(chip, flash, command, page, sent, data=b"", beside=()):
+    """What a session has left on a chip of this flash that was stopped behind so many bytes of such a frame, a write's in a page that it had
+    erased: the flash, the line, and the journal, which keeps these pages beside."""
+    part, frame = chip.part(page), frame_of(chip, command, page, data)
+    is_whole, blank = sent == len(frame), bytes([chip.erased])
+    held = data * is_whole if command == "write" else flash[part] * (not is_whole)
+    line = f"rest {frame[:sent].hex().upper()}" if 0 < sent < len(frame) else "idle"
+    kept = "".join(f"page {it} {flash[chip.part(it)].hex().upper()}\n" for it in (*beside, page))
+    journal = f"stmjournal 2 {chip.number:04X}\nopen 1\n{kept}erase {page}\n" + f"program {page}\n" * (command == "write")
+    return flash[:part.start] + held.ljust(chip.sizes[page], blank) + flash[part.stop:], f"{line}\n".encode(), journal.encode()
+
+
 class Guarded(PlantedBoard):
     """A board that refuses one step of its commands, at these pages or codes, until its protection is removed."""
 

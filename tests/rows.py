@@ -11,9 +11,13 @@ import time
 from place import COUNTING, WAIT, Said, is_slow, is_unproved, program, text_in
 from served import Served
 
-# a part of a file's bytes, and how often it comes; and how many of all before it are left
-PART = re.compile(r'("(?:[^"\\]|\\.)*"|<[\d+-]+|[0-9A-F]+|(?:counting|digits)(?::\d+:\d+)?|segments)(?:\*(\d+))?')
+from hex_text import text_of
 
+# a part of a file's bytes, and how often it comes; and how many of all before it are left
+PART = re.compile(r'("(?:[^"\\]|\\.)*"|<[\d+-]+|[0-9A-F]+|(?:counting|digits|hex)(?::\d+:\d+)?|segments)(?:\*(\d+))?')
+
+# what the proved program says of itself
+PROOF = "proved by rattle logic dac8208d650f15bf"
 # what stands in what a call prints and says: all of it as a regular expression; its first line, and its last
 FORMS = {"prints": ("out", "{}"), "says": ("err", "{}"), "first": ("err", "{}\n.*"), "last": ("err", "(.*\n)?{}\n"), "line": ("out", "(.*\n)?{}\n.*")}
 
@@ -21,9 +25,11 @@ FORMS = {"prints": ("out", "{}"), "says": ("err", "{}"), "first": ("err", "{}\n.
 def part(told):
     if told == "counting":
         return COUNTING
-    if told.startswith(("counting", "digits")):
+    if told.startswith(("counting", "digits", "hex")):
         kind, start, length = told.split(":")
         counted = bytes(i % 251 for i in range(int(start), int(start) + int(length)))
+        if kind == "hex":
+            return text_of(counted, 0x08000000 + int(start), range(0, len(counted), 16))
         return counted if kind == "counting" else counted.hex().upper().encode()
     if told == "segments":
         return b"".join(b"open %d\nend %d\n" % (k, k) for k in range(1, 65536))
@@ -76,7 +82,7 @@ def spread(title, lines):
 def cases(page):
     """Each case of a page: its title, and its lines as their sign and what is behind it."""
     # (a program that is run by another one may be held up for as long as the default is)
-    names, first = {"WAIT": WAIT if is_unproved() else "400"}, []
+    names, first = {"WAIT": WAIT if is_unproved() else "400", "PROOF": "not proved" if is_unproved() else PROOF}, []
     for block in re.sub(r"(?m)^#.*\n", "", text_in("tests", page)).strip().split("\n\n"):
         title, *lines = named(block, names).split("\n")
         if title.startswith("let "):
@@ -174,17 +180,18 @@ class Rows(Served):
         if sign in FORMS:
             name, form = FORMS[sign]
             return due._replace(**{name: re.compile(f"(?s)\\A{form.format(told if form == '{}' else re.escape(told))}\\Z")})
-        if sign == "times":
+        if sign in ("times", "lines"):
             first, last, text = re.fullmatch(r"(\d+)-(\d+) (.*)", told).groups()
             told = "\n".join(text.replace(r"\n", "\n").replace("##", str(it + 1)).replace("#", str(it)) for it in range(int(first), int(last) + 1))
-        name = "out" if sign == ">" else "err"
+        name = "out" if sign in (">", "lines") else "err"
         return due._replace(**{name: (getattr(due, name) or b"") + f"{told}\n".encode()})
 
     def compare(self, one, due):
         """A call said what is due."""
         if due is None:
-            self.assertUsage(one)
-            self.assertFalse(one.err.startswith(b"stmflash: "), one)
+            # `clap` refused the words
+            self.assertEqual((one.status, one.out), (2, b""))
+            self.assertRegex(one.err, rb"(?s)\A(?!stmflash: ).{11}")
             return
         due = due._replace(**{name: getattr(one, name) for name in ("out", "err") if getattr(due, name) is None})
         if isinstance(due.out, bytes) and b" TIME\n" in due.out:
@@ -201,7 +208,7 @@ class Rows(Served):
             told = self.placed(told)
             if sign == "or":
                 said.append(self.run_words(told))
-            elif sign in ("=", ">", "!", "times", "out", "err", *FORMS):
+            elif sign in ("=", ">", "!", "times", "lines", "out", "err", *FORMS):
                 due = self.expect(due, sign, told)
             else:
                 for one in said:

@@ -69,15 +69,15 @@ class Served(Place):
                 time.sleep(0.01)
 
     @contextlib.contextmanager
-    def between(self, change, name="stand", wire=lambda line: line, heard=lambda came: None):
+    def between(self, change, name="stand", heard=lambda came: None):
         """Somebody between one client at a socket of this name and the simulator, who changes its replies so, and is told what is sent.
-        `self.line` is the client's line, and `wire` makes what is used of it."""
+        `self.line` is the client's line."""
         listener = self.listen(name)
 
         def hand_on():
             self.line, _ = listener.accept()
             with self.line, self.connect() as board:
-                relay(wire(self.line), board, change, heard)
+                relay(self.line, board, change, heard)
 
         serving = self.beside(listener, hand_on)
         yield

@@ -10,7 +10,6 @@ import fcntl
 import os
 import select
 import shutil
-import signal
 import socket
 import struct
 import subprocess
@@ -75,11 +74,6 @@ def traced(test, calls, *words, as_hex=False):
         test.skipTest("strace can't trace here")
     test.assertEqual((ran.returncode, ran.stderr), (0, b""))
     return told
-
-
-def kill_at(at):
-    """Ends a process at its call of this number that is held."""
-    return lambda number, process: number == at and os.kill(process, signal.SIGKILL)
 
 
 def call_of(process):

@@ -8,11 +8,9 @@ import contextlib
 import os
 import socket
 
-from place import PATIENCE, WAIT, files, readable, served
+from place import PATIENCE, readable, served
 from rows import Rows
 from served import Served
-
-from image import crc
 
 ACK = b"\x79"
 NACK = b"\x1f"
@@ -23,24 +21,6 @@ SIZE_AT = 0x1FFFF7E0
 # a chip of 128 pages that tells its board, and how large its flash is
 TABLE = b'[[chip]]\nid = 0x410\nbase = 0x08000000\npages = [[128, 1024]]\nerase = "page"\n' \
         b"unique = [0x1FFFF7E8, 12]\nsize_at = 0x1FFFF7E0\n"
-
-# what an undo says of a page that isn't as its segment left it
-OTHERWISE = "page {} isn't as segment {} left it; --trust-journal to undo all the same"
-
-
-def sum_of(data):
-    """The CRC of these bytes as the program tells it: zeros fill the last word."""
-    return f"{crc(data + bytes(-len(data) % 4)):08X}"
-
-
-def kept(number, data, has_sum=True):
-    """The line of a page that a journal keeps, and the one of its CRC behind it, where the journal names its board."""
-    return f"page {number} {data.hex().upper()}\n{f'crc {sum_of(data)}!' if has_sum else ''}".rstrip().encode() + b"\n"
-
-
-def left(pages):
-    """The lines behind a segment that left these pages, by their numbers and in their order, with these bytes, where the journal names its board."""
-    return b"".join(b"left %d %d %s!\n" % (number, len(data), sum_of(data).encode()) for number, data in pages.items())
 
 
 def run_beside(place, serve, *words, variables=None):
@@ -56,16 +36,10 @@ def run_beside(place, serve, *words, variables=None):
 
 
 class Told(Served):
-    """A test that has a table of that chip."""
-
-    begins = {"table": TABLE}
+    """A test of the simulator of that chip."""
 
     def at(self, *words, device="sim:0410:flash", **more):
         return self.use(*words, device=device, **more)
-
-    def run_on(self, serve, name, *words, variables=None):
-        """Runs the program on a board that is served so, with its own table where it names none."""
-        return run_beside(self, serve, name, *files("board")["--table" in words and 2:], "--wait", WAIT, *words, variables=variables)
 
 
 class Unacknowledged(Exception):

@@ -1,5 +1,6 @@
-"""A board that answers otherwise than it should where it is asked which it is, and a cable that is moved to another board of the same id while a
-session runs (tests/moved.rows). What was done to a board that is put in was done by then, and isn't promised (docs/DECISIONS.md)."""
+"""Which board stands there (tests/boards.rows), and which one Go and a protection ask (tests/leaving.rows); one that answers otherwise than it
+should where it is asked, and a cable that is moved to another board of the same id while a session runs (tests/moved.rows). What was done to a
+board that is put in was done by then, and isn't promised (docs/DECISIONS.md)."""
 
 import contextlib
 import time
@@ -142,3 +143,11 @@ class BoardMoved(telling.Asked):
 
 
 in_parts(BoardMoved, "moved.rows", 6)
+
+
+class Board(telling.Asked):
+    """Each page in parts, which wait for their boards side by side."""
+
+
+in_parts(Board, "boards.rows", 6)
+in_parts(Board, "leaving.rows", 4)

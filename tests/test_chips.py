@@ -1,18 +1,17 @@
 """Each chip of chips.toml on its simulator, in the process and served: what it is told to be, a verified write into its last
 page, and its undo; and what each entry says of itself."""
 
-import os
 import re
 import tomllib
 
-from place import TOP, WAIT, is_slow, text_in
+from place import WAIT, is_slow, text_in
 from served import Served
 
 from device import Chip
 from program import tell
 
-TABLE = os.path.join(TOP, "chips.toml")
-CHIPS = {f"{chip['id']:04X}": chip for chip in tomllib.loads(text_in(TABLE))["chip"]}
+TABLE = text_in("chips.toml")
+CHIPS = {f"{chip['id']:04X}": chip for chip in tomllib.loads(TABLE)["chip"]}
 # the one that no maker sells
 FOR_TESTS = "0A01"
 # chips that are served too: of many pages, of sectors of three sizes, erased by 44, erased to 00
@@ -42,22 +41,21 @@ def flash_of(number):
 
 
 class Chips(Served):
-    def use_chip(self, name, *words, device, wait=()):
-        return self.call(name, "--table", TABLE, "--device", device, "--journal", "journal", *wait, *words)
+    begins = {"table": TABLE.encode()}
 
     def try_chip(self, number, device, wait=()):
         """What it is; a write into the last page, which keeps all else; and the way back."""
         chip = chip_of(number)
         place = chip.size - len(IMAGE)
-        told = self.use_chip("info", device=device, wait=wait)
+        told = self.use("info", *wait, device=device)
         self.assertWell(told)
         self.assertTrue(told.out.startswith(tell(chip, chip.version(), []).partition(b"version")[0] + b"version "), told)
         self.store("image", IMAGE)
         words = ("-v", "-S", f"0x{chip.base + place:08X}", "image")
-        self.assertTold(self.use_chip("write", *words, device=device, wait=wait), f"segment 1: 1 pages written\nverified {len(IMAGE)} bytes\n")
+        self.assertTold(self.use("write", *wait, *words, device=device), f"segment 1: 1 pages written\nverified {len(IMAGE)} bytes\n")
         if not wait:
             self.assertFile("flash", flash_of(number)[:place] + IMAGE)
-        self.assertTold(self.use_chip("undo", device=device, wait=wait), "undone 1\n")
+        self.assertTold(self.use("undo", *wait, device=device), "undone 1\n")
 
     def try_part(self, part):
         for number in sorted(CHIPS)[part::PARTS]:
@@ -74,7 +72,7 @@ class Chips(Served):
     def try_served(self, number):
         before = flash_of(number)
         self.store("flash", before)
-        self.serve(3, TABLE, number)
+        self.serve(3, number=number)
         self.try_chip(number, "board", ("--wait", WAIT))
         self.assertServed(flash=before)
 

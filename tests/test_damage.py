@@ -1,16 +1,14 @@
-"""A page that a journal keeps, of which the disk has changed a digit (tests/damage.rows): each digit, and lines of a CRC that are none."""
+"""A page that a journal keeps, of which the disk has changed a digit (tests/damage.rows): each digit, and one that changes while a write is undone."""
 
 import random
 
 import telling
-from place import UNIQUE, Said, each_of
+from place import UNIQUE, WAIT, Said, files
 from rows import Rows, cases
-from telling import kept, left, sum_of
 
 SIZE = 256
 COUNTING = bytes(i % 251 for i in range(16 * SIZE))
 TOLD = {telling.UNIQUE_AT: bytes.fromhex(UNIQUE), telling.SIZE_AT: None}
-HEAD = f"stmjournal 3 0410 {UNIQUE}\n".encode()
 DAMAGED = "page {} of segment {} has another CRC in the journal than when it was kept; undo by a copy of the journal, or --trust-journal"
 CHECK = ("log", "--check", "--journal", "journal")
 BEGINS = {"table": telling.TABLE.replace(b"[[128, 1024]]", b"[[16, 256]]"), "flash": COUNTING, "image": b"an image",
@@ -19,22 +17,10 @@ BEGINS = {"table": telling.TABLE.replace(b"[[128, 1024]]", b"[[16, 256]]"), "fla
 ROTS, ALL = 250, (("undo",), ("undo", "-v"), ("undo", "0"), ("undo", "2"))
 
 
-def part(page):
-    return COUNTING[page * SIZE:(page + 1) * SIZE]
-
-
-def erased(number, *pages):
-    """The lines of an erase of these pages."""
-    lines = b"".join(kept(page, part(page)) + b"erase %d\n" % page for page in pages)
-    return b"open %d\n%send %d\n" % (number, lines, number) + left(dict.fromkeys(pages, b"\xff" * SIZE))
-
-
-def rotten(journal, *pages, chance=random):
-    """A journal of which a digit of each of these pages is another one."""
-    for page in pages:
-        at = journal.index(b"page %d " % page) + 7 + chance.randrange(2 * SIZE)
-        journal = journal[:at] + bytes([chance.choice([it for it in b"0123456789ABCDEF" if it != journal[at]])]) + journal[at + 1:]
-    return journal
+def rotten(journal, page, chance=random):
+    """A journal of which a digit of this page is another one."""
+    at = journal.index(b"page %d " % page) + 7 + chance.randrange(2 * SIZE)
+    return journal[:at] + bytes([chance.choice([it for it in b"0123456789ABCDEF" if it != journal[at]])]) + journal[at + 1:]
 
 
 class Pages(Rows):
@@ -45,57 +31,23 @@ class Pages(Rows):
 class Damage(telling.Told):
     begins = BEGINS
 
-    def two_segments(self):
-        """Pages 3 and 5 are erased, and then pages 7 and 9: the journal of that."""
-        for number, pages in enumerate((("3", "5"), ("7", "9")), 1):
-            self.assertTold(self.at("erase", *pages), f"segment {number}: 2 pages erased\n")
-        self.assertFile("journal", HEAD + erased(1, 3, 5) + erased(2, 7, 9))
-        return self.held("journal")
-
-    def assertRefused(self, page, segment, *words, **more):
-        """Nothing is changed."""
-        before = {name: self.held(name) for name in ("flash", "flash.line", "journal")}
-        self.assertFault(self.at(*words, **more), DAMAGED.format(page, segment), **before)
-
     def test_each_rotten_digit_is_told(self):
-        whole, chance, flash, line = self.two_segments(), random.Random(1), self.held("flash"), self.held("flash.line")
+        """Of two segments, of pages 3 and 5 and of pages 7 and 9: nothing is changed."""
+        for pages in (("3", "5"), ("7", "9")):
+            self.assertWell(self.at("erase", *pages))
+        chance, flash, line, whole = random.Random(1), self.held("flash"), self.held("flash.line"), self.held("journal")
         for number in range(ROTS):
             page, segment = chance.choice(((3, 1), (5, 1), (7, 2), (9, 2)))
-            rotted = rotten(whole, page, chance=chance)
+            rotted, fault = rotten(whole, page, chance), DAMAGED.format(page, segment)
             with self.subTest(number=number, page=page):
                 self.store("journal", rotted)
-                self.assertRefused(page, segment, *ALL[number % len(ALL)])
-                self.assertFault(self.call(*CHECK), DAMAGED.format(page, segment), journal=rotted)
+                self.assertFault(self.at(*ALL[number % len(ALL)]), fault, holds=(flash, line), journal=rotted)
+                self.assertFault(self.call(*CHECK), fault, journal=rotted)
                 if number % 10 == 0:
                     self.assertTold(self.at("undo", "--trust-journal"), "undone 2\n")
                     given = bytes.fromhex(rotted.split(b"page %d " % page)[1].split(b"\n")[0].decode())
                     self.assertFile("flash", COUNTING[:page * SIZE] + given + COUNTING[(page + 1) * SIZE:])
                     self.store_all({"flash": flash, "flash.line": line})
-
-    def test_what_is_no_such_line(self):
-        """One that a crash has cut, whatever it says, of another form, or not directly behind its page; only the whole one counts."""
-        begun, wrong, right = HEAD + b"open 1\n" + kept(3, part(3), has_sum=False), b"crc 00000000!\n", f"crc {sum_of(part(3))}!\n".encode()
-        others = [b"crc %s!\n" % it for it in (b"0000000", b"000000000", b"0000000g", b"0000000a", b" 0000000")]
-        tails = [wrong[:count] + tail for count in range(len(wrong)) for tail in (b"", bytes(7))]
-        for behind in (*tails, *others, wrong.upper(), b"!\n" + wrong, b"erase 3\n" + wrong, right, right + wrong):
-            with self.subTest(behind=behind):
-                mark = b"" if behind.endswith(b"\n") or not behind else b"!!\n"
-                self.store("journal", begun + behind)
-                said, journal = self.at("undo"), self.held("journal")
-                self.assertTold(said, "undone 1\n", flash=COUNTING)
-                self.assertTrue(journal.startswith(begun + behind + mark), journal[-40:])
-        self.store("journal", begun + wrong)
-        self.assertRefused(3, 1, "undo")
-
-    @each_of(range(600, 4000, 200))
-    def test_old_digits_make_no_line_whole(self, steps):
-        """Those of a former journal behind a torn CRC: a second mark closes it, so that an undo which was stopped goes on."""
-        torn = HEAD + b"open 1\n" + kept(3, part(3)) + b"erase 3\n" + kept(5, part(5), has_sum=False) + b"crc 0BADC0DE"
-        begun = COUNTING[:3 * SIZE] + SIZE * b"\xff" + COUNTING[4 * SIZE:]
-        self.store_all({"flash": begun, "flash.line": None, "journal": torn})
-        self.at("undo", "--stop", str(steps))
-        self.assertEqual(self.at("undo").status, 0)
-        self.assertFile("flash", COUNTING)
 
     def test_a_write_that_is_done_again(self):
         """The undo of one that was broken off compares too: its page rots as it is erased, and the line is cut as it is to be written."""
@@ -104,7 +56,8 @@ class Damage(telling.Told):
                 if came == b"\x43\xbc":
                     self.store("journal", rotten(self.raw("journal"), 0))
 
-        said = self.run_on(lambda it: telling.serve_one(self, it, "flash", TOLD, True, Rotting), "write", "--again", "1", "image")
+        words = ("write", *files("board"), "--wait", WAIT, "--again", "1", "image")
+        said = telling.run_beside(self, lambda it: telling.serve_one(self, it, "flash", TOLD, True, Rotting), *words)
         fault = DAMAGED.format(0, 1)
         self.assertEqual(said, Said(1, b"", f"again 1 of 1: line failed; not undone: {fault}\n"
                                     f"stands: segment 1 is unfinished, undo first\nstmflash: {fault}\n".encode()))

@@ -11,7 +11,7 @@ import time
 import typing
 
 from place import Place, is_slow
-from refusing import erase
+from refusing import frame_of, stopped
 
 from device import Chip
 
@@ -24,6 +24,8 @@ RUNS = {
 }
 CHIPS = {number: Chip(int(number, 16), 0x08000000, [size for count, size in runs for _ in range(count)], kind == "extended", 0xFF)
          for number, (kind, runs) in RUNS.items()}
+TABLE = "".join(f'[[chip]]\nid = 0x{chip}\nbase = 0x08000000\npages = {runs}\nerase = "{kind}"\n' for chip, (kind, runs) in RUNS.items())
+FLASHES = {number: bytes(i % 251 for i in range(chip.size)) for number, chip in CHIPS.items()}
 # how many undos go on at once; of how many devices one was reset, and of how many pages one is tried where all take long
 AT_ONCE, RESET_ONE_IN, SLOW_ONE_IN = 4, 8, 8
 # a page is large from so many bytes on, and behind page 1 the page of this number may be erased
@@ -39,14 +41,9 @@ class Stop(typing.NamedTuple):
     is_reset: bool
 
 
-def frame(chip, page):
-    """The frame that erases one page."""
-    return erase(page, width=1 + CHIPS[chip].extended)
-
-
 def all_stops():
     return (Stop(chip, page, sent, is_reset) for chip in CHIPS for page in range(CHIPS[chip].pages())
-            for sent in range(len(frame(chip, page)) + 1) for is_reset in (False, True))
+            for sent in range(len(frame_of(CHIPS[chip], "erase", page)) + 1) for is_reset in (False, True))
 
 
 def some_stops(chance):
@@ -57,40 +54,26 @@ def some_stops(chance):
             large = [page for page in pages if CHIPS[chip].sizes[page] >= LARGE]
             pages = [page for page in pages if page not in large and (page < 2 or chance.randrange(SLOW_ONE_IN) == 0)] + large[:1]
         for page in pages:
-            yield Stop(chip, page, chance.randint(0, len(frame(chip, page))), chance.randrange(RESET_ONE_IN) == 0)
+            yield Stop(chip, page, chance.randint(0, len(frame_of(CHIPS[chip], "erase", page))), chance.randrange(RESET_ONE_IN) == 0)
 
 
 class EveryPage(Place):
-    def setUp(self):
-        super().setUp()
-        entries = (f'[[chip]]\nid = 0x{chip}\nbase = 0x08000000\npages = {runs}\nerase = "{kind}"\n' for chip, (kind, runs) in RUNS.items())
-        self.store("table", "".join(entries).encode())
-        self.flashes = {number: bytes(i % 251 for i in range(chip.size)) for number, chip in CHIPS.items()}
+    begins = {"table": TABLE.encode()}
 
     def undo(self, number, stop):
         """What is wrong behind an undo; None: nothing."""
         flash, journal = f"flash-{number}", f"journal-{number}"
-        before, whole = self.flashes[stop.chip], frame(stop.chip, stop.page)
-        part = CHIPS[stop.chip].part(stop.page)
-        is_whole = stop.sent == len(whole)
-        self.store(flash, before[:part.start] + b"\xff" * (part.stop - part.start) + before[part.stop:] if is_whole else before)
-        stands = f"rest {whole[:stop.sent].hex().upper()}" if stop.sent and not is_whole else "idle"
-        self.store(flash + ".line", b"fresh\n" if stop.is_reset else f"{stands}\n".encode())
-        pages = [stop.page] + [COMPANION] * (stop.page == 1 and COMPANION < CHIPS[stop.chip].pages())
-        kept = f"stmjournal 2 {stop.chip}\nopen 1\n" + "".join(self.kept(stop.chip, page) for page in reversed(pages))
-        kept += f"erase {stop.page}\n"
-        self.store(journal, kept.encode())
+        before, chip = FLASHES[stop.chip], CHIPS[stop.chip]
+        pages = [stop.page] + [COMPANION] * (stop.page == 1 and COMPANION < chip.pages())
+        left, line, kept = stopped(chip, before, "erase", stop.page, stop.sent, beside=pages[1:])
+        self.store_all({flash: left, flash + ".line": b"fresh\n" if stop.is_reset else line, journal: kept})
         said = self.call("undo", "--table", "table", "--device", f"sim:{stop.chip}:{flash}", "--journal", journal)
-        is_back, line, after = self.held(flash) == before, self.held(flash + ".line"), self.held(journal).decode()
+        is_back, line, after = self.held(flash) == before, self.held(flash + ".line"), self.held(journal)
         self.remove(flash, flash + ".line", journal)
         if (said.status, said.out, said.err, is_back, line) != (0, b"undone 1\n", b"", True, b"idle\n"):
             return f"{stop}: {said}, the flash is {'' if is_back else 'not '}as it was, {line}"
-        due = kept + "".join(f"erase {page}\nprogram {page}\n" for page in pages) + "undone 1\n"
+        due = kept + b"".join(b"erase %d\nprogram %d\n" % (page, page) for page in pages) + b"undone 1\n"
         return None if after == due else f"{stop}: {after[len(kept):]}"
-
-    def kept(self, chip, page):
-        """The line of a journal that keeps a page."""
-        return f"page {page} {self.flashes[chip][CHIPS[chip].part(page)].hex().upper()}\n"
 
     def test_an_erase_that_was_stopped_is_undone(self):
         seed = time.time_ns()

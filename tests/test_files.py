@@ -1,10 +1,9 @@
-"""OUT that is a pipe or a terminal, and who may read new files (tests/linux.rows and tests/held.rows have which names are one file, and
-how each is written)."""
+"""OUT that is a pipe or a terminal (tests/linux.rows and tests/held.rows have which names are one file, who may read new files, and how each
+is written)."""
 
 import os
 
-import syncs
-from place import COUNTING, Place, all_from, files, new
+from place import COUNTING, Place, all_from, files
 
 NO_OUTPUT = "it is no file, terminal or pipe that is read"
 
@@ -50,28 +49,3 @@ class Files(Place):
         self.assertEqual(os.read(ours, 4096), COUNTING[32:96])
         os.close(ours)
         os.close(theirs)
-
-    def test_new_files_are_their_users_alone(self):
-        """The journal and FILE hold bytes of a flash. OUT is as the process's mask lets it be, and what is there keeps its mode."""
-        for mask in (0o022, 0):
-            with self.subTest(mask=mask):
-                self.clear("flash", "flash.line", "journal", "out")
-                seen = []
-
-                def look(number, process):
-                    for name in os.listdir(self.folder):
-                        if name.endswith(".new") and not name.startswith("out"):
-                            seen.append(os.stat(self.path(name)).st_mode & 0o777)
-
-                old = os.umask(mask)
-                try:
-                    self.assertTold(syncs.call(self.folder, ("erase", *files(), "5"), at=look)[0], "segment 1: 0 pages erased\n", new(1))
-                    self.assertSilent(self.use("read", "out"))
-                finally:
-                    os.umask(old)
-                for name in ("flash", "flash.line", "journal"):
-                    self.assertEqual(os.stat(self.path(name)).st_mode & 0o777, 0o600, name)
-                self.assertEqual((set(seen), os.stat(self.path("out")).st_mode & 0o777), ({0o600}, 0o666 & ~mask))
-        os.chmod(self.path("journal"), 0o640)
-        self.assertTold(self.use("erase", "6"), "segment 2: 0 pages erased\n", new(2))
-        self.assertEqual(os.stat(self.path("journal")).st_mode & 0o777, 0o640)

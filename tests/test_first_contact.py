@@ -6,7 +6,7 @@ import typing
 from place import is_slow, text_in
 from test_chips import CHIPS, chip_of, flash_of
 from test_greeting import Undoing
-from refusing import BASE, erase, write_to
+from refusing import frame_of, stopped
 
 # pages whose settling bytes are FF and 02; larger ones take long
 LATE_PAGES, LARGE = (255, 511), 4096
@@ -25,30 +25,15 @@ class ChipStop(typing.NamedTuple):
     page: int
     part: float
 
-    def place(self):
-        return chip_of(self.chip).part(self.page)
-
-    def frame(self):
-        chip = chip_of(self.chip)
-        if self.command == "erase":
-            return erase(self.page, width=1 + chip.extended)
-        return write_to(chip.base - BASE + self.place().start, bytes(range(256)))
-
-    def journal(self):
-        kept = flash_of(self.chip)[self.place()].hex().upper()
-        intents = f"erase {self.page}\n" + f"program {self.page}\n" * (self.command == "write")
-        return f"stmjournal 2 {self.chip}\nopen 1\npage {self.page} {kept}\n{intents}".encode()
-
     def refused(self):
         return 2 if self.command == "write" or self.page > 255 else self.page
 
-    def stands(self):
-        """The flash and the line that are left; a reset leaves nothing of a frame but what a whole one has done."""
-        chip, frame = chip_of(self.chip), self.frame()
-        flash, sent = bytearray(flash_of(self.chip)), round(self.part * len(frame))
-        if self.command == "write" or sent == len(frame):
-            flash[self.place()] = bytes([chip.erased]) * chip.sizes[self.page]
-        return bytes(flash), b"fresh\n"
+    def left(self):
+        """The flash and the journal; a reset leaves nothing of a frame but what a whole one has done."""
+        chip, data = chip_of(self.chip), bytes(range(256))
+        sent = round(self.part * len(frame_of(chip, self.command, self.page, data)))
+        flash, _, journal = stopped(chip, flash_of(self.chip), self.command, self.page, sent, data)
+        return {"table": ENTRIES[self.chip].encode(), "flash": flash, "flash.line": b"fresh\n", "journal": journal}
 
 
 def stops():
@@ -69,8 +54,7 @@ def stops():
 class FirstContact(Undoing):
     def does(self, sign, told, name, *more):
         if sign == "stopped":
-            stop = STOPS[told]
-            self.store_all({"table": ENTRIES[stop.chip].encode(), **dict(zip(("flash", "flash.line"), stop.stands())), "journal": stop.journal()})
+            self.store_all(STOPS[told].left())
         elif sign == "back":
             self.assertFile("flash", flash_of(name))
         else:

@@ -27,7 +27,14 @@ def fall_silent(line, ending):
     be_silent(line, ending)
 
 
-KINDS = {"silent": be_silent, "deaf": be_deaf, "echo": echo, "noisy": be_noisy, "hiss": hiss, "falls": fall_silent}
+def mutter(line, ending):
+    """Says something five times, a second apart."""
+    for _ in range(5):
+        ending.wait(1)
+        line.sendall(b"\x55")
+
+
+KINDS = {"silent": be_silent, "mutters": mutter, "deaf": be_deaf, "echo": echo, "noisy": be_noisy, "hiss": hiss, "falls": fall_silent}
 
 
 class Played(Rows):

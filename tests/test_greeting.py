@@ -1,18 +1,20 @@
 """The first byte of an undo at a socket is 7F, which a chip that was reset takes its speed from: once, and the journal says so first
-(tests/greeting.rows)."""
+(tests/greeting.rows); and devices that were stopped in the midst of a frame, or reset, settled over a socket (tests/settling.rows)."""
 
 import socket
 import threading
 
 from place import PATIENCE, served
-from refusing import erase, write_to
+from refusing import BASE, stopped
 from rows import Rows, bytes_of, each_named
 from served import relay
+from test_silence import Timed
+
+from device import Chip
 
 # chips of four pages, erased by numbers of one byte and of two
-WIDTHS = {"0A01": 1, "0A02": 2}
+CHIPS = {f"{number:04X}": Chip(number, BASE, [256] * 4, is_extended, 0xFF) for number, is_extended in ((0xA01, False), (0xA02, True))}
 FLASH = bytes(i % 251 for i in range(1024))
-PAGE, SIZE = 3, 256
 GREETING = b"connect!\n"
 DATA = bytes(range(1, 256)) + b"\x02"
 
@@ -22,14 +24,8 @@ class Undoing(Rows):
 
     def stopped(self, chip, command, count, stands=""):
         """What a session has left that was stopped behind so many bytes of its frame."""
-        is_write = command == "write"
-        frame = write_to(PAGE * SIZE, DATA) if is_write else erase(PAGE, width=WIDTHS[chip])
-        rest, is_whole = frame[:int(count)], int(count) == len(frame)
-        page = DATA if is_write and is_whole else SIZE * b"\xff" if is_write or is_whole else FLASH[PAGE * SIZE:]
-        line = "rest " + rest.hex().upper() if rest and not is_whole else "idle"
-        journal = f"stmjournal 2 {chip}\nopen 1\npage 3 {FLASH[PAGE * SIZE:].hex().upper()}\nerase 3\n" + "program 3\n" * is_write
-        self.store_all({"flash": FLASH[:PAGE * SIZE] + page, "flash.line": f"{stands or line}\n".encode(), "journal": journal.encode()})
-        self.noted["journal"] = journal.encode()
+        flash, line, self.noted["journal"] = stopped(CHIPS[chip], FLASH, command, 3, int(count), DATA)
+        self.store_all({"flash": flash, "flash.line": f"{stands}\n".encode() if stands else line, "journal": self.noted["journal"]})
 
     def call(self, *words, **how):
         """Runs the program, at a board of its journal's chip on a line of its own."""
@@ -83,3 +79,10 @@ class Greeting(Undoing):
 
 
 each_named(Greeting, "greeting.rows", Rows.play_apart)
+
+
+class Settling(Timed):
+    """A test for each title."""
+
+
+each_named(Settling, "settling.rows")

@@ -7,13 +7,19 @@ import collections
 import concurrent.futures
 import os
 import time
+import tomllib
 import typing
 
 import hostile
 from hostile import FLASH, Line
-from hostile_kinds import GIVE_UP, GONE, KINDS, LONG_WAIT
-from place import Place, Said, had, text_in
+from place import Place, Said, text_in
 from served import Peer
+
+# when a board is given up, and how long a reply may take, in seconds, where it matters whether one is late: so that a busy machine's answers
+# don't come near
+GIVE_UP, LONG_WAIT = 2, 0.5
+# what is told of a board that is gone
+GONE = "no answer from the device"
 
 # how much longer than it waits for an answer a session may take, in seconds; one that took longer beside others, on a busy machine,
 # is tried again alone, so often at most, and so many of them. For the slowest command there is more beside them
@@ -34,6 +40,26 @@ COMMANDS = {"info": ("info",), "read": ("read", "-S", f"{0x08000000 + START:#x}:
             "write": ("write", "-S", f"{0x08000000 + START:#x}", "image"), "undo": ("undo",)}
 # the lines that a session adds to a journal of page 5
 LINES = (b"stmjournal 2 0412", b"open 1", PAGE, b"connect!", b"silent!", b"erase 5", b"program 5", b"end 1", b"undone 1")
+
+
+class Kind(typing.NamedTuple):
+    """A kind of boards, as hostile.toml tells it."""
+
+    made: str
+    command: str
+    row: str
+    sets: dict = {}
+    faults: list = [GONE]
+    hints: list = [""]
+    undo: list = []
+    undo_hints: list = []
+    may_end: list = []
+    is_slow_at: list = []
+    wait: float = 0.1
+    is_model: bool = False
+
+
+KINDS = {name: Kind(**told) for name, told in tomllib.loads(text_in("tests", "hostile.toml")).items()}
 
 
 class Came(typing.NamedTuple):
@@ -58,12 +84,6 @@ def pairs():
 
 
 class Hostile(Place):
-    def folder_of(self, name):
-        os.mkdir(self.path(name))
-        for file, data in (("table", self.held("table")), ("image", IMAGE)):
-            self.store(f"{name}/{file}", data)
-        return name
-
     def at(self, folder, serve, words, wait=LONG_WAIT):
         """Runs the program at a board that is served so: what it said, when it ended, and its line. A wait of none is the default."""
         lines = []
@@ -84,12 +104,14 @@ class Hostile(Place):
     def once(self, name, command, again=0, at_default=False):
         """One command at one kind of board; and what it left, at a board that is well and was reset."""
         kind = KINDS[name]
-        folder = self.folder_of(f"{list(KINDS).index(name)}-{command}-{again}")
+        folder = f"{list(KINDS).index(name)}-{command}-{again}"
+        os.mkdir(self.path(folder))
+        self.store_all({f"{folder}/table": self.held("table"), f"{folder}/image": IMAGE})
         if command == "undo":
             self.store(f"{folder}/journal", BEGUN)
-        serve = kind.made()
-        board = getattr(serve, "__self__", None)
-        said, ended, line = self.at(folder, serve, COMMANDS[command], None if at_default else kind.wait)
+        made = getattr(hostile, kind.made)
+        board = made(**kind.sets) if isinstance(made, type) else None
+        said, ended, line = self.at(folder, board.serve if board else made, COMMANDS[command], None if at_default else kind.wait)
         is_silent = line.last is None
         began = line.reached if command == "undo" and is_silent else line.first or line.reached
         since = line.last if kind.is_model and line.last else began
@@ -139,8 +161,8 @@ class Hostile(Place):
             self.assertDone(command, came)
             return
         self.assertEqual((came.said.status, came.said.out), (1, b""))
-        told = [f"stmflash: {fault}\n" + (f"hint: {hint}\n" if hint else "")
-                for fault in kind.faults_at(command) for hint in kind.hints_at(command)]
+        faults, hints = (command == "undo" and its or others for its, others in ((kind.undo, kind.faults), (kind.undo_hints, kind.hints)))
+        told = [f"stmflash: {fault}\n" + (f"hint: {hint}\n" if hint else "") for fault in faults for hint in hints]
         self.assertIn(came.said.err.decode(), told)
 
     def assertDone(self, command, came):
@@ -176,7 +198,7 @@ class Hostile(Place):
         """A board that is well is served, and an undo gives it back what the first one had."""
         self.assertEqual((came.after.status, came.flash_after), (0, FLASH), came.after)
         # where the first one ended before it kept a page
-        self.assertIn(came.after.err, (b"", f"note: {had(1, left=0)}\n".encode()))
+        self.assertIn(came.after.err, (b"", b"note: segment 1 had changed nothing; 0 more can be undone\n"))
 
     def test_each_command_meets_some(self):
         met = collections.Counter(kind.command for kind in KINDS.values())

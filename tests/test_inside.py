@@ -94,7 +94,7 @@ class Inside(Served):
         words = re.search(r"^    \$ stmflash (write .*)$", page(), re.M)[1].split()
         self.serve(1, table="chips.toml")
         exchange = []
-        with self.between(lambda replies: tell(exchange, "<", replies), "board.sock", lambda line: Told(line, exchange)):
+        with self.between(lambda replies: tell(exchange, "<", replies), "board.sock", lambda came: tell(exchange, ">", came)):
             return self.call(*words, "--wait", "2000"), exchange
 
     def test_each_call_is_made_behind_those_before_it(self):
@@ -118,19 +118,3 @@ def tell(exchange, sign, data):
     elif data:
         exchange.append((sign, data))
     return data
-
-
-class Told:
-    """A line whose bytes that are sent to a board are written down too."""
-
-    def __init__(self, line, exchange):
-        self.line, self.exchange = line, exchange
-
-    def fileno(self):
-        return self.line.fileno()
-
-    def recv(self, count):
-        return tell(self.exchange, ">", self.line.recv(count))
-
-    def sendall(self, data):
-        self.line.sendall(data)

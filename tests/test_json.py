@@ -1,13 +1,11 @@
-"""Lines of JSON beside the schema and the page that names them (tests/answers.rows has what each tells)."""
+"""Lines of JSON beside the schema and the page that names them (tests/answers.rows has what each tells, tests/names.rows how names are quoted)."""
 
 import json
 import re
 import unittest
 
 import answers
-from place import ERASED, Place, text_in
-
-IMAGE = b"\x00" * 1024
+from place import Place, text_in
 
 
 class Json(Place):
@@ -16,23 +14,6 @@ class Json(Place):
         self.assertEqual(said.status, status)
         self.assertTrue(said.out.endswith(b"\n"))
         return [json.loads(line) for line in said.out.split(b"\n")[:-1]]
-
-    def test_the_flash_is_printed_as_it_is(self):
-        """What is read to standard output is there whole, and nothing else."""
-        self.store("flash", IMAGE + ERASED[1024:])
-        for words in (("--json",), ("--json", "--hex")):
-            with self.subTest(words=words):
-                told = self.use("read", *words, "-")
-                self.assertWell(told)
-                self.assertEqual(told.out, self.use("read", *words[1:], "-").out)
-                self.assertGreaterEqual(len(told.out), len(ERASED))
-
-    def test_names_are_quoted(self):
-        """A quotation mark, a backslash and what isn't printed leave the line one object."""
-        name = 'a"b\\c\nd\x01é'
-        said = self.call("log", "--journal", name, "--json")
-        told, = self.lines(said, 1)
-        self.assertEqual(told["says"], 'cannot read a"b\\c\\nd\\x01é')
 
     def test_refused_words(self):
         """What the words' own reader says, whole; and of help nothing but the help."""

@@ -1,10 +1,9 @@
-"""How the way back is given up: what `keep` leaves beside another file system, a folder that went away and a disk that gives back
-other digits (tests/held.rows, tests/uses.rows and tests/linux.rows have what it says, cuts and renames)."""
+"""How the way back is given up: what `keep` leaves beside another file system and a folder that went away (tests/held.rows, tests/uses.rows and
+tests/linux.rows have the rest)."""
 
 import os
 import tempfile
 
-import syncs
 from place import Place
 
 JOURNAL = b"stmjournal 2 0412\nopen 1\nend 1\nopen 2\npage 0 " + b"0" * 2048 + b"\nend 2\n"
@@ -20,7 +19,7 @@ class Keep(Place):
             words, text = f"{there}/elsewhere", f"cannot write {there}/elsewhere: it is on another file system than the journal"
             self.assertFault(self.call("keep", "--journal", "journal", words), text, journal=JOURNAL)
             self.remove("journal")
-            self.assertFault(self.use_image("write", b"\x00", "--keep-to", words, device="absent"), text, journal=None)
+            self.assertFault(self.use("write", "--keep-to", words, "table", device="absent"), text, journal=None)
 
     def test_says_so_where_its_folder_went_away(self):
         """A journal is kept only if it's gone then."""
@@ -38,17 +37,3 @@ class Keep(Place):
                 else:
                     self.assertIn(said.err, (b"stmflash: cannot write ../journal\n", b"stmflash: cannot write ../elsewhere\n"))
                     self.assertFile("journal", JOURNAL)
-
-    def test_a_text_that_does_not_read_back_takes_no_place(self):
-        """A disk may give back another digit than it was handed."""
-        beside = self.path("journal.stmflash-0.new")
-
-        def spoil(_, process):
-            if os.path.exists(beside) and os.path.getsize(beside):
-                with open(beside, "r+b") as file:
-                    file.seek(file.read().index(b"page 0 ") + 9)
-                    file.write(b"A")
-
-        said, _ = syncs.call(self.folder, ("keep", "--journal", "journal", "--last", "1"), at=spoil, held=syncs.OPEN)
-        self.assertFault(said, "cannot write journal", journal=JOURNAL)
-        self.assertFalse(os.path.exists(beside))

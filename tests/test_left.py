@@ -1,24 +1,18 @@
-"""What a segment left its pages with (tests/left.rows): journals in any order, an undo that is stopped anywhere, and lines that say nothing."""
+"""What a segment left its pages with (tests/left.rows): journals in any order, and an undo that is stopped anywhere."""
 
 import itertools
 import random
 
 import telling
-from place import WAIT
 from rows import Rows, in_parts
-from telling import OTHERWISE, left
-from test_damage import BEGINS, COUNTING, SIZE, TOLD
+from test_damage import BEGINS, COUNTING
 
 # two pieces, the last one first, which lies in page 9; the other over the edge of pages 1 and 2
 HEX = b":020000040800F2\n:0409050001020304E4\n:0801FC00111213141516171857\n:00000001FF\n"
 ERASE = ("erase", "3", "5", "7")
+OTHERWISE = "page 3 isn't as segment 1 left it; --trust-journal to undo all the same"
 # at how many places an undo is stopped
 STOPS = 60
-
-
-def other(flash, *places):
-    """A flash of which these bytes are others."""
-    return bytes(byte ^ (0x55 * (at in places)) for at, byte in enumerate(flash))
 
 
 class Lines(Rows):
@@ -38,17 +32,6 @@ class Left(telling.Told):
             self.assertEqual(self.at(*words).status, 0, words)
         return self.held("flash"), self.held("journal")
 
-    def assertLeft(self, page, segment, *words, **files):
-        """An undo tells of this page, and leaves these files."""
-        self.assertFault(self.at("undo", *words), OTHERWISE.format(page, segment), **files)
-
-    def test_where_a_verify_refused_there_are_none(self):
-        self.begin()
-        self.serve(1, number="0410")
-        with self.between(lambda came: came.replace(b"\xfe", b"\xfd")):
-            self.assertFault(self.at("write", "-v", "image", "--wait", WAIT, device="stand"), "differs at 08000000")
-        self.assertEqual(self.held("journal")[-7:], b"\nend 1\n")
-
     def test_journals_in_any_order(self):
         """Three of one board, each of a change of page 3: none is undone but the newest that stands."""
         self.begin()
@@ -65,7 +48,7 @@ class Left(telling.Told):
                         stands.remove(name)
                         self.assertTold(said, "undone 1\n")
                     else:
-                        self.assertFault(said, OTHERWISE.format(3, 1), **{name: before[name]})
+                        self.assertFault(said, OTHERWISE, **{name: before[name]})
                 self.assertEqual((stands, self.held("flash")), (set(), COUNTING))
 
     def test_an_undo_that_is_stopped_anywhere(self):
@@ -80,23 +63,3 @@ class Left(telling.Told):
                     self.assertFault(said, "stopped", status=3)
                     self.assertIn(self.at("undo", "--stop", str(chance.randrange(3000))).status, (0, 3))
                 self.assertWell(self.at("undo", "-v"), flash=COUNTING)
-
-    def test_other_lines_say_nothing(self):
-        """One that was cut, of another form, of another page, or not behind an end; the last of a page counts."""
-        flash, journal = self.begin(("erase", "3"))
-        begun, line = journal[:journal.index(b"left ")], left({3: b"\xff" * SIZE})
-        self.store("flash", other(flash, 3 * SIZE))
-        wrong = left({3: other(b"\xff" * SIZE, 0)})
-        for behind in (*(line[:count] for count in range(len(line))), line[:-1] + b"!\n", b"left 3!\n", b"left 3 256 0000000!\n", left({4: b""}), line + wrong):
-            with self.subTest(behind=behind):
-                self.store_all({"flash": other(flash, 3 * SIZE), "journal": begun + behind})
-                self.assertTold(self.at("undo"), "undone 1\n", flash=COUNTING)
-        for behind in (line, wrong + line, b"left 3 255 " + wrong[11:]):
-            self.store_all({"flash": other(flash, 3 * SIZE), "journal": begun + behind})
-            self.assertLeft(3, 1, flash=other(flash, 3 * SIZE), journal=begun + behind)
-
-    def test_a_write_that_is_done_again(self):
-        """What is broken off has no such line, and is undone; the one that went well has."""
-        said = self.run_on(lambda it: [telling.serve_one(self, it, "flash", TOLD, cut) for cut in (True, False, False)], "write", "--again", "1", "image")
-        self.assertEqual((said.status, self.held("journal").count(b"\nleft ")), (0, 2), said)
-        self.assertIn(b"end 1\n" + left({page: self.held("flash")[page * SIZE:(page + 1) * SIZE] for page in (0, 1)}), self.held("journal"))

@@ -1,12 +1,11 @@
 """One journal, one program: what is locked, by whom, and that two programs at once leave nothing that can't be undone
-(tests/held.rows has what a lock keeps out)."""
+(tests/held.rows has what a lock keeps out, and what a log tells beside a session)."""
 
 import os
 
 import syncs
-from place import COUNTING, HEADER, WAIT, each_of, files, new
+from place import COUNTING, WAIT, files
 from served import Served, relay
-from test_check import counted
 
 # how many times two programs are started together, without a journal and with one; 100 are run by hand
 ROUNDS = int(os.environ.get("ROUNDS", "2"))
@@ -25,85 +24,25 @@ WAITING = (b"stmflash: device does not follow the protocol\n", b"stmflash: no an
 
 
 class Locks(Served):
-    def hold(self, words, **how):
-        """Uses the program with one of the system's calls held, and answers what was said, and which files they were for."""
-        return syncs.call(self.folder, words, **how)
-
-    def words_on(self, name, *words):
-        return (name, *files(), *words)
-
-    def test_a_log_beside_a_session_tells_what_is_there(self):
-        """Whole lines alone, at each sync of an erase."""
-        told = []
-
-        def look(number, process):
-            said = self.call("log", "--journal", "journal")
-            self.assertWell(said)
-            told.append(said.out)
-
-        self.store("flash", COUNTING)
-        self.assertTold(self.hold(self.words_on("erase", "5"), at=look)[0], "segment 1: 1 pages erased\n")
-        opened = b"id 0412\nsegment 1: open, %d pages%s\nunfinished, undo first\n"
-        kept = opened % (1, b": 5")
-        self.assertEqual(told[:6], [b"0 can be undone\n", opened % (0, b""), opened % (0, b""), kept,
-                                    opened % (1, b": 5, erasing 5"), b"id 0412\nsegment 1: ended, 1 pages: 5\n1 can be undone\n"])
-
-    def test_a_check_beside_a_session_tells_what_is_there_when_it_begins(self):
-        """What is added meanwhile, here before its first reads, is neither counted nor told."""
-        journal = HEADER + b"open 1\nend 1\n"
-        self.store("journal", journal)
-        said, read = self.hold(("log", "--check", "--journal", "journal"), held=syncs.LSEEK,
-                               at=lambda number, _: number < 8 and self.add("journal", b"open %d\nend %d\n" % (number + 2, number + 2)))
-        self.assertTold(said, "id 0412\nsegment 1: ended, 0 pages\n" + counted(journal) + "1 can be undone\n")
-        self.assertGreater(read.count("journal"), 1)
-
-    def test_a_journal_that_was_just_made_is_locked(self):
-        """Another program comes when the journal is there and has no line yet."""
-        self.store("flash", COUNTING)
-        came = []
-
-        def come(number, process):
-            if number == 0:
-                self.assertFile("journal", b"")
-                came.append(self.use("erase", "6", device="sim:0412:other"))
-                came.append(self.call("keep", "--journal", "journal"))
-
-        self.assertTold(self.hold(self.words_on("erase", "5"), at=come)[0], "segment 1: 1 pages erased\n")
-        self.assertEqual(len(came), 2)
-        for other in came:
-            self.assertFault(other, "journal is in use", hint=HELD)
-        self.assertTold(self.use("undo"), "undone 1\n", flash=COUNTING)
-
-    @each_of((None, b""))
-    def test_locks_are_asked_for_on_a_handle_that_writes(self, journal):
+    def test_locks_are_asked_for_on_a_handle_that_writes(self):
         """NFS gives no other an exclusive one. Of a journal that is there, of one that is made, and of a simulator's file."""
-        self.store_all({"flash": COUNTING, "journal": journal})
-        modes = []
+        for journal in (None, b""):
+            with self.subTest(journal=journal):
+                self.store_all({"flash": COUNTING, "journal": journal})
+                modes = []
 
-        def look(number, process):
-            for file in os.listdir(f"/proc/{process}/fd"):
-                if os.path.basename(os.readlink(f"/proc/{process}/fd/{file}")) in ("journal", "flash"):
-                    with open(f"/proc/{process}/fdinfo/{file}", encoding="ascii") as info:
-                        modes.append(int(info.read().split("flags:")[1].split()[0], 8) & os.O_ACCMODE)
+                def look(number, process):
+                    for file in os.listdir(f"/proc/{process}/fd"):
+                        if os.path.basename(os.readlink(f"/proc/{process}/fd/{file}")) in ("journal", "flash"):
+                            with open(f"/proc/{process}/fdinfo/{file}", encoding="ascii") as info:
+                                modes.append(int(info.read().split("flags:")[1].split()[0], 8) & os.O_ACCMODE)
 
-        said, locked = self.hold(self.words_on("erase", "5"), held=syncs.FLOCK, at=look)
-        self.assertTold(said, "segment 1: 1 pages erased\n")
-        self.assertIn("journal", locked)
-        self.assertIn("flash", locked)
-        self.assertNotIn(os.O_RDONLY, modes)
-        self.remove("journal")
-
-    def test_a_read_only_journal_is_read(self):
-        """A handle that reads is asked where there is no other."""
-        self.assertTold(self.use("erase", "5"), "segment 1: 0 pages erased\n", new(1))
-        os.chmod(self.path("journal"), 0o400)
-
-        def bind():
-            # root may write all the same, but for a process that never gets CAP_DAC_OVERRIDE
-            syncs.LIBC.prctl(24, 1, 0, 0, 0)
-
-        self.assertWell(self.call(*self.words_on("info"), before=bind))
-        self.assertFault(self.call(*self.words_on("erase", "5"), before=bind), "journal failed", hint="Permission denied")
+                said, locked = syncs.call(self.folder, ("erase", *files(), "5"), held=syncs.FLOCK, at=look)
+                self.assertTold(said, "segment 1: 1 pages erased\n")
+                self.assertIn("journal", locked)
+                self.assertIn("flash", locked)
+                self.assertNotIn(os.O_RDONLY, modes)
+                self.remove("journal")
 
     def test_a_journal_made_meanwhile_is_not_used(self):
         """The journal isn't there when the program begins, and is when it would make it: no erase is sent, and what the other wrote stays."""

@@ -1,9 +1,11 @@
-"""What `log` tells of a journal, without a device and without a table (tests/log.rows)."""
+"""What `log` tells of a journal, and what `--check` tells of its lines and pages, without a device and without a table (tests/log.rows)."""
 
+import random
 import re
 
 import syncs
-from rows import Rows, each_named, part
+from place import HEADER
+from rows import Rows, each_named
 
 # so many bytes of a journal are asked for at a time
 PIECE = 4096
@@ -19,11 +21,20 @@ class Log(Rows):
         whole, rest = divmod(len(journal), PIECE)
         self.assertEqual((ahead, came), ([PIECE], [PIECE] * whole + [rest, 0]))
 
-    def test_tells_as_many_segments_as_there_can_be(self):
-        journal = b"stmjournal 2 0412\n" + part("segments")
-        self.store("journal", journal)
-        told = "".join(f"segment {number}: ended, 0 pages\n" for number in range(1, 65536))
-        self.assertTold(self.call("log", "--journal", "journal"), f"id 0412\n{told}65535 can be undone\n", journal=journal)
+    def test_each_digit_counts(self):
+        """Each digit of a page, made another one, makes its CRC another one."""
+        for size in (1, 2, 3, 4, 66):
+            digits = random.Random(size).randbytes(size).hex().upper()
+            others = [digits]
+            for at, digit in enumerate(digits):
+                others += [digits[:at] + other + digits[at + 1:] for other in "0123456789ABCDEF" if other != digit]
+            lines = "".join(f"page {number} {digits}\n" for number, digits in enumerate(others))
+            self.store("journal", HEADER + b"open 1\n" + lines.encode() + b"end 1\n")
+            said = self.call("log", "--check", "--journal", "journal")
+            sums = re.findall(rb" crc (\w+)\n", said.out)
+            with self.subTest(size=size):
+                self.assertEqual((said.status, said.err, len(sums)), (0, b"", len(others)))
+                self.assertNotIn(sums[0], sums[1:])
 
 
 each_named(Log, "log.rows")

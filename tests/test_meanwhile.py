@@ -15,13 +15,14 @@ import socket
 import threading
 
 import syncs
-from place import Place, files, served
+from holding import Held
+from place import files, served
 
 TABLE = b'[[chip]]\nid = 0x412\nbase = 0x08000000\npages = [[4, 256]]\nerase = "page"\n'
 FLASH = bytes(range(256)) * 4
 # the journal of two writes of page 2
 JOURNAL = b"stmjournal 2 0412\nopen 1\npage 2 %s\nend 1\nopen 2\npage 2 %s\nend 2\n" % (b"AA" * 256, b"BB" * 256)
-MINE = b"another program's"
+MINE = "another program's"
 # where a session is held, and where one without a device is
 HELD = (syncs.OPEN, syncs.FLOCK, syncs.FSYNC, syncs.LINK, syncs.RENAME, syncs.UNLINK)
 WITH_LOOKS = (*HELD, syncs.STATX)
@@ -35,54 +36,22 @@ FIRST = {"a_write": ("write", *ON, "image"), "a_write_that_keeps": ("write", *ON
 # those of two parts, between which another program may come
 PARTS = {"a_write_that_keeps": (("write", *ON, "image"), KEEP), "a_write_that_moves": (("write", *ON, "image"), (*KEEP, "kept"))}
 OURS = {"an_erase": ("erase", *ON, "3"), "an_undo": UNDO, **KEEPS, "a_read_of_another_board": ("read", *BESIDE, "out"), "a_log": LOG}
-
-
-def rename(folder):
-    os.rename(f"{folder}/journal", f"{folder}/aside")
-
-
-def replace(folder):
-    shutil.copy(f"{folder}/journal", f"{folder}/copy")
-    os.rename(f"{folder}/copy", f"{folder}/journal")
-
-
-def link(folder):
-    os.link(f"{folder}/journal", f"{folder}/aside")
-
-
-def make(name):
-    def store(folder):
-        with open(f"{folder}/{name}", "wb") as file:
-            file.write(MINE)
-
-    return store
-
-
-def put_another(folder):
-    with open(f"{folder}/copy", "wb") as file:
-        file.write(JOURNAL[:JOURNAL.index(b"open 2")])
-    os.rename(f"{folder}/copy", f"{folder}/journal")
-
-
-def add(folder):
-    with open(f"{folder}/journal", "r+b") as file:
-        file.seek(0, os.SEEK_END)
-        file.write(b"open 3\nend 3\n")
-
-
+# what another program does, as lines of rows say it
 MAKES = {"out": "makes OUT", "kept": "makes TO"}
-OTHERS = {"renames the journal": rename, "puts a copy in its place": replace, "links it": link, "makes OUT": make("out"),
-          "makes TO": make("kept"), "changes the image": make("image"), "makes a folder at OUT": lambda folder: os.mkdir(f"{folder}/out")}
+OTHERS = {"renames the journal": "rename journal aside", "puts a copy in its place": "copied journal", "links it": "second aside journal",
+          "makes OUT": f'file out "{MINE}"', "makes TO": f'file kept "{MINE}"', "changes the image": f'file image "{MINE}"',
+          "makes a folder at OUT": "folder out"}
 # whether another one did it
 DONE, NOTHING = "done", "nothing"
 # beside a session each of these leaves no way back but its own. They mind no lock: until the last look at the journal's file they are
 # seen, and no system removes a name only where it leads to a file still
-BESIDE_NO_SESSION = {"puts another journal in its place": put_another, "adds a segment": add}
+BESIDE_NO_SESSION = {"puts another journal in its place": 'file copy "stmjournal 2 0412\\nopen 1\\npage 2 " "A"*512 "\\nend 1\\n"\nrename copy journal',
+                     "adds a segment": 'adds journal "open 3\\nend 3\\n"'}
 # the calls that take a journal's name, or give it to another file
 TAKEN = ((syncs.LINK, "journal"), (syncs.UNLINK, "journal"), (syncs.RENAME, "journal.stmflash-0.new"))
 
 
-class Meanwhile(Place):
+class Meanwhile(Held):
     def setUp(self):
         super().setUp()
         self.known, self.made = {}, []
@@ -99,11 +68,12 @@ class Meanwhile(Place):
 
     def do(self, act):
         """Calls the program with these words, or does what another program does; what it says."""
-        if not callable(act):
+        if not isinstance(act, str):
             with self.client(act):
                 return self.call(*act)
         try:
-            act(self.folder)
+            for sign, _, told in (line.partition(" ") for line in act.split("\n")):
+                self.does(sign, told, *told.split(" "))
         except (FileNotFoundError, FileExistsError, IsADirectoryError):
             return NOTHING
         return DONE
@@ -152,7 +122,7 @@ class Meanwhile(Place):
     def leads_back(self, first, left):
         """Whether what another one made is as it made it, and the flash is, or the journal, whatever its name is by now, leads there where
         the call, or an undo of it, would have left it."""
-        if any(left.get(name) != MINE for name in ("out", "kept") if name in self.made and left.get(name) is not True):
+        if any(left.get(name) != MINE.encode() for name in ("out", "kept") if name in self.made and left.get(name) is not True):
             return False
         if left["flash"] == FLASH:
             return True
@@ -160,7 +130,7 @@ class Meanwhile(Place):
         if first[0] != "undo":
             again, due = (("undo", *ON), ("1",)), FLASH
         for name in ("journal", "aside", "kept"):
-            if left.get(name) not in (None, MINE):
+            if left.get(name) not in (None, MINE.encode()):
                 self.store_all({"flash": left["flash"], "flash.line": left["flash.line"], name: left[name]})
                 if self.call(*again[0][:-1], name, *again[1]).status == 0 and self.held("flash") == due:
                     return True
@@ -199,7 +169,7 @@ class Meanwhile(Place):
                 # a journal that another program moved away at the very replacement of its name stands there whole
                 is_aside = first[0] == "keep" and left.get("aside") == JOURNAL
                 if not self.is_in_order(name, second, said, came[0], left):
-                    if not (callable(second) and (is_aside or said.status and self.leads_back(first, left))):
+                    if not (isinstance(second, str) and (is_aside or said.status and self.leads_back(first, left))):
                         wrong.append((at, names[at], what, said, came[0]))
         self.assertGreater(len(moments), 1)
         self.assertEqual(wrong, [])

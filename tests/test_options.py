@@ -5,23 +5,13 @@ import signal
 import socket
 
 from holding import Held
-from place import files, is_unproved
+from place import files
 from rows import each_named
 
-SUBCOMMANDS = ("info", "read", "crc", "write", "verify", "erase", "undo", "log", "keep", "go", "protect", "sim")
 CANNOT = b"stmflash: cannot write standard output\n"
 
 
 class Options(Held):
-    def test_tells_its_version(self):
-        self.assertTold(self.call("--version"), f"stmflash 0.2.0, {'not proved' if is_unproved() else 'proved by rattle logic dac8208d650f15bf'}\n")
-        for name in SUBCOMMANDS:
-            with self.subTest(name=name):
-                told = self.call(name, "--help")
-                self.assertWell(told)
-                self.assertGreater(len(told.out), 200)
-                self.assertIn(f"Usage: stmflash {name} ".encode(), told.out)
-
     def written(self, words, is_fault=False):
         """What a use writes on standard output, or on standard error: each writing apart."""
         ours, theirs = socket.socketpair(socket.AF_UNIX, socket.SOCK_SEQPACKET)

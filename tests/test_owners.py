@@ -2,7 +2,6 @@
 
 import os
 import shutil
-import unittest.mock
 
 import place
 from place import COUNTING, WAIT, ZEROS, files
@@ -47,19 +46,14 @@ class Owners(Rows):
         for name in (".", "table"):
             os.chown(self.path(name), OTHER, OTHER)
 
-        def become():
-            os.setgroups([])
-            os.setgid(OTHER)
-            os.setuid(OTHER)
-
+        as_other = {"executable": program, "user": OTHER, "group": OTHER, "extra_groups": []}
         for owner, group, mode, why in ((OTHER, OTHER, 0o660, None), (0, 0, 0o666, "may be written by others: chmod go-w it, or --trust-journal"), (0, OTHER, 0o660, None),
                                         (OTHER + 1, OTHER, 0o660, f"is user {OTHER + 1}'s: chown it, or --trust-journal")):
             with self.subTest(owner=owner, group=group, mode=mode):
                 for name in ("flash", "flash.line"):
                     self.make(name, OTHER, OTHER, 0o600, ZEROS if name == "flash" else b"fresh\n")
                 self.make("journal", owner, group, mode, JOURNAL)
-                with unittest.mock.patch.dict(os.environ, STMFLASH=program):
-                    said = self.call("erase", *files(), "5", before=become, variables={"SUDO_UID": str(OTHER + 1)})
+                said = self.call("erase", *files(), "5", variables={"SUDO_UID": str(OTHER + 1)}, **as_other)
                 if why:
                     self.assertFault(said, f"journal {why}", holds=(ZEROS, b"fresh\n"))
                 else:

@@ -13,7 +13,7 @@ import tempfile
 import tomllib
 import xml.etree.ElementTree
 
-from place import TOP, Place, each_of, is_unproved, text_in
+from place import TOP, Place, is_unproved, text_in
 from test_completions import options
 
 
@@ -112,25 +112,27 @@ class Pages(Place):
             missing += [f"{name} {option}" for option in told if not re.search(option if option in IN_A_COMMAND else rf"^\.TP\n\.BI? {option}\b", page, re.M)]
         self.assertEqual(missing, [])
 
-    @each_of(("stmflash", "stmflash-line", "stmflash-trial", "stmflash-as-stm32flash"))
-    def test_the_manual_pages_have_the_defaults_of_the_helps(self, name):
+    def test_the_manual_pages_have_the_defaults_of_the_helps(self):
         """Of each option the help's own words, or its number."""
-        words = [sys.executable, "-B", os.path.join(TOP, "line", name.removeprefix("stmflash-as-")), "-h"]
-        ran = subprocess.run(words, env={**os.environ, "COLUMNS": "999"}, capture_output=True, text=True) if "-" in name else None
-        told = ran.stdout + ran.stderr if ran else "".join(self.call(it, "--help").out.decode() for it in ("info", "sim"))
-        page = re.sub(r"(?m)^\.B[IR]? ", "", text_in(*["line"] * bool(ran), name + ".1").replace("\\", "").replace('"', "")).replace(" ,", ",")
-        found = {option: "".join(default) for option, *default in DEFAULT.findall(told)}
-        self.assertGreater(len(found), 1)
-        for option, default in found.items():
-            paragraph = " ".join(re.search(rf"^{option} .*?(?=^\.(?:TP|SH))", page, re.M | re.S)[0].split())
-            self.assertRegex(paragraph, rf"(?<![\w.]){re.escape(default)}(?![\w.]\w)", option)
+        for name in ("stmflash", "stmflash-line", "stmflash-trial", "stmflash-as-stm32flash"):
+            with self.subTest(name=name):
+                words = [sys.executable, "-B", os.path.join(TOP, "line", name.removeprefix("stmflash-as-")), "-h"]
+                ran = subprocess.run(words, env={**os.environ, "COLUMNS": "999"}, capture_output=True, text=True) if "-" in name else None
+                told = ran.stdout + ran.stderr if ran else "".join(self.call(it, "--help").out.decode() for it in ("info", "sim"))
+                page = re.sub(r"(?m)^\.B[IR]? ", "", text_in(*["line"] * bool(ran), name + ".1").replace("\\", "").replace('"', "")).replace(" ,", ",")
+                found = {option: "".join(default) for option, *default in DEFAULT.findall(told)}
+                self.assertGreater(len(found), 1)
+                for option, default in found.items():
+                    paragraph = " ".join(re.search(rf"^{option} .*?(?=^\.(?:TP|SH))", page, re.M | re.S)[0].split())
+                    self.assertRegex(paragraph, rf"(?<![\w.]){re.escape(default)}(?![\w.]\w)", option)
 
-    @each_of(MADE.items())
-    def test_what_is_made_is_what_the_tools_make_now(self, tool, page):
+    def test_what_is_made_is_what_the_tools_make_now(self):
         """MAP, PROVED and STATEMENT, each by its tool, and each says so in its first line. No tool leaves out what it should have."""
-        ran = subprocess.run([sys.executable, "-B", os.path.join(TOP, "tools", tool), "--check"], cwd=TOP, capture_output=True, text=True)
-        self.assertEqual((ran.returncode, ran.stderr), (0, ""))
-        self.assertEqual(text_in("docs", page).partition("\n")[0], f"<!-- made by tools/{tool}: `make pages`; not by hand -->")
+        for tool, page in MADE.items():
+            with self.subTest(tool=tool):
+                ran = subprocess.run([sys.executable, "-B", os.path.join(TOP, "tools", tool), "--check"], cwd=TOP, capture_output=True, text=True)
+                self.assertEqual((ran.returncode, ran.stderr), (0, ""))
+                self.assertEqual(text_in("docs", page).partition("\n")[0], f"<!-- made by tools/{tool}: `make pages`; not by hand -->")
 
     def test_a_page_that_is_not_what_its_tool_makes_is_found(self):
         """In a copy: a page with a line more, and a file without a comment. A clause more is on the page by its name."""

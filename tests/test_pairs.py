@@ -10,8 +10,9 @@ import json
 import os
 import re
 import shutil
+import tomllib
 
-from place import UNIQUE, WAIT
+from place import UNIQUE, WAIT, text_in
 from served import Served
 
 NUMBER = re.compile(r"\d+")
@@ -22,36 +23,9 @@ HEADERS = (b"stmjournal 3 0410 %s\n" % UNIQUE.encode(), b"stmjournal 2 0410\n")
 JOURNAL = b"open 1\npage 2 %s\nend 1\n" % (b"AA" * 256)
 PLACE, FOLDER = "journal", f"journals/{UNIQUE}.journal"
 ON = ("--table", "table", "--device", "sim:0410:flash")
-IMAGES = "image", "image@0x08000140"
-# each subcommand: what it is called with, and what stands behind the flags
-CALLS = {"info": (ON, ()), "read": (ON, ("out",)), "crc": (ON, ()), "write": (ON, IMAGES), "verify": (ON, IMAGES), "erase": (ON, ("1",)),
-         "undo": (ON, ()), "go": (ON, ("0x08000000",)), "protect": (ON, ("write-unprotect",)), "log": ((), ()), "keep": ((), ())}
-# each flag: the words that ask for it. One that asks for more is no flag without that
-FLAGS = {"--table": (), "--device": (), "--journal": (), "--journals": ("--journals", "journals"), "--no-lock": ("--no-lock",),
-         "--trust-journal": ("--trust-journal",),
-         "--wait": ("--wait", "500"), "--baud": ("--baud", "115200"), "--give-up": ("--give-up", "30"), "--fresh": ("--fresh",),
-         "--progress": ("--progress",), "--quiet": ("--quiet",), "--watch": ("--watch",), "--json": ("--json",),
-         "--stop": ("--stop", "1000000"), "--board": ("--board", UNIQUE), "--no-board": ("--no-board",), "--raw": ("--raw",),
-         "-S": ("-S", "0x08000010:768"), "--hex": ("--hex",), "--skip-blank": ("--hex", "--skip-blank"), "-f": ("-f",), "-v": ("-v",),
-         "--keep": ("--keep",), "--keep-to": ("--keep-to", "kept"), "--go": ("--keep", "--go", "0x08000000"), "--again": ("--again", "2"),
-         "--to-change": ("--to-change",), "--recover": ("--recover",), "--all": ("--all",), "--yes": ("--yes",), "--in-session": ("--in-session",),
-         "--check": ("--check",), "--last": ("--last", "1"), "a socket": ()}
-# words by which a call is refused, or stopped, whatever stands beside them: nothing is changed
-REFUSED = {"another board": ("--board", "0" * 24), "a stop": ("--stop", "3"), "a bad wait": ("--wait", "0")}
-# those beside which each other one is tried
-BESIDE = ("--journals", "--again", "--watch", "--json", "--fresh", "--keep", "--board", "-v", "--hex", "a socket")
-# the flags for which a variable of that name stands, and what it has
-VARIABLES = {"--fresh": "1", "--no-board": "1", "--no-lock": "1", "--json": "1", "--board": UNIQUE, "--baud": "115200", "--journals": "journals"}
-# those by which a call goes another way, beside which each variable is tried
-OTHER_WAYS = ("--journals", "--again", "--fresh", "a socket")
-# a variable that counts for nothing, since this word stands beside it
-BEHIND = {("--no-board", "--journals"), ("--no-board", "--board"), ("--board", "--no-board")}
-IN_SESSION = "--in-session asks the board nothing first: no --board, --journals or --watch"
-# those that are refused together, and how
-NOT_BOTH = {("--journals", "--no-board"): "give --journals or --no-board, not both", ("a socket", "--stop"): "--stop needs a simulator",
-            ("--journals", "--recover"): "give --journals or --recover, not both",
-            ("--board", "--no-board"): "give --board or --no-board, not both", ("--watch", "--in-session"): IN_SESSION,
-            ("--board", "--in-session"): IN_SESSION, ("--journals", "--in-session"): IN_SESSION}
+TABLES = tomllib.loads(text_in("tests", "pairs.toml"))
+CALLS, FLAGS, REFUSED = ({name: tuple(words.split()) for name, words in TABLES[it].items()} for it in ("calls", "flags", "refused"))
+BESIDE, VARIABLES, NOT_BOTH = TABLES["beside"], TABLES["variables"], TABLES["not_both"]
 
 
 class Pairs(Served):
@@ -77,14 +51,14 @@ class Pairs(Served):
             for flag in flags:
                 asked = () if flag == by else FLAGS[flag] if flag in FLAGS else REFUSED[flag]
                 words += [it for it in asked if it not in words or not it.startswith("--")]
-            self.begin(name, [it for it in flags if it != by or not any((by, other) in BEHIND for other in flags)])
+            self.begin(name, [it for it in flags if it != by or not any([by, other] in TABLES["behind"] for other in flags)])
             used, other = (FOLDER, PLACE) if "--journals" in flags else (PLACE, FOLDER)
             untouched = self.held(other)
-            before, behind = CALLS[name]
+            before = on(name)
             if "a socket" in flags:
                 self.serve(1, number="0410")
                 before = ("--table", "table", "--device", "board", *(() if "--wait" in words else ("--wait", WAIT)))
-            said = self.call(name, *before, *(("--journal", PLACE) if used == PLACE else ()), *words, *(() if "--all" in flags else behind),
+            said = self.call(name, *before, *(("--journal", PLACE) if used == PLACE else ()), *words, *(() if "--all" in flags else CALLS[name]),
                              variables=variables)
             if "a socket" in flags:
                 if said.status == 2:
@@ -104,9 +78,9 @@ class Pairs(Served):
     def assertPair(self, name, one, two):
         """Of a pair each does what it does alone; or both are refused."""
         none, first, second, both = (self.came(name, *flags) for flags in ((), (one,), (two,), (one, two)))
-        if (one, two) in NOT_BOTH:
+        if two in NOT_BOTH.get(one, ()):
             self.assertEqual((both["status"], both["flash"], both["line"]), (2, FLASH, b"fresh\n"))
-            self.assertIn(NOT_BOTH[one, two], str(both))
+            self.assertIn(NOT_BOTH[one][two], str(both))
             return
         # the second asks for what the first does
         if FLAGS[one] and set(FLAGS[one]) <= set(FLAGS[two]):
@@ -152,10 +126,10 @@ class Pairs(Served):
                     with self.subTest(one=one, two=two):
                         self.assertPair(name, one, two)
         for flag in flags:
-            others = sorted({*OTHER_WAYS, *(word for variable, word in BEHIND if variable == flag)})
+            others = sorted({*TABLES["other_ways"], *(word for variable, word in TABLES["behind"] if variable == flag)})
             for beside in ((), *((it,) for it in others if it in flags and it != flag)) if flag in VARIABLES else ():
                 with self.subTest(variable=flag, beside=beside):
-                    counts = beside if (flag, *beside) in BEHIND else (flag, *beside)
+                    counts = beside if [flag, *beside] in TABLES["behind"] else (flag, *beside)
                     self.assertEqual(self.came(name, flag, *beside, by=flag), self.came(name, *counts))
         for why in REFUSED if "a socket" in flags else ():
             for flag in flags:
@@ -171,8 +145,7 @@ class Pairs(Served):
             for flag in set(BESIDE[:-1]) - set(self.flags(name)) if name != "help" else ():
                 with self.subTest(name=name, flag=flag):
                     self.begin(name, ())
-                    before, behind = CALLS.get(name, ((), ()))
-                    said = self.call(name, *before, "--journal", PLACE, *FLAGS[flag], *behind)
+                    said = self.call(name, *on(name), "--journal", PLACE, *FLAGS[flag], *CALLS.get(name, ()))
                     self.assertEqual((said.status, bool(said.out), self.held("flash.line")), (2, flag == "--json", b"fresh\n"))
 
     # (tools/mutants looks for these two in the file; the others are made below)
@@ -185,6 +158,11 @@ class Pairs(Served):
 
 for name in CALLS.keys() - {"write", "erase"}:
     setattr(Pairs, f"test_of_{name}", lambda self, name=name: self.assertPairs(name))
+
+
+def on(name):
+    """The words of a subcommand's device."""
+    return () if name in TABLES["alone"] else ON
 
 
 def memory(text):

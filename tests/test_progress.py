@@ -1,11 +1,11 @@
 """What is shown while a session runs (tests/progress.rows and tests/terminal.rows), also of a board that answers late, or nothing."""
 
+import concurrent.futures
 import os
 import pty
 import re
 import signal
 import subprocess
-import threading
 import time
 
 from holding import Held
@@ -19,20 +19,6 @@ TABLE = b'[[chip]]\nid = 0x410\nbase = 0x08000000\npages = [[128, 1024]]\nerase 
 CUT, WRAP = b"\x1b[?7l", b"\x1b[?7h"
 # what a line of a terminal says while pages are changed
 STOPPED = "; if stopped: undo 1"
-
-
-def read_meanwhile(here, there, use):
-    """What comes of a use of one end, and all that is read from the other: meanwhile, since a terminal that nobody reads holds a writer."""
-    shown = []
-    reading = threading.Thread(target=lambda: shown.append(all_from(here)))
-    reading.start()
-    try:
-        came = use(there)
-    finally:
-        os.close(there)
-        reading.join()
-        os.close(here)
-    return came, shown[0]
 
 
 class Progress(Held):
@@ -49,7 +35,16 @@ class Progress(Held):
     def call(self, *words, **how):
         if not self.is_terminal:
             return super().call(*words, **how)
-        said, shown = read_meanwhile(*pty.openpty(), lambda err: Place.call(self, *words, stderr=err, **how))
+        here, there = pty.openpty()
+        # it is read meanwhile, since a terminal that nobody reads holds a writer
+        with concurrent.futures.ThreadPoolExecutor(1) as reading:
+            all_shown = reading.submit(all_from, here)
+            try:
+                said = Place.call(self, *words, stderr=there, **how)
+            finally:
+                os.close(there)
+            shown = all_shown.result()
+        os.close(here)
         # each line of progress, and nothing else, was cut where it is wider than the terminal
         self.assertEqual(re.findall(rb"(?:\x1b\[\?7l)?\r[^\r\n]+\x1b\[K(?:\x1b\[\?7h)?", shown), re.findall(rb"\x1b\[\?7l\r[^\r\n]+\x1b\[K\x1b\[\?7h", shown))
         shown = re.sub(rb"\rsettling, \d+ bytes sent\x1b\[K", b"", shown.replace(CUT + b"\r", b"\r").replace(b"\x1b[K" + WRAP, b"\x1b[K"))
@@ -61,10 +56,6 @@ class Progress(Held):
 
     def test_on_a_terminal(self):
         self.play_all(cases("terminal.rows"))
-
-    def test_a_new_journal_is_told_within_one_line(self):
-        shown = read_meanwhile(*pty.openpty(), lambda err: Place.call(self, "erase", *files(journal="a\n\x1b[2Kb"), "5", stderr=err))[1]
-        self.assertTrue(shown.startswith(b"note: journal a\\n\\x1b[2Kb is new\r\n"))
 
 
 class Waiting(Served):
@@ -131,20 +122,6 @@ class Waiting(Served):
         # twice as long as the first page took, which is a part of all, and a second more at the most
         self.assertIn(first, range(4, int(2 * (time.monotonic() - began)) + 2))
         self.assertLess(second, first)
-
-    def test_what_answers_now_and_then_is_not_silent(self):
-        """However long it takes until it is given up: each byte counts anew."""
-        came = []
-
-        def mutter(line, ending):
-            while len(came) < 5 and not ending.wait(1):
-                line.sendall(b"\x55")
-                came.append(1)
-
-        Peer(self, "late", mutter)
-        said = self.call(*self.words("info", "--progress", "--wait", "100", "--give-up", "20"))
-        self.assertEqual((said.status, said.out, len(came)), (1, b"", 5), said.err)
-        self.assertNotIn(b"no answer yet", said.err)
 
     def test_a_signal_leaves_what_to_do(self):
         """The last that a terminal shows of a write that Ctrl-C ended at a page's erase; and it is what undoes all."""

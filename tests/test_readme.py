@@ -53,10 +53,6 @@ class Clone:
         for name, text in STAND_INS.items():
             self.script(os.path.join("stand-ins", name), text)
 
-    def script(self, name, text):
-        self.store(name, f"#!/bin/sh\n{text}\n".encode())
-        os.chmod(self.path(name), 0o755)
-
     def run_blocks(self, *texts):
         """What each block prints, one after the other in one shell, and what all say on standard error."""
         script, rights = "".join(text + "printf '\\001'\n" for text in texts), {}
@@ -192,11 +188,7 @@ class Fleet(Place):
         os.mkdir(self.path("bin"))
         os.mkdir(self.path("dev"))
         os.symlink(program(), self.path("bin/stmflash"))
-        self.line('echo "$@"')
-
-    def line(self, text):
-        self.store("bin/stmflash-line", f"#!/bin/sh\n{text}\n".encode())
-        os.chmod(self.path("bin/stmflash-line"), 0o755)
+        self.script("bin/stmflash-line", 'echo "$@"')
 
     def recipe(self, word):
         return next(it for it in blocks("docs/LINE.md") if word in it).replace("/dev/", "dev/")
@@ -210,7 +202,7 @@ class Fleet(Place):
         for number in range(3):
             self.store_all({f"dev/ttyUSB{number}": b"", f"ttyUSB{number}.status": b"0\n"})
         # xargs ends at a child that is killed, and waits for no other: so the first board is done by then
-        self.line('case $1 in *1) exit 1;; *2) until grep -q "^0$" ttyUSB0.status; do sleep 0.02; done; kill -9 $PPID;; esac')
+        self.script("bin/stmflash-line", 'case $1 in *1) exit 1;; *2) until grep -q "^0$" ttyUSB0.status; do sleep 0.02; done; kill -9 $PPID;; esac')
         self.assertEqual(self.run_recipe(self.recipe("| xargs")).stdout.split(), ["ttyUSB1.status", "ttyUSB2.status"])
 
     def test_undo_begun(self):

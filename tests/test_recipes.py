@@ -1,7 +1,6 @@
 """The recipes of docs/LINE.md for make, CMake and a test bench: run as they stand there, on a served board, and of those for PlatformIO and
 Arduino that their calls are calls."""
 
-import os
 import re
 import shlex
 import shutil
@@ -28,12 +27,8 @@ class Recipes(Unnamed):
         super().setUp()
         self.store_all({"firmware.elf": elf(), "runner": RUNNER.encode()})
         port = [(self.path("ttyUSB0"), "USB UART")]
-        self.script("stmflash-line", f'exec {PYTHON} -c "$(cat {self.path("runner")})" {shlex.quote(repr(port))} {LINE} "$@"')
+        self.script("bin/stmflash-line", f'exec {PYTHON} -c "$(cat {self.path("runner")})" {shlex.quote(repr(port))} {LINE} "$@"')
         self.given = self.telling()
-
-    def script(self, name, text):
-        self.store(f"bin/{name}", f"#!/bin/sh\n{text}\n".encode())
-        os.chmod(self.path(f"bin/{name}"), 0o755)
 
     def run_here(self, *words, **settings):
         return subprocess.run(words, cwd=self.folder, env={**self.settings(), "TMPDIR": self.path("temporary"), **settings}, timeout=PATIENCE,
@@ -63,7 +58,7 @@ class Recipes(Unnamed):
         """The board is as before, whatever the test answered, and whether the write came to its end."""
         self.store("with-firmware", recipe("#!/bin/sh").encode())
         self.assertIn(b"# with-firmware IMAGE COMMAND..", self.held("with-firmware"))
-        self.script("look", f'stmflash-line read -S 0x08000400:20 {self.path("seen")} && exit "$1"')
+        self.script("bin/look", f'stmflash-line read -S 0x08000400:20 {self.path("seen")} && exit "$1"')
         for status, settings in ((0, {}), (7, {"STMFLASH_JOURNAL": ""})):
             self.assertFlash(self.run_here("sh", "with-firmware", "firmware.elf", "look", str(status), **settings), COUNTING, status)
             self.assertFile("seen", WRITTEN[1024:1044])

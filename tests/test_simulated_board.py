@@ -2,7 +2,7 @@
 
 import tomllib
 
-from place import served, text_in
+from place import text_in
 from rows import Rows, each_named
 
 HEAD = "[[chip]]\n"
@@ -11,16 +11,11 @@ HEAD = "[[chip]]\n"
 class GivenBoard(Rows):
     """What `sim --unique --size` makes of a simulator, also for the one in the process afterwards."""
 
-    def serve_with(self, *words):
-        """Serves a simulator, and answers once it listens."""
-        self.simulator = self.start(*served("0410"), *words)
-        self.leave(self.reach("board", self.simulator))
-
     def does(self, sign, told, name, *more):
         if sign == "sims":
-            self.serve_with(*filter(None, (name, *more)))
+            self.serve(0, number="0410", more=[*filter(None, (name, *more))])
             self.assertServed()
-            self.serve_with("--clients", "2")
+            self.serve(1, number="0410")
         else:
             super().does(sign, told, name, *more)
 

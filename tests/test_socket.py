@@ -136,7 +136,7 @@ class Socket(Peers):
 
         said, waits = syncs.call(self.folder, served(), 0, come, syncs.ACCEPT, errno.EINTR)
         self.assertEqual((said.status, said.out, said.err, len(waits), clients[0].recv(2)), (0, b"", b"", 2, b"\x79"))
-        self.assertHolds(ZEROS, b"idle\n")
+        self.assertFiles({"flash": ZEROS, "flash.line": b"idle\n"})
 
     def memory(self, process):
         """How many KiB of memory a process has, counted page by page."""

@@ -37,5 +37,6 @@ class Stated(Rows):
 
 for name, page in (("of_words", "words"), ("of_a_folder", "folders"), ("that_is_told_as_json", "answers")):
     setattr(Stated, f"test_each_use_{name}", lambda self, page=page: self.play_page(f"{page}.rows"))
-for name, page in (("behind_a_crash", "crashed"), ("of_a_protected_flash", "protected"), ("on_linux", "linux")):
+for name, page in (("behind_a_crash", "crashed"), ("of_a_protected_flash", "protected"), ("on_linux", "linux"),
+                   ("by_a_journal_that_no_board_has", "misfit")):
     setattr(Stated, f"test_each_use_{name}", lambda self, page=page: self.play_all(cases(f"{page}.rows")))

@@ -22,6 +22,7 @@ import tomllib
 import unittest
 
 from boards import LINE, PYTHON, LinePlace, default_signals
+from hostile import Board
 from place import PATIENCE, TOP, Place, Said, readable, served, text_in
 from rows import Rows, bytes_of, each_named, in_parts
 from served import Served
@@ -264,14 +265,12 @@ class Ports(LinePlace):
             os.rmdir(self.path(f"temporary/{folder}"))
 
 
-class FastBoard:
+class FastBoard(Board):
     """A board on a pseudo-terminal that knows its port's speed, and answers up to `fastest`; above `right` it reads wrong bytes. It is
     connected anew where the file `reset` has come."""
 
     def __init__(self, test, fastest, right):
-        self.master = test.plain()
-        self.test, self.fastest, self.right, self.speed, self.asked = test, fastest, right, None, b""
-        self.is_over = threading.Event()
+        super().__init__(test=test, fastest=fastest, right=right, speed=None, master=test.plain(), is_over=threading.Event())
         serving = threading.Thread(target=self.serve)
         serving.start()
         test.addCleanup(serving.join)
@@ -283,29 +282,18 @@ class FastBoard:
             with contextlib.suppress(OSError):
                 if readable([self.master], 0.05):
                     for byte in os.read(self.master, 4096):
-                        os.write(self.master, self.reply(byte))
+                        os.write(self.master, self.feed(byte))
 
-    def reply(self, byte):
+    def feed(self, byte):
         if self.test.is_there("reset"):
             self.test.remove("reset")
-            self.speed, self.asked = None, b""
-        if self.speed is None:
-            self.speed = SPEEDS[termios.tcgetattr(self.master)[4]]
-            return b"\x79" if self.speed <= self.fastest else b""
+            self.speed = None
+            self.reset()
+        is_first, self.speed = self.speed is None, self.speed or SPEEDS[termios.tcgetattr(self.master)[4]]
         if self.speed > self.fastest:
-            return b"\xc3"
-        self.asked += bytes([byte])
-        answers = {b"\x00\xff": bytes.fromhex("7905 22 00 02 11 31 43 79"), b"\x02\xfd": bytes.fromhex("7901041279"), b"\x11\xee": b"\x79"}
-        if self.asked in answers:
-            return answers[self.asked]
-        if len(self.asked) == 7:
-            return b"\x79"
-        if len(self.asked) == 9:
-            self.asked = b""
-            return b"\x79" + bytes(range(256)) if self.speed <= self.right else b"\x79" + bytes(256)
-        if self.asked[:2] in (b"\x00\xff", b"\x02\xfd"):
-            self.asked = bytes([byte])
-        return b""
+            return b"" if is_first else b"\xc3"
+        replies = super().feed(byte)
+        return replies if self.speed <= self.right or len(replies) < 256 else replies[:1] + bytes(len(replies) - 1)
 
 
 class Asked(Started):

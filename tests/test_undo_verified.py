@@ -1,18 +1,14 @@
 """What `undo -v` reads again before it says that a write or an erase is undone (tests/verified.rows)."""
 
-from place import COUNTING
-from refusing import SIZES, OnBoard
+from hostile import Board
+from refusing import OnBoard
 from rows import cases
 
-from planted_board import PlantedBoard
 
-
-class Wavering(PlantedBoard):
+class Wavering(Board):
     """A board that tells one byte of page 5 otherwise, at that reading of the page."""
 
-    def __init__(self):
-        super().__init__(0x412, SIZES, 0x43, {}, flash=COUNTING)
-        self.reading = self.seen = 0
+    reading = seen = 0
 
     def can_read(self, at, count):
         if at == 5 * 1024 + 512:
@@ -21,12 +17,10 @@ class Wavering(PlantedBoard):
         return super().can_read(at, count)
 
 
-class Unwilling(PlantedBoard):
+class Unwilling(Board):
     """A board that acknowledges each erase and write of page 5, and does none of them while that page is protected."""
 
-    def __init__(self):
-        super().__init__(0x412, SIZES, 0x43, {}, flash=COUNTING)
-        self.is_protecting = False
+    is_protecting = False
 
     def wipe(self, page):
         if page != 5 or not self.is_protecting:
