@@ -75,7 +75,7 @@ class Tables(Words):
 
     def test_what_is_handed_on_is_the_same(self):
         entries = tables.entries(os.path.join(TOP, "chips.toml"))
-        entries[0]["tried"] = [{"who": "a", "date": "b"}, {}]
+        entries[0]["tried"] = [{"who": "a \"b\" \\ c\n", "date": "b", "simulated": True}, {}]
         made = tomllib.loads(tables.table_text(entries).decode())["chip"]
         self.assertEqual(made, [{key: entry[key] for key in tables.KEYS if key in entry} for entry in entries])
 

@@ -36,14 +36,24 @@ def entries(path):
         return tomllib.loads(file.read())["chip"]
 
 
+def toml(value):
+    """A value in TOML."""
+    if isinstance(value, bool):
+        return str(value).lower()
+    if isinstance(value, dict):
+        return "{ " + ", ".join(f"{toml(name)} = {toml(held)}" for name, held in value.items()) + " }"
+    if isinstance(value, (list, tuple)):
+        return "[" + ", ".join(map(toml, value)) + "]"
+    if isinstance(value, str):
+        # TOML has no form for a byte that is no text
+        text = value.encode(errors="surrogateescape").decode(errors="replace")
+        return '"' + "".join(c if c >= " " and c not in '"\\\x7f' else f"\\u{ord(c):04X}" for c in text) + '"'
+    return str(value)
+
+
 def table_text(chips):
     """Entries as one table, with what stmflash asks of them."""
-    def value(held):
-        if isinstance(held, dict):
-            return f"{{{', '.join(f'{key} = {value(it)}' for key, it in held.items())}}}"
-        return f"[{', '.join(map(value, held))}]" if isinstance(held, list) else f'"{held}"' if isinstance(held, str) else str(held)
-
-    return "".join("[[chip]]\n" + "".join(f"{key} = {value(chip[key])}\n" for key in KEYS if key in chip) for chip in chips).encode()
+    return "".join("[[chip]]\n" + "".join(f"{key} = {toml(chip[key])}\n" for key in KEYS if key in chip) for chip in chips).encode()
 
 
 def handed_on():
