@@ -21,11 +21,10 @@ from unittest import mock
 
 from boards import WiredPlace
 from place import PATIENCE, Place, first_of, readable
-from stmflash_line import command, far, faults, gpio_lines, holders, opening, patience, session, sockets, wake
+from stmflash_line import command, far, faults, gpio_lines, opening, patience, session, sockets, wake
 from stmflash_line.join import Join
-from stmflash_line.port import Port
+from stmflash_line.port import Port, Unmark
 from stmflash_line.sequences import read_sequence
-from stmflash_line.unmark import Unmark
 
 
 class FarBytes(unittest.TestCase):
@@ -314,8 +313,8 @@ class Closed(unittest.TestCase):
 
     def test_who_has_a_port_stands_behind_one_that_may_not_be_looked_at_and_one_that_goes(self):
         listed = [["2", "99999999", "1"], PermissionError, ["0"], ["0"]]
-        with mock.patch.object(os, "listdir", side_effect=listed), mock.patch.object(holders, "is_device", return_value=True):
-            self.assertEqual([process for process, _ in holders.holders(mock.Mock())], [1])
+        with mock.patch.object(os, "listdir", side_effect=listed), mock.patch.object(opening, "is_device", return_value=True):
+            self.assertEqual([process for process, _ in opening.holders(mock.Mock())], [1])
 
     def test_who_undoes_is_told_to_a_command(self):
         """A program that uses these modules says it itself."""

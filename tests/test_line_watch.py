@@ -13,7 +13,7 @@ from boards import LinePlace
 from place import COUNTING, TOP, UNIQUE
 from rows import Rows, bytes_of, cases, in_parts
 from started import Started
-from stmflash_line import chips, faults, session, tables
+from stmflash_line import faults, session, tables
 from stmflash_line.watch import Watch
 
 import pty_boards
@@ -131,5 +131,5 @@ class Boards(WatchedPlace):
         with mock.patch.multiple(tables, TABLES=[self.path("table"), self.path("other")], MACHINES=""), mock.patch.dict(os.environ, XDG_CONFIG_HOME=self.folder):
             for os.environ["STMFLASH_TABLE"], ids in (("", [0x441, 0x440]), (self.path("table"), [0x440])):
                 self.assertEqual([chip["id"] for chip in session.make_watch().chips], ids)
-        with mock.patch.multiple(tables, TABLES=(), BESIDE="", MACHINES="", users_own=str), mock.patch.object(chips, "TABLES", ("/none/1", "/none/2")):
+        with mock.patch.multiple(tables, TABLES=("/none/1", "/none/2"), BESIDE="", MACHINES="", users_own=str):
             self.assertRaisesRegex(faults.Fault, "^/none/1: No such file or directory; STMFLASH_TABLE names another$", session.make_watch)

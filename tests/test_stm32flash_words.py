@@ -23,9 +23,9 @@ from rows import Rows, bytes_of, cases, each_named, in_parts
 import image
 from stmflash_line import journals as places
 from stmflash_line.tied import tied
-from as_stm32flash import actions, board as boards, call, hex_text, journals, line, patience, segments, sequence, tools, words
+from as_stm32flash import actions, board as boards, call, hex_text, journals, line, journal_text, patience, sequence, tools, words
 from as_stm32flash.fault import Failed, Fault
-from as_stm32flash.owner import Owner, owner_of
+from as_stm32flash.journal_text import Owner, owner_of
 
 WORDS = os.path.join(TOP, "line", "stm32flash")
 # page 5 of a flash of 55 is to be erased, and was not yet
@@ -263,8 +263,8 @@ class Parts(Place):
         """Those of what wasn't undone; a void line and a torn one count as nothing."""
         text = b"stmjournal 2 0412\nopen 1\npage 5 5!\npage 5 55\nerase 5\nend 1\nopen 2\npage 6 55\npage 7 55\nend 2\nundone 2\n"
         self.store("held", text + b"open 2\nend 2\nopen 3\npage 8 5")
-        self.assertEqual(segments.kept_pages(self.path("held")), [1, 0, 0])
-        self.assertEqual(segments.kept_pages(self.path("missing")), [])
+        self.assertEqual(journal_text.kept_pages(self.path("held")), [1, 0, 0])
+        self.assertEqual(journal_text.kept_pages(self.path("missing")), [])
 
     def test_what_is_anothers_is_refused(self):
         """Its user's is taken by root too, who was called by sudo."""
@@ -302,9 +302,9 @@ class Parts(Place):
     def test_each_start_loads_what_it_needs(self):
         """What takes long to load stays out of what doesn't need it."""
         heavy = {"argparse", "ctypes", "dataclasses", "hashlib", "inspect", "json", "shutil", "socket", "subprocess", "tempfile", "tomllib"}
-        own = {"as_stm32flash.actions", "as_stm32flash.board", "as_stm32flash.image", "as_stm32flash.crc", "stmflash_line.chips",
+        own = {"as_stm32flash.actions", "as_stm32flash.board", "as_stm32flash.image", "as_stm32flash.crc",
                "stmflash_line.far", "stmflash_line.gpio_lines", "stmflash_line.model", "stmflash_line.watch"}
-        inside = "from as_stm32flash import call, leaving; from as_stm32flash.actions import Actions; from as_stm32flash.board import Board"
+        inside = "from as_stm32flash import call; from as_stm32flash.actions import Actions; from as_stm32flash.board import Board"
         for text, needed in (
                 ("from as_stm32flash import call", set()),
                 (inside, {"ctypes", "subprocess", "as_stm32flash.actions", "as_stm32flash.board"}),
