@@ -17,7 +17,7 @@ import tty
 import unittest
 
 from place import COUNTING, PATIENCE, TOP, WAIT, Place, Said, program, readable
-from rows import Rows, bytes_of
+from rows import Rows, bytes_of, odd
 from served import Served
 
 LINE = os.path.join(TOP, "line", "stmflash-line")
@@ -57,11 +57,11 @@ class LinePlace(Place):
         super().tearDown()
         self.assertEqual(os.listdir(self.path("temporary")), [])
 
-    def board(self, name="ttyUSB0", chip="0412", flash=None, more=()):
-        """A port of this name with a simulated board behind it, by these words too, in whose flash this stands where it is given."""
+    def board(self, name="ttyUSB0", chip="0412", flash=None, **more):
+        """A port of this name with a simulated board behind it, of this kind, in whose flash this stands where it is given."""
         if flash is not None:
             self.store(name + ".flash", flash)
-        made = pty_boards.PtyBoard(program(), self.path(name), chip, self.path("table"), more=more)
+        made = pty_boards.PtyBoard(program(), self.path(name), chip, self.path("table"), **more)
         self.addCleanup(made.stop)
         return made
 
@@ -91,16 +91,16 @@ class LinePlace(Place):
         self.addCleanup(end)
         return started
 
+    def start_wired(self, name, *words, **more):
+        """The same on a port that pyserial takes to have RTS and DTR, whose moves a file notes."""
+        return self.start(STAND_INS, LINE, f"wired://{self.path(name)}?file={self.path('calls-' + name)}", *words, line=("-c", RUNNER), **more)
+
     def line(self, *words, **more):
         return self.ended(self.start(*words, **more))
 
     def stmflash(self, name, *words, journal="journal", wait=WAIT):
         """The words of COMMAND for a subcommand."""
         return [program(), name, "--table", "table", "--device", "{}", "--journal", journal, "--wait", wait, *words]
-
-    def through(self, name, *words):
-        """Runs a subcommand through the companion on the port ttyUSB0."""
-        return self.line("ttyUSB0", "--", *self.stmflash(name, *words))
 
     def serve(self, *words):
         """Serves the port ttyUSB0 on the socket `board`, and answers once it listens."""
@@ -133,18 +133,12 @@ class LinePlace(Place):
 
     def kill_some(self, which, started, child):
         """Kills the companion (`line`), its command (`client`) or both, and answers the companion's status once neither goes on."""
-        if which != "line":
-            kill(child)
-        if which != "client":
-            kill(started.pid)
+        for process in {"line": [started.pid], "client": [child], "both": [child, started.pid]}[which]:
+            with contextlib.suppress(ProcessLookupError):
+                os.kill(process, signal.SIGKILL)
         status = started.wait(PATIENCE)
         self.until(lambda: not os.path.exists(f"/proc/{child}"), "the command goes on")
         return status
-
-    def stop(self, started):
-        """Ends one that serves, which says nothing."""
-        started.terminate()
-        self.assertSilent(self.ended(started))
 
     def until_served(self, started):
         """One that was started to serve the socket `board`, once it listens, or has ended."""
@@ -160,10 +154,6 @@ class LinePlace(Place):
         """No byte has come to the port whose other end this is, nor is anybody there any more who might send one."""
         os.set_blocking(master, False)
         self.assertRaises(OSError, os.read, master, 1)
-
-    def assertInfo(self, said):
-        """The board was there, and told its id."""
-        self.assertEqual((said.status, said.out.split(b"\n")[0], said.err), (0, b"id 0412", b""))
 
     def assertLineFault(self, said, text, status=1):
         """This one line was all that the companion said."""
@@ -186,11 +176,11 @@ class Named(LinePlace):
         return {"PATH": self.path("bin") + ":" + os.environ["PATH"], "TMPDIR": self.path("temporary"), "HOME": self.folder,
                 "STMFLASH_TABLE": self.path("table"), "STMFLASH_WAIT": self.wait, **more}
 
-    def telling(self, byte="A1", flash=COUNTING, name="ttyUSB0"):
-        """A board of this flash that tells a unique id of this byte alone; None: none."""
-        if byte:
+    def telling(self, byte="A1", flash=COUNTING, name="ttyUSB0", **more):
+        """A board of this flash that tells a unique id of this byte alone, or none."""
+        if byte != "none":
             self.store(name + ".flash.board", b"unique " + 12 * byte.encode() + b"\n")
-        return self.board(name, flash=flash)
+        return self.board(name, flash=flash, **more)
 
 
 class LineRows(LinePlace, Rows):
@@ -202,7 +192,7 @@ class LineRows(LinePlace, Rows):
         super().begin()
 
     def run_words(self, words):
-        return self.line(*shlex.split(words), **self.variables)
+        return self.line(*map(odd, shlex.split(words)), **self.variables)
 
     def does(self, sign, told, name, *more):
         if sign == "plain":
@@ -222,7 +212,7 @@ class OnPorts(Named, LineRows):
 
     def begin(self):
         super().begin()
-        self.flashes = {}
+        self.flashes, self.kind = {}, {}
 
     def unplugged(self, name):
         """The flash of a board that is taken away."""
@@ -234,9 +224,10 @@ class OnPorts(Named, LineRows):
     def does(self, sign, told, name, *more):
         if sign == "board":
             byte, data = told.removeprefix(name + " ").partition(" --")[0].split(" ", 1)
-            if byte != "none":
-                self.store(name + ".flash.board", b"unique " + 12 * byte.encode() + b"\n")
-            self.given_board = self.board(name, flash=self.flashes.get(data) or bytes_of(data), more=[it for it in more if it.startswith("--")])
+            words = [it for it in more if it.startswith("--")]
+            self.given_board = self.telling(byte, self.flashes.get(data) or bytes_of(data), name, more=words, **self.kind)
+        elif sign == "kind":
+            self.kind[name] = int(*more) if name == "baud" else more[0]
         elif sign == "holds":
             self.assertEqual(self.given_board.store(), bytes_of(told))
         elif sign == "unplug":
@@ -254,24 +245,7 @@ class OnPorts(Named, LineRows):
             super().does(sign, told, name, *more)
 
 
-class WiredPlace(LinePlace):
-    """The port ttyUSB0 is a pseudo-terminal, with an end of ours behind it, that pyserial takes to have RTS and DTR."""
-
-    def setUp(self):
-        super().setUp()
-        self.wired = f"wired://{self.path('ttyUSB0')}?file={self.path('calls')}"
-        self.master = self.plain()
-
-    def begin_on(self, port, *words, **more):
-        return self.start(STAND_INS, LINE, port, *words, line=("-c", RUNNER), **more)
-
-
 def end_with(started, number):
     """Sends a signal, and answers the status with which the companion ends."""
     started.send_signal(number)
     return started.wait(PATIENCE)
-
-
-def kill(process):
-    with contextlib.suppress(ProcessLookupError):
-        os.kill(process, signal.SIGKILL)

@@ -94,7 +94,7 @@ class Kills(LinePlace):
                 # where it was killed before the journal was made, there is none to undo by
                 # and where it was before a page was kept, nothing had changed
                 due = (b"", b"note: segment 1 had changed nothing; 0 more can be undone\n") if self.is_there("journal") else (b"note: journal journal isn't there\n",)
-                said = self.through("undo")
+                said = self.line("ttyUSB0", "--", *self.stmflash("undo"))
                 self.assertEqual(said.status, 0, killed)
                 self.assertIn(said.err, due, killed)
                 self.assertTrue(board.store() == COUNTING, f"the flash isn't what it was: {killed}, {said.out}")

@@ -1,7 +1,6 @@
 """What stmflash-line says where a port can't be had or goes: one line each, with what to do (tests/line.rows has most)."""
 
 import ast
-import contextlib
 import glob
 import grp
 import os
@@ -12,12 +11,10 @@ import signal
 import subprocess
 import sys
 import unittest
-from unittest import mock
 
 from boards import LINE, REAL, LinePlace, LineRows, end_with
 from place import text_in
 from rows import cases
-from stmflash_line import command, faults, session
 
 NOBODY = 65534
 
@@ -90,21 +87,6 @@ class Faults(LinePlace):
         # a folder in which nothing can be made is passed over
         os.chmod(self.path("ttyUSB0"), 0o666)
         self.assertSilent(self.line("ttyUSB0", "--", "true", line=("line",), before=before, TMPDIR="/proc", TEMP=self.path("temporary")))
-
-
-class Ending(unittest.TestCase):
-    def test_what_was_had_is_let_go_of(self):
-        """Lines and port, whatever ended the call; and COMMAND is waited for, told to end, and killed in the end."""
-        had, call = mock.Mock(), mock.call
-        with mock.patch.multiple(session, make_lines=lambda _: had.lines, open_port=lambda *_: had.port, use_board=mock.Mock(side_effect=[0, faults.Fault])):
-            for chip, ended in ((None, contextlib.nullcontext()), ("chip", self.assertRaises(faults.Fault))):
-                with ended:
-                    session.use_port(mock.Mock(watch=False, after=(), gpio_chip=chip), None)
-        self.assertEqual(had.mock_calls, [call.port.close(), call.lines.close(), call.port.close()])
-        for times in range(3):
-            child = mock.Mock(**{"wait.side_effect": [*times * [subprocess.TimeoutExpired("it", 5)], 0]})
-            command.end(child)
-            self.assertEqual(child.mock_calls, [call.wait(5), call.terminate(), call.wait(5), call.kill(), call.wait()][:2 * times + 1])
 
 
 def template(node):

@@ -44,18 +44,12 @@ class Unnamed(Named):
         line = (LINE,) if ports is None else ("-c", RUNNER, repr(ports), LINE)
         return self.line(*words, line=line, **self.settings(**settings))
 
-    def journal(self, byte="A1"):
-        return os.path.join(self.state, "journals", 12 * byte + ".journal")
-
-    def nameless(self, name="ttyUSB0"):
-        return os.path.join(self.state, "ports", journals.name_of(self.path(name)), "journal")
-
 
 class Played(Unnamed, OnPorts):
     """Cases that are told as text, each call one of stmflash-line (tests/short.rows)."""
 
     def placed(self, told):
-        return super().placed(told).replace("{port}", os.path.dirname(self.nameless()))
+        return super().placed(told).replace("{port}", os.path.join(self.state, "ports", journals.name_of(self.path("ttyUSB0"))))
 
     def run_words(self, words):
         return self.short(*shlex.split(words), ports=self.noted.get("ports"), **self.variables)
@@ -73,7 +67,7 @@ class Played(Unnamed, OnPorts):
 in_parts(Played, "short.rows", 4)
 
 
-class Journals(Unnamed):
+class Alone(Unnamed):
     def test_the_question_is_asked_by_the_words_of_the_line(self):
         self.store("asked", b'#!/bin/sh\necho "{\\"board\\": \\"$*\\"}"\n')
         os.chmod(self.path("asked"), 0o755)
@@ -84,28 +78,12 @@ class Journals(Unnamed):
         self.store("asked", b"#!/bin/sh\necho no JSON\n")
         self.assertRaisesRegex(journals.Fault, "asked: what it says of the board isn't understood; ", asking.ask, words, "none", lambda begin: begin(self.settings()).wait())
 
-    def test_which_are_stopped(self):
-        """By the last line that is whole and isn't void. What ended isn't locked: its board's next call would be refused meanwhile."""
-        for text, is_so in (("", False), ("stmjournal 2 0412\n", False), ("open 1\n", True), ("open 1\nend 1\n", False),
-                            ("open 1\nend 1\nerase 5\n", True), ("end 1\nprogram 5\n", True), ("page 5 55\n", True),
-                            ("end 1\nundone 1\n", False), ("open 1\nend 1", True), ("open 1\nend 1!\n", True), ("end 1\nopen 2!\nopen", False),
-                            ("open 1\nend 1\nof another file\n", True), ("\n", True)):
-            self.store("held", text.encode())
-            with mock.patch("fcntl.flock") as lock:
-                self.assertEqual((text, journals.is_stopped(self.path("held")), lock.called), (text, is_so, is_so))
+    def test_one_to_which_a_program_adds_just_now_is_not_stopped(self):
+        self.store("held", b"open 1\n")
         with mock.patch("fcntl.flock", side_effect=lambda *_: self.add("held", b"end 1\n")):
-            self.assertFalse(journals.is_stopped(self.path("held")), "a program adds to it just now")
-        self.assertFalse(journals.is_stopped(self.path("missing")))
+            self.assertFalse(journals.is_stopped(self.path("held")))
 
-    def test_a_value_of_an_option_is_no_word(self):
-        self.plain()
-        started = self.start("ttyUSB0", "--socket", "info", **self.settings())
-        self.until(lambda: started.poll() is not None or self.is_there("info"), "the companion doesn't listen")
-        self.assertIsNone(started.poll())
-
-
-class Tables(Unnamed):
-    def test_the_one_that_is_installed_beside_it(self):
+    def test_the_table_that_is_installed_beside_it(self):
         """Under any PREFIX; but not where a variable names one, or stmflash finds one by itself, as the user's own."""
         self.telling()
         shutil.copytree(os.path.join(TOP, "line", "stmflash_line"), self.path("share/stmflash/stmflash_line"))

@@ -5,27 +5,31 @@ pair of sockets in place of a port, marked as the system marks them.
 """
 
 import array
+import ast
 import contextlib
 import errno
 import fcntl
+import functools
+import importlib
 import io
 import itertools
 import os
+import shlex
 import signal
 import socket
 import termios
 import time
+import tomllib
 import types
 import unittest
 from unittest import mock
 
-from boards import WiredPlace
-from place import PATIENCE, Place, first_of, readable
-from stmflash_line import command, far, faults, gpio_lines, holders, opening, patience, session, sockets, wake
+from boards import LinePlace
+from place import PATIENCE, TOP, first_of, readable, text_in
+from rows import Rows, each_named
+from stmflash_line import command, far, faults, gpio_lines, opening, session, sockets, tables, wake
 from stmflash_line.join import Join
-from stmflash_line.port import Port
-from stmflash_line.sequences import read_sequence
-from stmflash_line.unmark import Unmark
+from stmflash_line.port import Port, Unmark
 
 
 class FarBytes(unittest.TestCase):
@@ -85,13 +89,6 @@ class FarBytes(unittest.TestCase):
         self.assertGreater(wake.pause.call_args.args[0], 10000)
 
 
-class Saying(unittest.TestCase):
-    def test_a_name_moves_no_terminal(self):
-        with contextlib.redirect_stderr(io.StringIO()) as said:
-            faults.say("busy: \x1b[2J\u202e\udcff (process 1)\n has it")
-        self.assertEqual(said.getvalue(), r"stmflash-line: busy: \x1b[2J\u202e\udcff (process 1)\n has it" + "\n")
-
-
 class Beginning(unittest.TestCase):
     def test_what_a_reset_brings_is_forgotten_before_anybody_may_connect(self):
         """A board that comes out of its reset sends what its pins make of it."""
@@ -118,116 +115,28 @@ class Beginning(unittest.TestCase):
             self.assertRaisesRegex(faults.Fault, "^/tmp/it: No space left on device; TMPDIR names another folder$", sockets.served_privately().__enter__)
 
 
-class Sequences(unittest.TestCase):
-    def test_notation(self):
-        wait = ("wait", 0.1)
-        for text, steps in (
-                ("", []), ("rts", [("rts", True)]), ("rts,-dtr,,", [("rts", True), wait, ("dtr", False), wait, wait]), (",,", [wait, wait]),
-                ("rts&-dtr", [("rts", True), ("dtr", False)]), ("-rts,,,,dtr", [("rts", False), wait, wait, wait, wait, ("dtr", True)]),
-                ("brk,-brk&rts", [("brk", True), wait, ("rts", True)]),
-                ("18&-23,rts,0", [(18, True), (23, False), wait, ("rts", True), wait, (0, True)])):
-            self.assertEqual((text, read_sequence(text)), (text, steps))
-
-    def test_no_signals(self):
-        for text in ("-", "cts", "rts dtr", "018", "--3", "3 4", "100000", "+3", "0x3", "\u0663", "rts:dtr", "RTS", "--rts"):
-            with self.subTest(text=text), self.assertRaises(ValueError):
-                read_sequence(text)
-
-
-class Mode(WiredPlace):
+class Mode(LinePlace):
     def test_mode(self):
         """What comes is marked where it is bad, and not changed; RTS and DTR stay when the port is closed."""
-        marks = termios.INPCK | termios.PARMRK
+        master, marks = self.plain(), termios.INPCK | termios.PARMRK
         changes = termios.IGNPAR | termios.IGNBRK | termios.BRKINT | termios.ISTRIP | termios.INLCR | termios.IGNCR | termios.ICRNL | termios.IXON | termios.IXOFF
-        for words in (("ttyUSB0",), (self.wired, "--baud", "9600")):
+        for start, words, speed in ((self.start, (), termios.B115200), (self.start_wired, ("--baud", "9600"), termios.B9600)):
             # another program has left it so
-            mode = termios.tcgetattr(self.master)
+            mode = termios.tcgetattr(master)
             mode[0] |= changes
             mode[2] |= termios.HUPCL
-            termios.tcsetattr(self.master, termios.TCSANOW, mode)
-            mode = self.mode_during(*words)
+            termios.tcsetattr(master, termios.TCSANOW, mode)
+            started, _ = self.start_known("sleep", "1000", words=("ttyUSB0", *words), start=start)
+            mode = termios.tcgetattr(master)
+            started.terminate()
+            self.ended(started)
+            self.assertEqual(termios.tcgetattr(master), mode)
             self.assertEqual(mode[0] & (marks | changes), marks)
             self.assertEqual(mode[1] & termios.OPOST, 0)
             form = termios.CSIZE | termios.CSTOPB | termios.HUPCL | termios.CREAD | termios.CLOCAL
             self.assertEqual(mode[2] & form, termios.CS8 | termios.CREAD | termios.CLOCAL)
             self.assertEqual(mode[3] & (termios.ECHO | termios.ICANON | termios.ISIG | termios.IEXTEN), 0)
-            self.assertEqual(mode[5], termios.B9600 if "--baud" in words else termios.B115200)
-
-    def mode_during(self, *words):
-        started, _ = self.start_known("sleep", "1000", words=words, start=self.begin_on)
-        mode = termios.tcgetattr(self.master)
-        started.terminate()
-        self.ended(started)
-        self.assertEqual(termios.tcgetattr(self.master), mode)
-        return mode
-
-
-class Waits(Place):
-    """How long a reply may take at a port, which COMMAND is told."""
-
-    def setUp(self):
-        super().setUp()
-        held = mock.patch.object(patience, "TTY", self.folder)
-        held.start()
-        self.addCleanup(held.stop)
-
-    def adapter(self, name, timer=None):
-        os.makedirs(self.path(f"{name}/device"))
-        if timer is not None:
-            self.store(f"{name}/device/latency_timer", timer)
-
-    def test_is_what_is_known_of_the_port(self):
-        self.adapter("ttyUSB0", b"1\n")
-        self.adapter("ttyACM0")
-        self.assertEqual([patience.wait("/dev/ttyUSB0", baud, 0) for baud in (4000000, 115200, 57600, 9600, 1)], [250, 250, 250, 641, 60000])
-        self.assertEqual(patience.wait("/dev/ttyACM0", 9600, 0), 701)
-        self.assertIsNone(patience.wait("/dev/ttyUSB1", 115200, 0))
-        # stmflash's own wait is added to the time that a reset takes of it; that is 400 ms (test_silence.py)
-        self.assertEqual([patience.wait("/dev/ttyUSB1", 115200, pause) for pause in (0.3, 0.1, 60)], [700, 500, 60000])
-        # what USB/IP brings stands here, and what it hangs on is another machine
-        os.makedirs(self.path("vhci_hcd.0/adapter"))
-        os.mkdir(self.path("ttyUSB2"))
-        os.symlink(self.path("vhci_hcd.0/adapter"), self.path("ttyUSB2/device"))
-        self.assertIsNone(patience.wait("/dev/ttyUSB2", 115200, 0))
-
-    def test_a_client_whose_byte_waits_for_a_reset_waits_longer(self):
-        self.adapter("ttyUSB0", b"1\n")
-        port = types.SimpleNamespace(name="/dev/ttyUSB0", baud=115200)
-        boot = read_sequence("-rts&dtr,-dtr,,")
-        for resets, wait in ((False, 250), (True, 550)):
-            given = types.SimpleNamespace(resets=resets, boot=boot)
-            self.assertEqual(session.wait_of(port, given, ["stmflash", "write", "image"]), wait)
-            # what was stopped may still keep the board busy
-            for words in (["stmflash", "undo", "--journal", "journal"], ["stmflash", "write", "--again", "2", "image"], ["stmflash", "write", "--again=2", "image"]):
-                self.assertIsNone(session.wait_of(port, given, words))
-
-    def told(self, names, wait, baud, **variables):
-        """What a command finds in these variables, where its user's are these; None: there is none."""
-        with mock.patch.dict(os.environ):
-            for name in names.replace("$", "").split():
-                os.environ.pop(name, None)
-            os.environ.update({name: value for name, value in variables.items() if value is not None})
-            started = command.start(["sh", "-c", f'printf %s "{names}" > {self.path("said")}'], "socket", wait, baud)
-            self.assertEqual(started.wait(PATIENCE), 0)
-        return self.held("said").decode()
-
-    def test_what_another_line_has_said_is_not_handed_on(self):
-        """It is of another board."""
-        for device, told in (("/tmp/stmflash-line-0123/socket", " "), ("board.sock", "77 9600"), ("/tmp/stmflash-line-0123", "77 9600")):
-            given = {"STMFLASH_DEVICE": device, "STMFLASH_WAIT": "77", "STMFLASH_BAUD": "9600"}
-            self.assertEqual((device, self.told("$STMFLASH_WAIT $STMFLASH_BAUD", None, None, **given)), (device, told))
-
-    def test_both_are_told_where_their_user_says_nothing(self):
-        for given, known, told in ((None, 103, "103"), (None, None, ""), ("", 103, "103"), ("77", 103, "77"), ("77", None, "77")):
-            with self.subTest(given=given, known=known):
-                self.assertEqual(self.told("$STMFLASH_WAIT", known, None, STMFLASH_WAIT=given), told)
-                self.assertEqual(self.told("$STMFLASH_BAUD", None, known, STMFLASH_BAUD=given), told)
-
-    def test_the_speed_is_that_of_a_port_that_is_the_line(self):
-        """A pseudo-terminal has none, and a far port's is the far end's."""
-        self.adapter("ttyUSB0", b"1\n")
-        for name, baud in (("/dev/ttyUSB0", 57600), ("/dev/ttyUSB1", None), ("socket://bench:4000", None)):
-            self.assertEqual(session.baud_of(types.SimpleNamespace(name=name, baud=57600)), baud)
+            self.assertEqual(mode[5], speed)
 
 
 class Ending(unittest.TestCase):
@@ -259,6 +168,19 @@ class Ending(unittest.TestCase):
                 due = 128 + number if number else 128 - code if code < 0 else code or int(otherwise)
                 self.assertEqual(command.run(lambda _: child, "", None, None, join), due)
 
+    def test_what_was_had_is_let_go_of(self):
+        """Lines and port, whatever ended the call; and COMMAND is waited for, told to end, and killed in the end."""
+        had, call = mock.Mock(), mock.call
+        with mock.patch.multiple(session, make_lines=lambda _: had.lines, open_port=lambda *_: had.port, use_board=mock.Mock(side_effect=[0, faults.Fault])):
+            for chip, ended in ((None, contextlib.nullcontext()), ("chip", self.assertRaises(faults.Fault))):
+                with ended:
+                    session.use_port(mock.Mock(watch=False, after=(), gpio_chip=chip), None)
+        self.assertEqual(had.mock_calls, [call.port.close(), call.lines.close(), call.port.close()])
+        for times in range(3):
+            child = mock.Mock(**{"wait.side_effect": [*times * [command.subprocess.TimeoutExpired("it", 5)], 0]})
+            command.end(child)
+            self.assertEqual(child.mock_calls, [call.wait(5), call.terminate(), call.wait(5), call.kill(), call.wait()][:2 * times + 1])
+
     def test_a_gpioset_that_does_not_end_is_killed(self):
         holder = mock.MagicMock(**{"wait.side_effect": command.subprocess.TimeoutExpired("gpioset", 5)})
         gpio_lines.end([holder])
@@ -270,7 +192,7 @@ class Ending(unittest.TestCase):
         self.assertEqual(self.killed_at(30), 47)
 
 
-class Modes(unittest.TestCase):
+class Opening(unittest.TestCase):
     def openpty(self):
         ends = os.openpty()
         for end in ends:
@@ -298,8 +220,6 @@ class Modes(unittest.TestCase):
             fcntl.ioctl(slave, termios.TIOCNXCL)
             self.assertEqual(is_ours[0], int(times < 3))
 
-
-class Closed(unittest.TestCase):
     def test_why_a_port_cant_be_opened(self):
         """Also where the system's number stands behind a fault of pyserial's."""
         place = os.stat("/dev/null")
@@ -314,8 +234,8 @@ class Closed(unittest.TestCase):
 
     def test_who_has_a_port_stands_behind_one_that_may_not_be_looked_at_and_one_that_goes(self):
         listed = [["2", "99999999", "1"], PermissionError, ["0"], ["0"]]
-        with mock.patch.object(os, "listdir", side_effect=listed), mock.patch.object(holders, "is_device", return_value=True):
-            self.assertEqual([process for process, _ in holders.holders(mock.Mock())], [1])
+        with mock.patch.object(os, "listdir", side_effect=listed), mock.patch.object(opening, "is_device", return_value=True):
+            self.assertEqual([process for process, _ in opening.holders(mock.Mock())], [1])
 
     def test_who_undoes_is_told_to_a_command(self):
         """A program that uses these modules says it itself."""
@@ -326,31 +246,87 @@ class Closed(unittest.TestCase):
                 self.assertRaisesRegex(session.Fault, f"^{text}$", session.use_port, given, None)
 
 
-class Unmarking(unittest.TestCase):
-    CLEAN = ((b"", b""), (b"abc", b"abc"), (b"\xff\xff", b"\xff"), (b"a\xff\xff\x00b", b"a\xff\x00b"),
-             (b"\xff\xff\xff\xff\x00\x00", b"\xff\xff\x00\x00"), (b"\x00\xff\xff\xff\xff\xff\xff", b"\x00\xff\xff\xff"))
-    BAD = ((b"ab\xff\x00cd", b"ab", 1), (b"\xff\xff\xff\x00\xff\xff\xff", b"\xff", 1), (b"\xff\x00\x00", b"", 1),
-           (b"a\xff\x00\xff\xff\x00\x00z", b"a", 2), (b"a\xff\xff\x00\xff\x00\nb", b"a\xff\x00", 1), (b"a\xff\x01b", b"a", 1))
-
-    def test_each_split(self):
-        """However a marked stream is parted between reads, the bytes are the same up to the first bad one."""
-        for marked, clean, bad in (*((marked, clean, 0) for marked, clean in self.CLEAN), *self.BAD):
-            for parts in partings(marked):
-                with self.subTest(parts=parts):
-                    unmark, came, found = Unmark(), b"", 0
-                    for part in parts:
-                        data, count = unmark.take(part)
-                        came += data if not found else b""
-                        found += count
-                    self.assertEqual((came, found), (clean, bad))
+def unmarked(marked):
+    """What is read of marked bytes up to the first bad one, and how many are bad: all that this is, however they are parted between reads."""
+    found = set()
+    for count in range(max(1, len(marked))):
+        for cuts in itertools.combinations(range(1, len(marked)), count):
+            unmark, came, bad = Unmark(), b"", 0
+            for begin, end in zip((0, *cuts), (*cuts, len(marked))):
+                data, more = unmark.take(marked[begin:end])
+                came, bad = came if bad else came + data, bad + more
+            found.add((came, bad))
+    return found
 
 
-def partings(data):
-    """All ways to part these bytes into pieces."""
-    places = range(1, len(data))
-    for count in range(len(data)):
-        for cuts in itertools.combinations(places, count):
-            yield [data[a:b] for a, b in zip((0, *cuts), (*cuts, len(data)))]
+def handed_on():
+    """The ids of the chips of the table that COMMAND is told of; nothing where it is told of none."""
+    name = tables.handed_on()
+    return name and [chip["id"] for chip in tables.entries(name)]
+
+
+def watched_for():
+    """The ids of the chips that a line knows which watches."""
+    return [chip["id"] for chip in session.make_watch().chips]
+
+
+def values_of(told):
+    """Values as Python has them; of names with their values an object."""
+    return [types.SimpleNamespace(**value) if isinstance(value, dict) else value for value in ast.literal_eval(f"[{told}]")]
+
+
+class Called(Rows):
+    """Functions that are called one by one: a test for each title of parts.rows."""
+
+    def play(self, lines):
+        self.mocks = {}
+        with contextlib.ExitStack() as self.patches, contextlib.chdir(self.folder), mock.patch.dict(os.environ, {"PATH": os.environ["PATH"]}, clear=True):
+            super().play(lines)
+
+    def call_of(self, name, given, due):
+        """Calls a function, of which this has to come."""
+        module, _, function = name.rpartition(".")
+        act = functools.partial(getattr(importlib.import_module(module), function), *values_of(given))
+        if due.startswith("! "):
+            kind, text = due.removeprefix("! ").split(" ", 1)
+            with contextlib.redirect_stderr(io.StringIO()), self.assertRaisesRegex(BaseException, text) as raised:
+                act()
+            self.assertEqual(type(raised.exception).__name__, kind)
+        else:
+            [due], found = values_of(due), act()
+            if isinstance(due, types.SimpleNamespace):
+                found = types.SimpleNamespace(**{it: getattr(found, it) for it in vars(due)})
+            self.assertEqual((name, given, found), (name, given, due))
+
+    def does(self, sign, told, name, *more):
+        rest = told.removeprefix(name)
+        if sign == "set":
+            os.environ.update(word.split("=", 1) for word in shlex.split(told))
+        elif sign == "patch":
+            self.patches.enter_context(mock.patch(name, *values_of(rest)))
+        elif sign == "answers":
+            self.mocks[name] = self.patches.enter_context(mock.patch(name, return_value=values_of(rest)[0]))
+        elif sign == "asked":
+            self.assertEqual(self.mocks[name].call_count, int(*more))
+        elif sign == "calls":
+            self.call_of(name, *rest.rsplit(" -> ", 1))
+        elif sign == "starts":
+            words = ["sh", "-c", 'printf %s "$STMFLASH_WAIT $STMFLASH_BAUD" > said']
+            self.assertEqual(command.start(words, "socket", *values_of(told)).wait(PATIENCE), 0)
+        else:
+            super().does(sign, told, name, *more)
+
+    def test_the_manual_page_names_the_tables(self):
+        self.assertEqual([it for it in (tables.MACHINES, *tables.TABLES) if it not in text_in("stmflash.1")], [])
+
+    def test_a_table_that_is_handed_on_is_the_same(self):
+        entries = tables.entries(os.path.join(TOP, "chips.toml"))
+        entries[0]["tried"] = [{"who": "a \"b\" \\ c\n", "date": "b", "simulated": True}, {}]
+        made = tomllib.loads(tables.table_text(entries).decode())["chip"]
+        self.assertEqual(made, [{key: entry[key] for key in tables.KEYS if key in entry} for entry in entries])
+
+
+each_named(Called, "parts.rows")
 
 
 class BadBytes(unittest.TestCase):

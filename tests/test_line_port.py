@@ -14,7 +14,7 @@ from rows import cases
 from started import Started
 from stmflash_line import opening, port
 from stmflash_line.faults import Fault, Gone
-from stmflash_line.moves import Moves
+from stmflash_line.sequences import Moves
 
 
 class Played(Started):

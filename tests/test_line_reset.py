@@ -1,8 +1,7 @@
-"""Wirings and --resets (tests/wired.rows); boards whose reset hangs on nothing; each wiring's moves beside those of stm32flash."""
+"""Wirings, --resets and GPIO lines (tests/wired.rows and tests/gpio.rows), also in stm32flash's words; boards whose reset hangs on nothing;
+each wiring's moves beside those of stm32flash."""
 
 import concurrent.futures
-import contextlib
-import io
 import itertools
 import os
 import random
@@ -13,21 +12,15 @@ import subprocess
 import time
 import unittest
 
-from boards import LINE, PYTHON, LinePlace, WiredPlace
+from boards import LINE, PYTHON, LinePlace
 from place import COUNTING, PATIENCE, TABLE, TOP
 from rows import in_parts
 from started import Started
 from stmflash_line.sequences import DELAY, read_sequence, read_wiring
-from stmflash_line.words import read_words
 
 STOPS = int(os.environ.get("STMFLASH_LINE_STOPS", "12"))
-# the sequences into the bootloader, and out of it
-WIRINGS = {
-    "dtr-reset,rts-boot0": ("-rts&dtr,-dtr,,", "rts&dtr,-dtr"), "dtr-reset,inverted-rts-boot0": ("rts&dtr,-dtr,,", "-rts&dtr,-dtr"),
-    "inverted-dtr-reset,rts-boot0": ("-rts&-dtr,dtr,,", "rts&-dtr,dtr"), "inverted-dtr-reset,inverted-rts-boot0": ("rts&-dtr,dtr,,", "-rts&-dtr,dtr"),
-    "rts-reset,dtr-boot0": ("-dtr&rts,-rts,,", "dtr&rts,-rts"), "rts-reset,inverted-dtr-boot0": ("dtr&rts,-rts,,", "-dtr&rts,-rts"),
-    "inverted-rts-reset,dtr-boot0": ("-dtr&-rts,rts,,", "dtr&-rts,rts"), "inverted-rts-reset,inverted-dtr-boot0": ("dtr&-rts,rts,,", "-dtr&-rts,rts"),
-    "dtr-reset": ("dtr,-dtr,,", ""), "rts-reset": ("rts,-rts,,", ""), "inverted-dtr-reset": ("-dtr,dtr,,", ""), "inverted-rts-reset": ("-rts,rts,,", "")}
+WIRINGS = [f"{turned}{reset}-reset{rest}" for reset, boot0 in (("dtr", "rts"), ("rts", "dtr")) for turned in ("", "inverted-")
+           for rest in (f",{boot0}-boot0", f",inverted-{boot0}-boot0", "")]
 EXAMPLE = "dtr-reset,rts-boot0"
 
 
@@ -62,10 +55,6 @@ class Pins:
 
 
 class Wirings(unittest.TestCase):
-    def test_sequences(self):
-        self.assertEqual({wiring: read_wiring(wiring) for wiring in WIRINGS}, WIRINGS)
-        self.assertEqual(read_wiring("rts-boot0,dtr-reset"), WIRINGS[EXAMPLE])
-
     def test_what_they_do_at_the_pins(self):
         """A reset of 100 ms with BOOT0 high, and one with BOOT0 low, wherever the signals were; reset isn't held behind."""
         for wiring in WIRINGS:
@@ -84,13 +73,6 @@ class Wirings(unittest.TestCase):
                         self.assertFalse(pins.is_high("boot0"))
                         self.assertTrue(pins.is_high("reset"))
 
-    def test_no_wirings(self):
-        for text in ("", "dtr", "reset", "rts-boot0", "inverted-dtr-boot0", "dtr-reset,dtr-boot0", "dtr-reset,rts-reset", "brk-reset",
-                     "dtr-reset,rts-boot1", "dtr-reset,", ",dtr-reset", "dtr-reset rts-boot0", "-dtr-reset", "DTR-reset",
-                     "dtr-reset,rts-boot0,rts-boot0", "inverted-inverted-dtr-reset"):
-            with self.subTest(text=text), self.assertRaises(ValueError):
-                read_wiring(text)
-
 
 class Words(unittest.TestCase):
     def test_one_example_everywhere(self):
@@ -102,26 +84,23 @@ class Words(unittest.TestCase):
                 # more than ten adapters are found, too
                 self.assertNotIn("ttyUSB?", text)
                 for sequence in re.findall(r"--boot[ =]'?([-a-z&]+,[-a-z&,:]+)", text):
-                    self.assertEqual(sequence, ":".join(WIRINGS[EXAMPLE]))
-
-    def test_one_word_says_how_the_board_is_left(self):
-        """Also where it says that nothing is moved; of two neither is taken."""
-        for how, own in (((), None), (("--boot", "rts"), None), (("--boot", "rts:"), ""), (("--boot", "rts:dtr"), "dtr"),
-                         (("--wiring", "dtr-reset"), ""), (("--wiring", EXAMPLE), WIRINGS[EXAMPLE][1])):
-            for after in (None, "", "brk"):
-                words = [*how, *([] if after is None else ["--after", after]), "--", "true"]
-                with self.subTest(words=words), contextlib.redirect_stderr(io.StringIO()):
-                    if own is not None and after is not None and "--boot" in how:
-                        self.assertRaises(SystemExit, read_words, words)
-                    else:
-                        self.assertEqual(read_words(words).after, read_sequence((own or "") if after is None else after))
+                    self.assertEqual(sequence, ":".join(read_wiring(EXAMPLE)))
 
 
 class Played(Started):
-    """Each case of wired.rows."""
+    """Each case of wired.rows and gpio.rows. A real gpioset, where one is installed, is asked for a chip that isn't there."""
+
+    @unittest.skipIf(shutil.which("gpioset") is None, "gpiod is not installed")
+    def test_a_real_gpioset(self):
+        """It takes the words, and says that there is no such chip."""
+        self.plain()
+        said = self.line("ttyUSB0", "--boot", "4", "--gpio-chip", "gpiochip99", "--", "echo", "went", PATH=os.environ["PATH"])
+        self.assertEqual((said.status, said.out), (1, b""))
+        self.assertRegex(said.err.decode(), r"\Astmflash-line: GPIO line 4 of gpiochip99: no such chip; this machine has .*\n\Z")
 
 
 in_parts(Played, "wired.rows", 2)
+in_parts(Played, "gpio.rows", 3)
 
 
 class Unwired(LinePlace):
@@ -139,8 +118,7 @@ class Unwired(LinePlace):
 
     def moved(self, name, *words):
         """Runs COMMAND on this port, which has RTS and DTR, behind a sequence that moves them."""
-        port = f"wired://{self.path(name)}?file={self.path('calls-' + name)}"
-        return WiredPlace.begin_on(self, port, "--boot", "-rts&dtr,-dtr", *words)
+        return self.start_wired(name, "--boot", "-rts&dtr,-dtr", *words)
 
     def stop_and_undo(self, seed):
         """A write of which the board got so many bytes: what is wrong behind its undo."""
@@ -208,7 +186,7 @@ class BesideStm32flash(LinePlace):
 
     def test_moves(self):
         """Each wiring by its name and by its sequence, and others. stm32flash finds no device, and leaves it all the same."""
-        named = [(f"{entry}:{leave}", ("--wiring", wiring)) for wiring, (entry, leave) in WIRINGS.items()]
+        named = [(f"{entry}:{leave}", ("--wiring", wiring)) for wiring, (entry, leave) in zip(WIRINGS, map(read_wiring, WIRINGS))]
         named += [(sequence, ("--boot", sequence)) for sequence in ("rts,-dtr:-rts,dtr", "-rts,,,,dtr&rts:brk,-dtr", "brk&-brk,rts")]
         theirs = self.all_recorded([("stm32flash", "-m", "8n1", "-i", sequence, "PORT") for sequence, _ in named])
         by_boot = self.all_recorded([(PYTHON, LINE, "PORT", "--boot", sequence, "--", "true") for sequence, _ in named])

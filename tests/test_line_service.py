@@ -7,7 +7,7 @@ import signal
 import time
 
 from boards import LinePlace, end_with
-from place import PATIENCE, TOP, WAIT, Place, text_in
+from place import PATIENCE, TOP, WAIT, text_in
 
 UNIT = os.path.join(TOP, "packaging", "stmflash-line@.service")
 
@@ -51,14 +51,6 @@ class Idle(LinePlace):
         self.assertRaises(TimeoutError, client.recv, 1)
         self.assertEqual(len(self.read_from(master, 150_000)), 150_000)
 
-    def test_how_long(self):
-        """A minute where a socket is served, and for ever behind --; 0 is for ever."""
-        from stmflash_line.words import read_words
-        for words, idle in (("P --socket s", 60), ("P -- c", 0), ("P --socket s --idle 0", 0), ("P --idle 7 -- c", 7), ("P --socket s --idle 9", 9)):
-            self.assertEqual(read_words(words.split()).idle, idle)
-        for idle in ("-1", "1.5", "x", ""):
-            self.assertEqual(self.line("ttyUSB0", "--socket", "board", "--idle", idle).status, 2)
-
 
 class Unit(LinePlace):
     def words_of_call(self, options=""):
@@ -75,27 +67,14 @@ class Unit(LinePlace):
         for options in ("", "--baud 57600"):
             with self.subTest(options=options):
                 started = self.until_served(self.start(*self.words_of_call(options)))
-                self.assertInfo(self.use("info", "--wait", WAIT, device="board"))
-                self.stop(started)
+                said = self.use("info", "--wait", WAIT, device="board")
+                self.assertEqual((said.status, said.out.split(b"\n")[0], said.err), (0, b"id 0412", b""))
+                started.terminate()
+                self.assertSilent(self.ended(started))
         shown = re.search('LINE_OPTIONS=(--.*)"$', text_in(UNIT), re.M)[1]
         self.assertLineFault(self.line(*self.words_of_call(shown)), f"{self.path('ttyUSB0')}: has no RTS; leave --wiring, --boot and --after out")
 
 
-# what is on in the unit
-CONFINING = "PrivateUsers ProtectHome PrivateTmp ProtectClock ProtectControlGroups ProtectHostname ProtectKernelLogs ProtectKernelModules " \
-            "ProtectKernelTunables PrivateNetwork RestrictNamespaces RestrictRealtime RestrictSUIDSGID RemoveIPC LockPersonality " \
-            "MemoryDenyWriteExecute"
-
-
-class Confinement(Place):
-    def test_the_unit_is_confined(self):
-        """A user of its own, no capability, one port. How exposed that is packaging/try-deb looks at."""
-        lines = text_in(UNIT).splitlines()
-        for line in ("DynamicUser=yes", "Group=dialout", "CapabilityBoundingSet=", "NoNewPrivileges=yes", "ProtectSystem=strict",
-                     "DevicePolicy=closed", "DeviceAllow=/dev/%I rw", "SystemCallFilter=@system-service", "RuntimeDirectory=stmflash-%i",
-                     "RestrictAddressFamilies=AF_UNIX", "ProtectProc=invisible", "ProcSubset=pid", "IPAddressDeny=any", "UMask=0077",
-                     "SystemCallArchitectures=native", "SystemCallFilter=~@privileged @resources", "Restart=on-failure", "RestartSec=1",
-                     "Documentation=man:stmflash-line(1)", "RuntimeDirectoryMode=0750", *(f"{name}=yes" for name in CONFINING.split()),
-                     "Environment=LINE_OPTIONS=", "SystemCallErrorNumber=EPERM", *(f"{name}=dev-%i.device" for name in ("BindsTo", "After", "WantedBy"))):
-            self.assertIn(line, lines)
-        self.assertFalse([line for line in lines if line.startswith(("User=", "AmbientCapabilities=", "PermissionsStartOnly="))])
+def of_unit(form):
+    """The lines of the unit that have this form."""
+    return [line for line in text_in(UNIT).splitlines() if re.fullmatch(form, line)]

@@ -3,17 +3,14 @@ told (tests/watch.rows has each byte, tests/over.rows sessions, tests/planted th
 
 import os
 import random
-import re
 import sys
 import time
 import tomllib
-from unittest import mock
 
 from boards import LinePlace
-from place import COUNTING, TOP, UNIQUE
+from place import TOP
 from rows import Rows, bytes_of, cases, in_parts
 from started import Started
-from stmflash_line import chips, faults, session, tables
 from stmflash_line.watch import Watch
 
 import pty_boards
@@ -70,39 +67,16 @@ class Played(Started):
 in_parts(Played, "over.rows", 3)
 
 
-class WatchedPlace(LinePlace):
-    begins = {"table": TABLE, "image": COUNTING[:3328]}
-
-    def over(self, *command):
-        """What a command says over a line that watches."""
-        return self.line("ttyUSB0", "--watch", "--", *command, STMFLASH_TABLE=self.path("table"))
+class Boards(LinePlace):
+    begins = {"table": TABLE}
 
     def watched(self, name, *words):
-        return self.over(*self.stmflash(name, *words))
+        """What a session says over a line that watches."""
+        return self.line("ttyUSB0", "--watch", "--", *self.stmflash(name, *words), STMFLASH_TABLE=self.path("table"))
 
-    def write(self):
-        return self.watched("write", "-f", "-v", "-S", "0x08001000", "image", "--quiet")
-
-    def assertWatched(self, said, out=None):
+    def assertWatched(self, said):
         self.assertRegex(said.err.decode(), rf"\A{SUMMARY}\Z")
-        self.assertEqual((said.status, said.out), (0, said.out if out is None else out))
-
-
-class Boards(WatchedPlace):
-    def test_a_board_that_tells_which_it_is(self):
-        """It is asked before the session, and once more in it; what comes behind is watched too."""
-        here = UNIQUE.encode()
-        self.store("table", TABLE + b"unique = [0x1FFFF7AC, 12]\nsize_at = 0x1FFFF7CC\n")
-        self.store("ttyUSB0.flash.board", b"unique " + here + b"\nsize 8\n")
-        board = self.board(chip="0440")
-        said = self.write()
-        self.assertWatched(said)
-        # four pages are read, and then the image
-        self.assertGreater(int(re.search(rb"watched: ([0-9]+) bytes", said.err)[1]), 4 * 1024 + 3328)
-        self.assertEqual(board.store()[4096:4096 + 3328], COUNTING[:3328])
-        self.assertIn(here, self.held("journal"))
-        self.assertWatched(self.watched("undo"), b"undone 1\n")
-        self.assertEqual(board.store(), b"\xff" * 8192)
+        self.assertEqual(said.status, 0)
 
     def test_stops_and_undos(self):
         """A write that was stopped behind any byte is undone over a line that watches, without a false word."""
@@ -123,13 +97,3 @@ class Boards(WatchedPlace):
                 self.assertWatched(self.watched("undo"))
                 self.remove("journal")
             self.assertEqual(board.store(), flash, f"after {count} bytes of seed {seed}")
-
-    def test_tables(self):
-        """The one that is named is read alone, else one's own over the installed one."""
-        os.mkdir(self.path("stmflash"))
-        self.store_all({"stmflash/chips.toml": TABLE.replace(b"440", b"441"), "other": b"none"})
-        with mock.patch.multiple(tables, TABLES=[self.path("table"), self.path("other")], MACHINES=""), mock.patch.dict(os.environ, XDG_CONFIG_HOME=self.folder):
-            for os.environ["STMFLASH_TABLE"], ids in (("", [0x441, 0x440]), (self.path("table"), [0x440])):
-                self.assertEqual([chip["id"] for chip in session.make_watch().chips], ids)
-        with mock.patch.multiple(tables, TABLES=(), BESIDE="", MACHINES="", users_own=str), mock.patch.object(chips, "TABLES", ("/none/1", "/none/2")):
-            self.assertRaisesRegex(faults.Fault, "^/none/1: No such file or directory; STMFLASH_TABLE names another$", session.make_watch)

@@ -16,101 +16,53 @@ import threading
 import unittest
 from unittest import mock
 
-from boards import REAL, Named, OnPorts, default_signals, pty_boards
-from place import COUNTING, PATIENCE, TABLE, TOP, Place, Said, program, readable, text_in
+from boards import REAL, OnPorts, end_with
+from place import PATIENCE, TABLE, TOP, Place, Said, readable, text_in
 from rows import Rows, bytes_of, cases, each_named, in_parts
 
 import image
 from stmflash_line import journals as places
 from stmflash_line.tied import tied
-from as_stm32flash import actions, board as boards, call, hex_text, journals, line, patience, segments, sequence, tools, words
+from as_stm32flash import actions, board as boards, call, hex_text, journals, line, sequence, words
 from as_stm32flash.fault import Failed, Fault
-from as_stm32flash.owner import Owner, owner_of
+from as_stm32flash.journal_text import Owner, owner_of
 
 WORDS = os.path.join(TOP, "line", "stm32flash")
-# page 5 of a flash of 55 is to be erased, and was not yet
-STOPPED = "stmjournal 2 0412\nopen 1\npage 5 " + "55" * 1024 + "\nerase 5\n"
-# what its undo makes of a flash that counts, and what a write of the image does
-BACK = COUNTING[:5120] + b"\x55" * 1024 + COUNTING[6144:]
-NEW = b"new" + COUNTING[3:]
 # a table of a chip that tells its board
 TELLING = TABLE + b"unique = [0x1FFFF7E8, 12]\n"
 
 
-class Words(Named):
+class Told(OnPorts):
+    """Cases that are told as text (tests/stm32flash.rows says how)."""
+
     # a short one, which stmflash's own follows where it fails
     wait = "100"
     begins = {"image": b"new"}
-
-    def words(self, *words, port="ttyUSB0", given=None, **how):
-        """Runs stm32flash on these words and a port. What has a name in capitals is a setting; else a file in place of none to read or of a pipe."""
-        settings = {name: how.pop(name) for name in [*how] if name.isupper()}
-        files = {"stdout": subprocess.PIPE, "stderr": subprocess.PIPE, **({"stdin": subprocess.DEVNULL} if given is None else {"input": given})}
-        ran = subprocess.run([WORDS, *words, *([port] if port else [])], cwd=self.folder, env=self.settings(**settings), timeout=PATIENCE,
-                             check=False, **{**files, **how})
-        return Said(ran.returncode, ran.stdout, ran.stderr)
-
-    def well(self, *words, **more):
-        """The same, which ends well; what it said."""
-        said = self.words("-m", "8n1", *words, **more)
-        self.assertEqual(said.status, 0, said)
-        return said
-
-    def leaves(self, board, flash, *words, **more):
-        """The same, which leaves this flash."""
-        said = self.well(*words, **more)
-        self.assertEqual(board.store(), flash)
-        return said
-
-    def refused(self, text, words=(), **more):
-        """Runs it on these words, where it has to end with 1 and say this."""
-        said = self.words("-m", "8n1", *words, **more)
-        self.assertEqual(said.status, 1, said)
-        self.assertIn(text, said.err)
-
-    def flash(self, data):
-        """A board whose flash holds these bytes."""
-        return self.telling(None, data)
-
-    def folder_of_port(self):
-        """Also while no board is there."""
-        return os.path.join(".local", "state", "stmflash", "ports", places.named_by("ttyUSB0", self.path("ttyUSB0")))
-
-    def name(self, name):
-        """The name of a journal of the port."""
-        return os.path.join(self.folder_of_port(), name)
-
-    def keep(self, name, text):
-        """Stores one."""
-        os.makedirs(self.path(self.folder_of_port()), exist_ok=True)
-        self.store(self.name(name), text)
-
-    def journal_of(self, byte):
-        """The journal of a board that tells a unique id of this byte alone."""
-        return os.path.join(".local", "state", "stmflash", "journals", 12 * byte + ".journal")
-
-
-class Told(Words, OnPorts):
-    """Cases that are told as text (tests/stm32flash.rows says how)."""
-
     unsaid, how, opened = None, {}, None
 
     def set_nothing(self):
         super().set_nothing()
         self.how, self.opened = {}, None
 
+    def name(self, name):
+        """The name of a journal of the port, also while no board is there."""
+        return os.path.join(".local", "state", "stmflash", "ports", places.named_by("ttyUSB0", self.path("ttyUSB0")), name)
+
     def placed(self, told):
-        return super().placed(told).replace("{port}", self.folder_of_port()).replace("{fd}", str(self.opened))
+        return super().placed(told).replace("{port}", self.name("")[:-1]).replace("{fd}", str(self.opened))
 
     def run_words(self, words):
         words = shlex.split(words)
         if words[0] == "stmflash-line":
             return self.ended(self.start(*words[1:], reads=self.given is not None, **self.settings(**self.variables)), self.given)
-        return self.words(*words, port=None, given=self.given, **self.variables, **self.how)
+        # a file in the place of none to read, or of a pipe
+        files = {"stdout": subprocess.PIPE, "stderr": subprocess.PIPE, **({"stdin": subprocess.DEVNULL} if self.given is None else {"input": self.given})}
+        ran = subprocess.run([WORDS, *words], cwd=self.folder, env=self.settings(**self.variables), timeout=PATIENCE, check=False, **{**files, **self.how})
+        return Said(ran.returncode, ran.stdout, ran.stderr)
 
     def does(self, sign, told, name, *more):
         if sign == "keep":
-            self.keep(name, bytes_of(told.partition(" ")[2]))
+            self.put(self.name(name), bytes_of(told.partition(" ")[2]))
         elif sign == "stream":
             self.how[name] = self.enterContext(open(self.path(*more), "rb" if name == "stdin" else "ab"))
         elif sign == "opened":
@@ -126,7 +78,17 @@ class Told(Words, OnPorts):
             writing.start()
             self.addCleanup(writing.join)
         elif sign == "kept":
-            self.assertEqual(sorted({*os.listdir(self.path(self.folder_of_port()))} - {"last"}), told.split())
+            self.assertEqual(sorted({*os.listdir(self.path(self.name("")))} - {"last"}), told.split())
+        elif sign == "reader":
+            os.mkfifo(self.path(name))
+            self.reader = os.open(self.path(name), os.O_RDONLY | os.O_NONBLOCK)
+            self.addCleanup(os.close, self.reader)
+        elif sign == "came":
+            self.assertEqual(os.read(self.reader, 4096), bytes_of(told))
+        elif sign == "stops":
+            started = self.start(*more[1:], line=(WORDS,), **self.settings())
+            self.until(lambda: b"\nprogram " in (self.held(self.name("journal")) or b""), "nothing is written")
+            self.assertEqual(end_with(started, getattr(signal, f"SIG{name}")), int(more[0]))
         else:
             super().does(sign, told, name, *more)
 
@@ -146,7 +108,7 @@ in_parts(Played, "ports.rows", 2)
 in_parts(Played, "unchanged.rows", 2)
 
 
-class Refusals(Words):
+class Words(unittest.TestCase):
     @unittest.skipIf(REAL is None, "stm32flash is not installed")
     def test_what_the_real_ones_help_has(self):
         """Each option is taken as it is there, and each example, but for two that docs/SWITCH.md names."""
@@ -162,33 +124,6 @@ class Refusals(Words):
             except Fault as fault:
                 refused.append(str(fault))
         self.assertEqual([re.search("I2C|GPIO line 2", text)[0] for text in refused], ["I2C", "GPIO line 2"])
-
-    def test_tools_that_arent_there(self):
-        """One that is beside goes before those of PATH."""
-        shutil.copy("/bin/true", self.path("stmflash"))
-        with mock.patch.dict(os.environ, PATH=self.path("bin")):
-            self.assertEqual(tools.find_program(self.folder, "stmflash"), self.path("stmflash"))
-
-
-class TakingBack(Words):
-    def test_a_signal_in_the_midst(self):
-        """The call is ended while it writes; the next one gives the flash back."""
-        self.store_all({"image": b"new" * 1000, "ttyUSB0.flash": COUNTING})
-        board = pty_boards.PtyBoard(program(), self.path("ttyUSB0"), "0412", self.path("table"), baud=57600)
-        self.addCleanup(board.stop)
-        journal = self.name("journal")
-        for number, status in ((signal.SIGTERM, 143), (signal.SIGKILL, -9)):
-            with self.subTest(signal=number):
-                with subprocess.Popen([WORDS, "-m", "8n1", "-w", "image", "ttyUSB0"], cwd=self.folder, env=self.settings(),
-                                      stdin=subprocess.DEVNULL, stdout=subprocess.DEVNULL, stderr=subprocess.DEVNULL,
-                                      preexec_fn=default_signals) as started:
-                    self.until(lambda: b"\nprogram " in (self.held(journal) or b""), "nothing is written")
-                    started.send_signal(number)
-                self.assertEqual(started.returncode, status)
-                said = self.leaves(board, COUNTING[:28672] + b"next" + COUNTING[28676:], "-w", "-", "-S", "0x08007000", given=b"next")
-                self.assertIn(b"that is undone first", said.err)
-                self.well("--undo")
-                self.remove(journal)
 
 
 def header_of(word):
@@ -256,55 +191,69 @@ class Dropping(Rows):
         self.assertEqual(owner_of(self.path("held")), Owner("0412", "A1" * 12))
 
 
+def asked_for(*given):
+    """How stmflash-line is asked for the line of a call of these words: the port, the speed, the sequences, and the chip of GPIO lines."""
+    with mock.patch.multiple(call, tools=mock.Mock(), chips=mock.Mock(), Journals=mock.Mock()), mock.patch.object(call.line, "use") as use, \
+            contextlib.redirect_stdout(io.StringIO()):
+        call.outside("here", [*given])
+    return use.call_args.args[:4]
+
+
+def waits(names, slowest, whole=103, fails=(), grows=0):
+    """The sessions of these names, one behind another, each with its wait: the slowest answer took so many seconds, these sessions of all fail,
+    and the journal grows by so many bytes each time that it is looked at."""
+    sizes, asked = itertools.count(0, grows), []
+    board = boards.Board(mock.Mock(files=()), mock.Mock(**{"size.side_effect": lambda: next(sizes)}), whole, lambda: slowest)
+
+    def run(words, *_):
+        asked.append((words[0], int(words[words.index("--wait") + 1])))
+        if len(asked) in fails:
+            raise Failed("device does not follow the protocol")
+        return ""
+
+    board.run = run
+    for name in names:
+        with contextlib.suppress(Failed):
+            board.use(name)
+    return asked
+
+
+def tries(given, written=True, stays=False, is_large=False):
+    """How often a write is done and undone, of which so many may be done again, and that fails by these; and whether it ended well. `written`:
+    it has changed something, `stays`: that can't be undone, `is_large`: the journal of before is put aside."""
+    retries, *failing = given
+    board, results = mock.Mock(), iter([*map(Failed, failing), "done"])
+    board.journals.is_large.return_value, board.is_unfinished.return_value, board.undoable.return_value = is_large, False, 1
+    board.put_aside.side_effect = lambda: setattr(board.undoable, "return_value", 0)
+
+    def change():
+        board.undoable.return_value += written
+        result = next(results)
+        if result != "done":
+            raise result
+
+    def undo():
+        if stays:
+            raise Failed("device does not follow the protocol")
+        board.undoable.return_value -= 1
+
+    act, board.undo.side_effect, ended = mock.Mock(side_effect=change), undo, False
+    with contextlib.redirect_stderr(io.StringIO()) as told, contextlib.suppress(Fault):
+        actions.Actions(words.Words(action="w", retries=retries), board, None, None).change(act)
+        ended = True
+    assert told.getvalue().count(": the flash is as before, and it is done again\n") == act.call_count - 1, told.getvalue()
+    return act.call_count, board.undo.call_count, ended
+
+
 class Parts(Place):
     """What needs no board."""
-
-    def test_which_pages_are_kept(self):
-        """Those of what wasn't undone; a void line and a torn one count as nothing."""
-        text = b"stmjournal 2 0412\nopen 1\npage 5 5!\npage 5 55\nerase 5\nend 1\nopen 2\npage 6 55\npage 7 55\nend 2\nundone 2\n"
-        self.store("held", text + b"open 2\nend 2\nopen 3\npage 8 5")
-        self.assertEqual(segments.kept_pages(self.path("held")), [1, 0, 0])
-        self.assertEqual(segments.kept_pages(self.path("missing")), [])
-
-    def test_what_is_anothers_is_refused(self):
-        """Its user's is taken by root too, who was called by sudo."""
-        held = mock.Mock(st_uid=1000, st_mode=0o100600)
-        for user, called, is_taken in ((1000, "", True), (1001, "1000", False), (0, "1000", True), (0, "1001", False), (0, "", False)):
-            with self.subTest(user=user, called=called), mock.patch.object(os, "geteuid", lambda: user), \
-                    mock.patch.object(os, "stat", lambda _: held), mock.patch.dict(os.environ, SUDO_UID=called):
-                with contextlib.nullcontext() if is_taken else self.assertRaisesRegex(places.Fault, "is another user's"):
-                    places.refuse_others("journal")
-
-    def test_the_line_is_asked_for_with_both_sequences(self):
-        asked = []
-        with mock.patch.object(call.line, "use", lambda *words: asked.append(words[:4])), \
-                mock.patch.object(call.tools, "find", lambda _: tools.Tools("stmflash", "chips")), \
-                mock.patch.object(call.chips, "read_table", lambda _: {}), \
-                mock.patch.object(call.Journals, "make", lambda _: None), \
-                mock.patch.dict(os.environ), contextlib.redirect_stdout(io.StringIO()):
-            for chip, *words in (("chip", "-b", "115200"), ("chip", "-i", "-rts,dtr:rts"), ("chip", "-i", "-rts,dtr"), ("chip", "-c", "-i", "-rts,dtr:rts"),
-                                 ("chip", "-c", "-i", "rts,4"), ("chip", "-i", "rts,4"), ("", "-i", "rts,4")):
-                os.environ["STM32FLASH_GPIO_CHIP"] = chip
-                call.outside("here", [*words, "/dev/ttyUSB0"])
-        self.assertEqual(asked, [("/dev/ttyUSB0", 115200, None, None),
-                                 *(("/dev/ttyUSB0", 57600, boot, None) for boot in ("-rts,dtr:rts", "-rts,dtr", ":rts", "")),
-                                 ("/dev/ttyUSB0", 57600, "rts,4", "chip"), ("/dev/ttyUSB0", 57600, "rts,4", None)])
-
-    def test_the_wait_is_what_is_known_of_the_port(self):
-        with mock.patch.object(patience, "hold", lambda _: 1):
-            for given in (None, ""):
-                self.assertEqual([patience.wait(given, "a", baud) for baud in (4000000, 115200, 57600, 9600)], [100, 103, 152, 641])
-            self.assertEqual([patience.wait(given, "a", 115200) for given in ("77", "60000")], [77, 60000])
-            self.assertRaises(Fault, patience.wait, "soon", "a", 115200)
-        with mock.patch.object(patience, "hold", lambda _: None):
-            self.assertEqual(patience.wait(None, "a", 115200), 500)
 
     def test_each_start_loads_what_it_needs(self):
         """What takes long to load stays out of what doesn't need it."""
         heavy = {"argparse", "ctypes", "dataclasses", "hashlib", "inspect", "json", "shutil", "socket", "subprocess", "tempfile", "tomllib"}
-        own = {"as_stm32flash.actions", "as_stm32flash.board", "as_stm32flash.image", "as_stm32flash.crc", "stmflash_line.chips",
-               "stmflash_line.far", "stmflash_line.gpio_lines", "stmflash_line.model", "stmflash_line.watch"}
-        inside = "from as_stm32flash import call, leaving; from as_stm32flash.actions import Actions; from as_stm32flash.board import Board"
+        own = {"as_stm32flash.actions", "as_stm32flash.board", "as_stm32flash.image", "as_stm32flash.crc", "stmflash_line.far",
+               "stmflash_line.gpio_lines", "stmflash_line.model", "stmflash_line.watch"}
+        inside = "from as_stm32flash import call; from as_stm32flash.actions import Actions; from as_stm32flash.board import Board"
         for text, needed in (
                 ("from as_stm32flash import call", set()),
                 (inside, {"ctypes", "subprocess", "as_stm32flash.actions", "as_stm32flash.board"}),
@@ -314,44 +263,6 @@ class Parts(Place):
                                        f"sys.dont_write_bytecode = True; {text}; print(*sys.modules)"], capture_output=True, check=True)
                 self.assertEqual((heavy | own) & set(told.stdout.decode().split()) - needed, set())
 
-    def test_a_session_behind_another_waits_by_what_came(self):
-        """Only where that ended well, and only what is done again where it was too short."""
-        def waits(names, slowest, whole=103, fails=(), grows=0):
-            sizes = itertools.count(0, grows)
-            tools, journals = mock.Mock(files=()), mock.Mock(**{"size.side_effect": lambda: next(sizes)})
-            board = boards.Board(tools, journals, whole, lambda: slowest)
-            asked = []
-
-            def run(words, *_):
-                asked.append((words[0], int(words[words.index("--wait") + 1])))
-                if len(asked) in fails:
-                    raise Failed("device does not follow the protocol")
-                return ""
-
-            board.run = run
-            for name in names:
-                with contextlib.suppress(Failed):
-                    board.use(name)
-            return asked
-
-        for name in ("read", "write", "erase", "go"):
-            self.assertEqual(waits(("info", name), 0.0032), [("info", 103), (name, 50)])
-            self.assertEqual(waits(("info", name), 0.0032, fails=(1, 3)), [("info", 103), ("info", 500), (name, 50), (name, 500)])
-        self.assertEqual(waits(("info", "read", "write", "erase", "go"), 0.0101), [("info", 103), ("read", 64), ("write", 64), ("erase", 64), ("go", 64)])
-        # never longer than it would be, and as long as it would be where nothing was measured
-        for slowest in (0.05, 0):
-            self.assertEqual(waits(("info", "read"), slowest), [("info", 103), ("read", 103)])
-        # what can't be done again, and what a program or an undo has gone before
-        for names in (("info", "protect"), ("info", "undo"), ("go", "read"), ("protect", "read"), ("undo", "read")):
-            self.assertEqual([taken for _, taken in waits(names, 0.0032)], [103, 103])
-        # one that failed says nothing of the board, and what was too short is done with stmflash's own, or with the user's
-        self.assertEqual(waits(("info", "read"), 0.0032, 600, fails=(1,)), [("info", 600), ("read", 600)])
-        self.assertEqual(waits(("info", "read"), 0.0032, fails=(2,)), [("info", 103), ("read", 50), ("read", 500)])
-        self.assertEqual(waits(("info", "read"), 0.2, 2000, fails=(2,)), [("info", 2000), ("read", 820), ("read", 2000)])
-        # where something was begun an undo alone goes on
-        self.assertEqual(waits(("info", "write"), 0.0032, fails=(2,), grows=1), [("info", 103), ("write", 50)])
-        self.assertEqual(waits(("undo",), 0.0032, fails=(1,), grows=1), [("undo", 103), ("undo", 500)])
-
     def test_what_was_stopped_is_waited_for(self):
         """An erase may still run: as long as stmflash waits, whatever the line's own wait is."""
         for unfinished, given, count, wait in ((True, 103, 1, 500), (True, 2000, 1, 2000), (False, 103, 1, None), (False, 103, 2, 500)):
@@ -360,25 +271,15 @@ class Parts(Place):
                 board.undo(count=count)
             use.assert_called_once_with("undo", str(count), wait=wait)
 
-    def test_numbers(self):
-        """As the C library reads them."""
-        self.assertEqual([words.number(text) for text in ("0", "10", "010", "0x10", "0XfF", "4294967295", "037777777777")],
-                         [0, 10, 8, 16, 255, (1 << 32) - 1, (1 << 32) - 1])
-        for text in ("4294967296", "0x100000000", "08", "-1", "1 ", "", "1e3", "0x"):
-            self.assertRaises(Fault, words.number, text)
-
-    def test_where_journals_are(self):
-        """In a folder of their owner alone; a relative XDG_STATE_HOME counts as none; one that is large is put aside before a write."""
+    def test_the_journal_of_a_port(self):
+        """The port has it on the disk; one that is large is put aside before a write."""
         synced = []
-        for state, place in (("", ".local/state"), ("relative", ".local/state"), (self.path("own"), "own")):
-            with mock.patch.dict(os.environ, HOME=self.folder, XDG_STATE_HOME=state):
-                made = journals.Journals("/dev/ttyS0")
-            self.assertEqual(made.folder, self.path(f"{place}/stmflash/ports/ttyS0"))
-            made.make()
-            self.assertEqual([os.stat(folder).st_mode & 0o777 for folder in (made.folder, made.boards)], [0o700, 0o700])
+        with mock.patch.dict(os.environ, XDG_STATE_HOME=self.folder):
+            made = journals.Journals("/dev/ttyS0")
+        made.make()
         with mock.patch.object(places.os, "fsync", lambda it: synced.append((os.readlink(f"/proc/self/fd/{it}"), os.readlink(made.last)))):
             made.take_board("A1")
-        self.assertEqual(synced, [(made.folder, made.live)], "the port has it on the disk")
+        self.assertEqual(synced, [(made.folder, made.live)])
         for size, is_large in ((8 << 20, False), ((8 << 20) + 1, True)):
             self.store(made.live, bytes(size))
             board = mock.Mock(journals=made)
@@ -471,43 +372,6 @@ class Parts(Place):
         ran = subprocess.run([self.path("stm32flash"), "-h"], capture_output=True, timeout=PATIENCE, check=False)
         self.assertEqual((ran.returncode, ran.stderr), (1, b"ERROR: stmflash_line, which stm32flash is made of, isn't there: install stmflash\n"))
 
-    def test_a_write_that_differs_is_done_again_as_often_as_is_asked(self):
-        def tries(retries, *faults, written=True, stays=False, is_large=False):
-            """How often it was done and undone, and whether it ended well; `written`: it has changed something, `stays`: that can't
-            be undone, `is_large`: the journal of before is put aside."""
-            board, results = mock.Mock(), iter([*map(Failed, faults), "done"])
-            board.journals.is_large.return_value, board.is_unfinished.return_value, board.undoable.return_value = is_large, False, 1
-            board.put_aside.side_effect = lambda: setattr(board.undoable, "return_value", 0)
-
-            def change():
-                board.undoable.return_value += written
-                result = next(results)
-                if result != "done":
-                    raise result
-
-            def undo():
-                if stays:
-                    raise Failed("device does not follow the protocol")
-                board.undoable.return_value -= 1
-
-            act, board.undo.side_effect = mock.Mock(side_effect=change), undo
-            asked, ended = words.Words(action="w", retries=retries), False
-            with contextlib.redirect_stderr(io.StringIO()) as told, contextlib.suppress(Fault):
-                actions.Actions(asked, board, None, None).change(act)
-                ended = True
-            self.assertEqual(told.getvalue().count(": the flash is as before, and it is done again\n"), act.call_count - 1)
-            return act.call_count, board.undo.call_count, ended
-
-        one, other, otherwise = "differs at 08000000", "differs at 08000400", "device does not follow the protocol"
-        for given, due in (((10,), (1, 0, True)), ((10, one, other), (3, 2, True)), ((10, one, otherwise), (2, 2, False)), ((1, one, other), (2, 2, False)), ((0, one), (1, 1, False)),
-                           ((10, one, one), (2, 2, False)), ((10, otherwise), (1, 1, False)), ((10, "no answer from the device"), (1, 0, False))):
-            self.assertEqual((given, tries(*given)), (given, due))
-        self.assertEqual(tries(10, otherwise, written=False), (1, 0, False))
-        self.assertEqual(tries(10, otherwise, written=False, is_large=True), (1, 0, False))
-        # what stands isn't done again, and a write of before isn't undone
-        self.assertEqual(tries(10, one, stays=True), (1, 1, False))
-        self.assertEqual(tries(10, one, written=False), (2, 0, True))
-
     def test_a_call_of_stmflash_ends_with_a_fault_of_ours(self):
         board = boards.Board.__new__(boards.Board)
         board.tools, board.settings = mock.Mock(stmflash=self.path("stmflash")), os.environ
@@ -554,19 +418,14 @@ class Parts(Place):
                     self.assertRaises(Failed, board.use, "write")
                 self.assertEqual((done.call_count, board.hint), (times, "of the first" * (times == 1)))
 
-    def test_a_port_is_where_its_adapter_is_plugged_in(self):
-        links = {"/dev/serial/by-path/pci-usb-0:2": "/dev/ttyUSB3", "/dev/serial/by-path/pci-usbv2-0:2": "/dev/ttyUSB3",
-                 "/dev/serial/by-id/adapter": "/dev/ttyUSB3", "/dev/serial/by-path/pci-usb-0:1": "/dev/ttyUSB10"}
-        with mock.patch.object(places.os.path, "realpath", lambda path: links.get(path, path)), \
-                mock.patch.object(places.os, "listdir", lambda _: ["pci-usbv2-0:2", "pci-usb-0:2", "pci-usb-0:1"]), \
-                mock.patch.object(places, "is_pty", lambda _: False):
-            # a port whose name begins another's has none of its journals
-            for port, name in (("/dev/ttyUSB3", "pci-usb-0:2"), ("/dev/serial/by-id/adapter", "pci-usb-0:2"), ("/dev/ttyS0", "ttyS0"),
-                               ("/dev/ttyUSB1", "ttyUSB1"), ("/dev/ttyUSB10", "pci-usb-0:1")):
-                self.assertEqual(places.name_of(port), name)
-        os.symlink("/dev/ptmx", self.path("board"))
-        with mock.patch.object(places, "is_pty", lambda _: True):
-            self.assertRegex(places.name_of(self.path("board")), "^board-")
+    def test_what_stands_there_stays_until_all_is_read(self):
+        """Also raw bytes that are read into a name of HEX."""
+        synced, reads = [], actions.Actions(None, None, None, None)
+        self.store("out.hex", b"before")
+        with mock.patch.object(reads, "fetch", lambda *_, out: (out.write(b"read"), out.flush())), \
+                mock.patch.object(os, "fsync", lambda file: synced.append((self.raw("out.hex"), os.fstat(file.fileno()).st_size))):
+            reads.fetch_file(None, self.path("out.hex"))
+        self.assertEqual((synced, self.raw("out.hex"), sorted(os.listdir(self.folder))), ([(b"before", 4)], b"read", ["out.hex", "table"]))
 
     def test_the_manual_page_has_every_option(self):
         page = text_in("line", "stmflash-as-stm32flash.1").replace("\\", "")

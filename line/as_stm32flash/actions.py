@@ -6,7 +6,7 @@ import os
 from stmflash_line.faults import as_text
 from stmflash_line.held import hold
 
-from . import handed
+from . import handed, sequence
 from . import part as parts
 from .fault import Failed, Fault
 from .told import note
@@ -224,3 +224,29 @@ class Actions:
             note(str(fault))
             return False
         return True
+
+    # ---- in the end
+
+    def leave(self):
+        """How a call that went well leaves the board, by -g, -R and the exit sequence of -i, which stmflash-line plays when all else is done; and
+        what is told of it."""
+        words, told = self.words, self.told
+        played = words.leave()
+        if words.start_at is not None:
+            address = self.start_address()
+            told.line(f"\nStarting execution at address 0x{address:08x}... ", end="")
+            told.line("done." if self.start(address) else "failed.")
+        elif words.reset and words.action not in ("u", "j", "k"):
+            told.line("\nResetting device... ")
+            if played is None:
+                note("without an exit sequence in -i no reset is sent: the program at the flash's start is started by Go")
+                if not self.start(self.start_address()):
+                    told.line("Reset failed.")
+                    return 1
+            else:
+                told.lines(sequence.lines(played))
+            told.line("Reset done.")
+            return 0
+        if played is not None:
+            told.lines(sequence.lines(played))
+        return 0

@@ -10,10 +10,9 @@ from stmflash_line.journals import is_stopped
 from stmflash_line.tied import tied
 
 from .fault import Failed, Fault
+from .journal_text import Owner, kept_pages, owner_of
 from .journals import KEPT, rename
-from .owner import Owner, owner_of
 from .patience import UNKNOWN, wait_at_rest
-from .segments import kept_pages
 from .told import note
 
 # how long a program that was told to end may take to let its journal go, in seconds

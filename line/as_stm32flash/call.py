@@ -13,10 +13,9 @@ from stmflash_line.tables import table_text
 from . import chip as chips
 from . import handed, line, sequence, tools, words
 from .fault import Failed, Fault
+from .journal_text import kept_pages, owner_of
 from .journals import Journals
-from .owner import owner_of
 from .patience import wait
-from .segments import kept_pages
 from .told import VERSION, Told, note, put
 
 # that the entry sequence of -i resets the board, which its user says
@@ -45,7 +44,7 @@ def ended(act):
     try:
         return act()
     except Fault as fault:
-        put(sys.stderr, str(fault) + ("\n" + usage() if fault.usage else "") + "\n")
+        put(sys.stderr, str(fault) + ("\n" + words.USAGE if fault.usage else "") + "\n")
         return 1
     except faults.Fault as fault:
         put(sys.stderr, f"ERROR: {fault}\n")
@@ -55,17 +54,12 @@ def ended(act):
         return 1
 
 
-def usage():
-    from . import usage as page
-    return page.USAGE
-
-
 # ---- outside; what only few calls need, or only the inside, is loaded where it is needed: each start of Python counts
 
 def outside(program, given):
     asked = words.read(given)
     if asked is None:
-        put(sys.stderr, usage())
+        put(sys.stderr, words.USAGE)
         return 0
     below = tools.find(program)
     journals = Journals(asked.port)
@@ -142,7 +136,6 @@ def inside(asked, below, table, patience, slowest):
 
 
 def do(board, asked, table):
-    from . import leaving
     from .actions import Actions
     told = Told(asked)
     told.line(f"Interface serial_posix: {asked.baud} {asked.mode.upper()}")
@@ -157,7 +150,7 @@ def do(board, asked, table):
         if asked.start_at and not chip.holds(asked.start_at):
             raise Fault(f"ERROR: -g 0x{asked.start_at:08x}: not in the flash of this chip, which ends at 0x{chip.end:08x}")
         actions.do()
-        return leaving.leave(actions)
+        return actions.leave()
     finally:
         told.line("")
 

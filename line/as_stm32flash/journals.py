@@ -4,10 +4,9 @@ import os
 import re
 
 from stmflash_line import journals
-from stmflash_line.trusted import refuse_others
 
 from .fault import Fault
-from .owner import owner_of
+from .journal_text import owner_of
 from .told import note
 
 # how many of each board are kept that were put aside; and how many of all boards at a port, and how many bytes of them
@@ -22,7 +21,7 @@ class Journals(journals.Journals):
     def refuse_others(self):
         super().refuse_others()
         for path in self.kept():
-            refuse_others(path)
+            journals.refuse_others(path)
 
     def kept(self):
         """The journals that were put aside, the newest last."""

@@ -9,7 +9,7 @@ import subprocess
 import time
 
 from .faults import Fault, refused
-from .holders import who_may
+from .opening import who_may
 from .tied import tied
 
 # how long gpioset may take to tell its version, to have a line, or to give it back, in seconds

@@ -1,15 +1,15 @@
-"""An open port: its bytes, RTS, DTR and break."""
+"""An open port: its bytes, with the marks of those that came with an error, RTS, DTR and break."""
 
 import array
 import contextlib
 import errno
 import fcntl
 import os
+import re
 import termios
 import time
 
 from .faults import HAS_NONE, UNDO, Fault, Gone, number_of
-from .unmark import Unmark
 
 # Linux: the counters of a port's errors (serial_icounter_struct), and which of them are bytes lost for want of room
 TIOCGICOUNT, COUNTERS, LOST = 0x545D, 20, (7, 10)
@@ -105,3 +105,27 @@ class Port:
             fcntl.ioctl(self.descriptor, termios.TIOCNXCL)
         with contextlib.suppress(OSError, termios.error):
             self.serial.close()
+
+
+class Unmark:
+    """Takes the marks off what a port with PARMRK hands on: FF FF is the byte FF; FF 00 X is a byte X that came with an
+    error, or a break where X is 00. A mark may be parted anywhere between two reads."""
+
+    GOOD = re.compile(rb"(?:[^\xff]+|\xff\xff)*")
+    PART = re.compile(rb"\xff\x00?\Z")
+
+    def __init__(self):
+        self.rest = b""
+
+    def take(self, data):
+        """The bytes before the first that came with an error, and how many did."""
+        data = self.rest + data
+        at = self.GOOD.match(data).end()
+        clean, bad = data[:at].replace(b"\xff\xff", b"\xff"), 0
+        # here stands an FF that is not one of two
+        while at < len(data) and not self.PART.match(data, at):
+            bad += 1
+            # a driver that marks otherwise hands on no data either: what follows is looked at again
+            at = self.GOOD.match(data, at + 3 if data[at + 1] == 0 else at + 1).end()
+        self.rest = data[at:]
+        return clean, bad

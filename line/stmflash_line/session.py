@@ -5,9 +5,9 @@ import time
 from .command import run
 from .faults import Fault, Gone
 from .join import Join
-from .moves import Moves
 from .opening import only_port, open_port
 from .patience import hold, wait
+from .sequences import Moves
 from .sockets import served, served_privately
 
 
@@ -87,7 +87,7 @@ def baud_of(port):
 # what few calls need is loaded for those alone: each start of Python counts
 
 def make_watch():
-    from .chips import read_chips
+    from .tables import read_chips
     from .watch import Watch
     return Watch(read_chips(None, "STMFLASH_TABLE")[0])
 

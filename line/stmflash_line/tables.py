@@ -1,7 +1,8 @@
-"""Where the chip table is that nobody has named."""
+"""Where the chip table is that nobody has named, and the chips of one."""
 
 import os
 
+from .faults import Fault, refused
 from .held import hold
 
 # the machine's own table, and the installed ones
@@ -36,14 +37,43 @@ def entries(path):
         return tomllib.loads(file.read())["chip"]
 
 
+def read_chips(named, option):
+    """The chips of a table that is named, or of those that stmflash takes without a word, and the tables. That a chip is within stmflash's
+    limits is asked where it counts. `option` is what names another table."""
+    paths, chips = [named] if named else in_order() or TABLES[:1], []
+    for path in paths:
+        try:
+            chips += (found := entries(path))
+            for chip in found:
+                if chip["erase"] not in ("page", "extended") or chip["id"] < 0 or chip["base"] < 0 or chip.get("erased", 0xFF) not in (0, 0xFF):
+                    raise ValueError
+                if any(count < 1 or size < 256 or size % 256 for count, size in chip["pages"]) or sum(c * s for c, s in chip["pages"]) > 1 << 21:
+                    raise ValueError
+        except OSError as error:
+            raise refused(path, error, f"{option} names another") from None
+        except (ValueError, TypeError, KeyError):
+            raise Fault(f"{path}: is no chip table; {option} names another") from None
+    return chips, paths
+
+
+def toml(value):
+    """A value in TOML."""
+    if isinstance(value, bool):
+        return str(value).lower()
+    if isinstance(value, dict):
+        return "{ " + ", ".join(f"{toml(name)} = {toml(held)}" for name, held in value.items()) + " }"
+    if isinstance(value, (list, tuple)):
+        return "[" + ", ".join(map(toml, value)) + "]"
+    if isinstance(value, str):
+        # TOML has no form for a byte that is no text
+        text = value.encode(errors="surrogateescape").decode(errors="replace")
+        return '"' + "".join(c if c >= " " and c not in '"\\\x7f' else f"\\u{ord(c):04X}" for c in text) + '"'
+    return str(value)
+
+
 def table_text(chips):
     """Entries as one table, with what stmflash asks of them."""
-    def value(held):
-        if isinstance(held, dict):
-            return f"{{{', '.join(f'{key} = {value(it)}' for key, it in held.items())}}}"
-        return f"[{', '.join(map(value, held))}]" if isinstance(held, list) else f'"{held}"' if isinstance(held, str) else str(held)
-
-    return "".join("[[chip]]\n" + "".join(f"{key} = {value(chip[key])}\n" for key in KEYS if key in chip) for chip in chips).encode()
+    return "".join("[[chip]]\n" + "".join(f"{key} = {toml(chip[key])}\n" for key in KEYS if key in chip) for chip in chips).encode()
 
 
 def handed_on():

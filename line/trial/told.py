@@ -5,6 +5,7 @@ import datetime
 
 from row import NOTE, OPTION, STOP, Row
 from rows import FURTHER
+from stmflash_line.tables import toml
 
 HOLDS, DIFFERS, NOT_TRIED = "holds", "differs", "not tried"
 FOLLOWS, USE_WITH, DONT_USE = "follows the model", "use with these options", "don't use"
@@ -38,21 +39,6 @@ def judge(board, found, ended):
         return USE_WITH, ", ".join(f"--wait {value}" if name == "wait" else value for name, value in board.options.items()) + rest
     notes = ", ".join(one.row.name for one in differ if one.means == NOTE)
     return FOLLOWS, "each row that was tried holds" + (f", but for what hurts no promise: {notes}" if notes else "") + rest
-
-
-def toml(value):
-    """A value in TOML."""
-    if isinstance(value, bool):
-        return str(value).lower()
-    if isinstance(value, dict):
-        return "{ " + ", ".join(f"{toml(name)} = {toml(held)}" for name, held in value.items()) + " }"
-    if isinstance(value, (list, tuple)):
-        return "[" + ", ".join(map(toml, value)) + "]"
-    if isinstance(value, str):
-        # TOML has no form for a byte that is no text
-        text = value.encode(errors="surrogateescape").decode(errors="replace")
-        return '"' + "".join(c if c >= " " and c not in '"\\\x7f' else f"\\u{ord(c):04X}" for c in text) + '"'
-    return str(value)
 
 
 def file_text(board, found, verdict, reason, seconds):

@@ -7,9 +7,9 @@ import sys
 
 from faults import Refused
 from rows import BACK, NAMES
-from stmflash_line.chips import read_chips
 from stmflash_line.elf import begins
 from stmflash_line.faults import Fault
+from stmflash_line.tables import read_chips
 
 DESCRIPTION = """Tries, row by row, whether a board follows the model that stmflash's promises rest on. It saves the whole flash
 to a file, erases and writes the named pages, puts back what it changed, and tells what it found."""

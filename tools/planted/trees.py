@@ -32,7 +32,7 @@ BESIDE = {
     "windows/": ["windows/test_layer.Layer.test_holds"],
     "web/page/": [LAYER + it for it in ("test_the_page", "test_wirings_are_those_of_stmflash_line", "test_images_are_those_of_objcopy")],
     "packaging/completions/": ["test_completions"],
-    "packaging/stmflash-line@.service": ["test_packaging", "test_line_service.Unit", "test_line_service.Confinement"],
+    "packaging/stmflash-line@.service": ["test_packaging", "test_line_service.Unit", "test_line_parts.Called.test_the_unit_is_confined"],
     "packaging/70-stmflash.rules": ["test_packaging"],
     "packaging/deb-as-stm32flash": ["test_packaging", "sh packaging/try-deb-as-stm32flash"],
     "packaging/": ["test_packaging", "sh packaging/try-deb --unproved"],

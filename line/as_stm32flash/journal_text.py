@@ -1,11 +1,14 @@
-"""Whose a journal is: the chip and the board that its header names."""
+"""What the text of a journal says: whose it is, by the chip and the board that its header names, and what its writes and erases keep."""
 
 import collections
+import contextlib
 import re
 
 # the header is the first line that isn't void, and what was torn off before it is short
 HEADER = re.compile(rb"^stmjournal (?:[12] ([0-9A-F]{4})|3 ([0-9A-F]{4}) ((?:[0-9A-F]{2}){8,32}))$", re.M)
 BEGINNING = 4096
+# a whole line, but for one that ends with `!`, which is void
+LINE = re.compile(rb"\n(open|page|undone) [0-9]+(?: [0-9A-F]+)?(?=\n)")
 
 
 class Owner(collections.namedtuple("Owner", ("chip", "board"), defaults=(None, None))):
@@ -40,3 +43,19 @@ def owner_of(path):
         return Owner()
     short, long, board = (part and part.decode() for part in found.groups())
     return Owner(short or long, board)
+
+
+def kept_pages(path):
+    """How many pages each write and erase has that can be undone by a journal that stmflash can read, the newest last: one that was of what is there
+    already keeps none, and has changed nothing."""
+    found, held = [], b""
+    with contextlib.suppress(OSError), open(path, "rb") as file:
+        held = file.read()
+    for line in LINE.finditer(held):
+        if line[1] == b"open":
+            found.append(0)
+        elif line[1] == b"undone":
+            del found[-1:]
+        elif found:
+            found[-1] += 1
+    return found
