@@ -45,7 +45,7 @@
 #               headline rests on. Their heads are in docs/heads/ (python3)
 #   make bench  builds what is measured, measures it beside its peers, and prints ratios (needs python3; Debian's binutils
 #               and srecord for the peers of HEX)
-#   make beside lets the real stm32flash drive our simulator (docs/SWITCH.md); skipped with a word where it isn't installed
+#   make beside has ours beside the real stm32flash, which drives our simulator (docs/SWITCH.md); left out with a word where it isn't installed
 #   make soak   20,000 random sessions beside a second model (tools/soak; needs python3) of the proved program, where `make` left
 #               it, or of the one that `make demo` leaves, which takes 20 times as long; the seed is printed. Then a loss of power behind
 #               each stop of a write and an erase on four chips, the undo stopped and without power again (tools/power-losses); and
@@ -217,10 +217,10 @@ pictures:
 
 bench: all
 	cd crates/bench && rt run > /dev/null && $(MAKE) --no-print-directory web
-	for it in hex layers sessions program line words web; do python3 bench/$$it || exit 1; done
+	for it in hex layers sessions program words web; do python3 bench/$$it || exit 1; done
 
 beside: all
-	sh tools/beside.sh bin/stmflash
+	python3 tools/beside-stm32flash bin/stmflash
 
 clean:
 	rm -rf bin crates/*/out

@@ -16,6 +16,7 @@ Left out, with a word, where Debian's stm32flash or python3-serial isn't install
 
 import collections
 import concurrent.futures
+import contextlib
 import os
 import pathlib
 import re
@@ -26,10 +27,9 @@ import sys
 import tempfile
 
 sys.dont_write_bytecode = True
-sys.path.insert(0, os.path.dirname(os.path.abspath(__file__)))
 
 from kills import kills
-from room import CHIP, PAGE_SIZE, SIZE, TOP, Room, images, words_of
+from room import CHIP, PAGE_SIZE, SIZE, TABLE, TOP, WAIT, Room, Simulator, images, words_of
 
 # `<` gives fw.bin on standard input
 CALLS = """
@@ -76,18 +76,35 @@ def differences(first, theirs, ours, words):
 
 
 def compare(program, source, call, show):
-    room, words = Room(program, source), shlex.split(call)
-    try:
-        theirs, ours = room.real(words), room.ours(words)
+    words = shlex.split(call)
+    with contextlib.closing(Room(program, source)) as room:
+        try:
+            theirs, ours = room.real(words), room.ours(words)
+        except (OSError, subprocess.SubprocessError) as error:
+            return {f"no end: {error}"}
         found = differences(room.held("first"), theirs, ours, words)
         if show:
             texts = [[line for line in lines(one, words) if line not in lines(other, words)] for one, other in ((theirs, ours), (ours, theirs))]
             print(f"{call}: {', '.join(sorted(found)) or 'alike'}\n    theirs {texts[0]}\n    ours   {texts[1]}", flush=True)
         return found
-    except (OSError, subprocess.SubprocessError) as error:
-        return {f"no end: {error}"}
-    finally:
-        room.end()
+
+
+def of_sectors(program, source):
+    """Each fault at a chip with sectors, which is erased by 44: theirs tells its id, erases, writes, verifies and reads, and ours reads the same."""
+    room, chip, size, sector = Room(program, source), "0413", 1 << 20, 16384
+    part, faults = f"0x08000000:{size}", []
+    with contextlib.closing(room), Simulator(program, room.folder, chip, os.urandom(size)) as simulator:
+        for call in ("(none)", f"-o -S 0x08000000:{sector}", "-v -w fw.bin", f"-r theirs -S {part}"):
+            ran = room.relayed(shlex.split(call))
+            if ran.returncode or b"Device ID    : 0x0413" not in ran.stdout:
+                faults.append(f"chip {chip}: stm32flash {call}: {ran.stdout + ran.stderr}")
+        device = ["--table", TABLE, "--device", "board", "--journal", "journal", "--wait", WAIT]
+        subprocess.run([os.path.abspath(program), "read", *device, "ours"], cwd=room.folder, check=True)
+        flash, image = simulator.stored(), room.held("fw.bin")
+        faults += [f"chip {chip}: {name} read isn't the flash" for name in ("theirs", "ours") if room.held(name) != flash]
+        if not flash.startswith(image.ljust(sector, b"\xff")):
+            faults.append(f"chip {chip}: what stm32flash wrote isn't there, or what it erased")
+    return faults
 
 
 def check_table(found):
@@ -116,7 +133,7 @@ def main():
         images(source)
         begun = {call: pool.submit(compare, program, source, call, given.show) for call in calls}
         found = {call: one.result() for call, one in begun.items()}
-        faults = check_table(found)
+        faults = check_table(found) + of_sectors(program, source)
         killed, wrong = kills(pool, program, source, given.kills, given.seed, given.show) if given.kills else ("", [])
     for fault in faults + wrong:
         print("FAILED: " + fault)

@@ -102,7 +102,7 @@ class Play:
 
     def close(self):
         self.board.stop()
-        self.room.end()
+        self.room.close()
 
 
 def kill(program, source, script, moment, number):

@@ -55,7 +55,11 @@ class Room(Folder):
     def real(self, words):
         """The real one with these words: status, standard output and error, flash, and what it read."""
         with Simulator(self.program, self.folder, CHIP, self.held("first")) as simulator:
-            return self.result(self.run([sys.executable, RELAY, "--pty", "board", "stm32flash"], words), simulator.stored())
+            return self.result(self.relayed(words), simulator.stored())
+
+    def relayed(self, words):
+        """What the real one does with these words at the simulator that is served."""
+        return self.run([sys.executable, RELAY, "--pty", "board", "stm32flash"], words)
 
     def board(self, **more):
         shutil.copy(self.path("first"), self.path("port.flash"))
@@ -78,5 +82,5 @@ class Room(Folder):
                 os.remove(self.path(name))
         return {"status": ran.returncode, "out": ran.stdout, "err": ran.stderr, "flash": flash, "read": read}
 
-    def end(self):
+    def close(self):
         shutil.rmtree(self.folder, ignore_errors=True)

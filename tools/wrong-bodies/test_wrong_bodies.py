@@ -1,233 +1,150 @@
-"""What tools/wrong-bodies makes of an edit and of the prover's lines, on a small crate, without a prover."""
+"""What tools/wrong-bodies makes of edits, functions, clauses and the prover's lines, without a prover (tests/wrong_bodies.rows)."""
 
+import contextlib
+import importlib.machinery
+import importlib.util
+import io
 import os
-import tempfile
+import pathlib
+import shutil
+import sys
+import types
 import unittest
 
-from edits import BadEdit, blamed, check_twin, is_one_word, put_together, read_edit
+HERE = os.path.dirname(os.path.abspath(__file__))
+sys.path.append(os.path.join(HERE, "..", "..", "tests"))
+
+from clauses import clause_of, clauses_of, score, turned
+from edits import BadEdit, Edit, blamed, check_twin, is_one_word, put_together, read_edit
 from functions import Functions
-from judging import FAILED, GONE, IS_FALSE, ONE_WORD, PASSED, WAITS, judge
-from verdicts import Verdicts
-
-SOURCES = {
-    "src/lib.rt": """pub mod reading;
-mod calls;
-
-/// The line.
-pub struct Line {
-    left: u32,
-}
-
-impl Line {
-    pub fn read(&self) -> u32
-        ensures { result ≡ self.now.left }
-    {
-        self.left
-    }
-}
-""",
-    "src/reading.rt": """use crate::Line;
-
-/// What was read.
-pub struct Line2(u32);
-
-pub fn reading(count: u32, most: u32) -> u32
-    requires { count ≤ most }
-    ensures { result ≡ count }
-{
-    count.min(most) // the least
-}
-
-fn read(list: &[u32]) -> bool {
-    list.iter().any(|it| *it == 0)
-}
-
-impl From<Vec<u32>> for Line2 {
-    fn from(list: Vec<u32>) -> Self {
-        Line2(0)
-    }
-}
-
-impl<'a, T: Fn(u8) -> u8> Display for Shown<'a, T> {
-    fn fmt(&self) -> u32 {
-        0
-    }
-}
-""",
-    "src/calls.rt": """use crate::Line;
-
-impl Line {
-    pub(crate) fn call(&mut self, bytes: &[u8]) -> Result<(), Fault>
-        ensures said { OnOk result (self.new.left ≡ length bytes.now) }
-    {
-        if self.left < 2 {
-            return Err(Fault::Short);
-        }
-        self.put(bytes)?;
-        Ok(())
-    }
-}
-""",
-}
+from judging import judge
+from place import Said
+from rows import Rows, cases
+from verdicts import ANSWER, Finding, Verdicts
 
 
-class Crate(unittest.TestCase):
-    """A small crate in a folder of its own."""
+class Known(Functions):
+    """Functions of which the paths alone are known."""
 
-    def setUp(self):
-        self.folder = self.enterContext(tempfile.TemporaryDirectory())
-        os.mkdir(f"{self.folder}/src")
-        for name, text in SOURCES.items():
-            self.write(name, text)
-        self.functions = Functions(self.folder)
-
-    def write(self, name, text):
-        with open(f"{self.folder}/{name}", "w", encoding="utf-8") as file:
-            file.write(text)
-
-    def edit(self, file, *pairs, name="one.edit"):
-        lines = "".join(f"old: {old}\nnew: {new}\n" for old, new in pairs)
-        self.write(name, f"file: {file}\n{lines}")
-        return read_edit(self.functions, f"{self.folder}/{name}")
-
-    def said(self, *lines):
-        return Verdicts("tried", "\n".join(lines))
-
-    def came(self, edit, *lines):
-        return judge(edit, self.said(*lines), self.functions)[0]
+    def __init__(self, paths):
+        self.texts, self.all, self.paths = {}, [], set(paths)
 
 
-class Paths(Crate):
-    def test_each_function_has_the_provers_path(self):
-        self.assertEqual({it.path for it in self.functions.all}, {
-            "Line::read", "reading::reading", "reading::read", "reading::Line2FromVec::from", "reading::ShownDisplay::fmt", "Line::call"})
-
-    def test_a_type_that_stands_in_two_modules_leaves_the_path_open(self):
-        self.write("src/other.rt", "pub struct Line;\n")
-        self.assertIn(None, {it.path for it in Functions(self.folder).all})
-
-    def test_a_closure_belongs_to_its_function_and_what_is_derived_to_none(self):
-        # nor does a function like its module own the others in it
-        for path, owner in (("reading::fn::read::any+FnMut::call_mut", "reading::read"), ("reading::other", None), ("reading::read", "reading::read"),
-                            ("reading::Line2Debug::fmt", None)):
-            self.assertEqual(self.functions.owner(path), owner, path)
+def load_main():
+    loader = importlib.machinery.SourceFileLoader("wrong_bodies", os.path.join(HERE, "__main__.py"))
+    made = importlib.util.module_from_spec(importlib.util.spec_from_loader("wrong_bodies", loader))
+    loader.exec_module(made)
+    return made
 
 
-class Edits(Crate):
-    def test_an_edit_is_of_the_function_whose_body_it_changes(self):
-        self.assertEqual(self.edit("src/calls.rt", ("self.left < 2", "self.left < 3")).functions, {"Line::call"})
-        self.assertEqual(self.edit("src/lib.rt", ("self.left\n".strip(), "self.right")).functions, {"Line::read"})
-
-    def test_an_edit_of_a_contract_or_beside_src_is_bad(self):
-        for file, old, new in (("src/reading.rt", "ensures { result ≡ count }", "ensures { result ≡ most }"),
-                               ("src/reading.rt", "count: u32, ", "count: u64, "), ("proofs/reading/Answers.antt", "a", "b")):
-            self.assertRaises(BadEdit, self.edit, file, (old, new))
-
-    def test_one_word_and_more(self):
-        for is_one, file, *pairs in (
-            (True, "calls", ("self.left < 2", "self.left <= 2")),
-            (True, "calls", ("Fault::Short", "Fault::Long")),
-            (True, "calls", ("self.put(bytes)?;", "self.put(&[])?;")),
-            (True, "calls", ("self.left < 2", "!self.left < 2")),
-            (False, "calls", ("self.left < 2", "2 > self.left")),
-            (False, "calls", ("self.put(bytes)?;", "self.put(bytes)?; self.put(bytes)?;")),
-            (False, "calls", ("self.left < 2", "self.left < 1 + 1")),
-            (False, "reading", ("count.min(most)", "most.min(count)")),
-            (False, "calls", ("< 2", "< 3"), ("Short", "Long")),
-        ):
-            self.assertEqual(is_one_word(self.edit(f"src/{file}.rt", *pairs)), is_one, pairs)
-
-    def test_a_twin_has_the_ways_of_its_edit_and_its_function(self):
-        edit = self.edit("src/calls.rt", ("self.put(bytes)?;", "self.put(bytes)?; self.put(bytes)?;"))
-        for new in ("let _ = bytes; self.put(bytes)?;", "self.put(bytes)?;", "self.put(bytes)?; self.put(bytes)?;"):
-            self.assertRaises(BadEdit, check_twin, edit, self.edit("src/calls.rt", ("self.put(bytes)?;", new), name="one.twin"))
-        check_twin(edit, self.edit("src/calls.rt", ("self.put(bytes)?;", "self.see(bytes)?; self.put(bytes)?;"), name="one.twin"))
-        edit = self.edit("src/reading.rt", ("count.min(most)", "most"))
-        self.assertRaises(BadEdit, check_twin, edit, self.edit("src/calls.rt", ("Fault::Short", "Fault::Long"), name="one.twin"))
-
-    def test_edits_of_one_function_are_tried_one_after_the_other(self):
-        edits = [self.edit(f"src/{file}.rt", pair, name=f"{name}.edit") for name, file, pair in (
-            ("a", "calls", ("self.left < 2", "self.left < 3")), ("b", "calls", ("Fault::Short", "Fault::Long")),
-            ("c", "reading", ("count.min(most)", "most")))]
-        texts, taken, left = put_together(self.functions, edits)
-        self.assertEqual([[it.name for it in some] for some in (taken, left)], [["a.edit", "c.edit"], ["b.edit"]])
-        self.assertIn("self.left < 3", texts["src/calls.rt"])
-        self.assertNotIn("Fault::Long", texts["src/calls.rt"])
+def recorded(name, paths, told):
+    """What an edit comes to, or turns, or what isn't proved beside all but one, by what was printed in the check of a crate."""
+    text = pathlib.Path(HERE, "recorded", f"{name}.txt").read_text(encoding="utf-8")
+    verdicts, known = Verdicts(name.split("-")[0], text), Known(paths.split(","))
+    edit = Edit("one.edit", {paths.split(",")[0]}, [("src/one.rt", *told.split(" => "))], None, None)
+    if paths == "but":
+        asked = {it.path for it in verdicts.findings}
+        return verdicts.beside(asked - {told}, Known(asked))
+    return ", ".join(turned(edit, told[3:], verdicts, known)) if told.startswith("as ") else judge(edit, verdicts, known)[0]
 
 
-class Blame(Crate):
-    def test_an_error_of_the_front_end_is_of_the_edit_on_its_line(self):
-        edits = [self.edit("src/calls.rt", ("self.left < 2", "self.right < 2"), name="a.edit"),
-                 self.edit("src/calls.rt", ("Fault::Short", "Fault::Long"), name="b.edit")]
-        texts = {"src/calls.rt": SOURCES["src/calls.rt"].replace("left < 2", "right < 2").replace("Short", "Long")}
-        for errors, names in ((["src/calls.rt:7:17: error[no-field]: there is no `right`"], ["a.edit"]),
-                              (["src/calls.rt:9:9: error[cannot-infer-type]: no type"], ["a.edit", "b.edit"]),
-                              (["src/lib.rt:9:9: error[cannot-infer-type]: no type"], []), ([], [])):
-            self.assertEqual([*blamed(edits, texts, errors)], names, errors)
+class WrongBodies(Rows):
+    def begin(self):
+        super().begin()
+        self.lines, self.hears = [], []
 
+    def does(self, sign, told, name, *more):
+        if sign == "text":
+            self.put(name, b"")
+            self.text = name
+        elif sign == "|":
+            self.add(self.text, f"{told}\n".encode())
+        elif sign == "edit":
+            old, new = told.removeprefix(f"{name} {more[0]} ").split(" => ")
+            self.add(name, f"file: {more[0]}\nold: {old}\nnew: {new}\n".encode())
+        elif sign == "prover":
+            self.lines += told.split("\\n")
+        elif sign == "hears":
+            self.hears.append(told.replace("\\n", "\n").split(" => "))
+        else:
+            super().does(sign, told, name, *more)
 
-HOLE = "depends on a hole in `Rattle.tried.proofs.reading.read.Proof.read_spec`"
-VALUES = "; the facts known there allow values at which this goal is false"
-ANSWER = "./proofs/Line/call/Answers.antt:27:5: error: `returns-in_ok-put`: the two types differ only where one has `x`"
-NOT_PROVED = "fn tried::Line::call: not proved; it stands on `Rattle.tried.proofs.Line.call.Answers.a`, which antt refuses"
+    def run_words(self, words):
+        try:
+            told = self.answer_to(*words.partition(" ")[::2])
+        except BadEdit as why:
+            return Said(1, b"", f"{why}\n".encode())
+        return Said(0, "".join(f"{line}\n" for line in told).encode(), b"")
 
+    def answer_to(self, call, told):
+        """The lines that a part of the tool answers."""
+        functions, verdicts, words = Functions(self.folder), Verdicts("tried", "\n".join(self.lines)), told.split()
+        if call.startswith("tries"):
+            return self.tried(words, call == "tries-harmless")
+        edits = [read_edit(functions, self.path(it)) for it in words if it.endswith((".edit", ".twin"))]
+        match call:
+            case "paths":
+                return sorted(str(it.path) for it in functions.all)
+            case "owner":
+                return [functions.owner(told)]
+            case "functions":
+                return edits[0].functions
+            case "words":
+                return ["one word" if is_one_word(edits[0]) else "more"]
+            case "twin":
+                return check_twin(*edits) or []
+            case "together":
+                texts, taken, left = put_together(functions, edits)
+                new = [f"{file}: {line.strip()}" for file in texts for line in texts[file].split("\n") if line not in functions.texts[file].split("\n")]
+                return [" ".join([which, *(it.name for it in some)]) for which, some in (("taken", taken), ("left", left))] + new
+            case "blame":
+                texts = dict(functions.texts)
+                for file, old, new in (pair for edit in edits for pair in edit.pairs):
+                    texts[file] = texts[file].replace(old, new)
+                return [" ".join(blamed(edits, texts, self.lines))]
+            case "judge":
+                return [judge(edits[0], verdicts, functions)[0]]
+            case "beside":
+                return [verdicts.beside(set(words), functions)]
+            case "clauses":
+                found = clauses_of(told, functions)
+                return [", ".join(found) if found else "none"]
+            case "clause":
+                path, _, goal = told.partition(" ")
+                return [clause_of(Finding(path, ANSWER, goal, "a line"), functions)]
+            case "turned":
+                return [", ".join(turned(edits[0], told.partition(" as ")[2], verdicts, functions))]
+            case "score":
+                return [score([] if it == "-" else it.split(",") for it in words)]
+            case "recorded":
+                return [recorded(*told.split(" ", 2))]
+        raise ValueError(f"no call: {call}")
 
-def note(goal, more=""):
-    return f"note: src/calls.rt:8:1: it is not proved that what the function ensures holds when it returns (`{goal}`){more}"
+    def tried(self, names, is_harmless):
+        """What is said of edits of these files by a prover that is made up, how many checks that took, and what each counts as."""
+        main, checks = load_main(), []
 
+        def check(crate, functions, texts, asked, kept):
+            checks.append(asked)
+            lines = [said.replace("{line}", str(text[:text.index(body)].count("\n") + 1))
+                     for text in texts.values() for body, said in self.hears if body in text]
+            front = [it for it in lines if it.startswith("src/")]
+            return "\n".join((front or lines) + ["error: refused" if front else "only=1 holes=0"]), 1
 
-class Judged(Crate):
-    """What an edit comes to by lines of the prover's."""
+        main.check = check
+        trial = main.Trial(types.SimpleNamespace(name="tried", folder=self.folder), None)
+        with contextlib.redirect_stdout(io.StringIO()) as printed:
+            (trial.run_harmless if is_harmless else trial.run)([self.path(name) for name in names])
+        counts = sorted(f"{counts}: {', '.join(clauses)}" for counts, clauses in trial.told)
+        return [*printed.getvalue().splitlines(), f"{len(checks)} checks", *counts]
 
-    def setUp(self):
-        super().setUp()
-        self.word = self.edit("src/calls.rt", ("self.left < 2", "self.left < 3"))
-        self.turned = self.edit("src/calls.rt", ("self.left < 2", "2 > self.left"))
+    def test_each_case(self):
+        self.play_all(it for it in cases("wrong_bodies.rows") if not self.is_tried(it))
 
-    def test_what_the_prover_says_of_one_word_and_of_more(self):
-        unproved = "fn tried::Line::call: no proof: `search` did not prove `returns`"
-        waits = "fn tried::Line::call: not proved; it calls `tried::put`, which is not proved"
-        of_another = (note("returns", VALUES), "fn tried::Line::read: no proof: `search` did not prove `returns`", "fn tried::Line::call: no holes")
-        for what, lines, word, more in (
-            ("a proved function lets its edit through", ["fn tried::Line::call: proved"], PASSED, PASSED),
-            ("so does one without holes", ["fn tried::Line::call: no holes"], PASSED, PASSED),
-            ("and one that stands on another's", [f"fn tried::Line::call: {HOLE}"], PASSED, PASSED),
-            ("values refuse any edit", [note("returns", VALUES), unproved], IS_FALSE, IS_FALSE),
-            ("an answer that no longer fits refuses one word alone", [ANSWER, NOT_PROVED], ONE_WORD, FAILED),
-            ("so does a goal without an answer", [note("returns"), unproved], ONE_WORD, FAILED),
-            ("a function that waits for another isn't judged", [waits], WAITS, WAITS),
-            ("nor is one of which nothing is said", ["fn tried::Line::read: proved"], WAITS, WAITS),
-            ("a goal is of the function whose verdict follows", of_another, PASSED, PASSED),
-        ):
-            with self.subTest(what):
-                self.assertEqual((self.came(self.word, *lines), self.came(self.turned, *lines)), (word, more))
+    @unittest.skipUnless(shutil.which("rt"), "there is no rt")
+    def test_each_case_that_is_tried(self):
+        self.play_all(filter(self.is_tried, cases("wrong_bodies.rows")))
 
-    def test_names_that_went_refuse_nothing(self):
-        for why in (
-            "`c` has no field `if-left-lt2`",
-            "2 declarations that depend on `returns-then`, which was rejected",
-            "record `Step-Then`",
-            "`goal.returns-then` is not in scope (nearest: `goal.returns`)",
-            "rattle does not read `Answers.antt` of `tried::Line::call`, since the borrow checker does not cover it yet",
-        ):
-            line = f"./proofs/Line/call/Answers.antt:3:9: error: `returns-then`: {why}"
-            self.assertEqual(self.came(self.word, line, NOT_PROVED), GONE, why)
-            # nor do they beside a goal that failed, for then it may be one of another name
-            self.assertEqual(self.came(self.word, line, ANSWER, NOT_PROVED), FAILED, why)
-
-    def test_another_functions_error_refuses_nothing(self):
-        for path in ("calls/call", "Line/read", "reading/call", "Other/call"):
-            line = ANSWER.replace("Line/call", path)
-            self.assertEqual(self.came(self.word, line, "fn tried::Line::call: no holes"), PASSED, path)
-
-    def test_a_closure_is_of_its_function(self):
-        edit = self.edit("src/reading.rt", ("*it == 0", "*it == 1"))
-        line = "./proofs/reading/fn/read/any/Answers.antt:1:1: error: `returns`: the two types differ"
-        self.assertEqual(self.came(edit, line, "fn tried::reading::read: not proved"), ONE_WORD)
-
-    def test_what_fails_beside_the_edits_is_told(self):
-        verdicts = self.said(ANSWER, NOT_PROVED)
-        self.assertIsNone(verdicts.beside({"Line::call"}, self.functions))
-        self.assertEqual(verdicts.beside({"Line::read"}, self.functions), ANSWER)
-        lemma = "./proofs/Reading.antt:3:1: error: `lemma`: the two types differ"
-        self.assertEqual(self.said(lemma).beside({"Line::call"}, self.functions), lemma)
+    @staticmethod
+    def is_tried(case):
+        return any(sign == "$" and told.startswith("tries") for sign, told in case[1])
