@@ -220,7 +220,7 @@ bench: all
 	for it in hex layers sessions program line words web; do python3 bench/$$it || exit 1; done
 
 beside: all
-	sh tools/beside.sh bin/stmflash
+	cd tests && STMFLASH=$(CURDIR)/bin/stmflash python3 -B -m unittest -v test_socket.Socket.test_the_real_stm32flash
 
 clean:
 	rm -rf bin crates/*/out
