@@ -29,11 +29,9 @@ from browser import PATIENCE, Browser
 PROGRAM = os.path.abspath(os.environ.get("STMFLASH") or f"{TOP}/bin/stmflash-unproved")
 SEED = int(os.environ.get("STMFLASH_WEB_SEED", "0")) or random.SystemRandom().randrange(1, 1 << 30)
 UNIQUE = "112233445566778899AABBCC"
-JOURNAL = f"{UNIQUE}.journal"
 # pages of 1,024 bytes that an image has
 PAGES = 5
 READY = "document.body?.dataset.ready === 'yes' && !stmflash.state.busy"
-QUIET = "!stmflash.state.busy && document.getElementById('doing').hidden"
 
 
 def wait():
@@ -83,6 +81,13 @@ class ServedPage(unittest.TestCase):
         self.room = self.enterContext(tempfile.TemporaryDirectory(prefix="stmflash-web-", ignore_cleanup_errors=True))
         self.part = int(os.environ.get("STMFLASH_WEB_PART", "0"))
         self.some = random.Random(f"{SEED} {self._testMethodName} {self.part}")
+        self.serve()
+        self.address = self.server.address
+        self.image = bytes(4) + self.some.randbytes(PAGES * 1024 - 104)  # a colon in front would make HEX of it
+        self.begin_browser()
+        self.addCleanup(lambda: self.browser.kill())
+
+    def serve(self):
         self.flash, self.folder, self.socket = f"{self.room}/flash", f"{self.room}/page", f"{self.room}/board"
         shutil.copytree(f"{TOP}/bin/web", self.folder)
         self.before = self.some.randbytes(self.size)
@@ -90,11 +95,6 @@ class ServedPage(unittest.TestCase):
         pathlib.Path(self.flash).write_bytes(self.before)
         words = ["--program", PROGRAM, "--id", self.chip, "--flash", self.flash, "--socket", self.socket, "--pace", "460800"]
         self.server = self.enterContext(Served(self.folder, *words))
-        self.address = self.server.address
-        self.image = bytes(4) + self.some.randbytes(PAGES * 1024 - 104)  # a colon in front would make HEX of it
-        self.after = self.image + self.before[len(self.image):]
-        self.begin_browser()
-        self.addCleanup(lambda: self.browser.kill())
 
     def before_is(self, at, data):
         self.before = self.before[:at] + data + self.before[at + len(data):]
@@ -129,12 +129,12 @@ class ServedPage(unittest.TestCase):
     def do(self, tab, selector, wanted="^Done: ", why=""):
         """Clicks, and waits until all is done; what was told then, which has to be so."""
         self.click(tab, selector)
-        tab.until(QUIET + " && !document.getElementById('told').hidden")
+        tab.until("!stmflash.state.busy && document.getElementById('doing').hidden && !document.getElementById('told').hidden")
         told = tab.js("document.getElementById('told').innerText")
         self.assertRegex(told, wanted, f"{why}; the page says: {tab.said()}")
         return told
 
-    def journal_of(self, tab, board=UNIQUE):
+    def journal_of(self, tab, board):
         return base64.b64decode(tab.js(f"stmflash.ask('get', {{ path: '/boards/{board}.journal' }}).then((it) => btoa(String.fromCharCode(...it.bytes)))"))
 
     def hold_write(self, tab):
@@ -234,9 +234,9 @@ class ServedPage(unittest.TestCase):
         elif sign == "file":
             tab.js(f"void (window.file = {named((name, self.bytes_of(rest)))})")
         elif sign == "chooses":
-            pathlib.Path(self.room, told).write_bytes(self.image)
+            pathlib.Path(self.room, name).write_bytes(self.bytes_of(rest or "image"))
             at = tab.call("Runtime.evaluate", expression="document.getElementById('file')")["result"]["objectId"]
-            tab.call("DOM.setFileInputFiles", files=[f"{self.room}/{told}"], objectId=at)
+            tab.call("DOM.setFileInputFiles", files=[f"{self.room}/{name}"], objectId=at)
         elif sign == "adds":
             pathlib.Path(self.room, name).write_bytes(held(f"{self.room}/{name}") + self.bytes_of(rest))
         elif sign == "refuses":

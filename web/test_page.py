@@ -11,14 +11,17 @@ import hashlib
 import os
 import pathlib
 import shutil
+import socket
+import subprocess
 import sys
 import time
 import unittest
 
 from browser import PATIENCE, Browser, Firefox
-from served_page import PAGES, SEED, ServedPage, held, rows
-from test_newcomer import Newcomer
+from served_page import PAGES, READY, SEED, Served, ServedPage, held, rows
 
+# what a program of Python does at its beginning: what nobody keeps is collected at once
+COLLECTS = "import gc, itertools, threading\nthreading.Thread(target=lambda: any(gc.collect() < 0 for _ in itertools.count()), daemon=True).start()\n"
 # texts that stand out too little from what is behind them, by WCAG's ratio of luminances
 FAINT = """[...document.querySelectorAll('body *')].filter((it) => it.offsetParent && !it.disabled && [...it.childNodes].some((part) => part.nodeType === 3 && part.data.trim())).filter((it) => {
     const luminance = (colour) => colour.match(/[\\d.]+/g).slice(0, 3).map((it) => it / 255).map((it) => (it <= 0.03928 ? it / 12.92 : ((it + 0.055) / 1.055) ** 2.4)).reduce((sum, it, i) => sum + it * [0.2126, 0.7152, 0.0722][i], 0.05);
@@ -144,7 +147,53 @@ class Trial(ServedPage):
     chip, size = "0412", 32768
 
 
-for kind, page in ((InFirefox, "stops"), (Page, "page"), (Trial, "trial")):
+class Newcomer(ServedPage):
+    """What a newcomer does behind `make web-unproved`."""
+
+    def serve(self):
+        """By one word; what the board holds is in a folder of the page's server, which has no other word on it."""
+        self.server = self.enterContext(Served(env={**os.environ, "TMPDIR": self.room}))
+        self.before, self.flash = b"\xff" * self.size, f"{next(pathlib.Path(self.room).glob('stmflash-web-*'))}/flash"
+
+    def does(self, sign, told, *more):
+        if sign == "press":
+            self.press(self.tabs[""], told)
+        elif sign == "sees":
+            self.tabs[""].until(f"document.body?.innerText.includes('{told}')")
+        elif sign == "ready":
+            self.tabs[""].until(READY)
+            print(f"ready in {self.tabs[''].js('stmflash.state.compiled'):.0f} ms", flush=True)
+        else:
+            super().does(sign, told, *more)
+
+    def press(self, tab, text):
+        """A click of the mouse on a button that is seen, where it is."""
+        button = f"[...document.querySelectorAll('button')].find((it) => it.textContent === '{text}' && it.offsetParent && !it.disabled)"
+        tab.until(f"Boolean({button})")
+        where = f"(() => {{ const it = {button}; it.scrollIntoView({{ block: 'center' }}); const at = it.getBoundingClientRect(); return [at.x + at.width / 2, at.y + at.height / 2]; }})()"
+        # the page may still move
+        place = None
+        while place != (place := tab.js(where)):
+            time.sleep(0.2)
+        x, y = place
+        for kind in ("mousePressed", "mouseReleased"):
+            tab.call("Input.dispatchMouseEvent", type=kind, x=x, y=y, button="left", clickCount=1)
+
+    def test_a_client_that_is_gone_is_served_to_its_end(self):
+        """Each byte that is answered shows a board that the one before has left; nobody keeps a client's task but the server."""
+        pathlib.Path(self.room, "sitecustomize.py").write_text(COLLECTS)
+        with Served("--socket", f"{self.room}/line", stderr=subprocess.PIPE, env={**os.environ, "PYTHONPATH": self.room}) as server:
+            for sent in (b"\x7f", b"\0\xff", b"\2\xfd"):
+                with socket.socket(socket.AF_UNIX) as client:
+                    client.settimeout(PATIENCE)
+                    client.connect(f"{self.room}/line")
+                    client.sendall(sent)
+                    self.assertEqual(client.recv(1), b"\x79")
+        with server.process.stderr as said:
+            self.assertEqual(said.read(), "")
+
+
+for kind, page in ((InFirefox, "stops"), (Page, "page"), (Trial, "trial"), (Newcomer, "newcomer")):
     rows.each_named(kind, f"../web/{page}.rows", ServedPage.play_all)
 
 
