@@ -143,19 +143,15 @@ class ServedPage(unittest.TestCase):
         self.click(tab, "#write")
         tab.until("stmflash.state.isHeld")
 
-    def stop_write(self, tab, moment):
-        """Begins a write, and waits until it has done so many steps."""
-        tab.js("document.getElementById('bar').removeAttribute('value')")
-        self.click(tab, "#write")
-        tab.until(f"document.getElementById('bar').hasAttribute('value') && document.getElementById('bar').value >= {moment} || !document.getElementById('told').hidden")
-
     def stopped(self, end):
         """Stops a write at any moment: in the midst of its pages, or behind one of its steps. What undoes it is another tab's."""
         tab = self.tab()
         for i in range(self.samples):
             moment = self.some.randrange(2 * PAGES)
             if i % 2:
-                self.stop_write(tab, moment)
+                tab.js("document.getElementById('bar').removeAttribute('value')")
+                self.click(tab, "#write")
+                tab.until(f"document.getElementById('bar').hasAttribute('value') && document.getElementById('bar').value >= {moment} || !document.getElementById('told').hidden")
             else:
                 self.hold_write(tab)
             end(tab)
