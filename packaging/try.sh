@@ -8,11 +8,11 @@ for tool in dpkg dpkg-deb strip; do
         exit 0
     fi
 done
-root="$room/root"
+root="$room/root" force=
 
 # The package's own place: an empty system as far as dpkg knows.
 packages() {
-    dpkg --root="$root" --force-not-root --force-bad-path ${force-} --log="$room/log" "$@" > "$room/said" 2>&1
+    dpkg --root="$root" --force-not-root --force-bad-path $force --log="$room/log" "$@" > "$room/said" 2>&1
 }
 
 well() {
