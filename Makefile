@@ -192,7 +192,7 @@ bench: all
 	for it in hex layers sessions program line words web; do python3 bench/$$it || exit 1; done
 
 beside: all
-	cd tests && STMFLASH=$(CURDIR)/bin/stmflash python3 -B -m unittest -v test_socket.Socket.test_the_real_stm32flash
+	sh tools/beside.sh bin/stmflash
 
 clean:
 	rm -rf bin crates/*/out

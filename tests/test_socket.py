@@ -5,7 +5,6 @@ import contextlib
 import errno
 import os
 import shlex
-import shutil
 import signal
 import socket
 import threading
@@ -13,7 +12,7 @@ import time
 
 import syncs
 from holding import Held
-from place import HEAD, PATIENCE, TOP, WAIT, ZEROS, files, first_of, readable, served, with_page
+from place import HEAD, PATIENCE, WAIT, ZEROS, files, first_of, readable, served, with_page
 from rows import cases, each_named
 from served import relay
 
@@ -72,12 +71,6 @@ class Peers(Held):
             self.assertSilent(self.ended(self.simulator))
         elif sign == "datagrams":
             self.enterContext(socket.socket(socket.AF_UNIX, socket.SOCK_DGRAM)).bind(self.path(name))
-        elif sign == "real":
-            if shutil.which("stm32flash") is None:
-                self.skipTest("stm32flash isn't installed")
-            words = "--pty", "board", "stm32flash", "-m", "8n1", *more
-            said = self.ended(self.start(*words, executable=f"{TOP}/tools/line-relay", variables=dict(os.environ)))
-            self.assertEqual((said.status, said.out.count(f"Device ID    : 0x{name} ".encode())), (0, 1), said)
         elif sign == "hangs":
             self.assertFault(self.hang_up(" ".join(more[1:]), int(name), getattr(socket, f"SHUT_{more[0]}")), "line failed")
         else:
