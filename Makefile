@@ -8,13 +8,8 @@
 #               proves one crate, over what earlier checks of it kept
 #   make try CRATE=NAME
 #               runs the tests of one crate, or of the crate that has them, without a proof; the program's are those of `make tests`
-#   make test   the whole gate: every proof from nothing, the tests of the libraries, the programs, and the wrong bodies; then each
-#               allocation of small sessions and of the program refused in turn, journals of 1 GB (1.2 GB free in TMPDIR),
-#               images of 2 MiB, an erase on a stored simulator without power, a Debian package that is packed, installed,
-#               used and removed (left out where there is no dpkg), the demo, the tests of the program (whole on the proved one,
-#               without those that wait on the demo's and on the one that Rattle's own compiler made), the program and the
-#               simulator over a real socket, 60 kills of the program there, 300 states that a crash of the PC may leave (strace),
-#               random sessions, 300, and 2,000 of the proved one, and calls of stm32flash's words beside the real one (python3)
+#   make test   the whole gate: every proof from nothing, the tests, the wrong bodies, and each other step of docs/GATE.md (1.2 GB free in
+#               TMPDIR). What a tool isn't there for is left out with a word, or fails (WITHOUT)
 #   make wrong-bodies
 #               has the prover refuse the wrong bodies of the gate and those that it leaves out (tools/wrong-bodies)
 #   make install PREFIX=/usr/local DESTDIR=
@@ -117,30 +112,20 @@ tests:
 	@test -x bin/stmflash-unproved || sh tools/demo.sh
 	@without=$$(sh tools/packages) && python3 tests/run bin/stmflash-unproved --without $(FORBIDDEN) $$without $(WITHOUT)
 
-# the crate that has the tests of a library, or plays its rows
-TESTS_stm_wire = stm_rows
-TESTS_stm_sim = stm_rows
-TESTS_stm_watch = stm_tests
-TESTS_stm_disk = stm_tests
-TESTS_stm_image = stm_rows
-TESTS_stm_chip = stm_rows
-TESTS_stm_journal = stm_rows
-TESTS_stm_session = stm_rows
-TESTS_stm_any_line = stm_tests
-TESTS_stm_weak = stm_rows
+# the crates that are tried by rows, by the tests of one crate, and by those of the program
+BY_ROWS = stm_rows stm_image stm_wire stm_sim stm_chip stm_journal stm_session stm_weak
+BY_TESTS = stm_watch stm_disk stm_any_line
+BY_PROGRAM = stm_words stm_files stm_work stmflash
 NAMED = $(if $(wildcard crates/$(CRATE)/src),$(CRATE),$(error CRATE= is the name of a crate, one of $(notdir $(wildcard crates/*))))
 
 check:
 	cd crates/$(NAMED) && rt check
 
-# the crates that the tests of the program try
-BY_PROGRAM = stm_words stm_files stm_work stmflash
-
 try:
 	$(if $(filter $(BY_PROGRAM),$(NAMED)),sh tools/demo.sh && python3 tests/run bin/stmflash-unproved --without $(WITHOUT),\
 	    $(if $(filter stm_histories,$(NAMED)),python3 tools/undo-stored,\
-	    $(if $(filter stm_rows,$(NAMED) $(TESTS_$(NAMED))),python3 tools/rows,\
-	    cd crates/$(or $(TESTS_$(NAMED)),$(NAMED)) && rt try --test)))
+	    $(if $(filter $(BY_ROWS),$(NAMED)),python3 tools/rows,\
+	    cd crates/$(if $(filter $(BY_TESTS),$(NAMED)),stm_tests,$(NAMED)) && rt try --test)))
 
 # each step of it stands in tools/gate
 test:
@@ -155,46 +140,33 @@ soak:
 	python3 tools/power-losses $(SOAKED) --jobs $(JOBS)
 	python3 tools/weak-pages $(SOAKED) --jobs $(JOBS)
 
+program = $(DESTDIR)$(PREFIX)/bin
 share = $(DESTDIR)$(PREFIX)/share
 lib = $(DESTDIR)$(PREFIX)/lib
 completions = packaging/completions
 
 install:
 	@test -x "$(BINARY)" || { echo "make install: there is no $(BINARY); run make before" >&2; exit 1; }
-	install -d "$(DESTDIR)$(PREFIX)/bin" "$(share)/man/man1" "$(share)/stmflash"
-	install -m 755 "$(BINARY)" "$(DESTDIR)$(PREFIX)/bin/stmflash"
-	install -m 644 stmflash.1 "$(share)/man/man1/stmflash.1"
-	install -m 644 chips.toml "$(share)/stmflash/chips.toml"
-	install -d "$(share)/doc/stmflash"
-	install -m 644 docs/FORMATS.md docs/MODEL.md docs/answers.schema.json "$(share)/doc/stmflash"
-	install -d "$(share)/bash-completion/completions" "$(share)/zsh/vendor-completions" "$(share)/fish/vendor_completions.d"
-	install -m 644 $(completions)/stmflash.bash "$(share)/bash-completion/completions/stmflash"
-	install -m 644 $(completions)/_stmflash "$(share)/zsh/vendor-completions/_stmflash"
-	install -m 644 $(completions)/stmflash.fish "$(share)/fish/vendor_completions.d/stmflash.fish"
-	install -m 755 line/stmflash-line "$(DESTDIR)$(PREFIX)/bin/stmflash-line"
-	install -d "$(share)/stmflash/stmflash_line"
-	install -m 644 line/stmflash_line/*.py "$(share)/stmflash/stmflash_line"
-	install -m 644 line/stmflash-line.1 "$(share)/man/man1/stmflash-line.1"
-	install -m 755 line/stmflash-trial "$(DESTDIR)$(PREFIX)/bin/stmflash-trial"
-	install -m 644 line/stmflash-trial.1 "$(share)/man/man1/stmflash-trial.1"
-	install -d "$(share)/stmflash/trial"
-	install -m 644 line/trial/*.py "$(share)/stmflash/trial"
+	install -D -m 755 "$(BINARY)" "$(program)/stmflash"
+	install -D -m 755 -t "$(program)" line/stmflash-line line/stmflash-trial
+	install -D -m 644 -t "$(share)/man/man1" stmflash.1 line/stmflash-line.1 line/stmflash-trial.1
+	install -D -m 644 -t "$(share)/stmflash" chips.toml
+	install -D -m 644 -t "$(share)/stmflash/stmflash_line" line/stmflash_line/*.py
+	install -D -m 644 -t "$(share)/stmflash/trial" line/trial/*.py
+	install -D -m 644 -t "$(share)/doc/stmflash" docs/FORMATS.md docs/MODEL.md docs/answers.schema.json
+	install -D -m 644 $(completions)/stmflash.bash "$(share)/bash-completion/completions/stmflash"
 	ln -sf stmflash "$(share)/bash-completion/completions/stmflash-line"
 	ln -sf stmflash "$(share)/bash-completion/completions/stmflash-trial"
-	install -m 644 $(completions)/stmflash-line.fish "$(share)/fish/vendor_completions.d/stmflash-line.fish"
-	install -m 644 $(completions)/stmflash-trial.fish "$(share)/fish/vendor_completions.d/stmflash-trial.fish"
-	install -d "$(lib)/systemd/system" "$(lib)/udev/rules.d"
-	install -m 644 packaging/stmflash-line@.service "$(lib)/systemd/system"
+	install -D -m 644 -t "$(share)/zsh/vendor-completions" $(completions)/_stmflash
+	install -D -m 644 -t "$(share)/fish/vendor_completions.d" $(completions)/*.fish
+	install -D -m 644 -t "$(lib)/systemd/system" packaging/stmflash-line@.service
 	sed -i 's|/usr/bin/|$(PREFIX)/bin/|' "$(lib)/systemd/system/stmflash-line@.service"
-	install -m 644 packaging/70-stmflash.rules "$(lib)/udev/rules.d/70-stmflash.rules"
-
-words = $(share)/stmflash-as-stm32flash/as_stm32flash
+	install -D -m 644 -t "$(lib)/udev/rules.d" packaging/70-stmflash.rules
 
 install-as-stm32flash:
-	install -d "$(DESTDIR)$(PREFIX)/bin" "$(words)" "$(share)/man/man1"
-	install -m 755 line/stm32flash "$(DESTDIR)$(PREFIX)/bin/stm32flash"
-	install -m 644 line/as_stm32flash/*.py "$(words)"
-	install -m 644 line/stmflash-as-stm32flash.1 "$(share)/man/man1/stmflash-as-stm32flash.1"
+	install -D -m 755 -t "$(program)" line/stm32flash
+	install -D -m 644 -t "$(share)/stmflash-as-stm32flash/as_stm32flash" line/as_stm32flash/*.py
+	install -D -m 644 -t "$(share)/man/man1" line/stmflash-as-stm32flash.1
 
 deb: $(STMFLASH_BINARY)
 	@mkdir -p bin

@@ -29,13 +29,6 @@ STRICT = ["-O2", "-Wall", "-Wextra", "-Werror"]
 FAULTS = list(slips.read(pathlib.Path(f"{HERE}/slips").read_text(encoding="utf-8")))
 
 
-def kit():
-    """The kit's own functions, which are for x86-64."""
-    found = shutil.which("rt")
-    folder = found and os.path.dirname(os.path.dirname(os.path.realpath(found)))
-    return [f"{folder}/c/libos_c.a", f"{folder}/c/liblibc_c.a"] if folder and os.uname().machine == "x86_64" else None
-
-
 class Layer(unittest.TestCase):
     def setUp(self):
         folder = self.enterContext(tempfile.TemporaryDirectory())
@@ -54,9 +47,12 @@ class Layer(unittest.TestCase):
         self.assertRegex(ran.stdout, r"\A(\d{4}) of \1 hold\n\Z")
 
     def test_of_the_kit(self):
-        if kit() is None:
+        """Its functions are for x86-64."""
+        rt = shutil.which("rt")
+        if rt is None or os.uname().machine != "x86_64":
             self.skipTest("there is no kit for this machine")
-        self.assertHolds(self.run_over(kit()))
+        folder = os.path.dirname(os.path.dirname(os.path.realpath(rt)))
+        self.assertHolds(self.run_over([f"{folder}/c/libos_c.a", f"{folder}/c/liblibc_c.a"]))
 
     def test_on_this_machine(self):
         self.assertHolds(self.run_over([f"{HERE}/layer.c"]))

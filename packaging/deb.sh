@@ -1,5 +1,5 @@
-# What the Debian packages have in common: begun here, each has its documents by `document` and is packed by `pack`. No program: packaging/deb
-# and packaging/deb-as-stm32flash take it in.
+# What the Debian packages have in common: begun here, each has its documents by `document` and is packed by `pack`. No program: packaging/deb,
+# packaging/deb-as-stm32flash, packaging/release and what tries the packages take it in.
 set -eu
 umask 022
 export LC_ALL=C  # readelf tells the processor in the user's language

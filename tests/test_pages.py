@@ -243,12 +243,11 @@ class Pages(Place):
         """`make try CRATE=` runs tests for each crate: its own, those of another one, rows, those of the program, or a script. The programs
         that are measured have none, and `rt ci` compares what they print."""
         makefile = text_in("Makefile")
-        elsewhere = dict(re.findall(r"^TESTS_(\w+) = (\w+)$", makefile, re.M))
-        by_program = re.search(r"^BY_PROGRAM = (.*)$", makefile, re.M)[1].split()
+        by_rows, by_tests, by_program = (re.search(rf"^BY_{it} = (.*)$", makefile, re.M)[1].split() for it in ("ROWS", "TESTS", "PROGRAM"))
         for crate in sorted(os.listdir(os.path.join(TOP, "crates"))):
-            if elsewhere.get(crate, crate) not in (*by_program, "stm_rows", "stm_histories", "bench", "refused_memory"):
+            if crate not in (*by_rows, *by_program, "stm_histories", "bench", "refused_memory"):
                 with self.subTest(crate=crate):
-                    code = glob.glob(os.path.join(TOP, "crates", elsewhere.get(crate, crate), "src", "**", "*.rt"), recursive=True)
+                    code = glob.glob(os.path.join(TOP, "crates", "stm_tests" if crate in by_tests else crate, "src", "**", "*.rt"), recursive=True)
                     self.assertTrue(any("#[test]" in text_in(it) for it in code))
 
     def test_the_ways_of_contributing_are_there(self):

@@ -15,17 +15,13 @@ import socket
 import subprocess
 import sys
 import time
-import tomllib
 import unittest
 
 from browser import PATIENCE, Browser, Firefox
-from served_page import JOURNAL, PAGES, PROGRAM, QUIET, READY, SEED, TOP, UNIQUE, ServedPage, held, named, wait
-from test_layer import elf
-from test_newcomer import Newcomer
-from test_stops import InFirefox
-from test_trial import Trial
+from served_page import PAGES, READY, SEED, Served, ServedPage, held, rows
 
-
+# what a program of Python does at its beginning: what nobody keeps is collected at once
+COLLECTS = "import gc, itertools, threading\nthreading.Thread(target=lambda: any(gc.collect() < 0 for _ in itertools.count()), daemon=True).start()\n"
 # texts that stand out too little from what is behind them, by WCAG's ratio of luminances
 FAINT = """[...document.querySelectorAll('body *')].filter((it) => it.offsetParent && !it.disabled && [...it.childNodes].some((part) => part.nodeType === 3 && part.data.trim())).filter((it) => {
     const luminance = (colour) => colour.match(/[\\d.]+/g).slice(0, 3).map((it) => it / 255).map((it) => (it <= 0.03928 ? it / 12.92 : ((it + 0.055) / 1.055) ** 2.4)).reduce((sum, it, i) => sum + it * [0.2126, 0.7152, 0.0722][i], 0.05);
@@ -40,23 +36,37 @@ AT_ONCE = 5
 STOPS = {"a_full_origin": 20, "a_wrong_byte_and_a_lost_port": 20, "the_browser_is_killed_at_any_moment": 20, "the_tab_is_closed_at_any_moment": 40}
 
 
+class InFirefox(ServedPage):
+    """A write and its undo, stops of each kind, and two tabs."""
+
+    browser_of, samples = Firefox, 1
+
+    def test_the_tab_is_closed_at_any_moment(self):
+        self.stopped(lambda tab: tab.close())
+
+    def test_the_browser_is_killed_at_any_moment(self):
+        def end(_):
+            self.browser.kill()
+            self.begin_browser()
+
+        self.stopped(end)
+
+    def test_a_wrong_byte_and_a_lost_port(self):
+        tab = self.tab()
+        for kind, says in (("wrongAt", "A byte came wrong"), ("lostAt", "The adapter is gone")):
+            for i in range(self.samples):
+                at = self.some.randrange(20, 10 * 1024)
+                with self.subTest(f"{kind} {at}"):
+                    tab.js(f"stmflash.state.plan = {{ {kind}: {at} }}")
+                    self.do(tab, "#write", f"(?s)^Not done: .*{says}")
+                    tab.js("stmflash.state.plan = undefined")
+                    self.undo(tab, f"{kind} {at}")
+
+
 class Page(InFirefox):
     """And what is tried in Chromium alone, more often."""
 
     browser_of, samples = Browser, ServedPage.samples
-
-    def test_offline(self):
-        tab = self.tab()
-        tab.js("navigator.serviceWorker.ready.then(() => 1)")
-        self.assertEqual(tab.call("Page.getInstallabilityErrors")["installabilityErrors"], [])
-        self.do(tab, "#write")
-        self.server.end()
-        tab.close()
-        for address in (self.address, self.address.replace("/?", "/index.html?")):
-            again = self.browser.tab(address)
-            again.until(READY, "the page isn't ready without its server")
-            self.assertIn("1 can be undone", again.js("document.getElementById('journals').innerText"))
-            again.close()
 
     def test_an_update_in_mid_write(self):
         """A tab goes on with the files that it began with. One that is opened then has all of either version, and undoes."""
@@ -84,93 +94,6 @@ class Page(InFirefox):
         self.assertEqual(seen, [True, True], "the update never counts")
         self.undo(tab, "behind an update")
 
-    def test_hex_and_elf_are_written_where_they_say(self):
-        tab = self.tab()
-        for name, data, at in (("a.hex", b":020000040800F2\n:0404000001020304EE\n:00000001FF\n", (0x400, b"\1\2\3\4")), ("a.elf", elf([(0x08000803, 0x20000000, b"stored")]), (0x803, b"stored"))):
-            with self.subTest(name):
-                tab.js(f"stmflash.take({named((name, data))})")
-                self.assertTrue(tab.js("document.getElementById('start').hidden"))
-                self.do(tab, "#write", "^Done: segment")
-                self.assertFlash(self.before[:at[0]] + at[1] + self.before[at[0] + len(at[1]):])
-                self.undo(tab, name)
-
-    def test_chip_and_board_by_their_names(self):
-        """A board with another chip than the one that was chosen is left alone, and so is another board than the journal's."""
-        tab = self.tab()
-        with open(f"{TOP}/chips.toml", "rb") as file:
-            chips = {f"{it['id']:04X}": it["name"] for it in tomllib.load(file)["chip"]}
-        self.assertEqual(tab.js("Object.fromEntries([...document.getElementById('kind').options].slice(1).map((it) => [it.value, it.text]))"), {it: f"{name} ({it})" for it, name in chips.items()})
-        self.choose(tab, "board", ":new")
-        tab.js("document.getElementById('name').value = 'kitchen'")
-        for chip, said, flash in (("0412", f"^Not done: the board has another chip, {chips['0410']} ", self.before), ("0410", "^Done: ", self.after)):
-            self.choose(tab, "kind", chip)
-            self.do(tab, "#write", said)
-            self.assertFlash(flash)
-        self.assertEqual(tab.js("[document.getElementById('board').value, stmflash.state.names]"), ["kitchen", ["kitchen.journal"]])
-        self.assertIn(f"chip {chips['0410']} (0410)", tab.js("document.getElementById('journals').innerText"))
-        # a journal of another board: nothing is sent but what asks which it is
-        other = self.journal_of(tab, "kitchen").replace(UNIQUE.encode(), UNIQUE[::-1].encode())
-        tab.js(f"stmflash.takeJournal({named(('other.journal', other))})")
-        self.assertEqual(tab.js("document.getElementById('journals').innerText").count("1 can be undone"), 2)
-        self.choose(tab, "board", "other")
-        self.do(tab, "#write", "^Not done: .*another board")
-        self.choose(tab, "board", "kitchen")
-        self.do(tab, "#compare")
-        self.undo(tab, "by its name")
-
-    def test_a_board_that_another_client_has(self):
-        """A page that comes meanwhile isn't let in to be answered too late: its line opens once the board is free."""
-        tab = self.tab()
-        with socket.socket(socket.AF_UNIX, socket.SOCK_STREAM) as other:
-            other.connect(self.socket)
-            # it has the board once that answers
-            other.sendall(b"\x7f")
-            self.assertEqual(len(other.recv(1)), 1)
-            tab.js("void (window.line = new WebSocket(stmflash.state.line.url))")
-            for _ in range(3):
-                self.assertEqual(tab.js("fetch('no-such-file').then((it) => [it.status, line.readyState])"), [404, 0])
-        tab.until("line.readyState === 1")
-        tab.js("line.close()")
-        self.do(tab, "#write")
-        self.undo(tab, "behind another client")
-
-    def stopped_behind_a_wiring(self):
-        """A tab that comes behind one that was closed in mid-write."""
-        for is_stopped in (False, True):
-            tab = self.tab()
-            self.choose(tab, "wiring", "dtr-reset,rts-boot0")
-            if not is_stopped:
-                self.hold_write(tab)
-                tab.close()
-        return tab
-
-    def test_a_board_that_its_wiring_resets(self):
-        """It is undone without a word of that, wherever it was stopped; and goes back into its program, where nothing reaches it but a reset."""
-        for i in range(5):
-            tab = self.stopped_behind_a_wiring()
-            self.undo(tab, f"by a wiring, {i}")
-            self.assertLine(b"gone\n")
-            self.assertNotIn("--fresh", tab.js("document.getElementById('said').textContent"))
-            tab.close()
-        tab = self.tab()
-        tab.js("document.getElementById('fresh').checked = true")
-        self.do(tab, "#write", "^Not done: ")
-        self.assertFalse(tab.js("document.getElementById('fresh').checked"), "what was sent counts, whatever came of it")
-        self.assertFlash(self.before)
-
-    def test_a_wiring_says_nothing_of_another_board(self):
-        """One was stopped, and may be the one that is here: what asks it would be the rest of its command. A reader says that it was reset."""
-        tab = self.stopped_behind_a_wiring()
-        other = self.journal_of(tab).replace(UNIQUE.encode(), UNIQUE[::-1].encode())
-        self.undo(tab, "ahead of the other")
-        tab.js(f"stmflash.takeJournal({named((f'{UNIQUE[::-1]}.journal', other))})")
-        self.do(tab, "#write", "^Not done: unfinished or bad: .*; undo first, or reset the board, and say above that it was")
-        self.assertFlash(self.before)
-        tab.js("document.getElementById('fresh').checked = true")
-        self.do(tab, "#write")
-        self.assertFlash(self.after)
-        self.assertFalse(tab.js("document.getElementById('fresh').checked"))
-
     def test_a_full_origin(self):
         """Whatever room there is: a write that can't be journalled ends with a word, and is undone, if need be with room again."""
         tab = self.tab()
@@ -184,36 +107,6 @@ class Page(InFirefox):
                 told = self.do(tab, "#write", "(?s)^%sNot done: (cannot write|.*No space|.*room)" % ("Done: |^" if room else ""))
                 tab.call("Storage.overrideQuotaForOrigin", origin=origin)
                 self.undo(tab, f"room {room}: {told}")
-
-    def test_a_journal_to_the_command_line_and_back(self):
-        tab = self.tab()
-        self.do(tab, "#write")
-        pathlib.Path(path := f"{self.room}/{JOURNAL}").write_bytes(self.journal_of(tab))
-        self.assertIn(b"\nimage a_0!\n", held(path))
-        self.assertFlash(self.after)
-        pathlib.Path(f"{self.room}/image").write_bytes(self.image)
-
-        def call(*words):
-            ran = subprocess.run([PROGRAM, *words[:1], "--table", f"{TOP}/chips.toml", "--device", self.socket, "--wait", wait(), "--journal", path, *words[1:]],
-                                 stdin=subprocess.DEVNULL, capture_output=True, text=True, timeout=PATIENCE)
-            self.assertEqual(ran.returncode, 0, ran.stderr)
-
-        call("undo", "1", "-v")
-        self.assertFlash(self.before)
-        # what the command line writes is undone in the page, by the same bytes
-        call("write", "-v", f"{self.room}/image")
-        self.assertFlash(self.after)
-        journal = held(path)
-        tab.js(f"stmflash.ask('remove', {{ path: '/boards/{JOURNAL}' }})")
-        tab.js(f"stmflash.journals().then(() => stmflash.takeJournal({named((JOURNAL, journal))}))")
-        self.assertEqual(self.journal_of(tab), journal)
-        self.undo(tab, "of the command line")
-        # another file of its name is refused, and so is what is no journal
-        tab.js(f"stmflash.takeJournal({named((UNIQUE, b''))})")
-        self.assertIn("already", tab.js("document.getElementById('told').innerText"))
-        tab.js(f"stmflash.takeJournal({named(('b.journal', b'no journal'))})")
-        self.assertTrue(tab.js("document.getElementById('told').innerText").startswith("Not done"))
-        self.assertEqual(tab.js("stmflash.state.names"), [JOURNAL])
 
     def test_each_control_has_a_name_and_fits(self):
         tab = self.tab()
@@ -246,76 +139,62 @@ class Page(InFirefox):
         wanted = ["port", "baud", "wiring", "fresh", "kind", "board", "ask", "file", "address", "write", "compare", "upload", "read", "form", "try"]
         self.assertEqual([it for it in reached if it in wanted], wanted)
 
-    def test_a_file_that_is_no_image(self):
-        """It is refused before anything is sent; and so is one that was changed since it was chosen, or has a place that is none."""
-        tab = self.tab()
-        for name, data, says in (("a.s19", b"S00600004844521B\n", "S-record"), ("a.hex", b"\xef\xbb\xbf:00000001FF\n", "byte order mark"), ("a.bin", b"", "no bytes"),
-                                 ("b.bin", bytes(1 + (2 << 20)), "larger than any flash"), ("a.elf", b"\x7fELF\2\1" + bytes(60), "32 bits"),
-                                 ("b.elf", b"\x7fELF\1\1" + bytes(60), "for ARM"), ("c.elf", elf([])[:60], "too soon")):
-            with self.subTest(name):
-                tab.js(f"stmflash.take({named((name, data))})")
-                if tab.js("document.getElementById('write').disabled"):
-                    self.assertIn(says, tab.js("document.getElementById('image').innerText"))
-                else:
-                    self.do(tab, "#write", f"^Not done: .*{says}")
-        path = f"{self.room}/a.bin"
-        pathlib.Path(path).write_bytes(self.image)
-        tab.call("DOM.setFileInputFiles", files=[path], objectId=tab.call("Runtime.evaluate", expression="document.getElementById('file')")["result"]["objectId"])
-        tab.until("document.getElementById('image').innerText.includes('5020')")
-        for field, text, board in (("address", "0x8", ""), ("name", "a b", ":new"), ("name", "", ":new")):
-            self.choose(tab, "board", board)
-            tab.js(f"document.getElementById('{field}').value = '{text}'")
-            self.do(tab, "#write", f"^Not done: The {field} ")
-            tab.js(f"document.getElementById('{field}').value = document.getElementById('{field}').defaultValue")
-        self.choose(tab, "board", "")
-        with open(path, "ab") as file:
-            file.write(b"more")
-        self.do(tab, "#write", "^Not done: a.bin: .*changed or removed")
-        self.assertEqual((held(self.flash), tab.js("stmflash.state.names")), (self.before, []))
-        # one that misses its place is taken, and not opened in the place of the page
-        self.assertFalse(tab.js(f"""(() => {{ const data = new DataTransfer(); data.items.add({named(('b.bin', self.image))});
-            return document.body.dispatchEvent(new DragEvent('drop', {{ dataTransfer: data, bubbles: true, cancelable: true }})); }})()"""))
-        tab.until("document.getElementById('image').innerText.startsWith('b.bin: 5020')")
 
-    def test_cleared_files(self):
-        """Whoever clears the data of the site takes a journal away under an open page: it is told, and the journal can be downloaded."""
-        told = "^Not done: what this page has on the disk was cleared"
-        for is_in_mid_write in (False, True):
-            tab = self.tab()
-            if is_in_mid_write:
-                self.hold_write(tab)
-            tab.call("Storage.clearDataForOrigin", origin=self.address.partition("/?")[0], storageTypes="all")
-            if is_in_mid_write:
-                tab.until(QUIET + " && !document.getElementById('told').hidden")
-                self.assertRegex(tab.js("document.getElementById('told').innerText"), f"(?s){told}.*Download {JOURNAL}")
-                kept = self.journal_of(tab)
-            else:
-                self.do(tab, "#write", told)
-                self.assertEqual(tab.js("stmflash.state.names"), [])
-            tab.close()
-        tab = self.tab()
-        self.assertEqual(tab.js("stmflash.state.names"), [])
-        tab.js(f"stmflash.takeJournal({named((JOURNAL, kept))})")
-        self.undo(tab, "by the journal that was downloaded")
+class Trial(ServedPage):
+    """What the page says of a write before it is done, and its trial of a board."""
 
-    def test_a_private_window_and_a_page_that_is_loaded_again(self):
-        """What is in a private window goes with it, which is said. A reload in mid-write is a stop as any, no question holds the page up, and none is
-        closed unasked between two calls of a row."""
-        context = self.browser.call("Target.createBrowserContext")
-        tab = self.tab(**context)
-        self.assertIn("may clear the journals", tab.js("document.getElementById('state').innerText"))
-        self.hold_write(tab)
-        tab.call("Page.addScriptToEvaluateOnNewDocument", source="StorageManager.prototype.persist = () => new Promise(() => { window.isAsked = true; })")
-        tab.reload()
-        self.assertTrue(self.ready(tab).js("isAsked"))
-        self.assertIn(f"Download {JOURNAL}", self.do(tab, "#write", "^Not done: unfinished or bad: [^-]*; undo first"))
-        self.undo(tab, "in a private window")
-        self.assertNotIn('{"', tab.js("document.getElementById('said').textContent"))
-        self.browser.call("Target.disposeBrowserContext", **context)
-        tab = self.tab()
-        self.assertEqual(tab.js("stmflash.state.names"), [])
-        leaves = "dispatchEvent(new Event('beforeunload', { cancelable: true }))"
-        self.assertEqual(tab.js(f"[{leaves}, stmflash.state.isAtWork = true, {leaves}]"), [True, True, False])
+    # one that has 32 pages
+    chip, size = "0412", 32768
+
+
+class Newcomer(ServedPage):
+    """What a newcomer does behind `make web-unproved`."""
+
+    def serve(self):
+        """By one word; what the board holds is in a folder of the page's server, which has no other word on it."""
+        self.server = self.enterContext(Served(env={**os.environ, "TMPDIR": self.room}))
+        self.before, self.flash = b"\xff" * self.size, f"{next(pathlib.Path(self.room).glob('stmflash-web-*'))}/flash"
+
+    def does(self, sign, told, *more):
+        if sign == "press":
+            self.press(self.tabs[""], told)
+        elif sign == "sees":
+            self.tabs[""].until(f"document.body?.innerText.includes('{told}')")
+        elif sign == "ready":
+            self.tabs[""].until(READY)
+            print(f"ready in {self.tabs[''].js('stmflash.state.compiled'):.0f} ms", flush=True)
+        else:
+            super().does(sign, told, *more)
+
+    def press(self, tab, text):
+        """A click of the mouse on a button that is seen, where it is."""
+        button = f"[...document.querySelectorAll('button')].find((it) => it.textContent === '{text}' && it.offsetParent && !it.disabled)"
+        tab.until(f"Boolean({button})")
+        where = f"(() => {{ const it = {button}; it.scrollIntoView({{ block: 'center' }}); const at = it.getBoundingClientRect(); return [at.x + at.width / 2, at.y + at.height / 2]; }})()"
+        # the page may still move
+        place = None
+        while place != (place := tab.js(where)):
+            time.sleep(0.2)
+        x, y = place
+        for kind in ("mousePressed", "mouseReleased"):
+            tab.call("Input.dispatchMouseEvent", type=kind, x=x, y=y, button="left", clickCount=1)
+
+    def test_a_client_that_is_gone_is_served_to_its_end(self):
+        """Each byte that is answered shows a board that the one before has left; nobody keeps a client's task but the server."""
+        pathlib.Path(self.room, "sitecustomize.py").write_text(COLLECTS)
+        with Served("--socket", f"{self.room}/line", stderr=subprocess.PIPE, env={**os.environ, "PYTHONPATH": self.room}) as server:
+            for sent in (b"\x7f", b"\0\xff", b"\2\xfd"):
+                with socket.socket(socket.AF_UNIX) as client:
+                    client.settimeout(PATIENCE)
+                    client.connect(f"{self.room}/line")
+                    client.sendall(sent)
+                    self.assertEqual(client.recv(1), b"\x79")
+        with server.process.stderr as said:
+            self.assertEqual(said.read(), "")
+
+
+for kind, page in ((InFirefox, "stops"), (Page, "page"), (Trial, "trial"), (Newcomer, "newcomer")):
+    rows.each_named(kind, f"../web/{page}.rows", ServedPage.play_all)
 
 
 def run(test):

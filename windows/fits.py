@@ -48,21 +48,15 @@ def faults_of(lines):
                 yield "is below the stack", line
 
 
-def functions_of(path):
-    """The name and the lines of each function of an object."""
-    said = subprocess.run(["objdump", "-d", "--no-show-raw-insn", path], capture_output=True, text=True, check=True).stdout
-    found = []
-    for line in said.splitlines():
-        if head := HEAD.match(line):
-            found.append((head[1], []))
-        elif "\t" in line:
-            found[-1][1].append(line.split("\t", 1)[1].split(" #")[0].strip())
-    return found
-
-
 def faults(path):
     """What an object's functions do that Windows can't take, a line for each of them."""
-    functions = functions_of(path)
+    said = subprocess.run(["objdump", "-d", "--no-show-raw-insn", path], capture_output=True, text=True, check=True).stdout
+    functions = []
+    for line in said.splitlines():
+        if head := HEAD.match(line):
+            functions.append((head[1], []))
+        elif "\t" in line:
+            functions[-1][1].append(line.split("\t", 1)[1].split(" #")[0].strip())
     if not functions:
         sys.exit(f"{path} has no functions")
     return [f"{name} {what}: {line}" for name, lines in functions for what, line in list(faults_of(lines))[:1]]

@@ -81,7 +81,7 @@ static bool is_for_one(SECURITY_ATTRIBUTES *rights)
         && only->AceCount == 1 && GetAce(only, 0, (void **)&one) && one->Mask == FILE_ALL_ACCESS;
 }
 
-static HANDLE WINAPI tried_create(const wchar_t *path, DWORD access, DWORD share, SECURITY_ATTRIBUTES *rights, DWORD how, DWORD flags, HANDLE like)
+static HANDLE WINAPI tried_CreateFileW(const wchar_t *path, DWORD access, DWORD share, SECURITY_ATTRIBUTES *rights, DWORD how, DWORD flags, HANDLE like)
 {
     is_bare = wcsncmp(path, L"\\\\.\\COM", 7) == 0, is_opened = (flags & FILE_FLAG_OPEN_REPARSE_POINT) != 0, private = is_for_one(rights), asked_for = access, created_how = how, shared = share;
     SetLastError(refused != 0 ? refused : ERROR_ACCESS_DENIED);
@@ -89,23 +89,23 @@ static HANDLE WINAPI tried_create(const wchar_t *path, DWORD access, DWORD share
     return opened += it != INVALID_HANDLE_VALUE, it;
 }
 
-static BOOL WINAPI tried_flush(HANDLE handle)
+static BOOL WINAPI tried_FlushFileBuffers(HANDLE handle)
 {
     PUBLIC_OBJECT_BASIC_INFORMATION told = {0};
     NtQueryObject(handle, ObjectBasicInformation, &told, sizeof told, NULL);
     return flushes++, flushed_by = told.GrantedAccess, FlushFileBuffers(handle);
 }
 
-static BOOL WINAPI tried_errors(HANDLE port, DWORD *errors, COMSTAT *waiting) { BOOL done = ClearCommError(port, errors, waiting); return *errors |= came_at == 0 || --came_at == 0 ? came : 0, done; }
-static BOOL WINAPI tried_lock(HANDLE handle, DWORD how, DWORD none, DWORD low, DWORD high, OVERLAPPED *place) { return locked = (ULONGLONG)place->OffsetHigh << 32 | place->Offset, HOLDS(low == 1 && high == 0), LockFileEx(handle, how, none, low, high, place); }
-static int WINAPI tried_option(SOCKET socket, int level, int name, const char *value, int length) { return option = level == SOL_SOCKET && getsockname(socket, &(struct sockaddr){0}, &(int){16}) != 0 ? name : option, setsockopt(socket, level, name, value, length); }
-static BOOL WINAPI tried_state(HANDLE port, DCB *set) { return state = *set, SetLastError(ERROR_INVALID_PARAMETER), takes > 0 || (takes == 0 && SetCommState(port, set)); }
-static BOOL WINAPI tried_purge(HANDLE port, DWORD what) { return snprintf(signals + strlen(signals), sizeof signals - strlen(signals), "purge "), PurgeComm(port, what); }
-static BOOL WINAPI tried_waits(HANDLE port, COMMTIMEOUTS *set) { return waits = *set, SetCommTimeouts(port, set); }
-static BOOL WINAPI tried_write(HANDLE handle, const void *buf, DWORD n, DWORD *done, OVERLAPPED *place) { return bytes = n, written = handle, said = buf, WriteFile(handle, buf, n < most ? n : most, done, place); }
-static BOOL WINAPI tried_read(HANDLE handle, void *buf, DWORD n, DWORD *done, OVERLAPPED *place) { return bytes = n, ReadFile(handle, buf, n < most ? n : most, done, place); }
+static BOOL WINAPI tried_ClearCommError(HANDLE port, DWORD *errors, COMSTAT *waiting) { BOOL done = ClearCommError(port, errors, waiting); return *errors |= came_at == 0 || --came_at == 0 ? came : 0, done; }
+static BOOL WINAPI tried_LockFileEx(HANDLE handle, DWORD how, DWORD none, DWORD low, DWORD high, OVERLAPPED *place) { return locked = (ULONGLONG)place->OffsetHigh << 32 | place->Offset, HOLDS(low == 1 && high == 0), LockFileEx(handle, how, none, low, high, place); }
+static int WINAPI tried_setsockopt(SOCKET socket, int level, int name, const char *value, int length) { return option = level == SOL_SOCKET && getsockname(socket, &(struct sockaddr){0}, &(int){16}) != 0 ? name : option, setsockopt(socket, level, name, value, length); }
+static BOOL WINAPI tried_SetCommState(HANDLE port, DCB *set) { return state = *set, SetLastError(ERROR_INVALID_PARAMETER), takes > 0 || (takes == 0 && SetCommState(port, set)); }
+static BOOL WINAPI tried_PurgeComm(HANDLE port, DWORD what) { return snprintf(signals + strlen(signals), sizeof signals - strlen(signals), "purge "), PurgeComm(port, what); }
+static BOOL WINAPI tried_SetCommTimeouts(HANDLE port, COMMTIMEOUTS *set) { return waits = *set, SetCommTimeouts(port, set); }
+static BOOL WINAPI tried_WriteFile(HANDLE handle, const void *buf, DWORD n, DWORD *done, OVERLAPPED *place) { return bytes = n, written = handle, said = buf, WriteFile(handle, buf, n < most ? n : most, done, place); }
+static BOOL WINAPI tried_ReadFile(HANDLE handle, void *buf, DWORD n, DWORD *done, OVERLAPPED *place) { return bytes = n, ReadFile(handle, buf, n < most ? n : most, done, place); }
 
-static BOOL WINAPI tried_set(HANDLE handle, FILE_INFO_BY_HANDLE_CLASS what, void *value, DWORD size)
+static BOOL WINAPI tried_SetFileInformationByHandle(HANDLE handle, FILE_INFO_BY_HANDLE_CLASS what, void *value, DWORD size)
 {
     static wchar_t path[PATH_ROOM];
     struct { DWORD flags; HANDLE root; DWORD length; wchar_t name[1]; } *renamed = value;
@@ -121,14 +121,14 @@ static BOOL WINAPI tried_set(HANDLE handle, FILE_INFO_BY_HANDLE_CLASS what, void
     return MoveFileExW(renamed->name, L"aside", MOVEFILE_REPLACE_EXISTING), MoveFileExW(path, renamed->name, MOVEFILE_REPLACE_EXISTING);
 }
 
-static BOOL WINAPI tried_move(const wchar_t *from, const wchar_t *to, DWORD flags) { return moves > 0 ? moves--, SetLastError(move_error), FALSE : (through += (flags & ~MOVEFILE_REPLACE_EXISTING) == MOVEFILE_WRITE_THROUGH, MoveFileExW(from, to, flags)); }
+static BOOL WINAPI tried_MoveFileExW(const wchar_t *from, const wchar_t *to, DWORD flags) { return moves > 0 ? moves--, SetLastError(move_error), FALSE : (through += (flags & ~MOVEFILE_REPLACE_EXISTING) == MOVEFILE_WRITE_THROUGH, MoveFileExW(from, to, flags)); }
 
-static BOOL WINAPI tried_signal(HANDLE, DWORD what)
+static BOOL WINAPI tried_EscapeCommFunction(HANDLE, DWORD what)
 {
     return signalled_at = flushes, snprintf(signals + strlen(signals), sizeof signals - strlen(signals), "%s ", what == SETRTS ? "rts" : what == CLRRTS ? "-rts" : what == SETDTR ? "dtr" : "-dtr");
 }
 
-static DWORD WINAPI tried_security(HANDLE handle, SE_OBJECT_TYPE kind, SECURITY_INFORMATION what, PSID *owner, PSID *group, PACL *entries, PACL *more,
+static DWORD WINAPI tried_GetSecurityInfo(HANDLE handle, SE_OBJECT_TYPE kind, SECURITY_INFORMATION what, PSID *owner, PSID *group, PACL *entries, PACL *more,
     PSECURITY_DESCRIPTOR *rights)
 {
     BOOL ignored;
@@ -141,30 +141,30 @@ static DWORD WINAPI tried_security(HANDLE handle, SE_OBJECT_TYPE kind, SECURITY_
     return ERROR_SUCCESS;
 }
 
-static DWORD WINAPI tried_attributes(const wchar_t *path) { return GetFileAttributesW(path) | (is_link ? FILE_ATTRIBUTE_REPARSE_POINT : 0); }
-static BOOL WINAPI tried_information(HANDLE it, BY_HANDLE_FILE_INFORMATION *told) { return GetFileInformationByHandle(it, told) && (*told = instead != NULL ? *instead : *told, told->dwFileAttributes |= is_link && is_opened ? FILE_ATTRIBUTE_REPARSE_POINT : 0, TRUE); }
-static DWORD WINAPI tried_final(HANDLE handle, wchar_t *path, DWORD room, DWORD how) { return leads != NULL ? (DWORD)wcslen(wcscpy(path, leads)) : GetFinalPathNameByHandleW(handle, path, room, how); }
-static DWORD WINAPI tried_secure(HANDLE handle, SE_OBJECT_TYPE kind, SECURITY_INFORMATION what, PSID owner, PSID group, PACL entries, PACL more) { return secured = what, SetSecurityInfo(handle, kind, what, owner, group, entries, more); }
-static HANDLE WINAPI tried_list(const wchar_t *path, WIN32_FIND_DATAW *found) { return opened++, FindFirstFileW(path, found); }
-static BOOL WINAPI tried_next(HANDLE listing, WIN32_FIND_DATAW *found) { return breaks ? SetLastError(ERROR_CRC), FALSE : FindNextFileW(listing, found); }
-static BOOL WINAPI tried_end(HANDLE listing) { return opened--, FindClose(listing); }
-static BOOL WINAPI tried_close(HANDLE it) { return opened -= it != INVALID_HANDLE_VALUE, CloseHandle(it); }
+static DWORD WINAPI tried_GetFileAttributesW(const wchar_t *path) { return GetFileAttributesW(path) | (is_link ? FILE_ATTRIBUTE_REPARSE_POINT : 0); }
+static BOOL WINAPI tried_GetFileInformationByHandle(HANDLE it, BY_HANDLE_FILE_INFORMATION *told) { return GetFileInformationByHandle(it, told) && (*told = instead != NULL ? *instead : *told, told->dwFileAttributes |= is_link && is_opened ? FILE_ATTRIBUTE_REPARSE_POINT : 0, TRUE); }
+static DWORD WINAPI tried_GetFinalPathNameByHandleW(HANDLE handle, wchar_t *path, DWORD room, DWORD how) { return leads != NULL ? (DWORD)wcslen(wcscpy(path, leads)) : GetFinalPathNameByHandleW(handle, path, room, how); }
+static DWORD WINAPI tried_SetSecurityInfo(HANDLE handle, SE_OBJECT_TYPE kind, SECURITY_INFORMATION what, PSID owner, PSID group, PACL entries, PACL more) { return secured = what, SetSecurityInfo(handle, kind, what, owner, group, entries, more); }
+static HANDLE WINAPI tried_FindFirstFileW(const wchar_t *path, WIN32_FIND_DATAW *found) { return opened++, FindFirstFileW(path, found); }
+static BOOL WINAPI tried_FindNextFileW(HANDLE listing, WIN32_FIND_DATAW *found) { return breaks ? SetLastError(ERROR_CRC), FALSE : FindNextFileW(listing, found); }
+static BOOL WINAPI tried_FindClose(HANDLE listing) { return opened--, FindClose(listing); }
+static BOOL WINAPI tried_CloseHandle(HANDLE it) { return opened -= it != INVALID_HANDLE_VALUE, CloseHandle(it); }
 static SOCKET counted(SOCKET it) { return opened += it != INVALID_SOCKET, it; }
 static SOCKET WSAAPI tried_socket(int family, int kind, int protocol) { return counted(socket(family, kind, protocol)); }
 static SOCKET WSAAPI tried_accept(SOCKET server, struct sockaddr *who, int *length) { return counted(accept(server, who, length)); }
-static int WSAAPI tried_poll(WSAPOLLFD *one, ULONG n, int wait) { return HOLDS(n == 1 && wait > 0), WSAPoll(one, n, wait); }
-static int WSAAPI tried_shut(SOCKET it) { return opened--, closesocket(it); }
-static void WSAAPI tried_freed(struct addrinfo *it) { memset(it->ai_addr, 0, it->ai_addrlen), freeaddrinfo(it); }
+static int WSAAPI tried_WSAPoll(WSAPOLLFD *one, ULONG n, int wait) { return HOLDS(n == 1 && wait > 0), WSAPoll(one, n, wait); }
+static int WSAAPI tried_closesocket(SOCKET it) { return opened--, closesocket(it); }
+static void WSAAPI tried_freeaddrinfo(struct addrinfo *it) { memset(it->ai_addr, 0, it->ai_addrlen), freeaddrinfo(it); }
 
-static BOOL WINAPI tried_mode(HANDLE it, DWORD *mode) { return *mode = 3, it != GetStdHandle(STD_OUTPUT_HANDLE); }
-static BOOL WINAPI tried_console(HANDLE it, DWORD mode) { return consoles += it == GetStdHandle(STD_ERROR_HANDLE) && mode == 7 ? 1 : 9, TRUE; }
-static UINT WINAPI tried_page(void) { return 850; }
-static BOOL WINAPI tried_pages(UINT page) { return pages[page_count++ % 9] = page, TRUE; }
+static BOOL WINAPI tried_GetConsoleMode(HANDLE it, DWORD *mode) { return *mode = 3, it != GetStdHandle(STD_OUTPUT_HANDLE); }
+static BOOL WINAPI tried_SetConsoleMode(HANDLE it, DWORD mode) { return consoles += it == GetStdHandle(STD_ERROR_HANDLE) && mode == 7 ? 1 : 9, TRUE; }
+static UINT WINAPI tried_GetConsoleOutputCP(void) { return 850; }
+static BOOL WINAPI tried_SetConsoleOutputCP(UINT page) { return pages[page_count++ % 9] = page, TRUE; }
 int main(void), __wgetmainargs(int *count, wchar_t ***words, wchar_t ***variables, int globs, int *mode);
-int tried_words(int *count, wchar_t ***words, wchar_t ***variables, int globs, int *mode) { int status = __wgetmainargs(count, words, variables, globs, mode); return *count -= page_count != 0, (*words)[12] = page_count == 4 ? L"-h" : (*words)[12], status; }
+int tried___wgetmainargs(int *count, wchar_t ***words, wchar_t ***variables, int globs, int *mode) { int status = __wgetmainargs(count, words, variables, globs, mode); return *count -= page_count != 0, (*words)[12] = page_count == 4 ? L"-h" : (*words)[12], status; }
 
 // It begins twice more, without what is typed and the last word, and ends well; so help is told, the second time, where it is asked for.
-static void WINAPI tried_exit(UINT status)
+static void WINAPI tried_ExitProcess(UINT status)
 {
     HOLDS(pages[0] == CP_UTF8 && pages[1] == 850 && status == (page_count == 2 ? 7 : 0) && (page_count > 2 || consoles == 1));
     HOLDS(page_count == 6 ? written == table[1]->handle && bytes > 100 : bytes == 0);
@@ -180,25 +180,24 @@ static void WINAPI tried_exit(UINT status)
     ExitProcess(wrong != 0);
 }
 
-static BOOL WINAPI tried_counter(LARGE_INTEGER *now) { return ticks == 0 ? QueryPerformanceCounter(now) : (now->QuadPart = ticks, TRUE); }
-static BOOL WINAPI tried_frequency(LARGE_INTEGER *second) { return ticks == 0 ? QueryPerformanceFrequency(second) : (second->QuadPart = 3000000, TRUE); }
-static void WINAPI tried_day(FILETIME *day) { ticks == 0 ? GetSystemTimePreciseAsFileTime(day) : (void)(*day = (FILETIME){(DWORD)ticks, (DWORD)(ticks >> 32)}); }
+static BOOL WINAPI tried_QueryPerformanceCounter(LARGE_INTEGER *now) { return ticks == 0 ? QueryPerformanceCounter(now) : (now->QuadPart = ticks, TRUE); }
+static BOOL WINAPI tried_QueryPerformanceFrequency(LARGE_INTEGER *second) { return ticks == 0 ? QueryPerformanceFrequency(second) : (second->QuadPart = 3000000, TRUE); }
+static void WINAPI tried_GetSystemTimePreciseAsFileTime(FILETIME *day) { ticks == 0 ? GetSystemTimePreciseAsFileTime(day) : (void)(*day = (FILETIME){(DWORD)ticks, (DWORD)(ticks >> 32)}); }
 
-static void WINAPI tried_sleep(DWORD millis)
+static void WINAPI tried_Sleep(DWORD millis)
 {
     if (millis != 0 && millis != 50) snprintf(signals + strlen(signals), sizeof signals - strlen(signals), "%lu ", millis);
     naps += millis == 50;
     Sleep(millis == 50 ? nap : 0);
 }
 
-void *__imp_tried_flush = tried_flush, *__imp_tried_set = tried_set, *__imp_tried_move = tried_move, *__imp_tried_signal = tried_signal, *__imp_tried_sleep = tried_sleep,
-    *__imp_tried_lock = tried_lock, *__imp_tried_option = tried_option, *__imp_tried_state = tried_state, *__imp_tried_security = tried_security, *__imp_tried_create = tried_create,
-    *__imp_tried_errors = tried_errors, *__imp_tried_waits = tried_waits, *__imp_tried_write = tried_write, *__imp_tried_list = tried_list, *__imp_tried_end = tried_end,
-    *__imp_tried_close = tried_close, *__imp_tried_secure = tried_secure, *__imp_tried_purge = tried_purge, *__imp_tried_socket = tried_socket, *__imp_tried_accept = tried_accept,
-    *__imp_tried_shut = tried_shut, *__imp_tried_final = tried_final, *__imp_tried_attributes = tried_attributes, *__imp_tried_information = tried_information, *__imp_tried_next = tried_next,
-    *__imp_tried_counter = tried_counter, *__imp_tried_frequency = tried_frequency, *__imp_tried_day = tried_day, *__imp_tried_read = tried_read,
-    *__imp_tried_mode = tried_mode, *__imp_tried_console = tried_console, *__imp_tried_page = tried_page, *__imp_tried_pages = tried_pages, *__imp_tried_exit = tried_exit, *__imp_tried_poll = tried_poll,
-    *__imp_tried_freed = tried_freed;
+#define IMPORT(name) void *__imp_tried_##name = tried_##name;
+IMPORT(FlushFileBuffers) IMPORT(SetFileInformationByHandle) IMPORT(MoveFileExW) IMPORT(EscapeCommFunction) IMPORT(Sleep) IMPORT(LockFileEx)
+IMPORT(setsockopt) IMPORT(SetCommState) IMPORT(GetSecurityInfo) IMPORT(CreateFileW) IMPORT(ClearCommError) IMPORT(SetCommTimeouts) IMPORT(WriteFile)
+IMPORT(FindFirstFileW) IMPORT(FindClose) IMPORT(CloseHandle) IMPORT(SetSecurityInfo) IMPORT(PurgeComm) IMPORT(socket) IMPORT(accept)
+IMPORT(closesocket) IMPORT(GetFinalPathNameByHandleW) IMPORT(GetFileAttributesW) IMPORT(GetFileInformationByHandle) IMPORT(FindNextFileW)
+IMPORT(QueryPerformanceCounter) IMPORT(QueryPerformanceFrequency) IMPORT(GetSystemTimePreciseAsFileTime) IMPORT(ReadFile) IMPORT(GetConsoleMode)
+IMPORT(SetConsoleMode) IMPORT(GetConsoleOutputCP) IMPORT(SetConsoleOutputCP) IMPORT(ExitProcess) IMPORT(WSAPoll) IMPORT(freeaddrinfo)
 
 // --- helpers
 
@@ -529,8 +528,8 @@ static void test_locks_and_syncs(void)
     HOLDS(sysv_fsync(two) == 0 && flushes == before + 1 && sysv_fdatasync(two) == 0 && flushes == before + 2 && sysv_fsync(folder) == 0 && flushes == before + 3);
     HOLDS((flushed_by & FILE_WRITE_DATA) != 0); FAILS(sysv_fsync(99), 9); FAILS(sysv_fdatasync(99), 9); FAILS(sysv_ftruncate(99, 0), 9); FAILS(sysv_lseek(99, 0, 0), 9);
     struct statx none;
-    tried_close(table[one]->handle), table[one]->handle = INVALID_HANDLE_VALUE;
-    tried_close(table[folder]->handle), table[folder]->handle = INVALID_HANDLE_VALUE;
+    tried_CloseHandle(table[one]->handle), table[one]->handle = INVALID_HANDLE_VALUE;
+    tried_CloseHandle(table[folder]->handle), table[folder]->handle = INVALID_HANDLE_VALUE;
     HOLDS(sysv_fsync(folder) == 0); FAILS(sysv_fsync(one), 9); FAILS(sysv_read(one, buf, 1), 9); FAILS(sysv_flock(one, 6), 9); FAILS(sysv_flock(one, 8), 9); FAILS(sysv_statx(one, "", 0x1000, 0, &none), 9); FAILS(sysv_fchmod(one, 0400), 9);
     HOLDS(sysv_close(one) == 0 && sysv_close(two) == 0 && sysv_close(folder) == 0);
 }
@@ -674,7 +673,7 @@ static void test_tcp(void)
     HOLDS(sysv_close(served) == 0);
     while (sysv_send(client, buf, 9, 0) > 0)
         Sleep(1);
-    HOLDS(sysv_rattle_errno() == 104 && tried_shut(table[client]->socket) == 0); FAILS(sysv_recv(client, buf, 1, 0), 5); wait_for(client, 9); FAILS(sysv_recv(client, buf, 1, 0), 5); FAILS(sysv_send(client, buf, 1, 0), 5);
+    HOLDS(sysv_rattle_errno() == 104 && tried_closesocket(table[client]->socket) == 0); FAILS(sysv_recv(client, buf, 1, 0), 5); wait_for(client, 9); FAILS(sysv_recv(client, buf, 1, 0), 5); FAILS(sysv_send(client, buf, 1, 0), 5);
     HOLDS((table[client]->socket = INVALID_SOCKET) != 0 && sysv_close(client) == 0);
     // a write waits for room by a time of its own: here nobody reads
     static char many[4096];

@@ -32,14 +32,8 @@ import wine
 
 COMPILER = "x86_64-w64-mingw32-gcc"
 STRICT = ["-O2", "-Wall", "-Wextra", "-Werror", "-mno-red-zone"]
-INSTEAD = {"FlushFileBuffers": "flush", "SetFileInformationByHandle": "set", "MoveFileExW": "move", "EscapeCommFunction": "signal", "Sleep": "sleep",
-           "LockFileEx": "lock", "setsockopt": "option", "SetCommState": "state", "GetSecurityInfo": "security", "CreateFileW": "create",
-           "ClearCommError": "errors", "SetCommTimeouts": "waits", "WriteFile": "write", "FindFirstFileW": "list", "FindClose": "end", "FindNextFileW": "next",
-           "CloseHandle": "close", "SetSecurityInfo": "secure", "PurgeComm": "purge", "socket": "socket", "accept": "accept", "closesocket": "shut",
-           "GetFinalPathNameByHandleW": "final", "GetFileAttributesW": "attributes", "GetFileInformationByHandle": "information",
-           "QueryPerformanceCounter": "counter", "QueryPerformanceFrequency": "frequency", "GetSystemTimePreciseAsFileTime": "day", "ReadFile": "read",
-           "GetConsoleMode": "mode", "SetConsoleMode": "console", "GetConsoleOutputCP": "page", "SetConsoleOutputCP": "pages", "ExitProcess": "exit", "WSAPoll": "poll",
-           "__wgetmainargs": "words", "freeaddrinfo": "freed"}
+# the functions that test_layer.c has in the place of Windows' own
+INSTEAD = sorted(set(re.findall(r"\btried_(\w+)\(", pathlib.Path(f"{HERE}/test_layer.c").read_text(encoding="utf-8"))))
 VARIABLES = {"FIRST": "one", "EMPTY": "", **{f"SAID_{it}": os.strerror(it) for it in range(1, 112)}}
 ASKED_BITS = termios.CSIZE | termios.CSTOPB
 WORDS = ["--wiring", "none", "--baud=9600", "word", "", "zwei Wörter", "--wirings=x", "a\\b", "--baud", "57600", "--wiring=none", "help", "end"]
@@ -97,7 +91,7 @@ class Layer(unittest.TestCase):
     @classmethod
     def compiled(cls, source, flags=()):
         """A file's object, which stays beside wine's settings for the next call that wants one of the same text."""
-        words = [] if source.endswith("test_layer.c") else [f"-D{name}=tried_{other}" for name, other in INSTEAD.items()]
+        words = [] if source.endswith("test_layer.c") else [f"-D{name}=tried_{name}" for name in INSTEAD]
         words = [COMPILER, *STRICT, *flags, *words, "-c"]
         of = hashlib.sha256(repr([words, *(pathlib.Path(it).read_bytes() for it in (source, f"{HERE}/layer.h"))]).encode()).hexdigest()
         if not os.path.exists(made := f"{wine.PREFIX}/{of}.o"):

@@ -9,6 +9,7 @@ import os
 import pathlib
 import random
 import re
+import shlex
 import shutil
 import socket
 import subprocess
@@ -31,16 +32,9 @@ HERE_TOLD = b"""
 On Windows a device is COM3, COM3:57600 or tcp:ADDRESS:PORT, in the place of a Unix socket and of stmflash-line.
 Nothing was run on Windows yet, only under wine.
 """
-FILES = ("--table", "table", "--device", "sim:0412:flash", "--journal", "journal")
+FILES = "--table table --device sim:0412:flash --journal journal".split()
 # what is called, one after the other
-CALLS = [("--help",), (), ("nonsense",), ("write", "--help"), ("sim", "-h"), ("help", "info"), ("--version",), ("info", *FILES), ("info", *FILES, "--json"), ("erase", *FILES, "--stop", "3190", "5"),
-         ("log", "--journal", "journal"), ("log", "--journal", "journal", "--json"), ("undo", *FILES), ("write", *FILES, "-v", "image"),
-         ("read", *FILES, "help"), ("read", *FILES, "--hex", "--skip-blank", "/dev/stdout"), ("verify", *FILES, "image"), ("crc", *FILES),
-         ("write", *FILES, "--stop", "9000", "-v", "other"), ("log", "--journal", "journal", "--check"), ("undo", *FILES, "1"), ("undo", *FILES, "-v", "--json"),
-         ("write", *FILES, "--keep-to", "kept", "image"), ("undo", *FILES[:4], "--journal", "kept"), ("keep", "--journal", "journal", "elsewhere"),
-         ("write", *FILES, "--progress", "image"), ("keep", "--journal", "journal", "--last", "1"), ("write", *FILES, "missing"), ("write", *FILES, "/dev/stdin"),
-         ("log", "--journal", "none"), ("info", "--table", "none", *FILES[2:]), ("read", *FILES, "none/out"), ("read", *FILES, "näme ü"),
-         ("write", "--table", "table", "--device", "sim:0412:flash", "--journals", "folder", "image"), ("undo", *FILES)]
+CALLS = [shlex.split(line.replace("@", " ".join(FILES)))[1:] for line in pathlib.Path(TOP, "windows/calls").read_text(encoding="utf-8").splitlines()[1:]]
 
 
 def call(program, folder, *words, given=b"", **more):
@@ -81,7 +75,7 @@ class Program(Place):
         for words in CALLS:
             with self.subTest(words=words):
                 ours, theirs = call(HERE, self.folder, *words, given=b":00000001FF\n"), call(LINUX, beside, *words, given=b":00000001FF\n")
-                if words[:1] == ("help",) or {"--help", "-h"}.intersection(words):
+                if words[:1] == ["help"] or {"--help", "-h"}.intersection(words):
                     theirs = (theirs[0], theirs[1] + HERE_TOLD, theirs[2])
                 # of one of them it may be proved what is not of the other
                 ours, theirs = ((it[0], re.sub(rb", (not )?proved.*", b"", it[1]), it[2]) for it in (ours, theirs))

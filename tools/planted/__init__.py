@@ -59,13 +59,21 @@ def read(file):
         return source.read()
 
 
+def is_python(file):
+    return file.startswith("line/") or file.endswith("/zip")
+
+
+def slips_of(file, text):
+    """The slips that operators make in a file of this text."""
+    return slips_rattle.slips(text) if file.endswith(".rt") else slips_python.slips(text) if is_python(file) else slips_text.slips(file, text)
+
+
 def made(group):
     """The faults that operators make in a group. A name is told twice with its count."""
     told = {}
     for file in files(group):
         text = read(file)
-        slips = slips_rattle.slips(text) if file.endswith(".rt") else slips_python.slips(text) if group == "companions" or file.endswith("/zip") else slips_text.slips(file, text)
-        for start, end, new, what, block in slips:
+        for start, end, new, what, block in slips_of(file, text):
             name = f"{file}, {block.split('#')[0] or 'all'}: {' '.join(what.split())}"[:200]
             told[name] = told.get(name, 0) + 1
             yield Fault(group, name + (f" ({told[name]})" if told[name] > 1 else ""), file, start, end, text[start:end], new, block, "")

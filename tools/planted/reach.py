@@ -1,17 +1,25 @@
-"""Which blocks of the code a test reaches: recorded once, by programs and companions that note their blocks, in the file `reached`.
+"""Which blocks of the program and of its companions a test reaches: recorded once, where these note their blocks, in the file `reached`.
 
 That has a row for each test with its seconds, and behind each file a row for its blocks that are reached by the same tests, with the
 numbers of those, the first being 0. A fault in a block that isn't there is looked for by all tests of its function, file, or folder.
 Those come first whose names have words of the fault's, or whose modules have its texts.
 """
 
+import concurrent.futures
+import contextlib
 import os
 import pathlib
 import re
+import sys
+import time
+import unittest
 
-TOP = os.path.dirname(os.path.dirname(os.path.dirname(os.path.abspath(__file__))))
+from planted import TOP, Fault, building, files, read, slips_python, slips_rattle, trees
+
 FILE = os.path.join(TOP, "tools", "planted", "reached")
 HEAD = "# Which tests reach which blocks, made by `tools/mutants --record` (reach.py)\n"
+# how long a test may take, in seconds
+LIMIT = 600
 
 
 def words_of(text):
@@ -85,3 +93,72 @@ class Reach:
             own = path.read_text(encoding="utf-8") if path.exists() else ""
             self.modules[module] = own + "".join(pathlib.Path(TOP, "tests", page).read_text(encoding="utf-8") for page in re.findall(r'"(\w+\.rows)"', own))
         return any(text in self.modules[module] for text in texts)
+
+
+def notes():
+    """A fault of no effect at the beginning of each block of the program."""
+    found = [(file, at, block) for file in files("program") for at, block in slips_rattle.notes(read(file))]
+    return [Fault("program", f"{file} {block}", file, at, at, "", "let _ = @on;\n", block, "", number) for number, (file, at, block) in enumerate(found, 1)]
+
+
+def noting_companions(begin):
+    """The companions' files as they note their blocks in the file `@noted`, each with its text, and (file, block) in the order of their
+    numbers."""
+    texts, noted = {}, []
+    for file in files("companions"):
+        text = read(file)
+        noting, names = slips_python.recording(text, begin + len(noted), "@noted")
+        noted += [(file, name) for name in names]
+        texts[file] = text[:text.index("\n") + 1] * text.startswith("#!") + noting
+    return texts, noted
+
+
+def tests():
+    def of(suite):
+        return [name for it in suite for name in of(it)] if isinstance(suite, unittest.TestSuite) else [suite.id()]
+
+    sys.path.insert(0, os.path.join(TOP, "tests"))
+    return sorted(of(unittest.defaultTestLoader.discover(os.path.join(TOP, "tests"))))
+
+
+def record(room, jobs):
+    programs = notes()
+    program, refused = building.build(programs, "noting")
+    blocks = [(it.file, it.block) for it in programs]
+    copies = trees.Trees(room, jobs)
+    texts, noted = noting_companions(len(blocks) + 1)
+    for number in range(jobs):
+        top = os.path.join(room, f"tree{number}")
+        for file, text in texts.items():
+            pathlib.Path(top, file).write_text(text.replace("@noted", os.path.join(top, "noted")), encoding="utf-8")
+    blocks += noted
+    held = os.path.join(building.KEPT, os.path.basename(room))
+    os.makedirs(held)
+    seconds, reached = {}, {}
+
+    def run(number, test):
+        path = os.path.join(held, f"r{number}-unproved")
+        os.link(program, path)
+        with copies.one() as top:
+            begun = time.monotonic()
+            failed = trees.run(top, path, test, LIMIT)
+            took, numbers = time.monotonic() - begun, set()
+            for file in (f"{path}.reached", os.path.join(top, "noted")):
+                with contextlib.suppress(FileNotFoundError):
+                    numbers |= set(map(int, pathlib.Path(file).read_text(encoding="utf-8").split()))
+                    os.remove(file)
+        os.remove(path)
+        # a line may be torn where a test lets no file grow
+        return test, took, {blocks[it - 1] for it in numbers if it <= len(blocks)}, failed
+
+    with concurrent.futures.ThreadPoolExecutor(jobs) as pool:
+        for ran in concurrent.futures.as_completed([pool.submit(run, *it) for it in enumerate(tests())]):
+            test, took, found, failed = ran.result()
+            if not failed:
+                seconds[test], reached[test] = took, found
+            if len(seconds) % 50 == 0:
+                write(seconds, reached)
+            print(f"{'failed' if failed else 'passed'} {took:5.1f} s  {test}: {len(found)} blocks", flush=True)
+    os.rmdir(held)
+    write(seconds, reached)
+    print(f"tools/mutants: {len(seconds)} tests, {len(set().union(*reached.values()))} blocks of {len(blocks)} reached, {len(refused)} can't be noted")

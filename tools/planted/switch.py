@@ -127,16 +127,12 @@ def plant(top, faults):
         text, met = place(text, [it._replace(start=it.start + moved, end=it.end + moved) for it in held])
         left += [it for it in held if it.number in {other.number for other in met}]
         pathlib.Path(path).write_text(text, encoding="utf-8")
+    # the switch of a crate: its C, its module, and the declaration of that
     for crate in sorted({file.split("/")[1] for file in files}):
-        add_switch(os.path.join(top, "crates"), crate)
+        folder = pathlib.Path(top, "crates", crate)
+        (folder / "c").mkdir(exist_ok=True)
+        for name, text in (("c/planted.c", C), ("src/planted.rt", RATTLE)):
+            (folder / name).write_text(text.replace("NAME", crate))
+        root = next(filter(pathlib.Path.exists, (folder / "src/main.rt", folder / "src/lib.rt")))
+        root.write_text(root.read_text().replace("\nmod ", "\nmod planted;\nmod ", 1))
     return left
-
-
-def add_switch(crates, crate):
-    """Adds the switch to a crate: its C, its module, and the declaration of that."""
-    top = pathlib.Path(crates, crate)
-    (top / "c").mkdir(exist_ok=True)
-    for name, text in (("c/planted.c", C), ("src/planted.rt", RATTLE)):
-        (top / name).write_text(text.replace("NAME", crate))
-    root = next(filter(pathlib.Path.exists, (top / "src/main.rt", top / "src/lib.rt")))
-    root.write_text(root.read_text().replace("\nmod ", "\nmod planted;\nmod ", 1))

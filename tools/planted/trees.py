@@ -13,7 +13,7 @@ import subprocess
 import sys
 import tempfile
 
-from planted import TOP
+from planted import TOP, is_python
 
 # the program that `rt ci` leaves, without which the package of stm32flash's words can't be tried
 PROVED = os.path.join(TOP, "crates", "stmflash", "out", "stmflash")
@@ -90,7 +90,7 @@ def stands(top, fault):
     """Whether what a fault leaves is still a source of its kind."""
     path = os.path.join(top, fault.file)
     text = pathlib.Path(path).read_text(encoding="utf-8")
-    if fault.group == "companions" or path.endswith("/zip"):
+    if is_python(fault.file):
         try:
             compile(text, path, "exec")
         except SyntaxError:
