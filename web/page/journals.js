@@ -25,23 +25,20 @@ export async function undo(name, isSaid = false) {
 
 /** @param {string} name */
 export async function keep(name) {
-  const { lines } = await says(name);
-  if (!(await isSure('Let it stay for good?', lines, 'The journal is removed. What was written can\'t be undone any more.', 'Remove the journal'))) return undefined;
+  if (!(await isSure('Let it stay for good?', (await says(name)).lines, 'The journal is removed. What was written can\'t be undone any more.', 'Remove the journal'))) return undefined;
   return end(await run(['keep', '--journal', `${FOLDER}/${name}`], { isQuiet: true }), ['The journal is removed.']);
 }
 
 /** @param {string} name */
 async function download(name) {
   const { bytes, error } = await ask('get', { path: `/${FOLDER}/${name}` });
-  if (error) return tell('bad', [error]);
-  save(name, bytes);
+  return error ? tell('bad', [error]) : save(name, bytes);
 }
 
 /** Tells what came of a run, and then looks what the journals say now.
  * @param {any} it @param {string[]} done */
 export const end = (it, done) => inOneRow(async () => {
-  await list();
-  const more = it.error || !state.isKept ? state.names.map((/** @type {string} */ name) => button(`Download ${name}`, () => download(name))) : [];
+  const names = await list(), more = it.error || !state.isKept ? names.map((/** @type {string} */ name) => button(`Download ${name}`, () => download(name))) : [];
   if (it.status === 0 && !it.error) tell('good', done, more);
   else tell('bad', whyNot(it).length ? whyNot(it) : ['The program ended.'], more);
   await journals();
@@ -49,16 +46,12 @@ export const end = (it, done) => inOneRow(async () => {
 });
 
 /** Which journals there are. */
-async function list() {
-  const { names } = await ask('list');
-  state.names = names.filter((/** @type {string} */ it) => it.endsWith(ENDING)).sort();
-}
+const list = async () => (state.names = (await ask('list')).names.filter((/** @type {string} */ it) => it.endsWith(ENDING)).sort());
 
 export async function journals() {
   const rows = [];
-  await list();
   state.unfinished = [];
-  for (const name of state.names) {
+  for (const name of await list()) {
     const { lines, isBad } = await says(name), board = name.slice(0, -ENDING.length), isUndone = lines.some((it) => it.startsWith('0 can be'));
     if (lines.some((it) => it.startsWith('unfinished'))) state.unfinished.push(name);
     const undoes = button('Undo the newest', () => undo(name), board), keeps = button('Keep for good', () => keep(name), board);
