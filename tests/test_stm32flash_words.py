@@ -372,6 +372,12 @@ class Parts(Place):
         ran = subprocess.run([self.path("stm32flash"), "-h"], capture_output=True, timeout=PATIENCE, check=False)
         self.assertEqual((ran.returncode, ran.stderr), (1, b"ERROR: stmflash_line, which stm32flash is made of, isn't there: install stmflash\n"))
 
+    def test_what_is_beside_a_link_to_it_is_none_of_its_programs(self):
+        for name, named in (("stm32flash", WORDS), ("stmflash", "/bin/false")):
+            os.symlink(named, self.path(name))
+        ran = subprocess.run([self.path("stm32flash"), "-m", "8n1", "ttyUSB0"], env={"PATH": self.path("none")}, cwd=self.folder, capture_output=True, timeout=PATIENCE, check=False)
+        self.assertTrue(ran.stderr.startswith(b"ERROR: stmflash isn't there"), ran)
+
     def test_a_call_of_stmflash_ends_with_a_fault_of_ours(self):
         board = boards.Board.__new__(boards.Board)
         board.tools, board.settings = mock.Mock(stmflash=self.path("stmflash")), os.environ
