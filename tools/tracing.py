@@ -11,8 +11,6 @@ import struct
 import sys
 import tempfile
 
-from simulator import words_of
-
 # of ptrace(2)
 TRACE_ME, CONTINUE, STEP, GET_REGISTERS, SET_REGISTERS, DETACH, SET_OPTIONS = 0, 7, 9, 12, 13, 17, 0x4200
 EXIT_KILL = 0x100000
@@ -49,15 +47,6 @@ def places_of(program):
     if not all(call in found for call in CALLS):
         sys.exit(f"{program} doesn't name {' and '.join(CALLS)}")
     return [found[call] for call in CALLS]
-
-
-def asked(doc):
-    """What a tool was called with, by its usage, where PROGRAM is one that can be called."""
-    options = words_of(doc)
-    options.program = os.path.realpath(options.program)
-    if not os.access(options.program, os.X_OK):
-        sys.exit(f"{sys.argv[0]}: there is no program {options.program}")
-    return options
 
 
 class Traced:
