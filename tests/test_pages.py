@@ -263,7 +263,7 @@ class Pages(Place):
 
     def test_each_row_is_played(self):
         """Each file of rows is in what `rt ci` or tools/rows compares, as often as its loops have it played."""
-        ran = subprocess.run([os.path.join(TOP, "tools", "cases")], capture_output=True, text=True, check=True)
+        ran = subprocess.run([os.path.join(TOP, "tools", "rows"), "--count"], capture_output=True, text=True, check=True)
         counted = re.findall(r"stm_rows/data/(\S+): (\d+) rows, \d+ acts, played (\d+) times", ran.stdout)
         told = re.findall(r"^(\S+): (\d+) rows, played (\d+) times, 0 differ$", text_in("crates/stm_rows/stdout") + text_in("crates/stm_rows/sweeps"), re.M)
         self.assertEqual(sorted(counted), sorted(told))
