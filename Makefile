@@ -217,7 +217,7 @@ pictures:
 
 bench: all
 	cd crates/bench && rt run > /dev/null && $(MAKE) --no-print-directory web
-	for it in hex layers sessions program line words web; do python3 bench/$$it || exit 1; done
+	for it in hex layers sessions program words web; do python3 bench/$$it || exit 1; done
 
 beside: all
 	sh tools/beside.sh bin/stmflash
