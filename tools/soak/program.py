@@ -6,12 +6,11 @@ import re
 from device import CONNECT, CONNECTED, FRESH, GO, GONE, PROTECTIONS, Device
 from image import ImageFault, crc, read_hex, read_raw, write_hex
 from journal import BadLine, Journal, is_no_journal, left
-from rig import Rig, Stopped
 import session
 from session import Erase, Fault, Read, Verify, Write
 from use import Use
 import wire
-from wire import WireFault
+from wire import Rig, Stopped, WireFault
 
 KINDS = dict(zip(("write-unprotect", "readout-protect", "readout-unprotect"), PROTECTIONS))
 MOST_AGAIN = 1000
