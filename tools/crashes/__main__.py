@@ -17,16 +17,14 @@ import os
 import sys
 import tempfile
 
-sys.path.insert(0, os.path.dirname(os.path.abspath(__file__)))
-
-from board import Unanswered, words_of  # noqa: E402
-from disk import Misunderstood  # noqa: E402
-from record import can_trace  # noqa: E402
-from sessions import BehindCrash, all_stories, drawn  # noqa: E402
-from story import Unrecorded  # noqa: E402
-from trial import State, draw, judge, top  # noqa: E402
-import plants  # noqa: E402
-import race  # noqa: E402
+from board import Unanswered, words_of
+from disk import Misunderstood
+from record import can_trace
+from sessions import BehindCrash, all_stories, drawn
+from story import Unrecorded
+from trial import State, draw, judge, top
+import plants
+import race
 
 
 def needed(stories, names):

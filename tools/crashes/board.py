@@ -5,18 +5,10 @@ import random
 import sys
 
 sys.path += [os.path.join(os.path.dirname(os.path.abspath(__file__)), "..", name) for name in ("soak", "")]
-from device import GET_VERSION, Device  # noqa: E402
+from device import GET_VERSION, Device  # noqa: E402, F401
 from program import stand, standing  # noqa: E402
 from simulator import Folder, Simulator, Unanswered, words_of  # noqa: E402, F401
 from stops import board_of, table  # noqa: E402
-
-
-class Served(Device):
-    """A device behind a simulator that is served: it has Get Version too."""
-
-    def __init__(self, chip, flash):
-        super().__init__(chip, flash)
-        self.codes.insert(1, GET_VERSION)
 
 
 def flash_of(chip):

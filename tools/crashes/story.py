@@ -7,7 +7,7 @@ import pathlib
 import random
 import time
 
-from board import Board, Device, Folder, Served, flash_of, stand
+from board import GET_VERSION, Board, Device, Folder, flash_of, stand
 from disk import Disk
 from record import Reader, run
 from stops import BASE, CHIPS, board_of, call, table
@@ -83,7 +83,9 @@ class Story:
         os.makedirs(made)
         os.makedirs(os.path.join(room, "elsewhere"))
         files = self.prepare(program, made)
-        self.device = (Served if self.way == BOARD else Device)(self.chip, files.get("flash", self.flashes[0]))
+        self.device = Device(self.chip, files.get("flash", self.flashes[0]))
+        # one that is served has Get Version too
+        self.device.codes[1:1] = [GET_VERSION] * (self.way == BOARD)
         if not stand(self.device, files.get("flash.line", b"fresh\n")):
             raise Unrecorded("%s: no device stands so" % self.name)
         self.device.owed.clear()
