@@ -16,7 +16,8 @@ PATIENCE = 120
 
 def words_of(doc, **absent):
     """What a tool was called with, by the usage at the head of its text: PROGRAM is a path, `--word N` a number, `NAME..` any count of
-    names. What stands in brackets may be absent, and is then what is given here, of whose type it is; a list has those that it may be."""
+    names, COMMAND all words behind. What stands in brackets may be absent, and is then what is given here, of whose type it is; a list has
+    those that it may be."""
     usage = re.search(r"\n\n    (?:python3 )?(\S+) ((?:.+\n)+)", doc)
     absent = {"seed": str(time.time_ns()), "jobs": len(os.sched_getaffinity(0)), **absent}
     words = argparse.ArgumentParser(prog=usage[1], description=doc, formatter_class=argparse.RawDescriptionHelpFormatter)
@@ -28,7 +29,8 @@ def words_of(doc, **absent):
             many = {"nargs": "*", "default": []} if many else {"default": held}
             words.add_argument(word, **({"type": kind, "choices": some, **many} if value else {"action": "store_true"}))
         else:
-            words.add_argument(place.lower(), type=kind, default=held, nargs="*" if many else "?" if spare else None)
+            count = argparse.REMAINDER if place == "COMMAND" else "*" if many else "?" if spare else None
+            words.add_argument(place.lower(), type=kind, default=held, nargs=count)
     return words.parse_args()
 
 
