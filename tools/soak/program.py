@@ -331,7 +331,7 @@ def do(rig, table, use, image, files):
         return use_image(rig, table, use, image)
     if use.name == "erase":
         pages = range(session.info(rig, table)[0].pages()) if use.all else use.pages
-        (segment, count), = session.run(rig, table, [Erase(pages)])
+        segment, count = session.run(rig, table, Erase(pages))
         return b"segment %d: %d pages erased\n" % (segment, count)
     if use.name == "undo":
         return b"undone %d\n" % session.undo(rig, table, count_of(session.load(rig), use), use.trusts)
@@ -352,17 +352,17 @@ def read(rig, table, use):
         if not chip.has(start, 1):
             raise Fault(session.OUT_OF_FLASH)
         length = chip.base + chip.size - start
-    return start, session.run(rig, table, [Read(start, length)])[0], chip and chip.erased
+    return start, session.run(rig, table, Read(start, length)), chip and chip.erased
 
 
 def use_image(rig, table, use, image):
     if isinstance(image, bytes):
         image = read_raw(image, session.info(rig, table)[0].base)
     if use.name == "verify":
-        session.run(rig, table, [Verify(image)])
+        session.run(rig, table, Verify(image))
         return b"verified %d bytes\n" % len(image)
     if not use.verify:
-        return b"segment %d: %d pages written\n" % session.run(rig, table, [Write(image)])[0]
+        return b"segment %d: %d pages written\n" % session.run(rig, table, Write(image))
     segment, count, again = session.write_and_verify(rig, table, image)
     seen = b"" if again == len(image) else b", %d of them again" % again
     return b"segment %d: %d pages written\nverified %d bytes%s\n" % (segment, count, len(image), seen)

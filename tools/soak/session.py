@@ -80,9 +80,7 @@ def ask_board(rig, table):
             kib = wire.read_unless_refused(rig, chip.size_at, 2)
     if unique is None or set(unique) in ({0x00}, {0xFF}):
         unique = b""
-    if kib in (None, b"\x00\x00", b"\xff\xff"):
-        return Board(number, unique, None)
-    return Board(number, unique, int.from_bytes(kib, "little"))
+    return Board(number, unique, None if kib in (None, b"\x00\x00", b"\xff\xff") else int.from_bytes(kib, "little"))
 
 
 def check_of(journal, chip):
@@ -224,7 +222,26 @@ def look_again(rig, chip):
     confirm(rig, chip)
 
 
-def do(rig, journal, chip, command):
+def begin(rig, table, command):
+    """All that can be refused is, before it is done."""
+    journal, chip, _, codes = open_session(rig, table)
+    is_change = isinstance(command, CHANGES)
+    if is_change and chip.erase_code() not in codes:
+        raise Fault(NO_ERASE)
+    if isinstance(command, Read):
+        inside = command.length == 0 or chip.has(command.start, command.length)
+    else:
+        inside = all(page < chip.pages() for page in command.pages) if isinstance(command, Erase) else all(chip.has(at, 1) for at in command.image)
+    if not inside:
+        raise Fault(OUT_OF_FLASH)
+    if journal.depth() + is_change > DEEPEST:
+        raise Fault(FULL)
+    confirm(rig, chip)
+    return journal, chip
+
+
+def run(rig, table, command):
+    journal, chip = begin(rig, table, command)
     if isinstance(command, CHANGES):
         return change(rig, journal, chip, command)
     if isinstance(command, Verify):
@@ -232,34 +249,10 @@ def do(rig, journal, chip, command):
     return read_part(rig, chip, command.start, command.length)
 
 
-def begin(rig, table, commands):
-    """All that can be refused is, before the first is done."""
-    journal, chip, _, codes = open_session(rig, table)
-    segments = sum(isinstance(command, CHANGES) for command in commands)
-    if segments > 0 and chip.erase_code() not in codes:
-        raise Fault(NO_ERASE)
-    for command in commands:
-        if isinstance(command, Read):
-            inside = command.length == 0 or chip.has(command.start, command.length)
-        else:
-            inside = all(page < chip.pages() for page in command.pages) if isinstance(command, Erase) else all(chip.has(at, 1) for at in command.image)
-        if not inside:
-            raise Fault(OUT_OF_FLASH)
-    if journal.depth() + segments > DEEPEST:
-        raise Fault(FULL)
-    confirm(rig, chip)
-    return journal, chip
-
-
-def run(rig, table, commands):
-    journal, chip = begin(rig, table, commands)
-    return [do(rig, journal, chip, command) for command in commands]
-
-
 def write_and_verify(rig, table, image):
     """What the write answers, and how many bytes of the image were read again: those in pages that its segment keeps."""
-    journal, chip = begin(rig, table, [Write(image)])
-    written = do(rig, journal, chip, Write(image))
+    journal, chip = begin(rig, table, Write(image))
+    written = change(rig, journal, chip, Write(image))
     kept = {it.page for it in journal.stack[-1].kept}
     again = {place: byte for place, byte in image.items() if page_of(chip, place) in kept}
     verify(rig, chip, again)
