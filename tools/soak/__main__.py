@@ -23,7 +23,7 @@ HERE = os.path.dirname(os.path.abspath(__file__))
 sys.path[:0] = [HERE, os.path.dirname(HERE)]
 
 import beginnings
-from journal import BadLine, Journal, untimed
+from journal import BadLine, Journal, untimed, untimed_line
 import meddling
 from program import World
 from session import Fault
@@ -164,15 +164,16 @@ class Story:
         """The program and the model do this use; all that is left has to be the same."""
         self.tell(" ".join(use.words()))
         flash, text, journal = self.flash(use.file), self.world.files.get("J", b""), self.journal()
+        timed = pathlib.Path(self.path("J")).read_bytes() if text else b""
         (status, out, err), _ = self.world.run(use)
         done = subprocess.run([self.program, *use.words()], cwd=self.room, capture_output=True)
         self.same("exit status", status, done.returncode)
         self.same("standard output", out, done.stdout)
-        # the second model has no words for what came
-        self.same("standard error", err, re.sub(rb"(?m)^hint: .*\n", b"", done.stderr))
+        # the second model has no words for what came, and no clock, of which a journal has lines
+        said = re.sub(rb"(?m)^hint: .*\n", b"", done.stderr)
+        self.same("standard error", err, re.sub(rb"(?<=bad journal line )\d+", lambda it: b"%d" % untimed_line(timed, int(it[0])), said))
         self.same("files", sorted(self.world.files), sorted(os.listdir(self.room)))
         for name in sorted(self.world.files):
-            # the second model has no clock
             self.same(name, self.world.files[name], untimed(pathlib.Path(self.path(name)).read_bytes()))
         kept = b"kept" in out
         for name, is_so in (("sessions", True), ("stopped", status == 3), ("refused", status in (1, 2)), ("kept", kept),

@@ -20,6 +20,11 @@ def untimed(text):
     return re.sub(rb"(?m)^(time|image) [^\n]*!\n", b"", text) if re.search(rb"(?m)^stmjournal 3 ", text) else text
 
 
+def untimed_line(text, number):
+    """The number that a line of a journal has there."""
+    return untimed(b"\n".join(text.split(b"\n")[:number]) + b"\n").count(b"\n")
+
+
 class BadLine(Exception):
     def __init__(self, line):
         super().__init__(line)
