@@ -63,10 +63,6 @@ class PtyBoard:
         """From now on the board gets so many bytes of its host and no more, as of one that has stopped there; None: all of them."""
         self.left = count
 
-    def wire(self):
-        """Where the host's bytes go."""
-        return self.connect()
-
     def connect(self):
         """The simulator, once it listens."""
         until = time.monotonic() + PATIENCE
@@ -129,7 +125,7 @@ class PtyBoard:
             data = data[:self.left]
             self.left -= len(data)
         if self.device is None:
-            self.device = self.wire()
+            self.device = self.connect()
         time.sleep(len(data) * self.byte_time)
         with contextlib.suppress(OSError):
             self.device.sendall(data)
